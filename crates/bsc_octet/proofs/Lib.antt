@@ -1,0 +1,3 @@
+pub mod ParityLemmas
+pub mod SumLemmas
+pub mod LaneLemmas

@@ -1,0 +1,37 @@
+-- Characters of seven bits, the octets that carry them, and the longitudinal sum.
+use Rattle.std.specs.Prelude.{◌≡◌, ℕ, ◌+◌, ◌*◌, ◌%◌, Bool, ◌&&◌, not, ◌==◌, nat_lt, if◌then◌else◌, List, [], ◌∷◌, count_ones, count_by, Option, Some, None}
+use Rattle.std.specs.List.{list_any}
+use Rattle.std.specs.Int.{bit_at}
+
+-- An octet with an odd number of ones (GA27-3004: odd parity).
+abbrev pub IsOdd : ℕ → Type 0
+IsOdd octet = count_ones octet % 2 ≡ 1
+
+-- The octet that carries a code below 128: the one of the code and the code plus 128 that has an odd
+-- number of ones (GA27-3004: vertical redundancy checking).
+unfoldable pub odd_octet : ℕ → ℕ
+odd_octet c = if count_ones c % 2 == 1 then c else c + 128
+
+-- The code that an octet carries: the one whose odd octet it is, and none at even parity.
+abbrev pub code_of : ℕ → Option ℕ
+code_of octet = if odd_octet (octet % 128) == octet then Some (octet % 128) else None
+
+-- How many members of a list have bit i.
+abbrev pub with_bit : ℕ → List ℕ → ℕ
+with_bit i s = count_by (λ x. bit_at x i == 1) s
+
+-- The longitudinal sum of a list: the number whose bit i, 0 to 6, is 1 exactly where an odd number of the
+-- members have bit i (GA27-3004: longitudinal redundancy checking).
+unfoldable pub longitudinal_sum : List ℕ → ℕ
+longitudinal_sum s =
+    with_bit 0 s % 2 + 2 * (with_bit 1 s % 2) + 4 * (with_bit 2 s % 2) + 8 * (with_bit 3 s % 2) + 16 * (with_bit 4 s % 2)
+    + 32 * (with_bit 5 s % 2)
+    + 64 * (with_bit 6 s % 2)
+
+-- The data-link control characters: SOH, STX, ETX, EOT, ENQ, DLE, NAK, SYN, ETB, EM, US.
+abbrev pub controls : List ℕ
+controls = 1 ∷ 2 ∷ 3 ∷ 4 ∷ 5 ∷ 16 ∷ 21 ∷ 22 ∷ 23 ∷ 25 ∷ 31 ∷ []
+
+-- A character that may stand in a record: any code but these eleven (own).
+unfoldable pub is_record_char : ℕ → Bool
+is_record_char c = nat_lt c 128 && not (list_any (λ k. c == k) controls)

@@ -1,0 +1,55 @@
+//! Odd parity: each octet on the line carries a code of seven bits, and its eighth bit makes the number of
+//! ones odd (GA27-3004: vertical redundancy checking in USASCII).
+ghost use Rattle.std.specs.Prelude.{◌≡◌, ◌≢◌, ℕ, ◌+◌, ◌*◌, ◌%◌, ◌<◌, nat_lt, if◌then◌else◌, Some, None, IsTrue, ◌↔◌, All, IfSome, IfNone};
+ghost use Rattle.bsc_octet.specs.Octet.{IsOdd, code_of, odd_octet};
+
+use crate::lanes::are_odd;
+
+/// The octet that carries the code: the one of `code` and `code + 0x80` with an odd number of ones.
+/// `None` from 0x80 up (GA27-3004: USASCII with odd parity).
+#[tactic(auto, unfolding(crate::specs::Octet::odd_octet))]
+pub fn to_line(code: u8) -> Option<u8>
+    ensures { result ≡ (if nat_lt code 128 then Some (odd_octet code) else None) }
+{
+    if code < 0x80 {
+        Some(if code.count_ones() % 2 == 1 {
+            code
+        } else {
+            code + 0x80
+        })
+    } else {
+        None
+    }
+}
+
+/// The code that the octet carries, 0x00 to 0x7f. `None` at even parity (GA27-3004: a VRC error).
+#[tactic(auto, using(crate::proofs::ParityLemmas::code_of_even))]
+pub fn from_line(octet: u8) -> Option<u8>
+    ensures value { result ≡ code_of octet }
+    ensures code { IfSome result (λ c. (c < 128) × (odd_octet c ≡ octet)) }
+    ensures none { IfNone result ((c : ℕ) → c < 128 → odd_octet c ≢ octet) }
+{
+    if octet.count_ones() % 2 == 1 {
+        Some(octet % 0x80)
+    } else {
+        None
+    }
+}
+
+/// Whether every octet has odd parity; so it is of no octets.
+pub fn all_odd(octets: &[u8]) -> bool
+    ensures { IsTrue result ↔ All IsOdd octets.now }
+{
+    let (chunks, rest) = octets.as_chunks::<32>();
+    if !are_odd(chunks) {
+        return false;
+    }
+    rest_is_odd(rest)
+}
+
+/// Whether every octet behind the last whole chunk has odd parity.
+fn rest_is_odd(octets: &[u8]) -> bool
+    ensures { IsTrue result ↔ All IsOdd octets.now }
+{
+    octets.iter().all(|octet| octet.count_ones() % 2 == 1)
+}
