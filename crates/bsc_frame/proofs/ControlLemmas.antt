@@ -1,0 +1,259 @@
+-- Bodies that are no text: what is read is such a body, and such a body is read.
+use Rattle.std.proofs.Common.{◌≡◌, ◌⊎◌, inl, inr, ℕ, suc, ◌-◌, ◌<◌, ◌≤◌, ◌==◌, Bool, true, false, not, cond, refl, sym, ap, subst, ◌∙◌, arith, List, [], ◌∷◌, ◌++◌, length, drop, map, Option, Some, None, Result, Ok, Err, IsTrue, option_and_then, nat_lt, nat_le, ◌&&◌, position, append_assoc, length-append}
+use Rattle.std.specs.List.{AllByRecursion, position_or_len}
+use Rattle.std.specs.Str.{bytes_eq}
+use Rattle.std.proofs.lemmas.Bool.{eqb-true, eqb-false}
+use Rattle.std.proofs.lemmas.Bool.Decides.{nat_tests}
+use Rattle.std.proofs.lemmas.Slice.Eq.{bytes_eq-Decides}
+use Rattle.bsc_octet.specs.Octet.{odd_octet, code_of}
+use Rattle.bsc_octet.proofs.ParityLemmas.{odd_cases, code_of_some, code_of-odd_octet}
+use Rattle.bsc_frame.specs.Addresses.{IsAddress, address_code}
+use Rattle.bsc_frame.specs.Message.{read_address, first_wrong}
+use Rattle.bsc_frame.specs.Spells.{AreAll, IsCall, IsBody}
+use Rattle.bsc_frame.specs.Reading.{skip, is_octet, begins, called, at_end, with_code, call, call_to, control}
+use Rattle.bsc_frame.specs.declared.address.AddressError.{AddressError}
+use Rattle.bsc_frame.specs.declared.message.Message.{Message}
+use Rattle.bsc_frame.specs.declared.message.Message.TheVariants.{Eot, Call, Enq, Ack0, Ack1, Nak, Wack, Rvi, Text}
+use Rattle.bsc_frame.proofs.AddressLemmas.{is_address}
+use Rattle.bsc_frame.proofs.ReadLemmas.{test_false}
+use Rattle.bsc_frame.proofs.FrontLemmas.{parts, skip-pass, skip-stays, pass_are, are_pass}
+
+-- which way a test went
+pub chosen : {A : Type 0} (b : Bool) (x y z : A) → cond b x y ≡ z → ((b ≡ true) × (x ≡ z)) ⊎ ((b ≡ false) × (y ≡ z))
+chosen true x y z h = inl (refl, h)
+chosen false x y z h = inr (refl, h)
+
+-- ---- the codes of a call
+
+-- a code that passes the test of an address
+record IsPlain (c : ℕ) : Type 0 where
+  low : 33 ≤ c
+  high : c ≤ 126
+
+plain_from : (c : ℕ) (b : Bool) → nat_le 33 c ≡ b → (b && nat_le c 126) ≡ true → IsPlain c
+plain_from c true e h = record { low = grind (arith, nat_tests); high = grind (arith, nat_tests) }
+plain_from c false e h = cc
+
+plain : (c : ℕ) → IsTrue (address_code c) → IsPlain c
+plain c h = plain_from c (nat_le 33 c) refl h
+
+plain_odd : (c o : ℕ) → IsPlain c → (o ≡ 0x85) ⊎ ((o ≡ 0x16) ⊎ (o ≡ 0xff)) → (odd_octet c == o) ≡ false
+plain_odd c o p h = test_false (odd_octet c) o (λ e. elim (odd_cases c) [
+  | inl k ↦ elim h [ inl u ↦ absurd (omega arith) | inr v ↦ elim v [ inl u ↦ absurd (omega arith) | inr u ↦ absurd (omega arith) ] ]
+  | inr k ↦ elim h [ inl u ↦ absurd (omega arith) | inr v ↦ elim v [ inl u ↦ absurd (omega arith) | inr u ↦ absurd (omega arith) ] ]
+])
+
+more_room : (n room : ℕ) → suc n ≤ room → room ≡ 0 → ⊥
+more_room n room h e = omega arith
+
+pub called_wire : (room : ℕ) (a : List ℕ) → length a ≤ room → AllByRecursion (λ c. IsTrue (address_code c)) a → called room (map odd_octet a ++ 0x85 ∷ []) ≡ Some a
+unfolding called
+called_wire room [] h p = refl
+called_wire room (c ∷ a) h p =
+    let k : IsPlain c = plain c p.0 in
+    let no : (odd_octet c == 0x85) ≡ false = plain_odd c 0x85 k (inl refl) in
+    let some : (room == 0) ≡ false = test_false room 0 (more_room (length a) room h) in
+    let code : code_of (odd_octet c) ≡ Some c = code_of-odd_octet c (omega (arith, k.high)) in
+    let rest : called (room - 1) (map odd_octet a ++ 0x85 ∷ []) ≡ Some a = called_wire (room - 1) a (omega arith) p.1 in
+    rw (no, some, code, rest) refl
+
+ended : (s codes : List ℕ) → at_end s ≡ Some codes → (s ≡ []) × (codes ≡ [])
+ended [] codes e = (refl, cc)
+ended (x ∷ s) codes e = cc
+
+coded : (x : ℕ) (s codes : List ℕ) (room : ℕ) (o : Option ℕ) (r : Option (List ℕ)) → code_of x ≡ o → called room s ≡ r
+    → ((cs : List ℕ) → called room s ≡ Some cs → s ≡ map odd_octet cs ++ 0x85 ∷ [])
+    → with_code o r ≡ Some codes → x ∷ s ≡ map odd_octet codes ++ 0x85 ∷ []
+coded x s codes room None r k q f e = cc
+coded x s codes room (Some c) None k q f e = cc
+coded x s codes room (Some c) (Some cs) k q f e =
+    let same : codes ≡ c ∷ cs = cc in
+    let head : odd_octet c ≡ x = (code_of_some x c k).1 in
+    rw (same, head) (ap (λ t. x ∷ t) (f cs q))
+
+called_step : (room : ℕ) (x : ℕ) (s codes : List ℕ)
+    → ((cs : List ℕ) → called (room - 1) s ≡ Some cs → s ≡ map odd_octet cs ++ 0x85 ∷ [])
+    → cond (x == 0x85) (at_end s) (cond (room == 0) None (with_code (code_of x) (called (room - 1) s))) ≡ Some codes
+    → x ∷ s ≡ map odd_octet codes ++ 0x85 ∷ []
+called_step room x s codes f e = elim (chosen (x == 0x85) _ _ _ e) [
+  | inl h ↦
+      let k = ended s codes h.1 in
+      rw (k.0, k.1, eqb-true x 0x85 h.0) refl
+  | inr h ↦ elim (chosen (room == 0) _ _ _ h.1) [
+    | inl q ↦ cc
+    | inr q ↦ coded x s codes (room - 1) (code_of x) (called (room - 1) s) refl refl f q.1
+  ]
+]
+
+pub called_reads : (room : ℕ) (s : List ℕ) (codes : List ℕ) → called room s ≡ Some codes → s ≡ map odd_octet codes ++ 0x85 ∷ []
+unfolding called
+called_reads room [] codes e = cc
+called_reads room (x ∷ s) codes e = called_step room x s codes (called_reads (room - 1) s) e
+
+-- ---- the address
+
+scanned : (o : Option ℕ) (codes a : List ℕ) → first_wrong o codes ≡ Ok a → (o ≡ None) × (codes ≡ a)
+scanned None codes a e = (refl, cc)
+scanned (Some k) codes a e = cc
+
+pub address_reads : (codes a : List ℕ) → read_address codes ≡ Ok a → (codes ≡ a) × IsAddress a
+address_reads codes a e = elim (chosen (length codes == 0) _ _ _ e) [
+  | inl h ↦ cc
+  | inr h ↦ elim (chosen (nat_lt 7 (length codes)) _ _ _ h.1) [
+    | inl q ↦ cc
+    | inr q ↦
+        let k = scanned (position (λ c. not (address_code c)) codes) codes a q.1 in
+        (k.1, subst IsAddress k.1 (is_address codes (eqb-false (length codes) 0 h.0) (grind (arith, nat_tests)) k.0))
+  ]
+]
+
+none_wrong : (a : List ℕ) → AllByRecursion (λ c. IsTrue (address_code c)) a → position_or_len (λ c. not (address_code c)) a ≡ length a
+none_wrong [] h = refl
+none_wrong (c ∷ a) h = rw (h.0, none_wrong a h.1) (omega arith)
+
+not_found : (k n : ℕ) → k ≡ n → cond (nat_lt k n) (Some k) None ≡ None
+not_found k n e = let t : nat_lt k n ≡ false = grind (arith, nat_tests) in rw t refl
+
+not_long : (n : ℕ) → n ≤ 7 → nat_lt 7 n ≡ false
+not_long n h = grind (arith, nat_tests)
+
+not_empty : (n : ℕ) → 0 < n → n ≡ 0 → ⊥
+not_empty n h e = omega arith
+
+pub address_read : (a : List ℕ) → IsAddress a → read_address a ≡ Ok a
+address_read a h =
+    let none : position (λ c. not (address_code c)) a ≡ None = not_found _ (length a) (none_wrong a h.each) in
+    rw (test_false (length a) 0 (not_empty (length a) h.some), not_long (length a) h.most, none) refl
+
+-- ---- a call behind its EOT
+
+called_to : (o : Option (List ℕ)) (m : Message) → option_and_then (λ codes. call_to (read_address codes)) o ≡ Some m
+    → (codes : List ℕ) × (o ≡ Some codes) × (call_to (read_address codes) ≡ Some m)
+called_to None m e = cc
+called_to (Some codes) m e = (codes, refl, e)
+
+to_call : (r : Result (List ℕ) AddressError) (m : Message) → call_to r ≡ Some m → (a : List ℕ) × (r ≡ Ok a) × (m ≡ Call a)
+to_call (Ok a) m e = (a, refl, cc)
+to_call (Err x) m e = cc
+
+pub call_reads : (rest : List ℕ) (m : Message) → call rest ≡ Some m → (a : List ℕ) × (m ≡ Call a) × IsCall a (0x04 ∷ rest)
+unfolding call
+call_reads rest m e =
+    let p = parts (is_octet 0xff) rest in
+    let q = parts (is_octet 0x16) (skip (is_octet 0xff) rest) in
+    let u = called_to (called 7 (skip (is_octet 0x16) (skip (is_octet 0xff) rest))) m e in
+    let v = to_call (read_address u.0) m u.2 in
+    let w = address_reads u.0 v.0 v.1 in
+    let body : skip (is_octet 0x16) (skip (is_octet 0xff) rest) ≡ map odd_octet v.0 ++ 0x85 ∷ [] = called_reads 7 _ u.0 u.1 ∙ ap (λ x. map odd_octet x ++ 0x85 ∷ []) w.0 in (
+      v.0,
+      v.2,
+      record {
+        pads = p.front;
+        syns = q.front;
+        whole = ap (λ x. 0x04 ∷ x) (p.whole ∙ ap (λ x. p.front ++ x) (q.whole ∙ ap (λ x. q.front ++ x) body)
+            ∙ sym (append_assoc p.front q.front (map odd_octet v.0 ++ 0x85 ∷ [])) ∙ sym (append_assoc (p.front ++ q.front) (map odd_octet v.0) (0x85 ∷ [])));
+        are_pads = pass_are 0xff p.front p.passes;
+        are_syns = pass_are 0x16 q.front q.passes;
+        address = w.1;
+      },
+    )
+
+-- what stands behind the fills begins with neither
+begins_address : (o : ℕ) (a : List ℕ) → (o ≡ 0x16) ⊎ (o ≡ 0xff) → IsAddress a → begins (is_octet o) (map odd_octet a ++ 0x85 ∷ []) ≡ false
+begins_address o [] h p = absurd (omega (arith, p.some))
+begins_address o (c ∷ a) h p = plain_odd c o (plain c p.each.0) (inr h)
+
+begins_syns : (syns rest : List ℕ) → AreAll 0x16 syns → begins (is_octet 0xff) rest ≡ false → begins (is_octet 0xff) (syns ++ rest) ≡ false
+begins_syns [] rest h e = e
+begins_syns (x ∷ syns) rest h e = rw h.0 refl
+
+pub call_read : (rest a : List ℕ) → IsCall a (0x04 ∷ rest) → call rest ≡ Some (Call a)
+unfolding call
+call_read rest a c =
+    let tail : List ℕ = map odd_octet a ++ 0x85 ∷ [] in
+    let grouped : rest ≡ c.pads ++ (c.syns ++ tail) = ap (drop 1) c.whole ∙ append_assoc (c.pads ++ c.syns) (map odd_octet a) (0x85 ∷ []) ∙ append_assoc c.pads c.syns tail in
+    let first : skip (is_octet 0xff) rest ≡ c.syns ++ tail =
+    ap (skip (is_octet 0xff)) grouped ∙ skip-pass (is_octet 0xff) c.pads (c.syns ++ tail) (are_pass 0xff c.pads c.are_pads)
+    ∙ skip-stays (is_octet 0xff) (c.syns ++ tail) (begins_syns c.syns tail c.are_syns (begins_address 0xff a (inr refl) c.address)) in
+    let second : skip (is_octet 0x16) (c.syns ++ tail) ≡ tail =
+    skip-pass (is_octet 0x16) c.syns tail (are_pass 0x16 c.syns c.are_syns)
+    ∙ skip-stays (is_octet 0x16) tail (begins_address 0x16 a (inl refl) c.address) in
+    rw (first, second, called_wire 7 a c.address.most c.address.each, address_read a c.address) refl
+
+-- ---- all
+
+pub equal : (x y : List ℕ) → bytes_eq x y ≡ true → x ≡ y
+equal x y h = (bytes_eq-Decides x y).0 h
+
+pub some_is : {A : Type 0} (x y : A) → Some x ≡ Some y → x ≡ y
+some_is x y e = cc
+
+by_eot : (body : List ℕ) (m : Message) → begins (is_octet 0x04) body ≡ true → call (drop 1 body) ≡ Some m → IsBody m body
+by_eot [] m h e = cc
+by_eot (x ∷ rest) m h e =
+    let k = call_reads rest m e in
+    rw (k.1, eqb-true x 0x04 h) k.2
+
+pub control_reads : (body : List ℕ) (m : Message) → control body ≡ Some m → IsBody m body
+unfolding control
+control_reads body m e = elim (chosen (bytes_eq body (0x04 ∷ [])) _ _ _ e) [
+  | inl h ↦ subst (λ k. IsBody k body) (some_is _ _ h.1) (equal _ _ h.0)
+  | inr e ↦ elim (chosen (bytes_eq body (0x85 ∷ [])) _ _ _ e.1) [
+    | inl h ↦ subst (λ k. IsBody k body) (some_is _ _ h.1) (equal _ _ h.0)
+    | inr e ↦ elim (chosen (bytes_eq body (0x15 ∷ [])) _ _ _ e.1) [
+      | inl h ↦ subst (λ k. IsBody k body) (some_is _ _ h.1) (equal _ _ h.0)
+      | inr e ↦ elim (chosen (bytes_eq body (0x10 ∷ 0xb0 ∷ [])) _ _ _ e.1) [
+        | inl h ↦ subst (λ k. IsBody k body) (some_is _ _ h.1) (equal _ _ h.0)
+        | inr e ↦ elim (chosen (bytes_eq body (0x10 ∷ 0x31 ∷ [])) _ _ _ e.1) [
+          | inl h ↦ subst (λ k. IsBody k body) (some_is _ _ h.1) (equal _ _ h.0)
+          | inr e ↦ elim (chosen (bytes_eq body (0x10 ∷ 0x3b ∷ [])) _ _ _ e.1) [
+            | inl h ↦ subst (λ k. IsBody k body) (some_is _ _ h.1) (equal _ _ h.0)
+            | inr e ↦ elim (chosen (bytes_eq body (0x10 ∷ 0xbc ∷ [])) _ _ _ e.1) [
+              | inl h ↦ subst (λ k. IsBody k body) (some_is _ _ h.1) (equal _ _ h.0)
+              | inr e ↦ elim (chosen (begins (is_octet 0x04) body) _ _ _ e.1) [
+                | inl h ↦ by_eot body m h.0 h.1
+                | inr e ↦ absurd (let h = e.1 in cc)
+              ]
+            ]
+          ]
+        ]
+      ]
+    ]
+  ]
+]
+
+-- a call is longer than EOT alone
+call_control : (a rest : List ℕ) → IsCall a (0x04 ∷ rest) → control (0x04 ∷ rest) ≡ Some (Call a)
+unfolding control
+call_control a [] c = absurd (omega (arith, ap length c.whole, length-append (0x04 ∷ c.pads ++ c.syns ++ map odd_octet a) (0x85 ∷ [])))
+call_control a (x ∷ xs) c = call_read (x ∷ xs) a c
+
+call_body : (a body : List ℕ) → IsCall a body → control body ≡ Some (Call a)
+call_body a [] c = absurd (let h = c.whole in cc)
+call_body a (o ∷ rest) c =
+    let eot : o ≡ 0x04 = let h = c.whole in cc in
+    rw eot (call_control a rest (rw eot at c))
+
+-- a message that is no text
+abbrev pub IsControl : Message → Type 0
+IsControl Eot = Unit {0}
+IsControl (Call a) = Unit {0}
+IsControl Enq = Unit {0}
+IsControl Ack0 = Unit {0}
+IsControl Ack1 = Unit {0}
+IsControl Nak = Unit {0}
+IsControl Wack = Unit {0}
+IsControl Rvi = Unit {0}
+IsControl (Text t) = ⊥
+
+pub control_read : (body : List ℕ) (m : Message) → IsControl m → IsBody m body → control body ≡ Some m
+unfolding control
+control_read body Eot k h = rw h refl
+control_read body (Call a) k h = call_body a body h
+control_read body Enq k h = rw h refl
+control_read body Nak k h = rw h refl
+control_read body Ack0 k h = rw h refl
+control_read body Ack1 k h = rw h refl
+control_read body Wack k h = rw h refl
+control_read body Rvi k h = rw h refl
+control_read body (Text t) k h = absurd k

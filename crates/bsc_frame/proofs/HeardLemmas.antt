@@ -1,0 +1,202 @@
+-- What is heard is what is spelled.
+use Rattle.std.proofs.Common.{◌≡◌, ◌≢◌, ◌⊎◌, inl, inr, ℕ, ◌≤◌, ◌==◌, true, false, refl, sym, ap, subst, ◌∙◌, arith, List, [], ◌∷◌, ◌++◌, length, drop, map, Option, Some, None, length-append}
+use Rattle.std.proofs.lemmas.Bool.{eqb-true}
+use Rattle.std.proofs.lemmas.List.{length-map}
+use Rattle.bsc_octet.specs.Octet.{odd_octet}
+use Rattle.bsc_frame.specs.Texts.{TextValue}
+use Rattle.bsc_frame.specs.Units.{units_wire}
+use Rattle.bsc_frame.specs.Message.{IsMessage}
+use Rattle.bsc_frame.specs.Wire.{wire, framed}
+use Rattle.bsc_frame.specs.Spells.{Spells, IsBody, IsTextBody, Carries, IsFailed, IsNoise}
+use Rattle.bsc_frame.specs.Reading.{is_octet, begins, control, heard, heard_body, whole_or_noise, whole_or_failed, units_at}
+use Rattle.bsc_frame.specs.declared.message.Message.{Message}
+use Rattle.bsc_frame.specs.declared.message.Message.TheVariants.{Eot, Call, Enq, Ack0, Ack1, Nak, Wack, Rvi, Text}
+use Rattle.bsc_frame.specs.declared.message.Heard.{Heard}
+use Rattle.bsc_frame.specs.declared.message.Heard.TheVariants.{Whole, Failed, Noise}
+use Rattle.bsc_frame.proofs.FrontLemmas.{bodies, heard_carried, Ends, trimmed-body, trimmed-begins}
+use Rattle.bsc_frame.proofs.ControlLemmas.{control_reads, control_read, IsControl, chosen}
+use Rattle.bsc_frame.proofs.UnitLemmas.{units_at_reads, units_at_read, units_end, wire_units, length-units_wire}
+
+-- ---- bodies
+
+or_noise : (o : Option Message) (m : Message) → whole_or_noise o ≡ Whole m → o ≡ Some m
+or_noise None m e = cc
+or_noise (Some k) m e = cc
+
+or_failed : (o : Option TextValue) (m : Message) → whole_or_failed o ≡ Whole m → (t : TextValue) × (o ≡ Some t) × (Text t ≡ m)
+or_failed None m e = cc
+or_failed (Some t) m e = (t, refl, cc)
+
+text_reads : (body : List ℕ) (t : TextValue) → begins (is_octet 0x02) body ≡ true → units_at 7 false (drop 1 body) ≡ Some t → IsTextBody t body
+text_reads [] t h e = cc
+text_reads (x ∷ rest) t h e =
+    let r = units_at_reads 7 false rest t e in
+    record { rest = rest; whole = ap (λ z. z ∷ rest) (eqb-true x 0x02 h); units = r.units; text = record { some = r.some; most = r.most; each = r.each } }
+
+pub body_reads : (body : List ℕ) (m : Message) → heard_body body ≡ Whole m → IsBody m body
+unfolding heard_body
+body_reads body m e = elim (chosen (begins (is_octet 0x02) body) _ _ _ e) [
+  | inl h ↦
+      let t = or_failed (units_at 7 false (drop 1 body)) m h.1 in
+      subst (λ k. IsBody k body) t.2 (text_reads body t.0 h.0 t.1)
+  | inr h ↦ control_reads body m (or_noise (control body) m h.1)
+]
+
+-- what the bodies have in common: no SYN first, no PAD last
+record Plain (body : List ℕ) : Type 0 where
+  begins_other : (x : ℕ) × (rest : List ℕ) × (body ≡ x ∷ rest) × ((x == 0x16) ≡ false)
+  ends : Ends body
+
+short : (x : ℕ) → ((x == 0x16) ≡ false) → ((x == 0xff) ≡ false) → (body : List ℕ) → body ≡ x ∷ [] → Plain body
+short x a c body e = record { begins_other = (x, [], e, a); ends = record { front = []; last = x; whole = e; other = c } }
+
+reply : (y : ℕ) → ((y == 0xff) ≡ false) → (body : List ℕ) → body ≡ 0x10 ∷ y ∷ [] → Plain body
+reply y c body e = record { begins_other = (0x10, y ∷ [], e, refl); ends = record { front = 0x10 ∷ []; last = y; whole = e; other = c } }
+
+ends_text : (rest : List ℕ) → Ends rest → Ends (0x02 ∷ rest)
+ends_text rest e = record { front = 0x02 ∷ e.front; last = e.last; whole = ap (λ z. 0x02 ∷ z) e.whole; other = e.other }
+
+plain_body : (body : List ℕ) (m : Message) → IsBody m body → Plain body
+plain_body body Eot h = short 0x04 refl refl body h
+plain_body body (Call a) h = record {
+  begins_other = (0x04, h.pads ++ h.syns ++ map odd_octet a ++ 0x85 ∷ [], h.whole, refl);
+  ends = record { front = 0x04 ∷ h.pads ++ h.syns ++ map odd_octet a; last = 0x85; whole = h.whole; other = refl };
+}
+plain_body body Enq h = short 0x85 refl refl body h
+plain_body body Nak h = short 0x15 refl refl body h
+plain_body body Ack0 h = reply 0xb0 refl body h
+plain_body body Ack1 h = reply 0x31 refl body h
+plain_body body Wack h = reply 0x3b refl body h
+plain_body body Rvi h = reply 0xbc refl body h
+plain_body body (Text t) h = record {
+  begins_other = (0x02, h.rest, h.whole, refl);
+  ends = rw h.whole (ends_text h.rest (units_end false t.units t.end h.rest h.units h.text.some));
+}
+
+control_body : (x : ℕ) (rest : List ℕ) (m : Message) → (x == 0x02) ≡ false → IsControl m → (body : List ℕ) → body ≡ x ∷ rest → IsBody m body → heard_body body ≡ Whole m
+unfolding heard_body
+control_body x rest m n k body e h =
+    let other : begins (is_octet 0x02) body ≡ false = ap (begins (is_octet 0x02)) e ∙ n in
+    rw (other, control_read body m k h) refl
+
+pub body_read : (body : List ℕ) (m : Message) → IsBody m body → heard_body body ≡ Whole m
+unfolding heard_body
+body_read body Eot h = control_body 0x04 [] Eot refl tt body h h
+body_read body (Call a) h = control_body 0x04 _ (Call a) refl tt body h.whole h
+body_read body Enq h = control_body 0x85 [] Enq refl tt body h h
+body_read body Nak h = control_body 0x15 [] Nak refl tt body h h
+body_read body Ack0 h = control_body 0x10 _ Ack0 refl tt body h h
+body_read body Ack1 h = control_body 0x10 _ Ack1 refl tt body h h
+body_read body Wack h = control_body 0x10 _ Wack refl tt body h h
+body_read body Rvi h = control_body 0x10 _ Rvi refl tt body h h
+body_read body (Text t) h =
+    let units : units_at 7 false h.rest ≡ Some t = units_at_read 7 false t.units t.end h.rest h.units h.text.some h.text.most h.text.each in
+    rw (h.whole, units) refl
+
+-- ---- whole
+
+pub heard_spelled : (octets : List ℕ) (m : Message) → Spells octets m → heard octets ≡ Whole m
+heard_spelled octets m s =
+    let p = plain_body s.body m s.is_body in
+    let stops : begins (is_octet 0x16) (s.body ++ s.carried.trail) ≡ false = ap (λ b. begins (is_octet 0x16) (b ++ s.carried.trail)) p.begins_other.2 ∙ p.begins_other.3 in
+    heard_carried octets s.body s.carried s.small stops
+    ∙ ap heard_body (trimmed-body s.body s.carried.trail p.ends s.carried.are_trail)
+    ∙ body_read s.body m s.is_body
+
+loud_whole : (h : Heard) (m : Message) → h ≡ Whole m → h ≢ Noise
+loud_whole h m e n = cc
+
+pub spelled_heard : (octets : List ℕ) (m : Message) → heard octets ≡ Whole m → Spells octets m
+spelled_heard octets m e =
+    let b = bodies octets (loud_whole (heard octets) m e) in
+    record { small = b.small; body = b.body; carried = b.carried; is_body = body_reads b.body m (sym b.same ∙ e) }
+
+-- ---- failed
+
+failed_begins : (body : List ℕ) → heard_body body ≡ Failed → (rest : List ℕ) × (body ≡ 0x02 ∷ rest)
+unfolding heard_body control
+failed_begins [] e = absurd cc
+failed_begins (x ∷ rest) e = elim (chosen (x == 0x02) _ _ _ e) [
+  | inl h ↦ (rest, ap (λ o. o ∷ rest) (eqb-true x 0x02 h.0))
+  | inr h ↦ absurd (not_failed (control (x ∷ rest)) h.1)
+]
+  where
+    not_failed : (o : Option Message) → whole_or_noise o ≡ Failed → ⊥
+    not_failed None e = cc
+    not_failed (Some m) e = cc
+
+text_loud : (rest : List ℕ) → (heard_body (0x02 ∷ rest) ≡ Failed) ⊎ ((m : Message) × (heard_body (0x02 ∷ rest) ≡ Whole m))
+unfolding heard_body
+text_loud rest = by_units (units_at 7 false rest)
+  where
+    by_units : (o : Option TextValue) → (whole_or_failed o ≡ Failed) ⊎ ((m : Message) × (whole_or_failed o ≡ Whole m))
+    by_units None = inl refl
+    by_units (Some t) = inr (Text t, refl)
+
+loud_failed : (h : Heard) → h ≡ Failed → h ≢ Noise
+loud_failed h e n = cc
+
+pub failed_heard : (octets : List ℕ) → heard octets ≡ Failed → IsFailed octets
+failed_heard octets e =
+    let b = bodies octets (loud_failed (heard octets) e) in
+    let f = failed_begins b.body (sym b.same ∙ e) in
+    record { small = b.small; rest = f.0; carried = subst (λ x. Carries octets x) f.1 b.carried; none = λ m s. let k = heard_spelled octets m s in cc }
+
+pub heard_failed : (octets : List ℕ) → IsFailed octets → heard octets ≡ Failed
+heard_failed octets f =
+    let t = trimmed-begins 0x02 (f.rest ++ f.carried.trail) refl in
+    let same : heard octets ≡ heard_body (0x02 ∷ t.0) = heard_carried octets (0x02 ∷ f.rest) f.carried f.small refl ∙ ap heard_body t.1 in
+    elim (text_loud t.0) [
+      | inl h ↦ same ∙ h
+      | inr h ↦ absurd (f.none h.0 (spelled_heard octets h.0 (same ∙ h.1)))
+    ]
+
+-- ---- noise
+
+pub noise_heard : (octets : List ℕ) → heard octets ≡ Noise → IsNoise octets
+noise_heard octets e = (λ m s. let k = heard_spelled octets m s in cc, λ f. let k = heard_failed octets f in cc)
+
+noise_by : (octets : List ℕ) (h : Heard) → heard octets ≡ h → IsNoise octets → heard octets ≡ Noise
+noise_by octets (Whole m) e n = absurd (n.0 m (spelled_heard octets m e))
+noise_by octets Failed e n = absurd (n.1 (failed_heard octets e))
+noise_by octets Noise e n = e
+
+pub heard_noise : (octets : List ℕ) → IsNoise octets → heard octets ≡ Noise
+heard_noise octets n = noise_by octets (heard octets) refl n
+
+-- ---- laws
+
+pub one_message : (octets : List ℕ) (m n : Message) → Spells octets m → Spells octets n → m ≡ n
+one_message octets m n s t =
+    let k : Whole m ≡ Whole n = sym (heard_spelled octets m s) ∙ heard_spelled octets n t in
+    cc
+
+pub length-wire : (m : Message) → IsMessage m → length (wire m) ≤ 1033
+length-wire Eot h = omega arith
+length-wire (Call a) h = omega (arith, h.most, length-append (map odd_octet a ++ 0x85 ∷ []) (0xff ∷ []), length-append (map odd_octet a) (0x85 ∷ []), length-map a odd_octet)
+length-wire Enq h = omega arith
+length-wire Nak h = omega arith
+length-wire Ack0 h = omega arith
+length-wire Ack1 h = omega arith
+length-wire Wack h = omega arith
+length-wire Rvi h = omega arith
+length-wire (Text t) h = omega (arith, h.most, length-units_wire t.units t.end h.each, length-append (units_wire t.units t.end) (0xff ∷ []))
+
+sent : (body : List ℕ) (m : Message) → length (framed body) ≤ 1033 → IsBody m body → Spells (framed body) m
+sent body m short h = record {
+  small = omega arith;
+  body = body;
+  carried = record { pads = []; syns = 0x16 ∷ 0x16 ∷ []; trail = 0xff ∷ []; whole = refl; are_pads = tt; are_syns = (refl, (refl, tt)); some_syn = λ e. cc; are_trail = (refl, tt) };
+  is_body = h;
+}
+
+pub wire_spells : (m : Message) → IsMessage m → Spells (wire m) m
+wire_spells Eot h = sent _ Eot (length-wire Eot h) refl
+wire_spells (Call a) h = sent _ (Call a) (length-wire (Call a) h) (record { pads = 0xff ∷ []; syns = 0x16 ∷ 0x16 ∷ []; whole = refl; are_pads = (refl, tt); are_syns = (refl, (refl, tt)); address = h })
+wire_spells Enq h = sent _ Enq (length-wire Enq h) refl
+wire_spells Nak h = sent _ Nak (length-wire Nak h) refl
+wire_spells Ack0 h = sent _ Ack0 (length-wire Ack0 h) refl
+wire_spells Ack1 h = sent _ Ack1 (length-wire Ack1 h) refl
+wire_spells Wack h = sent _ Wack (length-wire Wack h) refl
+wire_spells Rvi h = sent _ Rvi (length-wire Rvi h) refl
+wire_spells (Text t) h = sent _ (Text t) (length-wire (Text t) h) (record { rest = units_wire t.units t.end; whole = refl; units = wire_units false t.units t.end; text = h })

@@ -1,0 +1,12 @@
+pub mod AddressLemmas
+pub mod ReadLemmas
+pub mod FrontLemmas
+pub mod ControlLemmas
+pub mod HeardLemmas
+pub mod GatherLemmas
+pub mod UnitLemmas
+pub mod DraftLemmas
+pub mod GatherSteps
+pub mod UnitSteps
+pub mod WireSteps
+pub mod OddLemmas

@@ -1,0 +1,135 @@
+-- The steps of reading units.
+use Rattle.std.proofs.Common.{◌≡◌, ℕ, zero, suc, ◌+◌, ◌-◌, ◌<◌, ◌≤◌, ◌==◌, Bool, true, false, cond, refl, sym, ap, ◌∙◌, arith, List, [], ◌∷◌, ◌++◌, length, take, drop, get_or, append_assoc, length-append, Option, Some, None, nat_lt}
+use Rattle.std.proofs.lemmas.Bool.{eq-eqb}
+use Rattle.std.proofs.lemmas.Bool.Decides.{nat_tests}
+use Rattle.bsc_octet.specs.Octet.{odd_octet, longitudinal_sum}
+use Rattle.bsc_octet.proofs.SumLemmas.{longitudinal_sum-lt}
+use Rattle.bsc_frame.specs.Texts.{TextUnit, TextValue, IsUnit}
+use Rattle.bsc_frame.specs.Drafts.{draft_units, IsDraft, TakesUnit}
+use Rattle.bsc_frame.specs.Reading.{gathered, behind_check, behind_start, unit_of, unit_at, units_at, before_units, last_unit}
+use Rattle.bsc_frame.specs.declared.text.End.{End}
+use Rattle.bsc_frame.specs.declared.text.End.TheVariants.{Etb, Etx}
+use Rattle.bsc_frame.specs.declared.text.Draft.{Draft}
+use Rattle.bsc_frame.proofs.ReadLemmas.{test_false, rest_is}
+use Rattle.bsc_frame.proofs.UnitLemmas.{unit_of_reads}
+
+-- ---- the check
+
+is_code : (s : List ℕ) → nat_lt (longitudinal_sum s) 128 ≡ true
+is_code s = grind (arith, nat_tests, longitudinal_sum-lt s)
+
+-- the sum has an octet
+pub check_no : (s : List ℕ) → cond (nat_lt (longitudinal_sum s) 128) (Some (odd_octet (longitudinal_sum s))) None ≡ None → ⊥
+check_no s e = let h : Some (odd_octet (longitudinal_sum s)) ≡ None = rw (is_code s) at e in cc
+
+pub check_is : (s : List ℕ) (k : ℕ) → cond (nat_lt (longitudinal_sum s) 128) (Some (odd_octet (longitudinal_sum s))) None ≡ Some k → k ≡ odd_octet (longitudinal_sum s)
+check_is s k e = let h : Some (odd_octet (longitudinal_sum s)) ≡ Some k = rw (is_code s) at e in cc
+
+pub check_wrong : (s octets : List ℕ) → (get_or octets 0 0 ≡ odd_octet (longitudinal_sum s) → ⊥) → None ≡ behind_check s octets
+check_wrong s [] h = refl
+check_wrong s (x ∷ octets) h = rw (test_false (odd_octet (longitudinal_sum s)) x (λ w. h (sym w))) refl
+
+pub check_right : (s octets : List ℕ) → get_or octets 0 0 ≡ odd_octet (longitudinal_sum s) → (length octets ≡ 0 → ⊥)
+    → Some (take (length octets - 1) (drop 1 octets)) ≡ behind_check s octets
+check_right s [] h p = absurd (p refl)
+check_right s (x ∷ octets) h p = rw (eq-eqb (odd_octet (longitudinal_sum s)) x (sym h)) (ap Some (rest_is (x ∷ octets) 1))
+
+-- ---- one unit
+
+pub at_gathered : (behind : Bool) (s : List ℕ) → None ≡ gathered 147 s → unit_at behind s ≡ None
+unfolding unit_at
+at_gathered behind s e = rw (← e) refl
+
+pub at_checked : (behind : Bool) (s codes rest : List ℕ) → Some (codes, rest) ≡ gathered 147 s → None ≡ behind_check codes rest → unit_at behind s ≡ None
+unfolding unit_at
+at_checked behind s codes rest e h = rw (← e, ← h) refl
+
+pub at_unit : (behind : Bool) (s codes rest more : List ℕ) → Some (codes, rest) ≡ gathered 147 s → Some more ≡ behind_check codes rest
+    → None ≡ unit_of (behind_start behind codes) → unit_at behind s ≡ None
+unfolding unit_at
+at_unit behind s codes rest more e h k = rw (← e, ← h, ← k) refl
+
+pub at_found : (behind : Bool) (s codes rest more : List ℕ) (u : TextUnit) (c : ℕ) → Some (codes, rest) ≡ gathered 147 s → Some more ≡ behind_check codes rest
+    → Some (u, c) ≡ unit_of (behind_start behind codes) → unit_at behind s ≡ Some (u, c, more)
+unfolding unit_at
+at_found behind s codes rest more u c e h k = rw (← e, ← h, ← k) refl
+
+pub found_is_unit : (codes : List ℕ) (u : TextUnit) (c : ℕ) → Some (u, c) ≡ unit_of codes → IsUnit u
+found_is_unit codes u c e = (unit_of_reads codes (u, c) (sym e)).1
+
+-- ---- all units
+
+-- units that were read before
+abbrev pub before_all : List TextUnit → Option TextValue → Option TextValue
+before_all us None = None
+before_all us (Some t) = Some (record { units = us ++ t.units; end = t.end })
+
+-- what the loop keeps
+pub record ReadTo (d : Draft) (n : ℕ) (rest s : List ℕ) : Type 0 where
+  pub draft : IsDraft d
+  pub count : length (draft_units d) ≡ n
+  pub most : n ≤ 7
+  pub same : before_all (draft_units d) (units_at (7 - n) (nat_lt 0 n) rest) ≡ units_at 7 false s
+
+before_more : (us : List TextUnit) (u : TextUnit) (o : Option TextValue) → before_all (us ++ u ∷ []) o ≡ before_all us (before_units u o)
+before_more us u None = refl
+before_more us u (Some t) = ap (λ z. Some (record { units = z; end = t.end })) (append_assoc us (u ∷ []) t.units)
+
+units_next : (n : ℕ) (behind : Bool) (s : List ℕ) (u : TextUnit) (e : ℕ) (rest : List ℕ) → 0 < n → unit_at behind s ≡ Some (u, e, rest)
+    → units_at n behind s ≡ cond (e == 0x1f) (before_units u (units_at (n - 1) true rest)) (last_unit u e rest)
+unfolding units_at
+units_next zero behind s u e rest p h = absurd (omega arith)
+units_next (suc n) behind s u e rest p h = let less : suc n - 1 ≡ n = omega arith in rw (less, h) refl
+
+units_stop : (n : ℕ) (behind : Bool) (s : List ℕ) → unit_at behind s ≡ None → units_at n behind s ≡ None
+unfolding units_at
+units_stop zero behind s h = refl
+units_stop (suc n) behind s h = rw h refl
+
+pub read_stop : (d : Draft) (count : ℕ) (rest s : List ℕ) → ReadTo d count rest s → unit_at (nat_lt 0 count) rest ≡ None → None ≡ units_at 7 false s
+read_stop d count rest s r h = ap (before_all (draft_units d)) (sym (units_stop (7 - count) (nat_lt 0 count) rest h)) ∙ r.same
+
+pub read_more : (d new : Draft) (count e : ℕ) (rest more s : List ℕ) → ReadTo d count rest s → count < 7 → TakesUnit d new (unit_at (nat_lt 0 count) rest) e more → e ≡ 0x1f
+    → ReadTo new (count + 1) more s
+read_more d new count e rest more s r l t us =
+    let next : units_at (7 - count) (nat_lt 0 count) rest ≡ before_units t.unit (units_at (7 - count - 1) true more) =
+    units_next (7 - count) (nat_lt 0 count) rest t.unit e more (omega arith) t.reads ∙ rw us refl in
+    let fewer : 7 - (count + 1) ≡ 7 - count - 1 = omega arith in
+    let behind : nat_lt 0 (count + 1) ≡ true = grind (arith, nat_tests) in
+    record {
+      draft = t.draft;
+      count = ap length t.units ∙ length-append (draft_units d) (t.unit ∷ []) ∙ omega (arith, r.count);
+      most = omega arith;
+      same = rw (fewer, behind, t.units) (before_more (draft_units d) t.unit (units_at (7 - count - 1) true more) ∙ ap (before_all (draft_units d)) (sym next) ∙ r.same);
+    }
+
+read_last : (d new : Draft) (count e : ℕ) (rest more s : List ℕ) → ReadTo d count rest s → count < 7 → (t : TakesUnit d new (unit_at (nat_lt 0 count) rest) e more) → (e ≡ 0x1f → ⊥)
+    → before_all (draft_units d) (last_unit t.unit e more) ≡ units_at 7 false s
+read_last d new count e rest more s r l t us =
+    let next : units_at (7 - count) (nat_lt 0 count) rest ≡ last_unit t.unit e more =
+    units_next (7 - count) (nat_lt 0 count) rest t.unit e more (omega arith) t.reads ∙ rw (test_false e 0x1f us) refl in
+    ap (before_all (draft_units d)) (sym next) ∙ r.same
+
+pub read_extra : (d new : Draft) (count e : ℕ) (rest more s : List ℕ) → ReadTo d count rest s → count < 7 → TakesUnit d new (unit_at (nat_lt 0 count) rest) e more → (e ≡ 0x1f → ⊥)
+    → (length more ≡ 0 → ⊥) → None ≡ units_at 7 false s
+read_extra d new count e rest [] s r l t us p = absurd (p refl)
+read_extra d new count e rest (x ∷ more) s r l t us p = read_last d new count e rest (x ∷ more) s r l t us
+
+pub read_whole : (d new : Draft) (count e : ℕ) (rest more s : List ℕ) (end : End) → ReadTo d count rest s → count < 7 → TakesUnit d new (unit_at (nat_lt 0 count) rest) e more → (e ≡ 0x1f → ⊥)
+    → length more ≡ 0 → cond (e == 0x17) Etb Etx ≡ end → Some (record { units = draft_units new; end = end }) ≡ units_at 7 false s
+read_whole d new count e rest (x ∷ more) s end r l t us p q = absurd (omega arith)
+read_whole d new count e rest [] s end r l t us p q = ap Some (ap (λ z. record { units = z; end = end }) t.units ∙ ap (λ z. record { units = draft_units d ++ t.unit ∷ []; end = z }) (sym q))
+    ∙ read_last d new count e rest [] s r l t us
+
+pub read_all : (d : Draft) (count : ℕ) (rest s : List ℕ) → ReadTo d count rest s → 7 ≤ count → None ≡ units_at 7 false s
+unfolding units_at
+read_all d count rest s r l =
+    let none : 7 - count ≡ 0 = omega arith in
+    ap (before_all (draft_units d)) (sym (ap (λ n. units_at n (nat_lt 0 count) rest) none)) ∙ r.same
+
+pub read_start : (d : Draft) (s : List ℕ) → IsDraft d → draft_units d ≡ [] → ReadTo d 0 s s
+read_start d s h e = record { draft = h; count = ap length e; most = omega arith; same = rw e (nothing_before (units_at 7 false s)) }
+  where
+    nothing_before : (o : Option TextValue) → before_all [] o ≡ o
+    nothing_before None = refl
+    nothing_before (Some t) = refl

@@ -1,0 +1,5 @@
+use Rattle.bsc_frame.proofs.UnitSteps.{ReadTo}
+use Rattle.bsc_frame.proofs.unit_decoder.read_units.Given as goal
+
+abbrev pub invariant-loop-count : goal.invariant-loop-count
+invariant-loop-count l = ReadTo l.draft l.count l.rest l.fn.octets

@@ -1,0 +1,171 @@
+-- What octets read as, found from left to right.
+use Rattle.std.specs.Prelude.{ℕ, ◌-◌, ◌==◌, ◌||◌, ◌&&◌, Bool, true, false, zero, suc, nat_lt, take, if◌then◌else◌, List, [], ◌∷◌, length, drop, Option, Some, None, Result, Ok, Err, option_and_then}
+use Rattle.std.specs.Str.{bytes_eq}
+use Rattle.std.specs.List.{prefix_len}
+use Rattle.bsc_octet.specs.Octet.{code_of, odd_octet, longitudinal_sum, is_record_char}
+use Rattle.bsc_frame.specs.Texts.{TextUnit, TextValue}
+use Rattle.bsc_frame.specs.declared.text.End.TheVariants.{Etb, Etx}
+use Rattle.bsc_frame.specs.Message.{read_address}
+use Rattle.bsc_frame.specs.declared.address.AddressError.{AddressError}
+use Rattle.bsc_frame.specs.declared.message.Message.{Message}
+use Rattle.bsc_frame.specs.declared.message.Message.TheVariants.{Eot, Call, Enq, Ack0, Ack1, Nak, Wack, Rvi, Text}
+use Rattle.bsc_frame.specs.declared.message.Heard.{Heard}
+use Rattle.bsc_frame.specs.declared.message.Heard.TheVariants.{Whole, Failed, Noise}
+
+-- what stands behind the front of octets that pass the test
+unfoldable pub skip : (ℕ → Bool) → List ℕ → List ℕ
+skip test [] = []
+skip test (x ∷ xs) = if test x then skip test xs else x ∷ xs
+
+abbrev pub is_pad_octet : ℕ → Bool
+is_pad_octet x = (x == 0x55) || (x == 0xaa)
+
+abbrev pub is_octet : ℕ → ℕ → Bool
+is_octet octet x = x == octet
+
+-- x before what is left of the rest
+abbrev pub before_rest : ℕ → List ℕ → List ℕ
+before_rest x [] = if x == 0xff then [] else x ∷ []
+before_rest x (y ∷ ys) = x ∷ y ∷ ys
+
+-- without the PAD at the end
+unfoldable pub trimmed : List ℕ → List ℕ
+trimmed [] = []
+trimmed (x ∷ xs) = before_rest x (trimmed xs)
+
+-- nothing may follow the ENQ
+abbrev pub at_end : List ℕ → Option (List ℕ)
+at_end [] = Some []
+at_end (x ∷ xs) = None
+
+abbrev pub with_code : Option ℕ → Option (List ℕ) → Option (List ℕ)
+with_code None codes = None
+with_code (Some c) None = None
+with_code (Some c) (Some codes) = Some (c ∷ codes)
+
+-- the codes up to an ENQ at the end, at most as many as there is room for
+unfoldable pub called : ℕ → List ℕ → Option (List ℕ)
+called room [] = None
+called room (x ∷ xs) =
+    if x == 0x85 then at_end xs
+    else if room == 0 then None
+    else with_code (code_of x) (called (room - 1) xs)
+
+abbrev pub call_to : Result (List ℕ) AddressError → Option Message
+call_to (Ok a) = Some (Call a)
+call_to (Err e) = None
+
+-- a call, behind its EOT
+unfoldable pub call : List ℕ → Option Message
+call rest = option_and_then (λ codes. call_to (read_address codes)) (called 7 (skip (is_octet 0x16) (skip (is_octet 0xff) rest)))
+
+-- whether the first octet is there and passes
+abbrev pub begins : (ℕ → Bool) → List ℕ → Bool
+begins test [] = false
+begins test (x ∷ xs) = test x
+
+-- a body that is no text
+unfoldable pub control : List ℕ → Option Message
+control body =
+    if bytes_eq body (0x04 ∷ []) then Some Eot
+    else if bytes_eq body (0x85 ∷ []) then Some Enq
+    else if bytes_eq body (0x15 ∷ []) then Some Nak
+    else if bytes_eq body (0x10 ∷ 0xb0 ∷ []) then Some Ack0
+    else if bytes_eq body (0x10 ∷ 0x31 ∷ []) then Some Ack1
+    else if bytes_eq body (0x10 ∷ 0x3b ∷ []) then Some Wack
+    else if bytes_eq body (0x10 ∷ 0xbc ∷ []) then Some Rvi
+    else if begins (is_octet 0x04) body then call (drop 1 body)
+    else None
+
+abbrev pub whole_or_noise : Option Message → Heard
+whole_or_noise (Some m) = Whole m
+whole_or_noise None = Noise
+
+-- ---- texts
+
+infixl 10 ◌>>=◌
+abbrev pub ◌>>=◌ : {A B : Type 0} → Option A → (A → Option B) → Option B
+None >>= f = None
+(Some x) >>= f = f x
+
+-- US, ETB or ETX
+abbrev pub is_ending_code : ℕ → Bool
+is_ending_code c = (c == 0x1f) || ((c == 0x17) || (c == 0x03))
+
+abbrev pub before_gathered : ℕ → Option (List ℕ × List ℕ) → Option (List ℕ × List ℕ)
+before_gathered c None = None
+before_gathered c (Some g) = Some (c ∷ g.0, g.1)
+
+abbrev pub gather_code : Option ℕ → List ℕ → Option (List ℕ × List ℕ) → Option (List ℕ × List ℕ)
+gather_code None rest more = None
+gather_code (Some c) rest more = if is_ending_code c then Some (c ∷ [], rest) else before_gathered c more
+
+-- The codes up to the first ending character, without SYN, and the octets behind it: at most as many
+-- codes as there is room for.
+unfoldable pub gathered : ℕ → List ℕ → Option (List ℕ × List ℕ)
+gathered room [] = None
+gathered room (x ∷ xs) =
+    if x == 0x16 then gathered room xs
+    else if room == 0 then None
+    else gather_code (code_of x) xs (gathered (room - 1) xs)
+
+-- the octets behind the check of the codes
+abbrev pub behind_check : List ℕ → List ℕ → Option (List ℕ)
+behind_check codes [] = None
+behind_check codes (k ∷ rest) = if odd_octet (longitudinal_sum codes) == k then Some rest else None
+
+-- the codes without an STX behind a check
+abbrev pub behind_start : Bool → List ℕ → List ℕ
+behind_start behind codes = if behind && begins (is_octet 0x02) codes then drop 1 codes else codes
+
+-- the unit of these characters with its ending character, by what stands behind the characters
+abbrev pub unit_of_tail : List ℕ → List ℕ → Option (TextUnit × ℕ)
+unit_of_tail chars [] = None
+unit_of_tail chars (e ∷ []) = Some (record { chars = chars; em = false }, e)
+unit_of_tail chars (m ∷ e ∷ []) = if m == 0x19 then Some (record { chars = chars; em = true }, e) else None
+unit_of_tail chars (m ∷ e ∷ x ∷ xs) = None
+
+unfoldable pub unit_of : List ℕ → Option (TextUnit × ℕ)
+unit_of codes =
+    if nat_lt 144 (prefix_len is_record_char codes) then None
+    else unit_of_tail (take (prefix_len is_record_char codes) codes) (drop (prefix_len is_record_char codes) codes)
+
+-- the first unit, its ending character, and the octets behind its check
+unfoldable pub unit_at : Bool → List ℕ → Option (TextUnit × ℕ × List ℕ)
+unit_at behind octets = do
+  g ← gathered 147 octets
+  rest ← behind_check g.0 g.1
+  u ← unit_of (behind_start behind g.0)
+  Some (u.0, u.1, rest)
+
+abbrev pub before_units : TextUnit → Option TextValue → Option TextValue
+before_units u None = None
+before_units u (Some t) = Some (record { units = u ∷ t.units; end = t.end })
+
+-- nothing may follow the last unit
+abbrev pub last_unit : TextUnit → ℕ → List ℕ → Option TextValue
+last_unit u e [] = Some (record { units = u ∷ []; end = if e == 0x17 then Etb else Etx })
+last_unit u e (x ∷ xs) = None
+
+-- at most so many units
+unfoldable pub units_at : ℕ → Bool → List ℕ → Option TextValue
+units_at zero behind octets = None
+units_at (suc n) behind octets = do
+  u ← unit_at behind octets
+  if u.1 == 0x1f then before_units u.0 (units_at n true u.2) else last_unit u.0 u.1 u.2
+
+abbrev pub whole_or_failed : Option TextValue → Heard
+whole_or_failed (Some t) = Whole (Text t)
+whole_or_failed None = Failed
+
+-- what a body is heard as
+unfoldable pub heard_body : List ℕ → Heard
+heard_body body = if begins (is_octet 0x02) body then whole_or_failed (units_at 7 false (drop 1 body)) else whole_or_noise (control body)
+
+-- behind the pads
+abbrev pub heard_from_syn : List ℕ → Heard
+heard_from_syn rest =
+    if begins (is_octet 0x16) rest then heard_body (trimmed (skip (is_octet 0x16) rest)) else Noise
+
+unfoldable pub heard : List ℕ → Heard
+heard octets = if nat_lt 2048 (length octets) then Noise else heard_from_syn (skip is_pad_octet octets)

@@ -1,0 +1,94 @@
+-- Which octets spell a message: what is sent, and what is heard in its place with other pads and fills.
+use Rattle.std.specs.Prelude.{◌≡◌, ◌≢◌, ◌⊎◌, ℕ, ◌≤◌, Bool, true, false, List, [], ◌∷◌, ◌++◌, length, map}
+use Rattle.std.specs.List.{AllByRecursion}
+use Rattle.bsc_octet.specs.Octet.{odd_octet, longitudinal_sum}
+use Rattle.bsc_frame.specs.Addresses.{IsAddress}
+use Rattle.bsc_frame.specs.Texts.{TextUnit, TextValue, IsText}
+use Rattle.bsc_frame.specs.Units.{unit_codes, ending}
+use Rattle.bsc_frame.specs.declared.text.End.{End}
+use Rattle.bsc_frame.specs.declared.message.Message.{Message}
+use Rattle.bsc_frame.specs.declared.message.Message.TheVariants.{Eot, Call, Enq, Ack0, Ack1, Nak, Wack, Rvi, Text}
+
+-- leading pads
+abbrev pub ArePads : List ℕ → Type 0
+ArePads = AllByRecursion (λ x. (x ≡ 0x55) ⊎ (x ≡ 0xaa))
+
+-- the octet alone, any number of times
+abbrev pub AreAll : ℕ → List ℕ → Type 0
+AreAll octet = AllByRecursion (λ x. x ≡ octet)
+
+-- a call: EOT, any PAD, any SYN, the address, ENQ
+pub record IsCall (a body : List ℕ) : Type 0 where
+  pub pads : List ℕ
+  pub syns : List ℕ
+  pub whole : body ≡ 0x04 ∷ pads ++ syns ++ map odd_octet a ++ 0x85 ∷ []
+  pub are_pads : AreAll 0xff pads
+  pub are_syns : AreAll 0x16 syns
+  pub address : IsAddress a
+
+-- the codes, each preceded by any SYN
+abbrev pub AreFilled : List ℕ → List ℕ → Type 0
+AreFilled [] octets = octets ≡ []
+AreFilled (c ∷ cs) octets = (fill rest : List ℕ) × AreAll 0x16 fill × (octets ≡ fill ++ odd_octet c ∷ rest) × AreFilled cs rest
+
+-- what may stand before a unit and in its sum: nothing, and behind a check one STX
+abbrev pub IsStart : Bool → List ℕ → Type 0
+IsStart behind start = (start ≡ []) ⊎ ((behind ≡ true) × (start ≡ 0x02 ∷ []))
+
+-- Units: each is its codes with fills, and at once the check of these codes. An STX behind the check
+-- of a US is the first code of the next sum.
+abbrev pub AreUnits : Bool → List TextUnit → End → List ℕ → Type 0
+AreUnits behind [] end octets = octets ≡ []
+AreUnits behind (u ∷ us) end octets =
+    (start front rest : List ℕ) × IsStart behind start
+    × AreFilled (start ++ unit_codes u (ending us end)) front
+    × (octets ≡ front ++ odd_octet (longitudinal_sum (start ++ unit_codes u (ending us end))) ∷ rest)
+    × AreUnits true us end rest
+
+-- a text: STX, then its units
+pub record IsTextBody (t : TextValue) (body : List ℕ) : Type 0 where
+  pub rest : List ℕ
+  pub whole : body ≡ 0x02 ∷ rest
+  pub units : AreUnits false t.units t.end rest
+  pub text : IsText t
+
+-- the body of a message
+abbrev pub IsBody : Message → List ℕ → Type 0
+IsBody Eot body = body ≡ 0x04 ∷ []
+IsBody (Call a) body = IsCall a body
+IsBody Enq body = body ≡ 0x85 ∷ []
+IsBody Nak body = body ≡ 0x15 ∷ []
+IsBody Ack0 body = body ≡ 0x10 ∷ 0xb0 ∷ []
+IsBody Ack1 body = body ≡ 0x10 ∷ 0x31 ∷ []
+IsBody Wack body = body ≡ 0x10 ∷ 0x3b ∷ []
+IsBody Rvi body = body ≡ 0x10 ∷ 0xbc ∷ []
+IsBody (Text t) body = IsTextBody t body
+
+-- the octets are pads, at least one SYN, this, and PAD
+pub record Carries (octets body : List ℕ) : Type 0 where
+  pub pads : List ℕ
+  pub syns : List ℕ
+  pub trail : List ℕ
+  pub whole : octets ≡ pads ++ syns ++ body ++ trail
+  pub are_pads : ArePads pads
+  pub are_syns : AreAll 0x16 syns
+  pub some_syn : syns ≢ []
+  pub are_trail : AreAll 0xff trail
+
+-- the octets spell the message
+pub record Spells (octets : List ℕ) (m : Message) : Type 0 where
+  pub small : length octets ≤ 2048
+  pub body : List ℕ
+  pub carried : Carries octets body
+  pub is_body : IsBody m body
+
+-- the octets begin as a text and spell no message
+pub record IsFailed (octets : List ℕ) : Type 0 where
+  pub small : length octets ≤ 2048
+  pub rest : List ℕ
+  pub carried : Carries octets (0x02 ∷ rest)
+  pub none : (m : Message) → Spells octets m → ⊥
+
+-- the octets spell no message, and do not begin as a text
+abbrev pub IsNoise : List ℕ → Type 0
+IsNoise octets = ((m : Message) → Spells octets m → ⊥) × (IsFailed octets → ⊥)

@@ -1,0 +1,183 @@
+//! From octets to what they are heard as.
+ghost use Rattle.std.specs.Prelude.{◌≡◌, ℕ, ◌↔◌, option_map, false};
+ghost use Rattle.bsc_frame.specs.Addresses.{address_code};
+ghost use Rattle.bsc_frame.specs.Spells.{Spells, IsFailed, IsNoise};
+ghost use Rattle.bsc_frame.specs.declared.message.Message.{Message};
+ghost use Rattle.bsc_frame.specs.Reading.{skip, is_pad_octet, is_octet, trimmed, called, call, control, heard_body, heard, begins, units_at, whole_or_failed};
+
+use crate::unit_decoder::read_units;
+use crate::{Address, Heard, Message};
+use arrayvec::ArrayVec;
+use bsc_octet::{all_odd, from_line};
+
+/// The most octets that are heard as one transmission.
+const MAX_HEARD: usize = 2048;
+
+/// Whether the octet is a leading pad.
+fn is_pad(octet: u8) -> bool
+    ensures { result ≡ is_pad_octet octet }
+{
+    octet == 0x55 || octet == 0xaa
+}
+
+/// What stands behind the leading pads.
+#[tactic(auto, using(crate::proofs::ReadLemmas::skip_pass, crate::proofs::ReadLemmas::skip_stop, crate::proofs::ReadLemmas::skip_end))]
+fn behind_pads(octets: &[u8]) -> &[u8]
+    ensures { result.now ≡ skip is_pad_octet octets.now }
+{
+    for (start, octet) in octets.iter().enumerate() {
+        if !is_pad(*octet) {
+            return &octets[start..];
+        }
+    }
+    &octets[octets.len()..]
+}
+
+/// What stands behind the front that is of this octet alone.
+#[tactic(auto, using(crate::proofs::ReadLemmas::skip_pass, crate::proofs::ReadLemmas::skip_stop, crate::proofs::ReadLemmas::skip_end))]
+fn behind_all(octets: &[u8], octet: u8) -> &[u8]
+    ensures { result.now ≡ skip (is_octet octet) octets.now }
+{
+    for (start, x) in octets.iter().enumerate() {
+        if *x != octet {
+            return &octets[start..];
+        }
+    }
+    &octets[octets.len()..]
+}
+
+/// Without the pads at the end.
+#[tactic(auto, using(crate::proofs::ReadLemmas::trimmed_less, crate::proofs::ReadLemmas::trimmed_done, crate::proofs::ReadLemmas::trimmed_none))]
+fn trim(octets: &[u8]) -> &[u8]
+    ensures { result.now ≡ trimmed octets.now }
+{
+    let mut end = octets.len();
+    while end > 0 {
+        if octets[end - 1] != 0xff {
+            return &octets[..end];
+        }
+        end -= 1;
+    }
+    &octets[..0]
+}
+
+/// The address of a call, behind its EOT.
+#[tactic(auto, using(crate::proofs::ReadLemmas::called_end, crate::proofs::ReadLemmas::called_early, crate::proofs::ReadLemmas::called_full, crate::proofs::ReadLemmas::called_wrong, crate::proofs::ReadLemmas::called_more, crate::proofs::ReadLemmas::called_none))]
+fn address_codes(octets: &[u8]) -> Option<ArrayVec<u8, 7>>
+    ensures { option_map (λ v. v.items) result ≡ called 7 octets.now }
+{
+    let mut codes = ArrayVec::new();
+    for (i, octet) in octets.iter().enumerate() {
+        if *octet == 0x85 {
+            return if i + 1 == octets.len() {
+                Some(codes)
+            } else {
+                None
+            };
+        }
+        if codes.is_full() {
+            return None;
+        }
+        let Some(code) = from_line(*octet) else {
+            return None;
+        };
+        codes.push(code);
+    }
+    None
+}
+
+/// The call, behind its EOT.
+#[tactic(auto, unfolding(crate::specs::Reading::call))]
+fn call_behind(octets: &[u8]) -> Option<Message>
+    ensures { result ≡ call octets.now }
+{
+    let codes = address_codes(behind_all(behind_all(octets, 0xff), 0x16))?;
+    let address = Address::read(&codes).ok()?;
+    Some(Message::Call(address))
+}
+
+/// The message of a body that is no text.
+#[tactic(auto, unfolding(crate::specs::Reading::control))]
+fn control_of(body: &[u8]) -> Option<Message>
+    ensures { result ≡ control body.now }
+{
+    if body == [0x04].as_slice() {
+        Some(Message::Eot)
+    } else if body == [0x85].as_slice() {
+        Some(Message::Enq)
+    } else if body == [0x15].as_slice() {
+        Some(Message::Nak)
+    } else if body == [0x10, 0xb0].as_slice() {
+        Some(Message::Ack0)
+    } else if body == [0x10, 0x31].as_slice() {
+        Some(Message::Ack1)
+    } else if body == [0x10, 0x3b].as_slice() {
+        Some(Message::Wack)
+    } else if body == [0x10, 0xbc].as_slice() {
+        Some(Message::Rvi)
+    } else if starts_with(body, 0x04) {
+        call_behind(&body[1..])
+    } else {
+        None
+    }
+}
+
+/// Whether the octet comes first.
+fn starts_with(octets: &[u8], octet: u8) -> bool
+    ensures { result ≡ begins (is_octet octet) octets.now }
+{
+    !octets.is_empty() && octets[0] == octet
+}
+
+/// What a text is heard as, behind its STX.
+#[tactic(auto, using(crate::proofs::OddLemmas::not_odd_fails))]
+fn text_heard(units: &[u8]) -> Heard
+    ensures { result ≡ whole_or_failed (units_at 7 false units.now) }
+{
+    if !all_odd(units) {
+        return Heard::Failed;
+    }
+    match read_units(units) {
+        Some(text) => Heard::Whole(Message::Text(text)),
+        None => Heard::Failed,
+    }
+}
+
+/// What a body is heard as.
+#[tactic(auto, unfolding(crate::specs::Reading::heard_body))]
+fn body_heard(body: &[u8]) -> Heard
+    ensures { result ≡ heard_body body.now }
+{
+    if starts_with(body, 0x02) {
+        return text_heard(&body[1..]);
+    }
+    match control_of(body) {
+        Some(message) => Heard::Whole(message),
+        None => Heard::Noise,
+    }
+}
+
+/// What the octets are heard as.
+pub fn decode(octets: &[u8]) -> Heard
+    ensures whole { (m : Message) → (result ≡ Heard.Whole m) ↔ Spells octets.now m }
+    ensures failed { (result ≡ Heard.Failed) ↔ IsFailed octets.now }
+    ensures noise { (result ≡ Heard.Noise) ↔ IsNoise octets.now }
+{
+    octets_heard(octets)
+}
+
+/// What the octets are heard as, found from left to right.
+#[tactic(auto, unfolding(crate::specs::Reading::heard))]
+fn octets_heard(octets: &[u8]) -> Heard
+    ensures { result ≡ heard octets.now }
+{
+    if octets.len() > MAX_HEARD {
+        return Heard::Noise;
+    }
+    let rest = behind_pads(octets);
+    if starts_with(rest, 0x16) {
+        body_heard(trim(behind_all(rest, 0x16)))
+    } else {
+        Heard::Noise
+    }
+}
