@@ -7,7 +7,7 @@ use Rattle.std.proofs.lemmas.Bool.Decides.{nat_tests}
 use Rattle.std.proofs.lemmas.Slice.Eq.{bytes_eq-Decides}
 use Rattle.bsc_octet.specs.Octet.{odd_octet, code_of}
 use Rattle.bsc_octet.proofs.ParityLemmas.{odd_cases, code_of_some, code_of-odd_octet}
-use Rattle.bsc_frame.specs.Addresses.{IsAddress, address_code}
+use Rattle.bsc_frame.specs.Addresses.{IsAddress, is_address_code}
 use Rattle.bsc_frame.specs.Message.{read_address, first_wrong}
 use Rattle.bsc_frame.specs.Spells.{AreAll, IsCall, IsBody}
 use Rattle.bsc_frame.specs.Reading.{skip, is_octet, begins, called, at_end, with_code, call, call_to, control}
@@ -34,7 +34,7 @@ plain_from : (c : ℕ) (b : Bool) → nat_le 33 c ≡ b → (b && nat_le c 126) 
 plain_from c true e h = record { low = grind (arith, nat_tests); high = grind (arith, nat_tests) }
 plain_from c false e h = cc
 
-plain : (c : ℕ) → IsTrue (address_code c) → IsPlain c
+plain : (c : ℕ) → IsTrue (is_address_code c) → IsPlain c
 plain c h = plain_from c (nat_le 33 c) refl h
 
 plain_odd : (c o : ℕ) → IsPlain c → (o ≡ 0x85) ⊎ ((o ≡ 0x16) ⊎ (o ≡ 0xff)) → (odd_octet c == o) ≡ false
@@ -46,7 +46,7 @@ plain_odd c o p h = test_false (odd_octet c) o (λ e. elim (odd_cases c) [
 more_room : (n room : ℕ) → suc n ≤ room → room ≡ 0 → ⊥
 more_room n room h e = omega arith
 
-pub called_wire : (room : ℕ) (a : List ℕ) → length a ≤ room → AllByRecursion (λ c. IsTrue (address_code c)) a → called room (map odd_octet a ++ 0x85 ∷ []) ≡ Some a
+pub called_wire : (room : ℕ) (a : List ℕ) → length a ≤ room → AllByRecursion (λ c. IsTrue (is_address_code c)) a → called room (map odd_octet a ++ 0x85 ∷ []) ≡ Some a
 unfolding called
 called_wire room [] h p = refl
 called_wire room (c ∷ a) h p =
@@ -102,12 +102,12 @@ address_reads codes a e = elim (chosen (length codes == 0) _ _ _ e) [
   | inr h ↦ elim (chosen (nat_lt 7 (length codes)) _ _ _ h.1) [
     | inl q ↦ cc
     | inr q ↦
-        let k = scanned (position (λ c. not (address_code c)) codes) codes a q.1 in
+        let k = scanned (position (λ c. not (is_address_code c)) codes) codes a q.1 in
         (k.1, subst IsAddress k.1 (is_address codes (eqb-false (length codes) 0 h.0) (grind (arith, nat_tests)) k.0))
   ]
 ]
 
-none_wrong : (a : List ℕ) → AllByRecursion (λ c. IsTrue (address_code c)) a → position_or_len (λ c. not (address_code c)) a ≡ length a
+none_wrong : (a : List ℕ) → AllByRecursion (λ c. IsTrue (is_address_code c)) a → position_or_len (λ c. not (is_address_code c)) a ≡ length a
 none_wrong [] h = refl
 none_wrong (c ∷ a) h = rw (h.0, none_wrong a h.1) (omega arith)
 
@@ -122,7 +122,7 @@ not_empty n h e = omega arith
 
 pub address_read : (a : List ℕ) → IsAddress a → read_address a ≡ Ok a
 address_read a h =
-    let none : position (λ c. not (address_code c)) a ≡ None = not_found _ (length a) (none_wrong a h.each) in
+    let none : position (λ c. not (is_address_code c)) a ≡ None = not_found _ (length a) (none_wrong a h.each) in
     rw (test_false (length a) 0 (not_empty (length a) h.some), not_long (length a) h.most, none) refl
 
 -- ---- a call behind its EOT

@@ -1,4 +1,5 @@
--- Which octets spell a message: what is sent, and what is heard in its place with other pads and fills.
+-- Which octets spell a message: what is sent for it, and what other equipment may send in its place, with
+-- other pads and fills (GA27-3004: synchronization, pads and SYN time fill; how far each is accepted is own).
 use Rattle.std.specs.Prelude.{◌≡◌, ◌≢◌, ◌⊎◌, ℕ, ◌≤◌, Bool, true, false, List, [], ◌∷◌, ◌++◌, length, map}
 use Rattle.std.specs.List.{AllByRecursion}
 use Rattle.bsc_octet.specs.Octet.{odd_octet, longitudinal_sum}
@@ -9,15 +10,16 @@ use Rattle.bsc_frame.specs.declared.text.End.{End}
 use Rattle.bsc_frame.specs.declared.message.Message.{Message}
 use Rattle.bsc_frame.specs.declared.message.Message.TheVariants.{Eot, Call, Enq, Ack0, Ack1, Nak, Wack, Rvi, Text}
 
--- leading pads
+-- Leading pads: octets 55 and AA alone (GA27-3004: pad format).
 abbrev pub ArePads : List ℕ → Type 0
 ArePads = AllByRecursion (λ x. (x ≡ 0x55) ⊎ (x ≡ 0xaa))
 
--- the octet alone, any number of times
+-- One octet, any number of times.
 abbrev pub AreAll : ℕ → List ℕ → Type 0
 AreAll octet = AllByRecursion (λ x. x ≡ octet)
 
--- a call: EOT, any PAD, any SYN, the address, ENQ
+-- The body of a call: EOT, any PAD, any SYN, the address with odd parity, ENQ (GA27-3004: polling and
+-- selection).
 pub record IsCall (a body : List ℕ) : Type 0 where
   pub pads : List ℕ
   pub syns : List ℕ
@@ -26,17 +28,17 @@ pub record IsCall (a body : List ℕ) : Type 0 where
   pub are_syns : AreAll 0x16 syns
   pub address : IsAddress a
 
--- the codes, each preceded by any SYN
+-- Codes with odd parity, each preceded by any SYN, which are fill and in no sum (GA27-3004: SYN time fill).
 abbrev pub AreFilled : List ℕ → List ℕ → Type 0
 AreFilled [] octets = octets ≡ []
 AreFilled (c ∷ cs) octets = (fill rest : List ℕ) × AreAll 0x16 fill × (octets ≡ fill ++ odd_octet c ∷ rest) × AreFilled cs rest
 
--- what may stand before a unit and in its sum: nothing, and behind a check one STX
+-- What may stand before the codes of a unit and in its sum: nothing, and behind the check of a US one STX.
 abbrev pub IsStart : Bool → List ℕ → Type 0
 IsStart behind start = (start ≡ []) ⊎ ((behind ≡ true) × (start ≡ 0x02 ∷ []))
 
--- Units: each is its codes with fills, and at once the check of these codes. An STX behind the check
--- of a US is the first code of the next sum.
+-- The units of a text: for each its codes with fills, and at once, without fill, the check of these codes.
+-- An STX behind the check of a US is the first code of the next sum (GA27-3004: intermediate text blocks).
 abbrev pub AreUnits : Bool → List TextUnit → End → List ℕ → Type 0
 AreUnits behind [] end octets = octets ≡ []
 AreUnits behind (u ∷ us) end octets =
@@ -45,14 +47,14 @@ AreUnits behind (u ∷ us) end octets =
     × (octets ≡ front ++ odd_octet (longitudinal_sum (start ++ unit_codes u (ending us end))) ∷ rest)
     × AreUnits true us end rest
 
--- a text: STX, then its units
+-- The body of a text: STX, then its units.
 pub record IsTextBody (t : TextValue) (body : List ℕ) : Type 0 where
   pub rest : List ℕ
   pub whole : body ≡ 0x02 ∷ rest
   pub units : AreUnits false t.units t.end rest
   pub text : IsText t
 
--- the body of a message
+-- The body of a message, a line each.
 abbrev pub IsBody : Message → List ℕ → Type 0
 IsBody Eot body = body ≡ 0x04 ∷ []
 IsBody (Call a) body = IsCall a body
@@ -64,7 +66,7 @@ IsBody Wack body = body ≡ 0x10 ∷ 0x3b ∷ []
 IsBody Rvi body = body ≡ 0x10 ∷ 0xbc ∷ []
 IsBody (Text t) body = IsTextBody t body
 
--- the octets are pads, at least one SYN, this, and PAD
+-- A transmission that carries a body: leading pads, at least one SYN, the body, any PAD.
 pub record Carries (octets body : List ℕ) : Type 0 where
   pub pads : List ℕ
   pub syns : List ℕ
@@ -75,20 +77,21 @@ pub record Carries (octets body : List ℕ) : Type 0 where
   pub some_syn : syns ≢ []
   pub are_trail : AreAll 0xff trail
 
--- the octets spell the message
+-- The octets spell the message: they carry its body, and are at most 2,048 (the limit is own).
 pub record Spells (octets : List ℕ) (m : Message) : Type 0 where
   pub small : length octets ≤ 2048
   pub body : List ℕ
   pub carried : Carries octets body
   pub is_body : IsBody m body
 
--- the octets begin as a text and spell no message
+-- The octets failed as a text: they begin with STX behind SYN, and spell no message (GA27-3004: a text
+-- whose check or form failed is answered by NAK).
 pub record IsFailed (octets : List ℕ) : Type 0 where
   pub small : length octets ≤ 2048
   pub rest : List ℕ
   pub carried : Carries octets (0x02 ∷ rest)
   pub none : (m : Message) → Spells octets m → ⊥
 
--- the octets spell no message, and do not begin as a text
+-- Noise: the octets spell no message and have not failed as a text.
 abbrev pub IsNoise : List ℕ → Type 0
 IsNoise octets = ((m : Message) → Spells octets m → ⊥) × (IsFailed octets → ⊥)

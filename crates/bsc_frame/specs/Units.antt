@@ -1,4 +1,5 @@
--- What a unit sees of a text, and what is sent for the units.
+-- The codes of a unit, and the octets that are sent for the units of a text (GA27-3004: intermediate text
+-- blocks, each with its own check).
 use Rattle.std.specs.Prelude.{ℕ, if◌then◌else◌, List, [], ◌∷◌, ◌++◌, map}
 use Rattle.bsc_octet.specs.Octet.{odd_octet, longitudinal_sum}
 use Rattle.bsc_frame.specs.Texts.{TextUnit}
@@ -6,27 +7,30 @@ use Rattle.bsc_frame.specs.declared.text.End.{End}
 use Rattle.bsc_frame.specs.declared.text.End.TheVariants.{Etb, Etx}
 use Rattle.bsc_frame.specs.declared.text.Unit.{Unit as Lent}
 
--- a unit that is lent
+-- A lent unit, by its characters and mark.
 abbrev pub text_unit : Lent → TextUnit
 text_unit u = record { chars = u.chars.now; em = u.em }
 
+-- The ending character of a text: ETB where more blocks follow, else ETX.
 abbrev pub end_code : End → ℕ
 end_code Etb = 0x17
 end_code Etx = 0x03
 
--- the character that ends a unit before these: US for each but the last
+-- The ending character of a unit that stands before these: US for each unit but the last.
 abbrev pub ending : List TextUnit → End → ℕ
 ending [] end = end_code end
 ending (u ∷ us) end = 0x1f
 
--- the codes of a unit: its characters, EM where it is marked, its ending character
+-- The codes of a unit: its characters, EM where it is marked, its ending character. These are in its check.
 abbrev pub unit_codes : TextUnit → ℕ → List ℕ
 unit_codes u e = u.chars ++ (if u.em then 0x19 ∷ [] else []) ++ e ∷ []
 
--- each of the codes, and the check
+-- What is sent for a unit: each of its codes with odd parity, then the check octet, which is the
+-- longitudinal sum of the codes, itself with odd parity.
 abbrev pub unit_wire : TextUnit → ℕ → List ℕ
 unit_wire u e = map odd_octet (unit_codes u e) ++ odd_octet (longitudinal_sum (unit_codes u e)) ∷ []
 
+-- What is sent for the units of a text.
 abbrev pub units_wire : List TextUnit → End → List ℕ
 units_wire [] end = []
 units_wire (u ∷ us) end = unit_wire u (ending us end) ++ units_wire us end

@@ -1,24 +1,39 @@
-//! Addresses of terminals.
-ghost use Rattle.std.specs.Prelude.{◌≡◌, ◌≢◌, IfOk, not, position};
-ghost use Rattle.bsc_frame.specs.Addresses.{IsAddress, address_code};
+//! Addresses: the characters by which the control station calls a terminal.
+ghost use Rattle.std.specs.Prelude.{◌≡◌, ◌≢◌, ◌==◌, IfOk, not, position};
+ghost use Rattle.std.specs.Ordering.{nat_cmp, as_partial_cmp};
+ghost use Rattle.std.specs.Cmp.Lexicographic.{slice_cmp, nat_list_cmp_total, nat_list_eq_equiv};
+ghost use Rattle.std.specs.Cmp.{partial_order_from_own_ties};
+ghost use Rattle.std.specs.Cmp.Rules.{comparing, hashing};
+ghost use Rattle.std.specs.Hash as fed;
+ghost use Rattle.std.proofs.Common.{rules};
+ghost use lib.Pointwise.{pointwise};
+ghost use Rattle.bsc_frame.specs.Addresses.{IsAddress, is_address_code};
 
+use std::cmp::Ordering;
+use std::hash::{Hash, Hasher};
 use std::marker::Model;
+use thiserror::Error;
 
 /// Why codes are no address.
-#[derive(Clone, Copy, Debug, PartialEq, Eq)]
+#[derive(Clone, Copy, Debug, PartialEq, Eq, Error)]
 pub enum AddressError {
     /// There is no code.
+    #[error("the address is empty")]
     Empty,
 
     /// There are more than seven codes.
+    #[error("the address has more than seven characters")]
     TooLong,
 
-    /// The first code, by its place, that is not 0x21 to 0x7e.
+    /// The place, from 0, of the first code that is not 0x21 to 0x7e.
+    #[error("wrong character at {0}")]
     BadChar(usize),
 }
 
-/// One to seven codes from 0x21 to 0x7e.
-#[derive(Clone, Copy, Debug, PartialEq, Eq, PartialOrd, Ord, Hash)]
+/// One to seven codes from 0x21 to 0x7e (own; GA27-3004 leaves the addresses of a line to its owner).
+///
+/// Equality, order and hash are those of the list of its codes.
+#[derive(Clone, Copy, Debug)]
 pub struct Address {
     buffer: [u8; 7],
     len: usize,
@@ -39,16 +54,64 @@ impl Model for Address {
     ghost inverse_ok = { λ a h. λ i. record { buffer = h.zeros i; len = h.long i } };
 }
 
+impl PartialEq for Address {
+    ghost eq = { pointwise ◌==◌ };
+
+    ghost laws = { Prim.search (comparing, rules) };
+
+    fn eq(&self, other: &Address) -> bool {
+        self.codes() == other.codes()
+    }
+}
+
+impl Eq for Address {
+    ghost laws = { nat_list_eq_equiv };
+}
+
+impl PartialOrd for Address {
+    ghost partial_cmp = { as_partial_cmp (slice_cmp nat_cmp) };
+
+    ghost laws = { partial_order_from_own_ties (Prim.search (comparing, rules)) (Prim.search (comparing, rules)) };
+
+    fn partial_cmp(&self, other: &Address) -> Option<Ordering> {
+        Some(self.cmp(other))
+    }
+}
+
+impl Ord for Address {
+    ghost cmp = { slice_cmp nat_cmp };
+
+    ghost total = { nat_list_cmp_total };
+
+    ghost matches_partial_cmp = { Prim.search (comparing, rules) };
+
+    ghost matches_eq = { Prim.search (comparing, rules) };
+
+    fn cmp(&self, other: &Address) -> Ordering {
+        self.codes().cmp(other.codes())
+    }
+}
+
+impl Hash for Address {
+    ghost hash_input = { fed.slice fed.u8 };
+
+    ghost respects_eq = { Prim.search (hashing, rules) };
+
+    fn hash<H: Hasher>(&self, state: &mut H) {
+        self.codes().hash(state);
+    }
+}
+
 /// Whether the code may stand in an address.
 fn is_address_code(code: u8) -> bool
-    ensures { result ≡ address_code code }
+    ensures { result ≡ is_address_code code }
 {
     (0x21..=0x7e).contains(&code)
 }
 
 /// The place of the first code that may not stand in an address.
 fn wrong_place(codes: &[u8]) -> Option<usize>
-    ensures { result ≡ position (λ c. not (address_code c)) codes.now }
+    ensures { result ≡ position (λ c. not (is_address_code c)) codes.now }
 {
     codes.iter().position(|&code| !is_address_code(code))
 }
@@ -56,7 +119,9 @@ fn wrong_place(codes: &[u8]) -> Option<usize>
 impl Address {
     ghost use Rattle.bsc_frame.specs.Message.{read_address};
 
-    /// The address with these codes.
+    /// The address with these codes, each of seven bits and without parity. In this order: `Empty` where
+    /// there is none, `TooLong` where there are more than seven, `BadChar` with the place of the first
+    /// that is not 0x21 to 0x7e.
     pub fn read(codes: &[u8]) -> Result<Address, AddressError>
         ensures value { result ≡ read_address codes.now }
         ensures address { IfOk result (λ a. IsAddress a) }
@@ -78,7 +143,7 @@ impl Address {
         })
     }
 
-    /// The codes.
+    /// The codes, 1 to 7 of them, each 0x21 to 0x7e.
     pub fn codes(&self) -> &[u8]
         ensures value { result.now ≡ self.now }
         ensures address { IsAddress self.now }

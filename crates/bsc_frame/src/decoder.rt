@@ -1,6 +1,6 @@
 //! From octets to what they are heard as.
 ghost use Rattle.std.specs.Prelude.{◌≡◌, ℕ, ◌↔◌, option_map, false};
-ghost use Rattle.bsc_frame.specs.Addresses.{address_code};
+ghost use Rattle.bsc_frame.specs.Addresses.{is_address_code};
 ghost use Rattle.bsc_frame.specs.Spells.{Spells, IsFailed, IsNoise};
 ghost use Rattle.bsc_frame.specs.declared.message.Message.{Message};
 ghost use Rattle.bsc_frame.specs.Reading.{skip, is_pad_octet, is_octet, trimmed, called, call, control, heard_body, heard, begins, units_at, whole_or_failed};

@@ -1,4 +1,8 @@
-//! The messages of a line in octets: what is sent, and what is heard.
+//! The messages of a line in octets: what is sent for each, and what is heard.
+//!
+//! [`encode`] leaves exactly the octets of a message. [`decode`] reads octets as the message that they
+//! spell, whatever pads and SYN fill the other maker's equipment uses, and tells a text that failed from
+//! noise. Nothing here waits, allocates or keeps state between transmissions.
 #![tactic(auto)]
 
 mod address;
