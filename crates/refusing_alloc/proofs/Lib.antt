@@ -1,0 +1,3 @@
+-- What the two proofs by hand share.
+mod Behind
+mod Asks

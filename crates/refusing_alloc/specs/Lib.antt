@@ -1,0 +1,2 @@
+-- What is refused, and what is counted.
+pub mod Refusals

@@ -1,0 +1,82 @@
+//! The allocator, and the one place where the repository's tests own raw memory.
+use crate::tally::{Rule, Tally};
+use std::alloc::{AllocError, Allocator, Global};
+use std::cell::Cell;
+
+/// An allocator over `B` that refuses the requests that a test names. A test makes one over
+/// `rt.alloc()`, and hands `&refusing`, which is a `Copy` allocator, to what it tests.
+///
+/// A request is a call for a new block: an allocation, or a growth or a shrinking of a collection,
+/// since each of these moves to a new block. A refused request changes nothing, as if `B` were out
+/// of memory, and giving a block back is never refused.
+#[derive(Drop)]
+pub struct Refusing<B: Allocator = Global> {
+    inner: B,
+    tally: Cell<Tally>,
+}
+
+impl<B: Allocator> Refusing<B> {
+    /// Refuses nothing yet.
+    pub fn new(inner: B) -> Refusing<B> {
+        Refusing {
+            inner,
+            tally: Cell::new(Tally::new(Rule::Nothing)),
+        }
+    }
+
+    /// From here on refuses nothing. Counting starts anew.
+    pub fn refuse_none(&self) {
+        self.tally.set(Tally::new(Rule::Nothing));
+    }
+
+    /// From here on refuses the request of this number alone, where 1 is the next one. Counting
+    /// starts anew.
+    pub fn refuse_nth(&self, request: usize) {
+        self.tally.set(Tally::new(Rule::Nth { request }));
+    }
+
+    /// From here on refuses the request of this number and each later one, where 1 is the next
+    /// one. Counting starts anew.
+    pub fn refuse_from(&self, request: usize) {
+        self.tally.set(Tally::new(Rule::From { request }));
+    }
+
+    /// From here on refuses each request of more than `size` octets. Counting starts anew.
+    pub fn refuse_larger(&self, size: usize) {
+        self.tally.set(Tally::new(Rule::LargerThan { size }));
+    }
+
+    /// How many requests there were since counting began, refused or not.
+    pub fn requests(&self) -> usize {
+        self.tally.get().requests
+    }
+
+    /// How many requests this allocator refused since counting began. One that `B` could not meet
+    /// is not among them.
+    pub fn refused(&self) -> usize {
+        self.tally.get().refused
+    }
+}
+
+// Takes the cell alone, so that it is one function for every allocator.
+fn refuses(tally: &Cell<Tally>, size: usize) -> bool {
+    let mut now = tally.get();
+    let refused = now.ask(size);
+    tally.set(now);
+    refused
+}
+
+unsafe impl<B: Allocator> Allocator for Refusing<B> {
+    ghost dealloc_token = { λ refusing. B.dealloc_token refusing.inner };
+
+    fn allocate(&self, size: usize, align: usize) -> Result<*mut u8, AllocError> {
+        if refuses(&self.tally, size) {
+            return Err(AllocError);
+        }
+        self.inner.allocate(size, align)
+    }
+
+    unsafe fn deallocate(&self, ptr: *mut u8, size: usize, align: usize) {
+        self.inner.deallocate(ptr, size, align);
+    }
+}

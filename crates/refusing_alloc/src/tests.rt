@@ -1,0 +1,135 @@
+use crate::Refusing;
+use linked_list_allocator::LocalHeap;
+use std::alloc::{AllocError, Allocator, Global};
+use std::collections::BTreeMap;
+use std::test::Fail;
+
+const VALUES: u8 = 100;
+
+/// Pushes each value, a second time where the first was refused, and tells at which lengths.
+fn refused_pushes<A: Allocator>(
+    alloc: Global,
+    pushed: &mut Vec<u8, A>,
+) -> Result<Vec<usize>, AllocError> {
+    let mut refused = Vec::new(alloc);
+    for value in 0..VALUES {
+        if let Err(failed) = pushed.push(value) {
+            refused.push(pushed.len())?;
+            pushed.push(failed.value)?;
+        }
+    }
+    Ok(refused)
+}
+
+#[test]
+fn the_named_growth_alone_is_refused(rt: HostRuntime) -> Result<(), Fail> {
+    let alloc = Refusing::new(rt.alloc());
+    for (request, length) in [(1, 0), (2, 8), (3, 16), (4, 32), (5, 64)] {
+        alloc.refuse_nth(request);
+        let mut pushed: Vec<u8, &Refusing> = Vec::new(&alloc);
+        let refused = refused_pushes(rt.alloc(), &mut pushed)?;
+        assert_eq!(rt; refused.as_slice(), [length].as_slice());
+        assert_eq!(rt; (alloc.requests(), alloc.refused()), (6, 1));
+        assert!(rt; pushed.iter().copied().eq(0..VALUES));
+    }
+    alloc.refuse_nth(6);
+    let mut pushed = Vec::new(&alloc);
+    assert!(rt; refused_pushes(rt.alloc(), &mut pushed)?.is_empty());
+    assert_eq!(rt; (alloc.requests(), alloc.refused()), (5, 0));
+    Ok(())
+}
+
+#[test]
+fn each_growth_from_one_on_is_refused(rt: HostRuntime) -> Result<(), Fail> {
+    let alloc = Refusing::new(rt.alloc());
+    alloc.refuse_from(2);
+    let mut pushed = Vec::new(&alloc);
+    for value in 0..8u8 {
+        pushed.push(value)?;
+    }
+    for attempt in 1..4 {
+        assert_eq!(rt; pushed.push(8).map_err(|failed| failed.value), Err(8));
+        assert!(rt; Box::new(&alloc, attempt).is_err());
+        assert_eq!(rt; alloc.refused(), 2 * attempt);
+    }
+    assert_eq!(rt; (alloc.requests(), pushed.len()), (7, 8));
+    alloc.refuse_none();
+    pushed.push(8)?;
+    assert_eq!(rt;
+        (alloc.requests(), alloc.refused(), pushed.len()),
+        (1, 0, 9)
+    );
+    Ok(())
+}
+
+#[test]
+fn growths_above_a_size_are_refused(rt: HostRuntime) -> Result<(), Fail> {
+    let alloc = Refusing::new(rt.alloc());
+    alloc.refuse_larger(100);
+    let mut room: Vec<u16, &Refusing> = Vec::new(&alloc);
+    assert!(rt; room.try_reserve_exact(51).is_err());
+    room.try_reserve_exact(50)?;
+    assert_eq!(rt; room.capacity(), 50);
+    assert!(rt; room.try_reserve(51).is_err());
+    assert_eq!(rt; (alloc.requests(), alloc.refused()), (3, 2));
+    Ok(())
+}
+
+#[test]
+fn each_collection_meets_each_refusal(rt: HostRuntime) -> Result<(), Fail> {
+    let heap = LocalHeap::new(rt.alloc(), 1 << 15)?;
+    let alloc = Refusing::new(&heap);
+    for request in 1..2000 {
+        alloc.refuse_nth(request);
+        let filled = fill(&alloc);
+        assert_eq!(rt; filled.is_err(), alloc.refused() == 1);
+        if let Ok(count) = filled {
+            assert_eq!(rt; (count, alloc.requests()), (300, request - 1));
+            return Ok(());
+        }
+        assert_eq!(rt; (alloc.requests(), heap.used()), (request, 0));
+    }
+    Err(Fail::new("no end of requests"))
+}
+
+/// Three hundred records, under their places, with a text beside them.
+fn fill<A: Allocator + Copy>(alloc: A) -> Result<usize, AllocError> {
+    let mut records = BTreeMap::new(alloc);
+    let mut text = String::new(alloc);
+    for place in 0..300u32 {
+        records.insert(place, Vec::from_slice(alloc, &[1, 2, 3])?)?;
+        text.push('x')?;
+    }
+    Ok(records.len().min(text.len()))
+}
+
+#[test]
+fn every_block_goes_back(rt: HostRuntime) -> Result<(), Fail> {
+    let heap = LocalHeap::new(rt.alloc(), 1 << 12)?;
+    let alloc = Refusing::new(&heap);
+    for round in 0..5000usize {
+        alloc.refuse_nth(round % 7);
+        let mut pushed = Vec::new(&alloc);
+        refused_pushes(rt.alloc(), &mut pushed)?;
+        pushed.truncate(3);
+        pushed.shrink_to_fit();
+        assert!(rt; heap.used() > 0);
+        drop(pushed);
+        assert_eq!(rt; heap.used(), 0);
+    }
+    let owned = Refusing::new(&heap);
+    let mut pushed = Vec::new(owned);
+    assert!(rt; refused_pushes(rt.alloc(), &mut pushed)?.is_empty());
+    drop(pushed);
+    assert_eq!(rt; heap.used(), 0);
+    Ok(())
+}
+
+#[test]
+fn an_allocator_below_that_is_full_is_no_refusal(rt: HostRuntime) -> Result<(), Fail> {
+    let heap = LocalHeap::new(rt.alloc(), 64)?;
+    let alloc = Refusing::new(&heap);
+    assert!(rt; Vec::<u8, &Refusing<&LocalHeap>>::with_capacity(&alloc, 65).is_err());
+    assert_eq!(rt; (alloc.requests(), alloc.refused()), (1, 0));
+    Ok(())
+}
