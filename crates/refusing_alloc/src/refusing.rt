@@ -9,6 +9,9 @@ use std::cell::Cell;
 /// A request is a call for a new block: an allocation, or a growth or a shrinking of a collection,
 /// since each of these moves to a new block. A refused request changes nothing, as if `B` were out
 /// of memory, and giving a block back is never refused.
+///
+/// Where `extend` and `from_iter` of std are refused once, they ask again for less: `refuse_nth`
+/// alone does not stop them, and `refuse_from` does.
 #[derive(Drop)]
 pub struct Refusing<B: Allocator = Global> {
     inner: B,

@@ -1,6 +1,6 @@
 -- The block goes back to the allocator below. Assumes `Logic`.
 use Rattle.std.proofs.Common.{◌≡◌, [], ◌∷◌, refl, w64}
-use mir.Syntax.{Args, Fn, a_type, dnil, dcons}
+use mir.Syntax.{Fn}
 use mir.Val.{vunit, vint, vptr}
 use mir.MapTy.{inst_fn}
 use base.Logic.{fst∗, never}
@@ -14,10 +14,9 @@ use types.Logic.{sem}
 use types.Kit.{split3, group, regoal, feq_i, ‵, raw, ◌⊛◌, later, given, prop, ◌$◌, ◌∵◌, !, qed, by, move, keep, use1, split, join, learn, fsplit, fjoin, await}
 use types.Run.{enter, of_opd, unit_lit, addr, stop, fld, no_more, and_then, returns}
 use types.ByLocal.{alloc_all, pass_all, free_all, look_at, get, through, sets, lands_as}
-use denote.Builtin.{usize, RawPtr, RefOf}
+use denote.Builtin.{RawPtr}
 use denote.Exit.{yes}
 use denote.Memory.{hidden_shr}
-use denote.Param.{bounded}
 use denote.Plain.{uint_vals, uint_Tells}
 use denote.RawPtr.{Ptr, block_ptr, null_ptr, ptr_val, room_for, in_a_block, rawptr_vals, rawptr_Tells}
 use denote.RattleType.{owns}
@@ -30,16 +29,13 @@ use denote.Triple.Table.{framed}
 use denote.Triple.Walked.{Stays, walk_of, stay_dropped, Goes-dropped}
 use Rattle.std.proofs.raw_atomic.Walks.{proved, leaves}
 use Rattle.std.proofs.alloc.Calls.{Al, seen, Gives, at_gives, Gives-goes, Gives-Gives}
-use Rattle.refusing_alloc.proofs.Behind.{Counts, Whole, below, counts, opened}
+use Rattle.refusing_alloc.proofs.Behind.{args, Counts, below, counts, self_goes, opened, number_goes}
 use Rattle.refusing_alloc.specs.contracts.refusing.RefusingAllocator.deallocate as f
 use Rattle.refusing_alloc.specs.contracts.refusing.RefusingAllocator.deallocate.Key.{name as #self}
 use Rattle.refusing_alloc.proofs.refusing.RefusingAllocator.deallocate.Statement.{statement}
 use Rattle.refusing_alloc.proofs.refusing.RefusingAllocator.deallocate.Code as code
 
 module _ (Z : Al) where
-  abbrev args : Args
-  args = bounded (a_type ∷ []) (Z.row, tt) (dcons Z.d (dcons Z.drops dnil))
-
   abbrev ended : Ended
   ended = f.ended Z.row Z.g Z.d Z.drops
 
@@ -54,7 +50,7 @@ deallocate_spec 𝓤 𝓛 𝓜 𝓡 wired B L g d d' met _ =
     let 𝓣 = tables 𝓤 𝓛.H 𝓜 𝓡 𝓡.env in
     let here : Fn = inst_fn (args Z) code.function in
     proved 𝓛 (ended Z) (stayed Z) c 𝓜 𝓡
-    (Goes-dropped 𝓛 2 (RefOf (0 ∷ []) tt (plain (λ _. Whole Z)) (λ _. tt)) yes (λ κs x w. refl), (Goes-dropped 𝓛 2 (plain (λ _. RawPtr)) yes (λ κs x w. refl), (Goes-dropped 𝓛 2 (plain (λ _. usize)) yes (λ κs x w. refl), (Goes-dropped 𝓛 2 (plain (λ _. usize)) yes (λ κs x w. refl), tt))))
+    (self_goes Z 𝓛, (Goes-dropped 𝓛 2 (plain (λ _. RawPtr)) yes (λ κs x f. refl), (number_goes 𝓛, (number_goes 𝓛, tt))))
     (#self (args Z)) here (code.unfolded 𝓤 𝓛.H 𝓜 𝓡 wired (B, tt) d d')
     (λ κs. (shr_vals, (rawptr_vals, (uint_vals w64, (uint_vals w64, tt))))) (λ κs. ((λ r vs is. is.0), (rawptr_Tells, (uint_Tells w64, (uint_Tells w64, tt))))) (λ κs qs bounds a τ are.
     let κ = κs.0 in let q = qs.0 in let p = a.0.ref_ptr in let h = a.0.now.inner in let n = a.1.1.0 in let al = a.1.1.1.0 in
@@ -64,10 +60,10 @@ deallocate_spec 𝓤 𝓛 𝓜 𝓡 wired B L g d d' met _ =
     let Rest = ‵ (flft κs.1.0 qs.1.0) ⊛ ‵ ftrue in
     qed 𝓛 (((‵ (flft κ q) ⊛ Rest) ⊛ ‵ (owns (types_at (ended Z).signature.params κs) a (y a.1.0).0.4)) ∷ (raw (fact 𝓤 (κs.1.0 ⊑ B.lives)) ⊛ raw (fact 𝓤 Asked) ⊛ ‵ (Block a.1.0)) ∷ []) ∵
     move ! (1 ∷ []) $ split3 ! $ heard ! _ (λ within. heard ! Asked (λ layout. move ! (1 ∷ []) $
-    split ! $ split ! $ move ! (2 ∷ []) $ fsplit ! $ fsplit ! $ move ! (1 ∷ []) $
-    use1 𝓛 (‵ (seen Z κ (below Z p) h) ⊛ ‵ (hidden_shr Counts κ a.0.now.tally (counts Z p).0 (counts Z p).1)) (opened Z 𝓛 κ p a.0.now) $ split ! $
+    split ! $ split ! $ move ! (2 ∷ []) $ fsplit ! $
+    use1 𝓛 (‵ (seen Z κ (below Z p) h) ⊛ ‵ (hidden_shr Counts κ a.0.now.tally (counts Z p).0 (counts Z p).1)) (opened Z 𝓛 κ a.0) $ split ! $
     -- [the block; the `&` to the allocator below; the token of its lifetime; the other tokens]
-    keep ! (6 ∷ 0 ∷ 4 ∷ 5 ∷ []) $
+    keep ! (5 ∷ 0 ∷ 3 ∷ 4 ∷ []) $
     in_a_block ! a.1.0 Block (fst∗ 𝓤 (never 𝓤) (sem 𝓛 (g.dealloc_token h τ null_ptr))) (λ b o at.
     let giving = at_gives Z 𝓛 𝓜.mem 𝓡.returns κ q (below Z p) h b o n al τ in
     regoal ! (λ x. prop (WpFn 𝓤 𝓛.H 𝓣.C 𝓣.Λ here (vptr p.0 p.1 ∷ ptr_val x ∷ vint w64 n ∷ vint w64 al ∷ []) (W.post (y x)))) at refl $
