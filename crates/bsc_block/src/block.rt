@@ -1,0 +1,69 @@
+//! The records that a text carries. They are lent from the text, so that nothing is copied until they
+//! are stored.
+ghost use Rattle.std.specs.Prelude.{◌≡◌, ◌<◌, ◌≤◌, Some, length, slice_get};
+ghost use Rattle.bsc_block.specs.Records.{IsRecord};
+ghost use Rattle.bsc_block.specs.Blocks.{records_in};
+
+use crate::Record;
+use arrayvec::ArrayVec;
+use bsc_frame::Text;
+use std::marker::Model;
+
+/// The records of a text, in order: 0 to 7 slices that live as long as the text.
+#[derive(Drop)]
+pub struct Block<'a> {
+    records: ArrayVec<&'a [u8], 7>,
+}
+
+impl<'a> Model for Block<'a> {
+    ghost use Rattle.std.specs.Prelude.{ℕ, List, map};
+    ghost use Rattle.std.specs.List.{AllByRecursion};
+    ghost use Rattle.bsc_block.specs.Records.{IsRecord};
+
+    ghost Value = { List (List ℕ) };
+
+    ghost view = { λ b. map (λ r. r.now) b.records.items };
+
+    ghost invariant = { λ b. AllByRecursion (λ r. IsRecord r.now) b.records.items };
+}
+
+/// The records of a text: the characters of each unit that has characters or is marked by EM.
+pub fn unpack(text: &Text) -> Block<'_>
+    ensures { result ≡ records_in text.entry.now.units }
+{
+    let mut records = ArrayVec::new();
+    for place in 0..text.count() {
+        let unit = text.unit(place);
+        if unit.em || !unit.chars.is_empty() {
+            records.push(unit.chars);
+        }
+    }
+    Block { records }
+}
+
+impl<'a> Block<'a> {
+    /// How many records there are, 0 to 7.
+    pub fn count(&self) -> usize
+        ensures count { result ≡ length self.now }
+        ensures few { result ≤ 7 }
+    {
+        self.records.len()
+    }
+
+    /// The characters of the record at a place below the count, lent from the text.
+    pub fn chars(&self, place: usize) -> &'a [u8]
+        requires { place < length self.now }
+        ensures chars { slice_get self.now place ≡ Some result.now }
+        ensures record { IsRecord result.now }
+    {
+        self.records[place]
+    }
+
+    /// A copy of the record at a place below the count. It takes no memory.
+    pub fn record(&self, place: usize) -> Record
+        requires { place < length self.now }
+        ensures { slice_get self.now place ≡ Some result }
+    {
+        Record::of(self.chars(place))
+    }
+}

@@ -1,0 +1,18 @@
+//! Laws over the definitions alone, for the layers above.
+ghost use Rattle.std.specs.Prelude.{◌≡◌, ◌≢◌, ◌≤◌, ℕ, List, [], ◌∷◌, map, take, drop};
+ghost use Rattle.bsc_block.specs.Format.{FormatValue, IsFormat};
+ghost use Rattle.bsc_block.specs.Blocks.{unit_of, records_in, taken, blocks, AreShort, IsTaken};
+
+/// The units that are built for records hold these records, whatever the full length.
+pub fn records_back()
+    ensures { (full : ℕ) (rs : List (List ℕ)) → 1 ≤ full → records_in (map (unit_of full) rs) ≡ rs }
+{}
+
+/// How waiting records are cut: the next block takes at least one of them, the most that fit, and the
+/// other blocks are those of the rest.
+pub fn cut_into_blocks()
+    ensures taken { (f : FormatValue) (rs : List (List ℕ)) → IsTaken f rs (taken f rs) }
+    ensures some { (f : FormatValue) (rs : List (List ℕ)) → IsFormat f → AreShort f.full rs → rs ≢ [] → 1 ≤ taken f rs }
+    ensures none { (f : FormatValue) → blocks f [] ≡ [] }
+    ensures next { (f : FormatValue) (rs : List (List ℕ)) → IsFormat f → AreShort f.full rs → rs ≢ [] → blocks f rs ≡ take (taken f rs) rs ∷ blocks f (drop (taken f rs) rs) }
+{}

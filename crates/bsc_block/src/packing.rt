@@ -1,0 +1,65 @@
+//! How waiting records are cut into blocks, and the text of a block.
+ghost use Rattle.std.specs.Prelude.{◌≡◌, ◌≤◌, ◌<◌, ◌≢◌, [], length};
+ghost use Rattle.bsc_frame.specs.Units.{text_unit};
+ghost use Rattle.bsc_block.specs.Format.{IsFormat};
+ghost use Rattle.bsc_block.specs.Blocks.{unit_of, cost as cost_of, taken, AreShort, IsTaken, block_text};
+
+use crate::{Format, Record};
+use bsc_frame::{End, Text, Unit};
+
+/// How many of these records, which wait, go into the next block: as many from the front as fit its
+/// limit, and at most seven. 0 where no record waits. No record is longer than the full length.
+pub fn pack(records: &[Record], format: Format) -> usize
+    requires { AreShort format.full records.now }
+    ensures value { result ≡ taken format records.now }
+    ensures greatest { IsTaken format records.now result }
+    ensures some { records.now ≢ [] → 1 ≤ result }
+    ensures format { IsFormat format }
+{
+    let limit = usize::from(format.block_chars());
+    let mut total = 0;
+    for (count, record) in records.iter().enumerate() {
+        total += cost(record, format);
+        if count == 7 || total > limit {
+            return count;
+        }
+    }
+    records.len()
+}
+
+/// What the record counts in a block: its characters, the ending character, and EM where it is marked.
+fn cost(record: &Record, format: Format) -> usize
+    ensures value { result ≡ cost_of format «record».now }
+    ensures bound { result ≤ 145 }
+{
+    let unit = unit(record, format);
+    unit.chars.len() + 1 + usize::from(unit.em)
+}
+
+/// The unit of a record: marked by EM where the record is shorter than the full length.
+fn unit(record: &Record, format: Format) -> Unit<'_>
+    ensures { text_unit result ≡ unit_of format.full «record».now }
+{
+    let chars = record.chars();
+    Unit {
+        chars,
+        em: chars.len() < usize::from(format.full()),
+    }
+}
+
+/// The text of 1 to 7 records, with this end. No record is longer than the full length.
+pub fn build(records: &[Record], format: Format, end: End) -> Text
+    requires some { 1 ≤ length records.now }
+    requires few { length records.now ≤ 7 }
+    requires short { AreShort format.full records.now }
+    ensures { result ≡ block_text format records.now end }
+{
+    let mut units = [Unit {
+        chars: &[],
+        em: false,
+    }; 7];
+    for (place, record) in records.iter().enumerate() {
+        units[place] = unit(record, format);
+    }
+    Text::of(&units[..records.len()], end)
+}

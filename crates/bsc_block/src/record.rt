@@ -1,0 +1,86 @@
+//! The record, which is what a line carries from one end to the other.
+ghost use Rattle.std.specs.Prelude.{◌≡◌, ◌≤◌, IfOk, not, position};
+ghost use Rattle.bsc_octet.specs.Octet.{is_record_char as is_record_code};
+
+use arrayvec::ArrayVec;
+use bsc_octet::is_record_char;
+use std::marker::Model;
+use thiserror::Error;
+
+/// Why codes are no record.
+#[derive(Clone, Copy, Debug, Error, PartialEq, Eq)]
+pub enum RecordError {
+    /// There are more codes than the full length.
+    #[error("the record is longer than the full length")]
+    TooLong,
+
+    /// The first code, by its place, that is no record character.
+    #[error("the code at place {0} is no record character")]
+    NotText(usize),
+}
+
+/// A record: at most 144 record characters.
+#[derive(Debug, Drop)]
+pub struct Record {
+    chars: ArrayVec<u8, 144>,
+}
+
+impl Model for Record {
+    ghost use Rattle.std.specs.Prelude.{ℕ, List};
+    ghost use Rattle.bsc_block.specs.Records.{IsRecord};
+
+    ghost Value = { List ℕ };
+
+    ghost view = { λ r. r.chars.items };
+
+    ghost invariant = { λ r. IsRecord r.chars.items };
+}
+
+/// The place of the first code that is no record character.
+fn wrong_place(codes: &[u8]) -> Option<usize>
+    ensures { result ≡ position (λ c. not (is_record_code c)) codes.now }
+{
+    codes.iter().position(|&code| !is_record_char(code))
+}
+
+impl Record {
+    ghost use Rattle.bsc_block.specs.Records.{IsRecord, record_of};
+
+    /// The record of these codes. `TooLong` where they are more than `full`, which is 1 to 144, else
+    /// `NotText` with the first place whose code is no record character: the eleven control
+    /// characters of the line procedure, and 0x80 and above.
+    pub fn read(codes: &[u8], full: u8) -> Result<Record, RecordError>
+        requires low { 1 ≤ full }
+        requires high { full ≤ 144 }
+        ensures value { result ≡ record_of full codes.now }
+        ensures record { IfOk result (λ r. IsRecord r) }
+    {
+        if codes.len() > usize::from(full) {
+            return Err(RecordError::TooLong);
+        }
+        if let Some(place) = wrong_place(codes) {
+            return Err(RecordError::NotText(place));
+        }
+        Ok(Record::of(codes))
+    }
+
+    /// The record of these characters.
+    pub(crate) fn of(chars: &[u8]) -> Record
+        requires { IsRecord chars.now }
+        ensures { result ≡ chars.now }
+    {
+        let mut own = ArrayVec::new();
+        for code in chars {
+            own.push(*code);
+        }
+        Record { chars: own }
+    }
+
+    /// The characters, as codes of seven bits.
+    pub fn chars(&self) -> &[u8]
+        ensures value { result.now ≡ self.now }
+        ensures record { IsRecord self.now }
+    {
+        self.chars.as_slice()
+    }
+}

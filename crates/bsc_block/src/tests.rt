@@ -1,0 +1,1 @@
+//! Records and blocks by hand.

@@ -1,0 +1,119 @@
+//! The sending end of a channel. A record stays in its queue after it was delivered, so that what was
+//! offered can be compared with what was spooled.
+ghost use Rattle.std.specs.Prelude.{◌≡◌, ◌+◌, ◌≤◌, [], ◌∷◌, ◌++◌, length, take, IfSome, IfErr, OnOk, OnErr};
+ghost use Rattle.bsc_block.specs.Blocks.{block_text};
+ghost use Rattle.bsc_spool.specs.Queue.{waiting, next_block, IsQueue, IsNext};
+
+use bsc_block::{Format, Record, build, pack};
+use bsc_frame::{End, Text};
+use std::alloc::Allocator;
+use std::marker::Model;
+
+/// What the next block is: how many records it takes, and the character that ends it.
+#[derive(Clone, Copy, Debug, PartialEq, Eq)]
+pub struct Next {
+    pub count: usize,
+    pub end: End,
+}
+
+/// The records that were offered, and how many of them are known to have been delivered.
+#[derive(Drop)]
+pub struct Queue<A: Allocator> {
+    format: Format,
+    records: Vec<Record, A>,
+    known: usize,
+}
+
+impl<A: Allocator> Model for Queue<A> {
+    ghost use Rattle.bsc_spool.specs.Queue.{QueueValue, IsQueue};
+
+    ghost Value = { QueueValue };
+
+    ghost view = { λ q. record { format = q.format; offered = q.records.items; known = q.known } };
+
+    ghost invariant = { λ q. IsQueue (record { format = q.format; offered = q.records.items; known = q.known }) };
+}
+
+impl<A: Allocator> Queue<A> {
+    /// An empty queue. It takes no memory.
+    pub fn new(alloc: A, format: Format) -> Self
+        ensures { result ≡ record { format = format; offered = []; known = 0 } }
+    {
+        Queue {
+            format,
+            records: Vec::new(alloc),
+            known: 0,
+        }
+    }
+
+    /// Adds the record, which is not longer than the full length, at the end. It comes back where
+    /// memory is wanting, and then nothing changed.
+    pub fn offer(&mut self, record: Record) -> Result<(), Record>
+        requires { length «record» ≤ self.old.format.full }
+        ensures ok { OnOk result (self.new ≡ record self.old { offered = self.old.offered ++ «record» ∷ [] }) }
+        ensures err { OnErr result (self.new ≡ self.old) }
+        ensures given_back { IfErr result (λ r. r ≡ «record») }
+    {
+        match self.records.push(record) {
+            Ok(()) => Ok(()),
+            Err(failed) => Err(failed.value),
+        }
+    }
+
+    /// The records that were offered, the delivered ones first.
+    pub fn offered(&self) -> &[Record]
+        ensures value { result.now ≡ self.now.offered }
+        ensures queue { IsQueue self.now }
+    {
+        self.records.as_slice()
+    }
+
+    /// How many of the offered records are known to have been delivered.
+    pub fn known(&self) -> usize
+        ensures value { result ≡ self.now.known }
+        ensures queue { IsQueue self.now }
+    {
+        self.known
+    }
+
+    /// The next block of the waiting records, which are those past the known ones: `Etx` where it takes
+    /// all of them, else `Etb`. `None` where no record waits.
+    pub fn next(&self) -> Option<Next>
+        ensures value { result ≡ next_block self.now }
+        ensures next { IfSome result (λ n. IsNext self.now n) }
+    {
+        let waiting = &self.records[self.known..];
+        let count = pack(waiting, self.format);
+        if count == 0 {
+            return None;
+        }
+        let end = if count == waiting.len() {
+            End::Etx
+        } else {
+            End::Etb
+        };
+        Some(Next { count, end })
+    }
+
+    /// The text of the first `count` waiting records, with this end: 1 to 7 records, not more than wait.
+    pub fn text(&self, count: usize, end: End) -> Text
+        requires some { 1 ≤ count }
+        requires few { count ≤ 7 }
+        requires wait { count ≤ length (waiting self.now) }
+        ensures { result ≡ block_text self.now.format (take count (waiting self.now)) end }
+    {
+        build(
+            &self.records[self.known..self.known + count],
+            self.format,
+            end,
+        )
+    }
+
+    /// Counts the first `count` waiting records as delivered. They are not more than wait.
+    pub fn mark(&mut self, count: usize)
+        requires { count ≤ length (waiting self.old) }
+        ensures { self.new ≡ record self.old { known = self.old.known + count } }
+    {
+        self.known += count;
+    }
+}

@@ -1,0 +1,83 @@
+//! The receiving end of a channel. Room is made before a text is accepted, so that a text which was
+//! accepted is stored whole.
+ghost use Rattle.std.specs.Prelude.{◌≡◌, [], ◌++◌, true, if◌then◌else◌};
+ghost use Rattle.bsc_spool.specs.Spool.{with_delay};
+
+use bsc_block::{Block, Record};
+use std::alloc::Allocator;
+use std::marker::Model;
+
+/// The most records of a text.
+const MOST: usize = 7;
+
+/// The records that arrived.
+#[derive(Drop)]
+pub struct Spool<A: Allocator> {
+    records: Vec<Record, A>,
+    delays: u64,
+}
+
+impl<A: Allocator> Model for Spool<A> {
+    ghost use Rattle.std.specs.Prelude.{◌+◌, vec_len, vec_capacity, nat_le};
+    ghost use Rattle.bsc_spool.specs.Spool.{SpoolValue};
+
+    ghost Value = { SpoolValue };
+
+    ghost view = { λ s. record { records = s.records.items; room = nat_le (vec_len s.records + 7) (vec_capacity s.records); delays = s.delays } };
+}
+
+impl<A: Allocator> Spool<A> {
+    /// An empty spool. It takes no memory.
+    pub fn new(alloc: A) -> Self
+        ensures records { result.records ≡ [] }
+        ensures delays { result.delays ≡ 0 }
+    {
+        Spool {
+            records: Vec::new(alloc),
+            delays: 0,
+        }
+    }
+
+    /// Makes room for seven more records. Where it is there nothing is asked for; false where the
+    /// growth was refused, and then only the count of delays changed.
+    pub fn make_room(&mut self) -> bool
+        ensures all { self.new ≡ record { records = self.old.records; room = result; delays = if result then self.old.delays else with_delay self.old.delays } }
+        ensures there { self.old.room ≡ true → result ≡ true }
+    {
+        match self.records.try_reserve(MOST) {
+            Ok(()) => true,
+            Err(_) => {
+                self.delays = self.delays.saturating_add(1);
+                false
+            }
+        }
+    }
+
+    /// Whether there is room for seven more records.
+    pub fn has_room(&self) -> bool
+        ensures { result ≡ self.now.room }
+    {
+        self.records.len() + MOST <= self.records.capacity()
+    }
+
+    /// Appends the records of a text. There is room for seven; it takes no memory.
+    pub fn store(&mut self, block: &Block)
+        requires { self.old.room ≡ true }
+        ensures records { self.new.records ≡ self.old.records ++ block.now }
+        ensures delays { self.new.delays ≡ self.old.delays }
+    {
+        for place in 0..block.count() {
+            match self.records.push(block.record(place)) {
+                Ok(()) => {}
+                Err(_) => unreachable!(),
+            }
+        }
+    }
+
+    /// The records that arrived, in order.
+    pub fn records(&self) -> &[Record]
+        ensures { result.now ≡ self.now.records }
+    {
+        self.records.as_slice()
+    }
+}

@@ -1,0 +1,1 @@
+//! Queues and spools by hand.
