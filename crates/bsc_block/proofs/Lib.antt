@@ -1,0 +1,6 @@
+pub mod RecordChars
+pub mod Elements
+pub mod Fronts
+pub mod Taking
+pub mod Cutting
+pub mod HeldRecords

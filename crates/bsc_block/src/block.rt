@@ -2,11 +2,12 @@
 //! are stored.
 ghost use Rattle.std.specs.Prelude.{◌≡◌, ◌<◌, ◌≤◌, Some, length, slice_get};
 ghost use Rattle.bsc_block.specs.Records.{IsRecord};
-ghost use Rattle.bsc_block.specs.Blocks.{records_in};
+ghost use Rattle.bsc_frame.specs.Units.{text_unit};
+ghost use Rattle.bsc_block.specs.Blocks.{holds_record, records_in};
 
 use crate::Record;
 use arrayvec::ArrayVec;
-use bsc_frame::Text;
+use bsc_frame::{Text, Unit};
 use std::marker::Model;
 
 /// The records of a text, in order: 0 to 7 slices that live as long as the text.
@@ -34,11 +35,18 @@ pub fn unpack(text: &Text) -> Block<'_>
     let mut records = ArrayVec::new();
     for place in 0..text.count() {
         let unit = text.unit(place);
-        if unit.em || !unit.chars.is_empty() {
+        if is_record(unit) {
             records.push(unit.chars);
         }
     }
     Block { records }
+}
+
+/// Whether the unit holds a record.
+fn is_record(unit: Unit<'_>) -> bool
+    ensures { result ≡ holds_record (text_unit unit.entry) }
+{
+    unit.em || !unit.chars.is_empty()
 }
 
 impl<'a> Block<'a> {

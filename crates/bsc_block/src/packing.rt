@@ -1,5 +1,6 @@
 //! How waiting records are cut into blocks, and the text of a block.
 ghost use Rattle.std.specs.Prelude.{◌≡◌, ◌≤◌, ◌<◌, ◌≢◌, [], length};
+ghost use Rattle.bsc_frame.specs.Texts.{IsUnit};
 ghost use Rattle.bsc_frame.specs.Units.{text_unit};
 ghost use Rattle.bsc_block.specs.Format.{IsFormat};
 ghost use Rattle.bsc_block.specs.Blocks.{unit_of, cost as cost_of, taken, AreShort, IsTaken, block_text};
@@ -30,7 +31,7 @@ pub fn pack(records: &[Record], format: Format) -> usize
 /// What the record counts in a block: its characters, the ending character, and EM where it is marked.
 fn cost(record: &Record, format: Format) -> usize
     ensures value { result ≡ cost_of format «record».now }
-    ensures bound { result ≤ 145 }
+    ensures bound { result ≤ 146 }
 {
     let unit = unit(record, format);
     unit.chars.len() + 1 + usize::from(unit.em)
@@ -38,7 +39,8 @@ fn cost(record: &Record, format: Format) -> usize
 
 /// The unit of a record: marked by EM where the record is shorter than the full length.
 fn unit(record: &Record, format: Format) -> Unit<'_>
-    ensures { text_unit result ≡ unit_of format.full «record».now }
+    ensures value { text_unit result ≡ unit_of format.full «record».now }
+    ensures unit { IsUnit (text_unit result) }
 {
     let chars = record.chars();
     Unit {

@@ -3,10 +3,14 @@ ghost use Rattle.std.specs.Prelude.{◌≡◌, ◌+◌, ◌≤◌, ◌↔◌, �
 ghost use Rattle.bsc_spool.specs.Queue.{QueueValue, waiting, next_block, IsQueue, IsNext};
 ghost use Rattle.bsc_spool.specs.declared.queue.Next.{Next};
 
+use bsc_block::laws::cut_into_blocks;
+
 /// What the next block of a queue is, and that offers and deliveries keep a queue.
 pub fn next_blocks()
     ensures none { (q : QueueValue) → (next_block q ≡ None) ↔ (waiting q ≡ []) }
     ensures some { (q : QueueValue) (n : Next) → IsQueue q → next_block q ≡ Some n → IsNext q n }
     ensures offered { (q : QueueValue) (r : List ℕ) → IsQueue q → length r ≤ q.format.full → IsQueue (record q { offered = q.offered ++ r ∷ [] }) }
     ensures marked { (q : QueueValue) (k : ℕ) → IsQueue q → k ≤ length (waiting q) → IsQueue (record q { known = q.known + k }) }
-{}
+{
+    cut_into_blocks();
+}

@@ -1,0 +1,18 @@
+use Rattle.std.proofs.Common.{length, ◌≤◌}
+use Rattle.bsc_block.specs.Blocks.{taken}
+use Rattle.bsc_block.proofs.Elements.{all-drop}
+use Rattle.bsc_block.proofs.Taking.{taken-IsTaken, taken-some}
+use Rattle.bsc_block.proofs.Cutting.{blocks-next}
+use Rattle.bsc_block.proofs.laws.cut_into_blocks.Goals as goal
+
+pub returns-clause-taken : goal.returns-clause-taken
+returns-clause-taken c = taken-IsTaken
+
+pub returns-clause-some : goal.returns-clause-some
+returns-clause-some c = λ f rs i s. taken-some f rs (taken f rs) i s (taken-IsTaken f rs)
+
+pub returns-clause-next : goal.returns-clause-next
+returns-clause-next c = blocks-next
+
+pub returns-clause-rest : goal.returns-clause-rest
+returns-clause-rest c = λ full k rs h. all-drop (λ r. length r ≤ full) k rs h

@@ -1,0 +1,13 @@
+use Rattle.std.proofs.Common.{◌≡◌, length, map, take}
+use Rattle.std.specs.List.{AllByRecursion}
+use Rattle.bsc_frame.specs.Texts.{IsUnit}
+use Rattle.bsc_frame.specs.Units.{text_unit}
+use Rattle.bsc_block.specs.Blocks.{unit_of}
+use Rattle.bsc_block.proofs.packing.build.Given as goal
+
+abbrev pub invariant-loop-place : goal.invariant-loop-place
+invariant-loop-place l = record {
+  long : length l.units ≡ 7;
+  units : map text_unit (take l.place l.units) ≡ map (unit_of l.format.full) (take l.place l.records);
+  each : AllByRecursion IsUnit (map text_unit (take l.place l.units));
+}
