@@ -2,7 +2,6 @@
 ghost use Rattle.std.specs.Prelude.{◌≡◌, ◌≤◌, ◌<◌, ◌≢◌, [], length};
 ghost use Rattle.bsc_frame.specs.Texts.{IsUnit};
 ghost use Rattle.bsc_frame.specs.Units.{text_unit};
-ghost use Rattle.bsc_block.specs.Format.{IsFormat};
 ghost use Rattle.bsc_block.specs.Blocks.{unit_of, cost as cost_of, taken, AreShort, IsTaken, block_text};
 
 use crate::{Format, Record};
@@ -15,7 +14,6 @@ pub fn pack(records: &[Record], format: Format) -> usize
     ensures value { result ≡ taken format records.now }
     ensures greatest { IsTaken format records.now result }
     ensures some { records.now ≢ [] → 1 ≤ result }
-    ensures format { IsFormat format }
 {
     let limit = usize::from(format.block_chars());
     let mut total = 0;

@@ -1,5 +1,5 @@
 //! The record, which is what a line carries from one end to the other.
-ghost use Rattle.std.specs.Prelude.{◌≡◌, ◌≤◌, IfOk, not, position};
+ghost use Rattle.std.specs.Prelude.{◌≡◌, ◌≤◌, IfOk, length, not, position};
 ghost use Rattle.bsc_octet.specs.Octet.{is_record_char as is_record_code};
 
 use arrayvec::ArrayVec;
@@ -54,6 +54,7 @@ impl Record {
         requires high { full ≤ 144 }
         ensures value { result ≡ record_of full codes.now }
         ensures record { IfOk result (λ r. IsRecord r) }
+        ensures short { IfOk result (λ r. length r ≤ full) }
     {
         if codes.len() > usize::from(full) {
             return Err(RecordError::TooLong);
@@ -70,9 +71,7 @@ impl Record {
         ensures { result ≡ chars.now }
     {
         let mut own = ArrayVec::new();
-        for code in chars {
-            own.push(*code);
-        }
+        own.try_extend_from_slice(chars).unwrap();
         Record { chars: own }
     }
 
