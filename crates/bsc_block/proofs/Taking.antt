@@ -25,6 +25,7 @@ greatest-above p (suc n) j l e = split (p (suc n)) refl (λ below. greatest-abov
     last : p (suc n) ≡ false → (n < j) ⊎ (j ≤ n) → (j ≤ n → j ≤ greatest p n) → j ≤ greatest p n
     last f (inr below) above = above below
     last f (inl at) above = let same : j ≡ suc n = omega arith in let passes : p (suc n) ≡ true = rw (← same) e in absurd (cc)
+
     split : (b : Bool) → p (suc n) ≡ b → (j ≤ n → j ≤ greatest p n) → j ≤ (if b then suc n else greatest p n)
     split true f above = l
     split false f above = last f (cases_lt n j) above

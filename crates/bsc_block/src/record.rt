@@ -11,11 +11,11 @@ use thiserror::Error;
 #[derive(Clone, Copy, Debug, Error, PartialEq, Eq)]
 pub enum RecordError {
     /// There are more codes than the full length.
-    #[error("the record is longer than the full length")]
+    #[error("record too long")]
     TooLong,
 
-    /// The first code, by its place, that is no record character.
-    #[error("the code at place {0} is no record character")]
+    /// The place, from 0, of the first code that is no record character.
+    #[error("wrong character at {0}")]
     NotText(usize),
 }
 
