@@ -1,5 +1,5 @@
 -- What contracts see of a queue, and which block of it is sent next (own).
-use Rattle.std.specs.Prelude.{◌≡◌, ℕ, ◌<◌, ◌≤◌, nat_eq, if◌then◌else◌, List, [], ◌∷◌, length, drop, Option, None, Some}
+use Rattle.std.specs.Prelude.{◌≡◌, ℕ, ◌+◌, ◌<◌, ◌≤◌, nat_eq, if◌then◌else◌, List, [], ◌∷◌, ◌++◌, length, drop, Option, None, Some}
 use Rattle.bsc_frame.specs.declared.text.End.TheVariants.{Etb, Etx}
 use Rattle.bsc_block.specs.Format.{FormatValue, IsFormat}
 use Rattle.bsc_block.specs.Blocks.{AreShort, taken}
@@ -17,6 +17,14 @@ pub record IsQueue (q : QueueValue) : Type 0 where
   pub format : IsFormat q.format
   pub known : q.known ≤ length q.offered
   pub short : AreShort q.format.full q.offered
+
+-- the queue with one record more at the end
+abbrev pub with_offered : QueueValue → List ℕ → QueueValue
+with_offered q r = record q { offered = q.offered ++ r ∷ [] }
+
+-- the queue with k records more known
+abbrev pub with_known : QueueValue → ℕ → QueueValue
+with_known q k = record q { known = q.known + k }
 
 -- the records past the known ones
 abbrev pub waiting : QueueValue → List (List ℕ)

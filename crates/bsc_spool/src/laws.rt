@@ -1,6 +1,6 @@
 //! Laws over the definitions alone, for the layers above.
-ghost use Rattle.std.specs.Prelude.{◌≡◌, ◌+◌, ◌≤◌, ◌↔◌, ℕ, List, [], ◌∷◌, ◌++◌, Some, None, length};
-ghost use Rattle.bsc_spool.specs.Queue.{QueueValue, waiting, next_block, IsQueue, IsNext};
+ghost use Rattle.std.specs.Prelude.{◌≡◌, ◌≤◌, ◌↔◌, ℕ, List, [], Some, None, length};
+ghost use Rattle.bsc_spool.specs.Queue.{QueueValue, waiting, next_block, with_offered, with_known, IsQueue, IsNext};
 ghost use Rattle.bsc_spool.specs.declared.queue.Next.{Next};
 
 use bsc_block::laws::cut_into_blocks;
@@ -9,8 +9,8 @@ use bsc_block::laws::cut_into_blocks;
 pub fn next_blocks()
     ensures none { (q : QueueValue) → (next_block q ≡ None) ↔ (waiting q ≡ []) }
     ensures some { (q : QueueValue) (n : Next) → IsQueue q → next_block q ≡ Some n → IsNext q n }
-    ensures offered { (q : QueueValue) (r : List ℕ) → IsQueue q → length r ≤ q.format.full → IsQueue (record q { offered = q.offered ++ r ∷ [] }) }
-    ensures marked { (q : QueueValue) (k : ℕ) → IsQueue q → k ≤ length (waiting q) → IsQueue (record q { known = q.known + k }) }
+    ensures offered { (q : QueueValue) (r : List ℕ) → IsQueue q → length r ≤ q.format.full → IsQueue (with_offered q r) }
+    ensures marked { (q : QueueValue) (k : ℕ) → IsQueue q → k ≤ length (waiting q) → IsQueue (with_known q k) }
 {
     cut_into_blocks();
 }

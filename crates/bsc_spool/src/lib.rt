@@ -9,4 +9,6 @@ pub use queue::{Next, Queue};
 pub use spool::Spool;
 
 #[cfg(test)]
+mod refusal_tests;
+#[cfg(test)]
 mod tests;

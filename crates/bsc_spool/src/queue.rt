@@ -1,8 +1,8 @@
 //! The sending end of a channel. A record stays in its queue after it was delivered, so that what was
 //! offered can be compared with what was spooled.
-ghost use Rattle.std.specs.Prelude.{◌≡◌, ◌+◌, ◌≤◌, [], ◌∷◌, ◌++◌, length, take, IfSome, IfErr, OnOk, OnErr};
+ghost use Rattle.std.specs.Prelude.{◌≡◌, ◌≤◌, [], length, take, IfSome, IfErr, OnOk, OnErr};
 ghost use Rattle.bsc_block.specs.Blocks.{block_text};
-ghost use Rattle.bsc_spool.specs.Queue.{waiting, next_block, IsQueue, IsNext};
+ghost use Rattle.bsc_spool.specs.Queue.{waiting, next_block, with_offered, with_known, IsQueue, IsNext};
 
 use bsc_block::{Format, Record, build, pack};
 use bsc_frame::{End, Text};
@@ -50,7 +50,7 @@ impl<A: Allocator> Queue<A> {
     /// memory is wanting, and then nothing changed.
     pub fn offer(&mut self, record: Record) -> Result<(), Record>
         requires { length «record» ≤ self.old.format.full }
-        ensures ok { OnOk result (self.new ≡ record self.old { offered = self.old.offered ++ «record» ∷ [] }) }
+        ensures ok { OnOk result (self.new ≡ with_offered self.old «record») }
         ensures err { OnErr result (self.new ≡ self.old) }
         ensures given_back { IfErr result (λ r. r ≡ «record») }
     {
@@ -112,7 +112,7 @@ impl<A: Allocator> Queue<A> {
     /// Counts the first `count` waiting records as delivered. They are not more than wait.
     pub fn mark(&mut self, count: usize)
         requires { count ≤ length (waiting self.old) }
-        ensures { self.new ≡ record self.old { known = self.old.known + count } }
+        ensures { self.new ≡ with_known self.old count }
     {
         self.known += count;
     }
