@@ -1,7 +1,7 @@
 -- How waiting records are cut into blocks.
-use Rattle.std.proofs.Common.{◌≡◌, ◌≢◌, ℕ, zero, suc, ◌+◌, ◌<◌, ◌≤◌, ◌-◌, arith, refl, ap, List, [], ◌∷◌, length, take, drop, length-drop}
+use Rattle.std.proofs.Common.{◌≡◌, ◌≢◌, ℕ, zero, suc, ◌≤◌, ◌-◌, arith, refl, ap, List, [], ◌∷◌, length, take, drop, length-drop}
 use Rattle.bsc_block.specs.Format.{FormatValue, IsFormat}
-use Rattle.bsc_block.specs.Blocks.{taken, cut, blocks, AreShort, IsTaken}
+use Rattle.bsc_block.specs.Blocks.{taken, cut, blocks, AreShort}
 use Rattle.bsc_block.proofs.Elements.{all-drop}
 use Rattle.bsc_block.proofs.Taking.{taken-IsTaken, taken-some}
 

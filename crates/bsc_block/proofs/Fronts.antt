@@ -1,9 +1,9 @@
 -- What the first records of a list count together.
-use Rattle.std.proofs.Common.{◌≡◌, ℕ, zero, suc, ◌+◌, ◌<◌, ◌≤◌, arith, refl, List, [], ◌∷◌, ◌++◌, length, take, get_or, Bool, true, false}
+use Rattle.std.proofs.Common.{◌≡◌, ℕ, ◌+◌, ◌<◌, ◌≤◌, arith, refl, List, length, take, get_or}
 use Rattle.std.proofs.lemmas.List.Sums.{sum_by_more, sum_by-take-le}
 use Rattle.std.proofs.lemmas.List.{take-take}
-use Rattle.bsc_block.specs.Format.{FormatValue, IsFormat}
-use Rattle.bsc_block.specs.Blocks.{cost, front_cost, AreShort}
+use Rattle.bsc_block.specs.Format.{FormatValue}
+use Rattle.bsc_block.specs.Blocks.{cost, front_cost}
 
 -- one record more
 pub front_cost-more : (f : FormatValue) (k : ℕ) (rs : List (List ℕ)) (d : List ℕ) → k < length rs → front_cost f (k + 1) rs ≡ front_cost f k rs + cost f (get_or rs k d)

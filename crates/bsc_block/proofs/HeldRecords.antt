@@ -1,5 +1,5 @@
 -- The records that units hold.
-use Rattle.std.proofs.Common.{◌≡◌, ℕ, ◌+◌, ◌≤◌, ◌∙◌, arith, refl, sym, ap, List, [], ◌∷◌, ◌++◌, length, take, map, Bool, true, false, ◌||◌, nat_lt, slice_get, Some}
+use Rattle.std.proofs.Common.{◌≡◌, ℕ, ◌+◌, ◌≤◌, ◌∙◌, arith, refl, ap, List, [], ◌∷◌, ◌++◌, take, map, true, false, slice_get, Some}
 use Rattle.std.proofs.lemmas.List.{append-nil, map-append, take_more}
 use Rattle.std.proofs.lemmas.Option.{slice_get_within, get_or_from_slice_get}
 use Rattle.std.proofs.lemmas.List.Elements.{filter-append}

@@ -1,9 +1,8 @@
 -- Codes among which there is no wrong one.
-use Rattle.std.proofs.Common.{◌≡◌, ℕ, ◌+◌, ◌≤◌, Bool, true, false, not, cond, refl, arith, List, [], ◌∷◌, length, Option, Some, None, IsTrue, position, nat_lt}
+use Rattle.std.proofs.Common.{◌≡◌, ℕ, ◌+◌, ◌≤◌, Bool, true, false, not, cond, refl, arith, List, [], ◌∷◌, length, Some, None, IsTrue, position, nat_lt}
 use Rattle.std.specs.List.{AllByRecursion, position_or_len}
 use Rattle.std.proofs.lemmas.Bool.Decides.{nat_tests}
 use Rattle.bsc_octet.specs.Octet.{is_record_char}
-use Rattle.bsc_block.specs.Records.{IsRecord}
 
 passes_head : (c : ℕ) (cs : List ℕ) (b : Bool) → is_record_char c ≡ b
     → (length cs ≤ position_or_len (λ c. not (is_record_char c)) cs → AllByRecursion (λ c. IsTrue (is_record_char c)) cs)

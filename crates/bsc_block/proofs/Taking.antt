@@ -1,8 +1,8 @@
 -- How many records the next block takes.
-use Rattle.std.proofs.Common.{◌≡◌, ◌≢◌, ◌⊎◌, inl, inr, ℕ, zero, suc, ◌+◌, ◌<◌, ◌≤◌, arith, refl, sym, ◌∙◌, List, [], ◌∷◌, length, take, Bool, true, false, min, nat_le, nat_lt, if◌then◌else◌}
+use Rattle.std.proofs.Common.{◌≡◌, ◌≢◌, ◌⊎◌, inl, inr, ℕ, zero, suc, ◌+◌, ◌<◌, ◌≤◌, arith, refl, List, [], ◌∷◌, length, Bool, true, false, min, nat_le, nat_lt, if◌then◌else◌}
 use Rattle.std.proofs.lemmas.Bool.{leb-true, le-leb, cases_lt}
 use Rattle.bsc_block.specs.Format.{FormatValue, IsFormat}
-use Rattle.bsc_block.specs.Blocks.{cost, front_cost, greatest, taken, IsTaken, AreShort}
+use Rattle.bsc_block.specs.Blocks.{front_cost, greatest, taken, IsTaken, AreShort}
 use Rattle.bsc_block.proofs.Fronts.{front_cost-le}
 
 pub greatest-le : (p : ℕ → Bool) (n : ℕ) → greatest p n ≤ n
@@ -29,11 +29,6 @@ greatest-above p (suc n) j l e = split (p (suc n)) refl (λ below. greatest-abov
     split : (b : Bool) → p (suc n) ≡ b → (j ≤ n → j ≤ greatest p n) → j ≤ (if b then suc n else greatest p n)
     split true f above = l
     split false f above = last f (cases_lt n j) above
-
--- at most k of them pass: k itself does, and no greater one
-pub greatest-is : (p : ℕ → Bool) (n k : ℕ) → p 0 ≡ true → k ≤ n → p k ≡ true → ((j : ℕ) → j ≤ n → p j ≡ true → j ≤ k) → greatest p n ≡ k
-greatest-is p n k z l e above =
-    omega (arith, greatest-above p n k l e, above (greatest p n) (greatest-le p n) (greatest-passes p n z))
 
 fits_none : (f : FormatValue) (rs : List (List ℕ)) → front_cost f 0 rs ≤ f.block_chars
 fits_none f rs = omega arith

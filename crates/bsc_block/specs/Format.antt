@@ -1,25 +1,26 @@
--- The limits of what is sent (own).
+-- The limits of what is sent (own). They hold for sending alone: what is received is limited by the buffers
+-- of a text.
 use Rattle.std.specs.Prelude.{ℕ, ◌≤◌, Bool, ◌&&◌, nat_le, if◌then◌else◌, Result, Ok, Err}
 use Rattle.bsc_block.specs.declared.format.FormatError.{FormatError}
 use Rattle.bsc_block.specs.declared.format.FormatError.TheVariants.{Full, BlockChars}
 
--- how many characters a full record has, and how many a block may count
+-- How many characters a full record has, and how many a block may count.
 pub record FormatValue : Type 0 where
   pub full : ℕ
   pub block_chars : ℕ
 
--- a full record has 1 to 144 characters, and a block counts at most 146 to 400
+-- A full record has 1 to 144 characters; a block may count 146 to 400.
 pub record IsFormat (f : FormatValue) : Type 0 where
   pub full_from : 1 ≤ f.full
   pub full_to : f.full ≤ 144
   pub block_from : 146 ≤ f.block_chars
   pub block_to : f.block_chars ≤ 400
 
--- a number from low to high
+-- Whether n is a number from low to high.
 abbrev pub is_within : ℕ → ℕ → ℕ → Bool
 is_within low high n = nat_le low n && nat_le n high
 
--- the format of two numbers, or the first of them that is out of range
+-- The format of two numbers, or the first of them that is out of its range.
 abbrev pub format_of : ℕ → ℕ → Result FormatValue FormatError
 format_of full block_chars =
     if is_within 1 144 full

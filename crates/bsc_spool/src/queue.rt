@@ -2,7 +2,7 @@
 //! offered can be compared with what was spooled.
 ghost use Rattle.std.specs.Prelude.{◌≡◌, ◌≤◌, [], length, take, IfSome, IfErr, OnOk, OnErr};
 ghost use Rattle.bsc_block.specs.Blocks.{block_text};
-ghost use Rattle.bsc_spool.specs.Queue.{waiting, next_block, with_offered, with_known, IsQueue, IsNext};
+ghost use Rattle.bsc_spool.specs.Queue.{waiting, next_block, queue_of, with_offered, with_known, IsQueue, IsNext};
 
 use bsc_block::{Format, Record, build, pack};
 use bsc_frame::{End, Text};
@@ -25,19 +25,19 @@ pub struct Queue<A: Allocator> {
 }
 
 impl<A: Allocator> Model for Queue<A> {
-    ghost use Rattle.bsc_spool.specs.Queue.{QueueValue, IsQueue};
+    ghost use Rattle.bsc_spool.specs.Queue.{QueueValue, IsQueue, queue_of};
 
     ghost Value = { QueueValue };
 
-    ghost view = { λ q. record { format = q.format; offered = q.records.items; known = q.known } };
+    ghost view = { λ q. queue_of q.format q.records.items q.known };
 
-    ghost invariant = { λ q. IsQueue (record { format = q.format; offered = q.records.items; known = q.known }) };
+    ghost invariant = { λ q. IsQueue (queue_of q.format q.records.items q.known) };
 }
 
 impl<A: Allocator> Queue<A> {
     /// An empty queue. It takes no memory.
     pub fn new(alloc: A, format: Format) -> Self
-        ensures { result ≡ record { format = format; offered = []; known = 0 } }
+        ensures { result ≡ queue_of format [] 0 }
     {
         Queue {
             format,

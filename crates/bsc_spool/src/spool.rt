@@ -1,7 +1,7 @@
 //! The receiving end of a channel. Room is made before a text is accepted, so that a text which was
 //! accepted is stored whole.
-ghost use Rattle.std.specs.Prelude.{◌≡◌, [], ◌++◌, true, if◌then◌else◌};
-ghost use Rattle.bsc_spool.specs.Spool.{with_delay};
+ghost use Rattle.std.specs.Prelude.{◌≡◌, [], ◌++◌, true};
+ghost use Rattle.bsc_spool.specs.Spool.{room_asked};
 
 use bsc_block::{Block, Record};
 use std::alloc::Allocator;
@@ -41,7 +41,7 @@ impl<A: Allocator> Spool<A> {
     /// Makes room for seven more records. Where it is there nothing is asked for; false where the
     /// growth was refused, and then only the count of delays changed.
     pub fn make_room(&mut self) -> bool
-        ensures all { self.new ≡ record { records = self.old.records; room = result; delays = if result then self.old.delays else with_delay self.old.delays } }
+        ensures answer { self.new ≡ room_asked self.old result }
         ensures there { self.old.room ≡ true → result ≡ true }
     {
         match self.records.try_reserve(MOST) {

@@ -1,7 +1,6 @@
-use Rattle.std.proofs.Common.{arith, sym, ◌∙◌, ◌≡◌, ap, map}
+use Rattle.std.proofs.Common.{arith, sym, ◌∙◌}
 use Rattle.std.proofs.lemmas.List.{map_push, length_push}
 use Rattle.bsc_frame.specs.Units.{text_unit}
-use Rattle.bsc_block.specs.Records.{IsRecord}
 use Rattle.bsc_block.proofs.Elements.{all-append}
 use Rattle.bsc_block.proofs.HeldRecords.{records_in-held, records_in-empty, unit-IsRecord}
 use Rattle.bsc_block.proofs.block.unpack.Goals as goal

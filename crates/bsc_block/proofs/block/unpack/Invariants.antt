@@ -1,6 +1,5 @@
 use Rattle.std.proofs.Common.{◌≡◌, ◌≤◌, length, map, take}
 use Rattle.std.specs.List.{AllByRecursion}
-use Rattle.bsc_frame.specs.Texts.{IsText}
 use Rattle.bsc_block.specs.Records.{IsRecord}
 use Rattle.bsc_block.specs.Blocks.{records_in}
 use Rattle.bsc_block.proofs.block.unpack.Given as goal

@@ -1,4 +1,4 @@
-use Rattle.std.proofs.Common.{◌≡◌, ◌+◌, ◌++◌, [], ◌∷◌, arith, map, take, length, set, get_or, refl}
+use Rattle.std.proofs.Common.{◌≡◌, ◌+◌, ◌++◌, [], ◌∷◌, arith, map, take, set, refl}
 use Rattle.std.proofs.lemmas.List.{take_more, take_more_set, map_push, length-set}
 use Rattle.bsc_frame.specs.Texts.{IsUnit}
 use Rattle.bsc_frame.specs.Units.{text_unit}

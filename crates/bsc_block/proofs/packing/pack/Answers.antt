@@ -1,6 +1,5 @@
-use Rattle.std.proofs.Common.{◌≡◌, ◌⊎◌, inl, inr, ℕ, ◌+◌, ◌≤◌, ◌<◌, arith, List, length, ◌∙◌, refl}
-use Rattle.bsc_block.specs.Format.{FormatValue}
-use Rattle.bsc_block.specs.Blocks.{cost, front_cost, IsTaken}
+use Rattle.std.proofs.Common.{◌≡◌, inl, inr, ◌+◌, arith, ◌∙◌, refl}
+use Rattle.bsc_block.specs.Blocks.{front_cost, IsTaken}
 use Rattle.bsc_block.proofs.Fronts.{front_cost-more}
 use Rattle.bsc_block.proofs.Taking.{stops_there, IsTaken-taken}
 use Rattle.bsc_block.proofs.packing.pack.Goals as goal
