@@ -1,12 +1,26 @@
 -- How waiting records are cut into blocks.
-use Rattle.std.proofs.Common.{◌≡◌, ◌≢◌, ℕ, zero, suc, ◌≤◌, ◌-◌, arith, refl, ap, List, [], ◌∷◌, length, take, drop, length-drop}
+use Rattle.std.proofs.Common.{◌≡◌, ◌≢◌, ℕ, zero, suc, ◌≤◌, arith, refl, ap, List, [], ◌∷◌, length, take, drop, length-drop}
 use Rattle.bsc_block.specs.Format.{FormatValue, IsFormat}
 use Rattle.bsc_block.specs.Blocks.{taken, cut, blocks, AreShort}
 use Rattle.bsc_block.proofs.Elements.{all-drop}
 use Rattle.bsc_block.proofs.Taking.{taken-IsTaken, taken-some}
 
--- more room for blocks than there are records changes nothing
-pub cut-length : (n m : ℕ) (f : FormatValue) (rs : List (List ℕ)) → IsFormat f → AreShort f.full rs → length rs ≤ n → length rs ≤ m → cut n f rs ≡ cut m f rs
+-- the records behind the next block
+rest : FormatValue → List (List ℕ) → List (List ℕ)
+rest f rs = drop (taken f rs) rs
+
+length-rest : (f : FormatValue) (r : List ℕ) (rs : List (List ℕ)) → IsFormat f → AreShort f.full (r ∷ rs) → length (rest f (r ∷ rs)) ≤ length rs
+unfolding rest
+length-rest f r rs i s =
+    omega (arith, length-drop (taken f (r ∷ rs)) (r ∷ rs), taken-some f (r ∷ rs) (taken f (r ∷ rs)) i s (taken-IsTaken f (r ∷ rs)) (λ e. cc))
+
+short-rest : (f : FormatValue) (rs : List (List ℕ)) → AreShort f.full rs → AreShort f.full (rest f rs)
+unfolding rest
+short-rest f rs s = all-drop (λ r. length r ≤ f.full) (taken f rs) rs s
+
+-- more blocks than there are records are not cut
+cut-length : (n m : ℕ) (f : FormatValue) (rs : List (List ℕ)) → IsFormat f → AreShort f.full rs → length rs ≤ n → length rs ≤ m → cut n f rs ≡ cut m f rs
+unfolding rest
 cut-length zero zero f rs i s l k = refl
 cut-length zero (suc m) f [] i s l k = refl
 cut-length zero (suc m) f (r ∷ rs) i s l k = absurd (omega arith)
@@ -14,15 +28,13 @@ cut-length (suc n) zero f [] i s l k = refl
 cut-length (suc n) zero f (r ∷ rs) i s l k = absurd (omega arith)
 cut-length (suc n) (suc m) f [] i s l k = refl
 cut-length (suc n) (suc m) f (r ∷ rs) i s l k =
-    let t : ℕ = taken f (r ∷ rs) in
-    let some : 1 ≤ t = taken-some f (r ∷ rs) t i s (taken-IsTaken f (r ∷ rs)) (λ e. cc) in
-    let rest : length (drop t (r ∷ rs)) ≡ suc (length rs) - t = length-drop t (r ∷ rs) in
-    ap (λ bs. take t (r ∷ rs) ∷ bs) (cut-length n m f (drop t (r ∷ rs)) i (all-drop (λ r. length r ≤ f.full) t (r ∷ rs) s) (omega arith) (omega arith))
+    let shorter : length (rest f (r ∷ rs)) ≤ length rs = length-rest f r rs i s in
+    ap (λ bs. take (taken f (r ∷ rs)) (r ∷ rs) ∷ bs) (cut-length n m f (rest f (r ∷ rs)) i (short-rest f (r ∷ rs) s) (omega arith) (omega arith))
 
 pub blocks-next : (f : FormatValue) (rs : List (List ℕ)) → IsFormat f → AreShort f.full rs → rs ≢ [] → blocks f rs ≡ take (taken f rs) rs ∷ blocks f (drop (taken f rs) rs)
+unfolding rest
 blocks-next f [] i s n = absurd (n refl)
 blocks-next f (r ∷ rs) i s n =
-    let t : ℕ = taken f (r ∷ rs) in
-    let some : 1 ≤ t = taken-some f (r ∷ rs) t i s (taken-IsTaken f (r ∷ rs)) n in
-    let rest : length (drop t (r ∷ rs)) ≡ suc (length rs) - t = length-drop t (r ∷ rs) in
-    ap (λ bs. take t (r ∷ rs) ∷ bs) (cut-length (length rs) (length (drop t (r ∷ rs))) f (drop t (r ∷ rs)) i (all-drop (λ r. length r ≤ f.full) t (r ∷ rs) s) (omega arith) (omega arith))
+    let shorter : length (rest f (r ∷ rs)) ≤ length rs = length-rest f r rs i s in
+    ap (λ bs. take (taken f (r ∷ rs)) (r ∷ rs) ∷ bs)
+    (cut-length (length rs) (length (rest f (r ∷ rs))) f (rest f (r ∷ rs)) i (short-rest f (r ∷ rs) s) (omega arith) (omega arith))

@@ -1,4 +1,4 @@
-pub mod RecordChars
+pub mod CodeTests
 pub mod Elements
 pub mod Fronts
 pub mod Taking

@@ -129,6 +129,7 @@ fn the_records_of_a_block_outlive_it(rt: HostRuntime) -> Result<(), Fail> {
         let block = unpack(&text);
         assert_eq!(rt; block.count(), 2);
         assert!(rt; block.chars(1).is_empty());
+        assert_eq!(rt; block.record(0).chars(), b"HI".as_slice());
         block.chars(0)
     };
     assert_eq!(rt; chars, b"HI".as_slice());
