@@ -1,0 +1,4 @@
+pub mod Record
+pub mod Front
+pub mod Assembler
+pub mod Streams
