@@ -1,18 +1,34 @@
--- What a reader or a writer that tells its octets has left or holds (own).
-use Rattle.std.specs.Prelude.{◌≡◌, ◌≢◌, ℕ, ◌<◌, ◌↔◌, ⊤, List, length, take, Option, Some, None, Result, Err}
-use Rattle.std.specs.Io.KnownBytes.{Appends, Consumes}
+-- What calls do to a reader or a writer that tells its octets (own).
+use Rattle.std.specs.Prelude.{◌≡◌, ◌≢◌, ℕ, ◌<◌, ◌↔◌, ⊤, Bool, true, false, List, [], length, take, Option, Some, None, Result, Ok, Err}
+use Rattle.std.specs.Io.KnownBytes.{Appends, Consumes, Keeps, IsAtEnd}
+use Rattle.bsc_carrier.specs.Record.{IsCarried, socket_record}
+use Rattle.bsc_carrier.specs.Front.{IsPartial, EndsWithin, HasWrongLength}
 use Rattle.bsc_carrier.specs.declared.error.CarrierError.{CarrierError}
-use Rattle.bsc_carrier.specs.declared.error.CarrierError.TheVariants.{Device}
+use Rattle.bsc_carrier.specs.declared.error.CarrierError.TheVariants.{Length, Short, Device, Unequal}
 
--- the writer holds some octets more, which are the beginning of these and not all of them
+-- the writer holds some octets more: the beginning of these, and not all of them
 abbrev pub AppendsPart : Option (List ℕ) → Option (List ℕ) → List ℕ → Type 0
 AppendsPart old new octets = (n : ℕ) × (n < length octets) × Appends old new (take n octets)
 
--- the reader has lost some octets, from the first on
-abbrev pub Loses : Option (List ℕ) → Option (List ℕ) → Type 0
-Loses old new = (octets : List ℕ) × Consumes old new octets
+-- the reader lost octets of this kind
+abbrev pub LosesSome : (List ℕ → Type 0) → Option (List ℕ) → Option (List ℕ) → Type 0
+LosesSome P old new = (front : List ℕ) × P front × Consumes old new front
 
--- unless a read or a write failed, this is the answer exactly where what the reader has left is so
+-- what a read of one record answers, and what it takes from the reader
+abbrev pub ReadsRecord : Option (List ℕ) → Result Bool CarrierError → List ℕ → Option (List ℕ) → Type 0
+-- the record of these octets, and just that
+ReadsRecord old (Ok true) octets new = IsCarried octets × Consumes old new (socket_record octets)
+-- nothing: the input has ended
+ReadsRecord old (Ok false) octets new = IsAtEnd old × Keeps old new
+-- a wrong length
+ReadsRecord old (Err Length) octets new = LosesSome (λ front. HasWrongLength front × (length front ≡ 2)) old new
+-- all that was left, which is less than a record
+ReadsRecord old (Err Short) octets new = LosesSome EndsWithin old new × IsAtEnd new
+-- less than a record, and then a read failed
+ReadsRecord old (Err Device) octets new = LosesSome IsPartial old new
+ReadsRecord old (Err Unequal) octets new = ⊥
+
+-- unless a read or a write failed, a call answers so exactly where what the reader had left is so
 abbrev pub IsExactly : {T : Type 0} → Result T CarrierError → Type 0 → (List ℕ → Type 0) → Option (List ℕ) → Type 0
 IsExactly result answer P None = ⊤
 IsExactly result answer P (Some stream) = result ≢ Err Device → (answer ↔ P stream)

@@ -13,4 +13,4 @@ mod tests;
 
 pub use assembler::Assembler;
 pub use error::{CarrierError, Octets};
-pub use record::write_record;
+pub use record::{read_record, write_record};

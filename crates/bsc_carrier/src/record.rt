@@ -1,9 +1,10 @@
 //! One record at a time over a reader or a writer: each end of a connection writes records and reads them.
 
-ghost use Rattle.std.specs.Prelude.{◌≡◌, ◌≢◌, ◌<◌, ◌≤◌, [], length, Ok, Err, true, false, OnOk, IfErr, OnErr};
+ghost use Rattle.std.specs.Prelude.{◌≡◌, ◌≢◌, [], Ok, Err, true, false, OnOk, IfErr, OnErr};
 ghost use Rattle.std.specs.Io.KnownBytes.{Appends};
 ghost use Rattle.bsc_carrier.specs.Record.{socket_record, IsCarried};
-ghost use Rattle.bsc_carrier.specs.Streams.{AppendsPart};
+ghost use Rattle.bsc_carrier.specs.Front.{BeginsRecord, EndsWithin, HasWrongLength};
+ghost use Rattle.bsc_carrier.specs.Streams.{AppendsPart, ReadsRecord, IsExactly};
 
 use crate::assembler::{Assembler, RecordOctets};
 use crate::error::{CarrierError, Octets};
@@ -37,4 +38,51 @@ pub fn write_record<W: Write>(writer: &mut W, octets: &[u8]) -> Result<(), Carri
     let _ = record.try_extend_from_slice(&(octets.len() as u16).to_be_bytes());
     let _ = record.try_extend_from_slice(octets);
     write_whole(writer, &record)
+}
+
+/// Reads into the assembler until a record is whole, at most as many octets a read as are wanted.
+fn assemble<R: Read>(reader: &mut R, assembler: &mut Assembler) -> Result<bool, CarrierError>
+    requires { assembler.old.begun ≡ [] }
+    ensures { ReadsRecord (R.remaining reader.old) result assembler.new.complete (R.remaining reader.new) }
+{
+    let mut piece = [0u8; 2048];
+    'reads: loop {
+        let wanted = assembler.wanted();
+        let count = match reader.read(&mut piece[..wanted]) {
+            Ok(count) => count,
+            Err(_) => return Err(CarrierError::Device),
+        };
+        if count == 0 {
+            if assembler.between() {
+                return Ok(false);
+            }
+            return Err(CarrierError::Short);
+        }
+        let (_, is_complete) = assembler.feed(&piece[..count])?;
+        if is_complete {
+            return Ok(true);
+        }
+    }
+}
+
+/// Reads one record in at most 2,050 reads, and puts its octets in place of what was there. False where the input ended
+/// before the record's first octet; `Short` where it ended later; `Length` at a wrong length; `Device` where a read
+/// failed, an interrupted one included. Unless it answers true, `octets` is as before, and what was read is gone.
+pub fn read_record<R: Read>(reader: &mut R, octets: &mut Octets) -> Result<bool, CarrierError>
+    ensures read { ReadsRecord (R.remaining reader.old) result octets.new.items (R.remaining reader.new) }
+    ensures kept { result ≢ Ok true → octets.new.items ≡ octets.old.items }
+
+    // Unless a read failed:
+    ensures whole { IsExactly result (result ≡ Ok true) BeginsRecord (R.remaining reader.old) }
+    ensures ended { IsExactly result (result ≡ Ok false) (λ stream. stream ≡ []) (R.remaining reader.old) }
+    ensures wrong { IsExactly result (result ≡ Err CarrierError.Length) HasWrongLength (R.remaining reader.old) }
+    ensures short { IsExactly result (result ≡ Err CarrierError.Short) EndsWithin (R.remaining reader.old) }
+{
+    let mut assembler = Assembler::new();
+    let is_whole = assemble(reader, &mut assembler)?;
+    if is_whole {
+        octets.clear();
+        let _ = octets.try_extend_from_slice(assembler.octets());
+    }
+    Ok(is_whole)
 }
