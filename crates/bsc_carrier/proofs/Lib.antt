@@ -1,3 +1,4 @@
 pub mod Wanted
 pub mod Gathering
 pub mod Fronts
+pub mod Streams

@@ -2,3 +2,4 @@ pub mod Record
 pub mod Front
 pub mod Assembler
 pub mod Streams
+pub mod Stream

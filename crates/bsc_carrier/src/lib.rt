@@ -7,6 +7,7 @@
 
 mod assembler;
 mod error;
+pub mod laws;
 mod record;
 #[cfg(test)]
 mod tests;

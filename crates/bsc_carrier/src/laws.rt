@@ -1,0 +1,21 @@
+//! What is true of every stream, over the definitions that the calls' contracts cite.
+
+ghost use Rattle.std.specs.Prelude.{◌≡◌, ℕ, [], ◌++◌, List, Err};
+ghost use Rattle.std.specs.List.{concat};
+ghost use Rattle.bsc_carrier.specs.Front.{IsPartial, HasWrongLength};
+ghost use Rattle.bsc_carrier.specs.Assembler.{AssemblerValue, Fed};
+ghost use Rattle.bsc_carrier.specs.Stream.{Splits, Assembles};
+
+use crate::error::CarrierError;
+
+/// However a stream is cut into pieces, an assembler that is fed them completes the stream's records, in their order
+/// and no others, and holds what follows them. `Length` comes only where a wrong length stands in a record's place.
+pub fn any_pieces()
+    ensures records { (old new : AssemblerValue) (pieces records : List (List ℕ)) → old.begun ≡ [] → Assembles old pieces records new
+        → Splits (concat pieces) records new.begun × IsPartial new.begun }
+    ensures no_others { (stream : List ℕ) (records others : List (List ℕ)) (rest other : List ℕ)
+        → Splits stream records rest → Splits stream others other → (records ≡ others) × (rest ≡ other) }
+    ensures wrong { (old mid new : AssemblerValue) (pieces records : List (List ℕ)) (piece : List ℕ) → old.begun ≡ []
+        → Assembles old pieces records mid → Fed mid piece (Err CarrierError.Length) new
+        → Splits (concat pieces ++ piece) records (mid.begun ++ piece) × HasWrongLength (mid.begun ++ piece) }
+{}
