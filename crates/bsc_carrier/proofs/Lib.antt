@@ -2,3 +2,5 @@ pub mod Wanted
 pub mod Gathering
 pub mod Fronts
 pub mod Streams
+pub mod Places
+pub mod Explained

@@ -3,3 +3,4 @@ pub mod Front
 pub mod Assembler
 pub mod Streams
 pub mod Stream
+pub mod Cable

@@ -6,6 +6,7 @@
 #![tactic(auto)]
 
 mod assembler;
+mod cable;
 mod error;
 pub mod laws;
 mod record;
@@ -13,5 +14,6 @@ mod record;
 mod tests;
 
 pub use assembler::Assembler;
+pub use cable::Cable;
 pub use error::{CarrierError, Octets};
 pub use record::{read_record, write_record};

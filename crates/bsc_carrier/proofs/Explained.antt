@@ -1,0 +1,31 @@
+-- Why a call that reads at every end answers an error.
+use Rattle.std.proofs.Common.{◌≡◌, ℕ, ◌≤◌, List, ◌++◌, length, get_or, drop, Option, Some, None, Result, Ok, Err, refl}
+use Rattle.std.specs.Prelude.{IfSome, IsErrOf}
+use Rattle.std.specs.List.{Any}
+use Rattle.std.specs.Io.KnownBytes.{Consumes}
+use Rattle.bsc_carrier.specs.Record.{IsCarried, socket_record}
+use Rattle.bsc_carrier.specs.Front.{IsPartial, HasWrongLength}
+use Rattle.bsc_carrier.specs.Cable.{BeginsWith, BeginsOther, Explains}
+use Rattle.bsc_carrier.specs.declared.error.CarrierError.{CarrierError}
+use Rattle.bsc_carrier.specs.declared.error.CarrierError.TheVariants.{Length, Short, Device, Unequal}
+use Rattle.bsc_carrier.proofs.Places.{Any-behind, Any-first}
+
+-- what gave a record began with it
+pub BeginsWith-given : (octets : List ℕ) (old new : Option (List ℕ)) → IsCarried octets → Consumes old new (socket_record octets) → BeginsWith octets old
+BeginsWith-given octets None new carried given = (carried, tt)
+BeginsWith-given octets (Some all) None carried given = absurd given
+BeginsWith-given octets (Some all) (Some rest) carried given = (carried, (rest, given))
+
+-- the first end gave a record, and an end behind it did not give the same
+pub Explains-behind : {S : Type 0} (remaining : S → Option (List ℕ)) (ends : List S) (octets : List ℕ) (d : S) (e : CarrierError)
+    → 1 ≤ length ends → BeginsWith octets (remaining (get_or ends 0 d))
+    → (IsErrOf {T = Unit {0}} (Err e) Length → Any (λ end. IfSome (remaining end) HasWrongLength) (drop 1 ends))
+    → (IsErrOf {T = Unit {0}} (Err e) Short → Any (λ end. IfSome (remaining end) IsPartial) (drop 1 ends))
+    → (IsErrOf {T = Unit {0}} (Err e) Unequal → BeginsOther remaining octets (drop 1 ends))
+    → Explains remaining e ends
+Explains-behind remaining ends octets d Length some first wrong short unequal = Any-behind (λ end. IfSome (remaining end) HasWrongLength) ends (wrong refl)
+Explains-behind remaining ends octets d Short some first wrong short unequal = Any-behind (λ end. IfSome (remaining end) IsPartial) ends (short refl)
+Explains-behind remaining ends octets d Device some first wrong short unequal = tt
+Explains-behind remaining ends octets d Unequal some first wrong short unequal =
+    let (other, differs, found) = unequal refl in
+    (octets, Any-first (λ end. BeginsWith octets (remaining end)) ends d some first, (other, differs, Any-behind (λ end. BeginsWith other (remaining end)) ends found))

@@ -1,0 +1,45 @@
+-- One place of a list of ends, or every place of it.
+use Rattle.std.proofs.Common.{◌≡◌, ℕ, zero, suc, ◌-◌, ◌<◌, ◌≤◌, List, [], ◌∷◌, ◌++◌, length, get_or, take, drop, set, refl, sym, ap, ◌∙◌, subst, append-nil, arith}
+use Rattle.std.proofs.lemmas.List.{take_rest, drop_all}
+use Rattle.std.specs.List.{AllZip, Any}
+use borrow.Rule.Slice.PartMut.{put_mid}
+use Rattle.bsc_carrier.specs.Cable.{ChangesAt}
+
+module _ {S : Type 0} where
+  -- an end that is left alone
+  pub stays_at : (P : S → S → Type 0) → ((end : S) → P end end) → (ends : List S) (t : ℕ) → t < length ends → ChangesAt t P ends ends
+  stays_at P same [] t there = absurd (omega (arith, there))
+  stays_at P same (end ∷ ends) zero there = (end, end, refl, refl, same end)
+  stays_at P same (end ∷ ends) (suc t) there =
+      let (before, after, here, set_is, holds) = stays_at P same ends t (omega (arith, there)) in
+      (before, after, here, ap (λ l. end ∷ l) set_is, holds)
+
+  -- what holds at each place holds all along
+  pub AllZip-from_places : (R : S → S → Type 0) (old new : List S) → length new ≡ length old → ((i : ℕ) (d : S) → i < length old → R (get_or old i d) (get_or new i d)) → AllZip R old new
+  AllZip-from_places R [] [] long each = tt
+  AllZip-from_places R [] (y ∷ new) long each = absurd (omega (arith, long))
+  AllZip-from_places R (x ∷ old) [] long each = absurd (omega (arith, long))
+  AllZip-from_places R (x ∷ old) (y ∷ new) long each =
+      (each 0 x (omega arith), AllZip-from_places R old new (omega (arith, long)) (λ i d below. each (suc i) d (omega (arith, below))))
+
+  -- the ends behind the first, when the first has changed
+  pub ends_behind : (ends : List S) (first : S) → take (length (set ends 0 first) - 1) (drop 1 (set ends 0 first)) ≡ drop 1 ends
+  ends_behind [] first = refl
+  ends_behind (end ∷ ends) first = take_rest (first ∷ ends) 1
+
+  -- what holds of an end behind the first holds of one of all
+  pub Any-behind : (P : S → Type 0) (ends : List S) → Any P (drop 1 ends) → Any P ends
+  Any-behind P [] any = any
+  Any-behind P (end ∷ ends) (place, found, below, is, holds) = (suc place, found, omega (arith, below), is, holds)
+
+  pub Any-first : (P : S → Type 0) (ends : List S) (d : S) → 1 ≤ length ends → P (get_or ends 0 d) → Any P ends
+  Any-first P [] d some holds = absurd (omega (arith, some))
+  Any-first P (end ∷ ends) d some holds = (0, end, omega arith, refl, holds)
+
+  -- the first end, and those behind it
+  pub AllZip-first_and_behind : (R : S → S → Type 0) (old behind : List S) (first d : S) → 1 ≤ length old → R (get_or old 0 d) first → AllZip R (drop 1 old) behind
+      → AllZip R old (put_mid 1 (length (set old 0 first) - 1) (set old 0 first) behind)
+  AllZip-first_and_behind R [] behind first d some one more = absurd (omega (arith, some))
+  AllZip-first_and_behind R (end ∷ old) behind first d some one more =
+      let none : drop (length (first ∷ old) - 1) old ≡ [] = drop_all (length (first ∷ old) - 1) old (omega arith) in
+      (one, subst (AllZip R old) (sym (append-nil behind) ∙ ap (λ l. behind ++ l) (sym none)) more)

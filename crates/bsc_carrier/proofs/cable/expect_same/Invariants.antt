@@ -1,0 +1,11 @@
+use Rattle.std.proofs.Common.{◌≡◌, ℕ, ◌<◌, ◌≤◌, length, get_or}
+use Rattle.std.specs.Io.KnownBytes.{Consumes}
+use Rattle.bsc_carrier.specs.Record.{socket_record}
+use Rattle.bsc_carrier.proofs.cable.expect_same.Given as goal
+
+-- the ends so far gave the record, and the others are as they were
+abbrev pub invariant-ends : goal.invariant-ends
+invariant-ends g l =
+    let remaining = g.S.Read.remaining in
+    ((i : ℕ) (d : g.row.S.Denot) → i < l.end-index → Consumes (remaining (get_or l.fn.ends i d)) (remaining (get_or l.ends i d)) (socket_record l.octets))
+    × ((i : ℕ) (d : g.row.S.Denot) → l.end-index ≤ i → get_or l.ends i d ≡ get_or l.fn.ends i d)

@@ -1,0 +1,50 @@
+-- The ends of some connections that one process holds, and what calls do to them (own).
+use Rattle.std.specs.Prelude.{⊤, ◌≡◌, ◌≢◌, ℕ, List, ◌++◌, Option, Some, None, Result, Err, IfSome, IsOk, slice_get, slice_set, Any}
+use Rattle.std.specs.Io.KnownBytes.{Appends, Consumes}
+use Rattle.bsc_carrier.specs.Record.{IsCarried, socket_record}
+use Rattle.bsc_carrier.specs.Front.{BeginsRecord, IsPartial, HasWrongLength}
+use Rattle.bsc_carrier.specs.Streams.{IsExactly}
+use Rattle.bsc_carrier.specs.declared.error.CarrierError.{CarrierError}
+use Rattle.bsc_carrier.specs.declared.error.CarrierError.TheVariants.{Length, Short, Device, Unequal}
+
+-- the control station's ends, the terminals' ends, and the error that came first
+pub record CableValue (S : Type 0) : Type 0 where
+  pub control_ends : List S
+  pub terminal_ends : List S
+  pub fault : Option CarrierError
+
+-- an end took the record of these octets
+abbrev pub Takes : {S : Type 0} → (S → Option (List ℕ)) → List ℕ → S → S → Type 0
+Takes contents octets before after = Appends (contents before) (contents after) (socket_record octets)
+
+-- an end gave the record of these octets
+abbrev pub Gives : {S : Type 0} → (S → Option (List ℕ)) → List ℕ → S → S → Type 0
+Gives remaining octets before after = Consumes (remaining before) (remaining after) (socket_record octets)
+
+-- the end at this place goes from one state to another so, and all others stay as they were
+abbrev pub ChangesAt : {S : Type 0} → ℕ → (S → S → Type 0) → List S → List S → Type 0
+ChangesAt {S} t P old new = (before : S) × (after : S) × (slice_get old t ≡ Some before) × (new ≡ slice_set old t after) × P before after
+
+-- what a call answers that reads one record at an end which has this left: each answer comes exactly where it is due
+pub record AnswersFor {T : Type 0} (result : Result T CarrierError) (stream : Option (List ℕ)) : Type 0 where
+  pub whole : IsExactly result (IsOk result) BeginsRecord stream
+  pub wrong : IsExactly result (result ≡ Err Length) HasWrongLength stream
+  pub short : IsExactly result (result ≡ Err Short) IsPartial stream
+  pub equal : result ≢ Err Unequal
+
+-- the stream, where it is told, begins with the record of these octets
+abbrev pub BeginsWith : List ℕ → Option (List ℕ) → Type 0
+BeginsWith octets stream = IsCarried octets × IfSome stream (λ all. (rest : List ℕ) × (all ≡ socket_record octets ++ rest))
+
+-- one of these ends begins with the record of other octets
+abbrev pub BeginsOther : {S : Type 0} → (S → Option (List ℕ)) → List ℕ → List S → Type 0
+BeginsOther remaining octets ends = (other : List ℕ) × (octets ≢ other) × Any (λ end. BeginsWith other (remaining end)) ends
+
+-- why a call that reads one record at each of these ends answers an error, as far as they tell what they have left
+abbrev pub Explains : {S : Type 0} → (S → Option (List ℕ)) → CarrierError → List S → Type 0
+Explains remaining Length ends = Any (λ end. IfSome (remaining end) HasWrongLength) ends
+Explains remaining Short ends = Any (λ end. IfSome (remaining end) IsPartial) ends
+Explains remaining Device ends = ⊤
+-- two ends begin with different records
+Explains remaining Unequal ends =
+    (octets : List ℕ) × Any (λ end. BeginsWith octets (remaining end)) ends × BeginsOther remaining octets ends

@@ -1,0 +1,255 @@
+//! A cable: one process holds both ends of each connection, and carries a transmission down to the terminals or up from
+//! one of them.
+
+ghost use Rattle.std.specs.Prelude.{◌≡◌, ◌<◌, ◌≤◌, ℕ, length, None, Some, Err, OnOk, OnErr, IfErr, IfSome, IsErrOf, Any, slice_get};
+ghost use Rattle.std.specs.List.{AllZip};
+ghost use Rattle.bsc_carrier.specs.Record.{IsCarried};
+ghost use Rattle.bsc_carrier.specs.Front.{IsPartial, HasWrongLength};
+ghost use Rattle.bsc_carrier.specs.Cable.{Takes, Gives, AnswersFor, ChangesAt, BeginsWith, BeginsOther, Explains};
+ghost use Rattle.std.specs.Result.{result_err};
+
+use crate::error::{CarrierError, Octets};
+use crate::record::{read_record, write_record};
+use std::alloc::{Allocator, Global};
+use std::io::{Read, Write};
+use std::marker::Model;
+
+/// The two ends of 1 to 64 connections, one for each terminal (own). After an error every later call answers that error
+/// and touches no stream.
+#[derive(Drop)]
+pub struct Cable<S, A: Allocator = Global> {
+    control_ends: Vec<S, A>,
+    terminal_ends: Vec<S, A>,
+    // The error that came first.
+    fault: Option<CarrierError>,
+}
+
+impl<S, A: Allocator> Model for Cable<S, A> {
+    ghost use Rattle.bsc_carrier.specs.Cable.{CableValue};
+
+    ghost Value = { CableValue S };
+
+    ghost use Rattle.std.specs.Prelude.{◌≡◌, ◌≤◌, length};
+
+    ghost view = { λ c. record { control_ends = c.control_ends.items; terminal_ends = c.terminal_ends.items; fault = c.fault } };
+
+    ghost invariant = { λ c. (length c.control_ends.items ≡ length c.terminal_ends.items) × (1 ≤ length c.control_ends.items) };
+}
+
+/// Reads a record where one has to come: an input that ends before it is `Short`.
+fn expect_record<S: Read>(end: &mut S, octets: &mut Octets) -> Result<(), CarrierError>
+    ensures read { OnOk result (Gives S.remaining octets.new.items end.old end.new) }
+    ensures carried { OnOk result (IsCarried octets.new.items) }
+    ensures kept { OnErr result (octets.new.items ≡ octets.old.items) }
+    ensures exact { AnswersFor result (S.remaining end.old) }
+{
+    if read_record(end, octets)? {
+        Ok(())
+    } else {
+        Err(CarrierError::Short)
+    }
+}
+
+/// The near end at this place writes the record, and the far end there reads it.
+fn carry_at<S: Read + Write>(
+    near: &mut [S],
+    far: &mut [S],
+    t: usize,
+    octets: &[u8],
+    heard: &mut Octets,
+) -> Result<(), CarrierError>
+    requires near_there { t < length near.old }
+    requires far_there { t < length far.old }
+    requires carried { IsCarried octets.now }
+    ensures wrote { ChangesAt t (λ before after. OnOk result (Takes S.contents octets.now before after))
+        near.old near.new }
+    ensures read { ChangesAt t (λ before after. OnOk result (Gives S.remaining heard.new.items before after))
+        far.old far.new }
+    ensures carried { OnOk result (IsCarried heard.new.items) }
+    ensures kept { OnErr result (heard.new.items ≡ heard.old.items) }
+    ensures exact { (end : S) → slice_get far.old t ≡ Some end → AnswersFor result (S.remaining end) }
+{
+    write_record(&mut near[t], octets)?;
+    expect_record(&mut far[t], heard)
+}
+
+/// Writes the record at every end.
+fn write_each<S: Write>(ends: &mut [S], octets: &[u8]) -> Result<(), CarrierError>
+    requires { IsCarried octets.now }
+    ensures wrote { OnOk result (AllZip (Takes S.contents octets.now) ends.old ends.new) }
+    ensures err { IfErr result (λ e. e ≡ CarrierError.Device) }
+{
+    'ends: for end in ends.iter_mut() {
+        write_record(end, octets)?;
+    }
+    Ok(())
+}
+
+/// Reads a record at every end. Each has to be the record of these octets.
+fn expect_same<S: Read>(ends: &mut [S], octets: &[u8]) -> Result<(), CarrierError>
+    ensures read { OnOk result (AllZip (Gives S.remaining octets.now) ends.old ends.new) }
+    ensures wrong { IsErrOf result CarrierError.Length → Any (λ end. IfSome (S.remaining end) HasWrongLength) ends.old }
+    ensures short { IsErrOf result CarrierError.Short → Any (λ end. IfSome (S.remaining end) IsPartial) ends.old }
+    ensures unequal { IsErrOf result CarrierError.Unequal → BeginsOther S.remaining octets.now ends.old }
+{
+    let mut other = Octets::new();
+    'ends: for end in ends.iter_mut() {
+        expect_record(end, &mut other)?;
+        if other.as_slice() != octets {
+            return Err(CarrierError::Unequal);
+        }
+    }
+    Ok(())
+}
+
+/// Reads a record at every end. All have to be the same.
+fn read_same<S: Read>(ends: &mut [S], heard: &mut Octets) -> Result<(), CarrierError>
+    requires { 1 ≤ length ends.old }
+    ensures read { OnOk result (AllZip (Gives S.remaining heard.new.items) ends.old ends.new) }
+    ensures carried { OnOk result (IsCarried heard.new.items) }
+    ensures kept { OnErr result (heard.new.items ≡ heard.old.items) }
+    ensures why { IfErr result (λ e. Explains S.remaining e ends.old) }
+{
+    let mut first = Octets::new();
+    expect_record(&mut ends[0], &mut first)?;
+    expect_same(&mut ends[1..], &first)?;
+    std::mem::swap(heard, &mut first);
+    Ok(())
+}
+
+/// Every near end writes the record, and every far end reads it.
+fn carry_down<S: Read + Write>(
+    near: &mut [S],
+    far: &mut [S],
+    octets: &[u8],
+    heard: &mut Octets,
+) -> Result<(), CarrierError>
+    requires there { 1 ≤ length far.old }
+    requires carried { IsCarried octets.now }
+    ensures wrote { OnOk result (AllZip (Takes S.contents octets.now) near.old near.new) }
+    ensures read { OnOk result (AllZip (Gives S.remaining heard.new.items) far.old far.new) }
+    ensures carried { OnOk result (IsCarried heard.new.items) }
+    ensures kept { OnErr result (heard.new.items ≡ heard.old.items) }
+    ensures why { IfErr result (λ e. Explains S.remaining e far.old) }
+{
+    write_each(near, octets)?;
+    read_same(far, heard)
+}
+
+impl<S: Read + Write + Drop, A: Allocator> Cable<S, A> {
+    /// The two ends of each connection, in the order of the terminals. There are as many of one side as of the other, 1
+    /// to 64.
+    pub fn new(control_ends: Vec<S, A>, terminal_ends: Vec<S, A>) -> Cable<S, A>
+        requires paired { length control_ends.items ≡ length terminal_ends.items }
+        requires least { 1 ≤ length control_ends.items }
+        requires most { length control_ends.items ≤ 64 }
+        ensures control_ends { result.control_ends ≡ control_ends.items }
+        ensures terminal_ends { result.terminal_ends ≡ terminal_ends.items }
+        ensures fault { result.fault ≡ None }
+    {
+        Cable {
+            control_ends,
+            terminal_ends,
+            fault: None,
+        }
+    }
+
+    /// The terminal's end `t` writes the record, and the control station's end `t` reads it. The other ends are left
+    /// alone. `Device` comes where a read or a write failed, `Length` and `Short` as at `read_record`, and `Short` also
+    /// where the input ended before the record. `heard` has the octets that came, and after an error it is as before.
+    pub fn up(&mut self, t: usize, octets: &[u8], heard: &mut Octets) -> Result<(), CarrierError>
+        requires there { t < length self.old.terminal_ends }
+        requires carried { IsCarried octets.now }
+        ensures wrote { ChangesAt t (λ before after. OnOk result (Takes S.contents octets.now before after))
+            self.old.terminal_ends self.new.terminal_ends }
+        ensures read { ChangesAt t (λ before after. OnOk result (Gives S.remaining heard.new.items before after))
+            self.old.control_ends self.new.control_ends }
+        ensures carried { OnOk result (IsCarried heard.new.items) }
+        ensures kept { OnErr result (heard.new.items ≡ heard.old.items) }
+
+        // Each answer comes where it is due, and after an error that error comes.
+        ensures exact { (end : S) → slice_get self.old.control_ends t ≡ Some end → self.old.fault ≡ None → AnswersFor result (S.remaining end) }
+        ensures first_error { (e : CarrierError) → self.old.fault ≡ Some e → (result ≡ Err e) × (self.new ≡ self.old) }
+        ensures fault { self.new.fault ≡ result_err result }
+    {
+        if let Some(fault) = self.fault {
+            return Err(fault);
+        }
+        let result = carry_at(
+            self.terminal_ends.as_mut_slice(),
+            self.control_ends.as_mut_slice(),
+            t,
+            octets,
+            heard,
+        );
+        self.fault = result.err();
+        result
+    }
+
+    /// As `up`, the other way: the control station's end `t` writes the record, and the terminal's end `t` reads it.
+    pub fn down_to(
+        &mut self,
+        t: usize,
+        octets: &[u8],
+        heard: &mut Octets,
+    ) -> Result<(), CarrierError>
+        requires there { t < length self.old.terminal_ends }
+        requires carried { IsCarried octets.now }
+        ensures wrote { ChangesAt t (λ before after. OnOk result (Takes S.contents octets.now before after))
+            self.old.control_ends self.new.control_ends }
+        ensures read { ChangesAt t (λ before after. OnOk result (Gives S.remaining heard.new.items before after))
+            self.old.terminal_ends self.new.terminal_ends }
+        ensures carried { OnOk result (IsCarried heard.new.items) }
+        ensures kept { OnErr result (heard.new.items ≡ heard.old.items) }
+
+        // Each answer comes where it is due, and after an error that error comes.
+        ensures exact { (end : S) → slice_get self.old.terminal_ends t ≡ Some end → self.old.fault ≡ None → AnswersFor result (S.remaining end) }
+        ensures first_error { (e : CarrierError) → self.old.fault ≡ Some e → (result ≡ Err e) × (self.new ≡ self.old) }
+        ensures fault { self.new.fault ≡ result_err result }
+    {
+        if let Some(fault) = self.fault {
+            return Err(fault);
+        }
+        let result = carry_at(
+            self.control_ends.as_mut_slice(),
+            self.terminal_ends.as_mut_slice(),
+            t,
+            octets,
+            heard,
+        );
+        self.fault = result.err();
+        result
+    }
+
+    /// The control station writes the record to every connection, and every terminal's end reads it. `heard` has the
+    /// octets that came, and after an error it is as before. `Device`, `Length` and `Short` are those of `up` at one of
+    /// the ends, and `Unequal` comes where two ends gave different octets.
+    pub fn down(&mut self, octets: &[u8], heard: &mut Octets) -> Result<(), CarrierError>
+        requires { IsCarried octets.now }
+        ensures wrote { OnOk result (AllZip (Takes S.contents octets.now)
+            self.old.control_ends self.new.control_ends) }
+        ensures read { OnOk result (AllZip (Gives S.remaining heard.new.items)
+            self.old.terminal_ends self.new.terminal_ends) }
+        ensures carried { OnOk result (IsCarried heard.new.items) }
+        ensures kept { OnErr result (heard.new.items ≡ heard.old.items) }
+        ensures control_count { length self.new.control_ends ≡ length self.old.control_ends }
+        ensures terminal_count { length self.new.terminal_ends ≡ length self.old.terminal_ends }
+
+        // Each error has its cause, and after an error that error comes.
+        ensures why { self.old.fault ≡ None → IfErr result (λ e. Explains S.remaining e self.old.terminal_ends) }
+        ensures first_error { (e : CarrierError) → self.old.fault ≡ Some e → (result ≡ Err e) × (self.new ≡ self.old) }
+        ensures fault { self.new.fault ≡ result_err result }
+    {
+        if let Some(fault) = self.fault {
+            return Err(fault);
+        }
+        let result = carry_down(
+            self.control_ends.as_mut_slice(),
+            self.terminal_ends.as_mut_slice(),
+            octets,
+            heard,
+        );
+        self.fault = result.err();
+        result
+    }
+}
