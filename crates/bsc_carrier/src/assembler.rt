@@ -10,6 +10,9 @@ use crate::error::{CarrierError, Octets};
 use arrayvec::ArrayVec;
 use std::marker::Model;
 
+#[cfg(test)]
+mod tests;
+
 /// The octets of a record, its two octets of length included.
 pub(crate) type RecordOctets = ArrayVec<u8, 2050>;
 

@@ -14,6 +14,9 @@ use std::alloc::{Allocator, Global};
 use std::io::{Read, Write};
 use std::marker::Model;
 
+#[cfg(test)]
+mod tests;
+
 /// The two ends of 1 to 64 connections, one for each terminal (own). After an error every later call answers that error
 /// and touches no stream.
 #[derive(Drop)]
@@ -33,7 +36,7 @@ impl<S, A: Allocator> Model for Cable<S, A> {
 
     ghost view = { λ c. record { control_ends = c.control_ends.items; terminal_ends = c.terminal_ends.items; fault = c.fault } };
 
-    ghost invariant = { λ c. (length c.control_ends.items ≡ length c.terminal_ends.items) × (1 ≤ length c.control_ends.items) };
+    ghost invariant = { λ c. (length c.control_ends.items ≡ length c.terminal_ends.items) × (1 ≤ length c.control_ends.items) × (length c.control_ends.items ≤ 64) };
 }
 
 /// Reads a record where one has to come: an input that ends before it is `Short`.
@@ -54,23 +57,23 @@ fn expect_record<S: Read>(end: &mut S, octets: &mut Octets) -> Result<(), Carrie
 fn carry_at<S: Read + Write>(
     near: &mut [S],
     far: &mut [S],
-    t: usize,
+    place: usize,
     octets: &[u8],
     heard: &mut Octets,
 ) -> Result<(), CarrierError>
-    requires near_there { t < length near.old }
-    requires far_there { t < length far.old }
+    requires near_there { place < length near.old }
+    requires far_there { place < length far.old }
     requires carried { IsCarried octets.now }
-    ensures wrote { ChangesAt t (λ before after. OnOk result (Takes S.contents octets.now before after))
+    ensures wrote { ChangesAt place (λ before after. OnOk result (Takes S.contents octets.now before after))
         near.old near.new }
-    ensures read { ChangesAt t (λ before after. OnOk result (Gives S.remaining heard.new.items before after))
+    ensures read { ChangesAt place (λ before after. OnOk result (Gives S.remaining heard.new.items before after))
         far.old far.new }
     ensures carried { OnOk result (IsCarried heard.new.items) }
     ensures kept { OnErr result (heard.new.items ≡ heard.old.items) }
-    ensures exact { (end : S) → slice_get far.old t ≡ Some end → AnswersFor result (S.remaining end) }
+    ensures exact { (end : S) → slice_get far.old place ≡ Some end → AnswersFor result (S.remaining end) }
 {
-    write_record(&mut near[t], octets)?;
-    expect_record(&mut far[t], heard)
+    write_record(&mut near[place], octets)?;
+    expect_record(&mut far[place], heard)
 }
 
 /// Writes the record at every end.
@@ -154,21 +157,27 @@ impl<S: Read + Write + Drop, A: Allocator> Cable<S, A> {
         }
     }
 
-    /// The terminal's end `t` writes the record, and the control station's end `t` reads it. The other ends are left
+    /// This terminal's end writes the record, and the control station's end of its connection reads it. The other ends are left
     /// alone. `Device` comes where a read or a write failed, `Length` and `Short` as at `read_record`, and `Short` also
     /// where the input ended before the record. `heard` has the octets that came, and after an error it is as before.
-    pub fn up(&mut self, t: usize, octets: &[u8], heard: &mut Octets) -> Result<(), CarrierError>
-        requires there { t < length self.old.terminal_ends }
+    pub fn up(
+        &mut self,
+        terminal: usize,
+        octets: &[u8],
+        heard: &mut Octets,
+    ) -> Result<(), CarrierError>
+        requires there { terminal < length self.old.terminal_ends }
         requires carried { IsCarried octets.now }
-        ensures wrote { ChangesAt t (λ before after. OnOk result (Takes S.contents octets.now before after))
+        ensures wrote { ChangesAt terminal (λ before after. OnOk result (Takes S.contents octets.now before after))
             self.old.terminal_ends self.new.terminal_ends }
-        ensures read { ChangesAt t (λ before after. OnOk result (Gives S.remaining heard.new.items before after))
+        ensures read { ChangesAt terminal (λ before after. OnOk result (Gives S.remaining heard.new.items before after))
             self.old.control_ends self.new.control_ends }
         ensures carried { OnOk result (IsCarried heard.new.items) }
         ensures kept { OnErr result (heard.new.items ≡ heard.old.items) }
+        ensures count { length self.new.terminal_ends ≡ length self.old.terminal_ends }
 
         // Each answer comes where it is due, and after an error that error comes.
-        ensures exact { (end : S) → slice_get self.old.control_ends t ≡ Some end → self.old.fault ≡ None → AnswersFor result (S.remaining end) }
+        ensures exact { (end : S) → slice_get self.old.control_ends terminal ≡ Some end → self.old.fault ≡ None → AnswersFor result (S.remaining end) }
         ensures first_error { (e : CarrierError) → self.old.fault ≡ Some e → (result ≡ Err e) × (self.new ≡ self.old) }
         ensures fault { self.new.fault ≡ result_err result }
     {
@@ -178,7 +187,7 @@ impl<S: Read + Write + Drop, A: Allocator> Cable<S, A> {
         let result = carry_at(
             self.terminal_ends.as_mut_slice(),
             self.control_ends.as_mut_slice(),
-            t,
+            terminal,
             octets,
             heard,
         );
@@ -186,24 +195,26 @@ impl<S: Read + Write + Drop, A: Allocator> Cable<S, A> {
         result
     }
 
-    /// As `up`, the other way: the control station's end `t` writes the record, and the terminal's end `t` reads it.
+    /// As `up`, the other way: the control station's end of this terminal's connection writes the record, and the terminal's
+    /// end reads it.
     pub fn down_to(
         &mut self,
-        t: usize,
+        terminal: usize,
         octets: &[u8],
         heard: &mut Octets,
     ) -> Result<(), CarrierError>
-        requires there { t < length self.old.terminal_ends }
+        requires there { terminal < length self.old.terminal_ends }
         requires carried { IsCarried octets.now }
-        ensures wrote { ChangesAt t (λ before after. OnOk result (Takes S.contents octets.now before after))
+        ensures wrote { ChangesAt terminal (λ before after. OnOk result (Takes S.contents octets.now before after))
             self.old.control_ends self.new.control_ends }
-        ensures read { ChangesAt t (λ before after. OnOk result (Gives S.remaining heard.new.items before after))
+        ensures read { ChangesAt terminal (λ before after. OnOk result (Gives S.remaining heard.new.items before after))
             self.old.terminal_ends self.new.terminal_ends }
         ensures carried { OnOk result (IsCarried heard.new.items) }
         ensures kept { OnErr result (heard.new.items ≡ heard.old.items) }
+        ensures count { length self.new.terminal_ends ≡ length self.old.terminal_ends }
 
         // Each answer comes where it is due, and after an error that error comes.
-        ensures exact { (end : S) → slice_get self.old.terminal_ends t ≡ Some end → self.old.fault ≡ None → AnswersFor result (S.remaining end) }
+        ensures exact { (end : S) → slice_get self.old.terminal_ends terminal ≡ Some end → self.old.fault ≡ None → AnswersFor result (S.remaining end) }
         ensures first_error { (e : CarrierError) → self.old.fault ≡ Some e → (result ≡ Err e) × (self.new ≡ self.old) }
         ensures fault { self.new.fault ≡ result_err result }
     {
@@ -213,7 +224,7 @@ impl<S: Read + Write + Drop, A: Allocator> Cable<S, A> {
         let result = carry_at(
             self.control_ends.as_mut_slice(),
             self.terminal_ends.as_mut_slice(),
-            t,
+            terminal,
             octets,
             heard,
         );

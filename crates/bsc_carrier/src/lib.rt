@@ -9,9 +9,9 @@ mod assembler;
 mod cable;
 mod error;
 pub mod laws;
-mod record;
 #[cfg(test)]
-mod tests;
+mod memory;
+mod record;
 
 pub use assembler::Assembler;
 pub use cable::Cable;

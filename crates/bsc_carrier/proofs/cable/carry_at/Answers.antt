@@ -13,18 +13,18 @@ OnOk-appends (Err e) old new octets appended = tt
 
 pub returns-in_err-write_record-clause-read : goal.returns-in_err-write_record-clause-read
 returns-in_err-write_record-clause-read g c =
-    stays_at _ (λ end. IfOk-from_err _ _ c.from_residual.ensures.0) c.args.far.now c.args.t c.requires.far_there
+    stays_at _ (λ end. IfOk-from_err _ _ c.from_residual.ensures.0) c.args.far.now c.args.place c.requires.far_there
 
 pub returns-clause-wrote : goal.returns-clause-wrote
 returns-clause-wrote g c =
-    let here = slice_get-get_or c.args.near.now c.args.t c.index-near-t.result c.requires.near_there in
+    let here = slice_get-get_or c.args.near.now c.args.place c.index-near-place.result c.requires.near_there in
     (_, c.write_record.new.writer, here, refl, OnOk-appends c.expect_record.result _ _ _ c.in_ok-write_record.ensures.ok)
 
 pub returns-clause-read : goal.returns-clause-read
 returns-clause-read g c =
-    let here = slice_get-get_or c.args.far.now c.args.t c.index-far-t.result c.requires.far_there in
+    let here = slice_get-get_or c.args.far.now c.args.place c.index-far-place.result c.requires.far_there in
     (_, c.expect_record.new.end, here, refl, c.expect_record.ensures.read)
 
 pub returns-clause-exact : goal.returns-clause-exact
 returns-clause-exact g c = λ end here.
-    subst (λ e. AnswersFor c.expect_record.result (g.S.Read.remaining e)) (get_or_from_slice_get c.args.far.now c.args.t end _ here) c.expect_record.ensures.exact
+    subst (λ e. AnswersFor c.expect_record.result (g.S.Read.remaining e)) (get_or_from_slice_get c.args.far.now c.args.place end _ here) c.expect_record.ensures.exact
