@@ -1,5 +1,5 @@
 -- Why a call that reads at every end answers an error.
-use Rattle.std.proofs.Common.{◌≡◌, ℕ, ◌≤◌, List, ◌++◌, length, get_or, drop, Option, Some, None, Result, Ok, Err, refl}
+use Rattle.std.proofs.Common.{ℕ, ◌≤◌, List, length, get_or, drop, Option, Some, None, Err, refl}
 use Rattle.std.specs.Prelude.{IfSome, IsErrOf}
 use Rattle.std.specs.List.{Any}
 use Rattle.std.specs.Io.KnownBytes.{Consumes}

@@ -1,12 +1,10 @@
 -- What stands at the front of a stream is one thing: a whole record, part of one, or a wrong length.
-use Rattle.std.proofs.Common.{◌≡◌, ◌≢◌, ℕ, ◌+◌, ◌<◌, ◌≤◌, ◌↔◌, Bool, true, false, List, [], ◌∷◌, ◌++◌, length, take, drop, ◌⊎◌, inl, inr, Option, Some, None, Result, Ok, Err, refl, sym, ap, ◌∙◌, subst, append_assoc, append-nil, arith, length-append}
-use Rattle.std.proofs.lemmas.List.{take-append-le}
+use Rattle.std.proofs.Common.{◌≡◌, ℕ, ◌+◌, ◌≤◌, List, [], ◌++◌, length, take, inl, inr, sym, ap, ◌∙◌, subst, append_assoc, arith, length-append}
 use Rattle.std.proofs.lemmas.Nat.{from_be_bytes-to_be_bytes_2}
 use Rattle.std.proofs.Math.Seq.{take-append_seam}
 use Rattle.std.specs.Int.{w16, to_be_bytes, from_be_bytes}
-use Rattle.std.specs.Io.KnownBytes.{Consumes, Keeps, IsAtEnd}
 use Rattle.bsc_carrier.specs.Record.{IsLength, IsWrongLength, IsCarried, socket_record}
-use Rattle.bsc_carrier.specs.Front.{stated_length, BeginsRecord, IsPartial, EndsWithin, HasWrongLength}
+use Rattle.bsc_carrier.specs.Front.{stated_length, BeginsRecord, IsPartial, HasWrongLength}
 use Rattle.bsc_carrier.proofs.Wanted.{stated_length-append}
 
 pub length-socket_record : (octets : List ℕ) → length (socket_record octets) ≡ 2 + length octets

@@ -1,11 +1,11 @@
 -- How many octets are wanted, and what is begun after they were taken.
-use Rattle.std.proofs.Common.{◌≡◌, ℕ, ◌+◌, ◌-◌, ◌<◌, ◌≤◌, min, List, ◌++◌, length, take, drop, ap, arith, rules}
+use Rattle.std.proofs.Common.{◌≡◌, ℕ, ◌+◌, ◌-◌, ◌<◌, ◌≤◌, List, ◌++◌, length, ap, arith}
 use Rattle.std.proofs.lemmas.List.{take-append-le}
 use Rattle.std.proofs.lemmas.Grind.{common_steps}
 use Rattle.std.specs.Int.{w16, from_be_bytes}
 use Rattle.bsc_carrier.specs.Record.{IsLength}
-use Rattle.bsc_carrier.specs.Front.{stated_length, IsPartial, HasWrongLength}
-use Rattle.bsc_carrier.specs.Assembler.{wanted_after, IsBegun}
+use Rattle.bsc_carrier.specs.Front.{stated_length, HasWrongLength}
+use Rattle.bsc_carrier.specs.Assembler.{wanted_after}
 
 -- what follows two octets does not change the length that they state
 pub stated_length-append : (begun more : List ℕ) → 2 ≤ length begun → stated_length (begun ++ more) ≡ stated_length begun

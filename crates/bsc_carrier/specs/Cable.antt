@@ -1,5 +1,5 @@
 -- The ends of some connections that one process holds, and what calls do to them (own).
-use Rattle.std.specs.Prelude.{⊤, ◌≡◌, ◌≢◌, ℕ, List, ◌++◌, Option, Some, None, Result, Err, IfSome, IsOk, slice_get, slice_set, Any}
+use Rattle.std.specs.Prelude.{⊤, ◌≡◌, ◌≢◌, ℕ, List, ◌++◌, Option, Some, Result, Err, IfSome, IsOk, slice_get, slice_set, Any}
 use Rattle.std.specs.Io.KnownBytes.{Appends, Consumes}
 use Rattle.bsc_carrier.specs.Record.{IsCarried, socket_record}
 use Rattle.bsc_carrier.specs.Front.{BeginsRecord, IsPartial, HasWrongLength}

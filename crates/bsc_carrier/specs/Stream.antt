@@ -1,5 +1,5 @@
 -- A whole stream of socket records, and how an assembler is fed it (own).
-use Rattle.std.specs.Prelude.{◌≡◌, ℕ, true, false, List, [], ◌∷◌, ◌++◌, drop, Ok, Err}
+use Rattle.std.specs.Prelude.{◌≡◌, ℕ, true, false, List, [], ◌∷◌, ◌++◌, drop, Ok}
 use Rattle.std.specs.List.{AllByRecursion, flat_map}
 use Rattle.bsc_carrier.specs.Record.{IsCarried, socket_record}
 use Rattle.bsc_carrier.specs.Front.{BeginsRecord}

@@ -1,5 +1,5 @@
 -- What calls do to a reader or a writer that tells its octets (own).
-use Rattle.std.specs.Prelude.{◌≡◌, ◌≢◌, ℕ, ◌<◌, ◌↔◌, ⊤, Bool, true, false, List, [], length, take, Option, Some, None, Result, Ok, Err}
+use Rattle.std.specs.Prelude.{◌≡◌, ◌≢◌, ℕ, ◌<◌, ◌↔◌, ⊤, Bool, true, false, List, length, take, Option, Some, None, Result, Ok, Err}
 use Rattle.std.specs.Io.KnownBytes.{Appends, Consumes, Keeps, IsAtEnd}
 use Rattle.bsc_carrier.specs.Record.{IsCarried, socket_record}
 use Rattle.bsc_carrier.specs.Front.{IsPartial, EndsWithin, HasWrongLength}

@@ -49,20 +49,10 @@ impl MemoryStream {
 impl Read for MemoryStream {
     fn read(&mut self, buf: &mut [u8]) -> io::Result<usize> {
         self.count_call()?;
-        let mut moved = 0;
-        for place in buf.iter_mut() {
-            if moved == self.step {
-                return Ok(moved);
-            }
-            match self.input.get(self.at) {
-                None => return Ok(moved),
-                Some(octet) => {
-                    *place = *octet;
-                    self.at = self.at.wrapping_add(1);
-                    moved += 1;
-                }
-            }
-        }
+        let rest = self.input.get(self.at..).unwrap_or(&[]);
+        let moved = rest.len().min(buf.len()).min(self.step);
+        buf[..moved].copy_from_slice(&rest[..moved]);
+        self.at = self.at.wrapping_add(moved);
         Ok(moved)
     }
 }

@@ -149,7 +149,7 @@ fn sixty_four_connections_carry_the_largest_record_each_way(rt: HostRuntime) -> 
     let mut heard = Octets::new();
     assert_eq!(rt; cable.down(&sent, &mut heard), Ok(()));
     assert_eq!(rt; heard.as_slice(), sent.as_slice());
-    for terminal in 0..64usize {
+    'terminals: for terminal in 0..64usize {
         heard.clear();
         assert_eq!(rt; cable.up(terminal, &sent, &mut heard), Ok(()));
         assert_eq!(rt; heard.as_slice(), sent.as_slice());

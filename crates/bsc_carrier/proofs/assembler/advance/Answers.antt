@@ -1,9 +1,9 @@
-use Rattle.std.proofs.Common.{◌≡◌, ◌+◌, ◌≤◌, ◌<◌, ℕ, List, ◌++◌, length, take, drop, sym, take-append-drop, ap, ◌∙◌, subst, rules, arith}
+use Rattle.std.proofs.Common.{◌≡◌, ◌+◌, ◌≤◌, ◌<◌, ℕ, List, ◌++◌, length, take, drop, sym, take-append-drop, ap, ◌∙◌, subst, arith}
 use Rattle.std.proofs.lemmas.List.{take_rest, length-drop}
 use Rattle.std.proofs.Math.Seq.{take-length}
 use Rattle.std.specs.Int.{w16, to_be_bytes}
 use Rattle.bsc_carrier.specs.Front.{stated_length, HasWrongLength}
-use Rattle.bsc_carrier.specs.Record.{IsLength, IsWrongLength, IsCarried, socket_record}
+use Rattle.bsc_carrier.specs.Record.{IsLength, IsWrongLength, socket_record}
 use Rattle.bsc_carrier.proofs.Gathering.{joined, within, wrong_alone, bounded, exhausted}
 use Rattle.bsc_carrier.proofs.assembler.advance.Goals as goal
 

@@ -1,4 +1,4 @@
-use Rattle.std.proofs.Common.{◌≡◌, ℕ, ◌<◌, ◌≤◌, length, get_or}
+use Rattle.std.proofs.Common.{◌≡◌, ℕ, ◌<◌, ◌≤◌, get_or}
 use Rattle.std.specs.Io.KnownBytes.{Consumes}
 use Rattle.bsc_carrier.specs.Record.{socket_record}
 use Rattle.bsc_carrier.proofs.cable.expect_same.Given as goal

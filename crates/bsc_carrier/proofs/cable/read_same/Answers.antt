@@ -1,9 +1,9 @@
-use Rattle.std.proofs.Common.{◌≡◌, ◌∙◌, sym, ap, subst, drop}
+use Rattle.std.proofs.Common.{subst, drop}
 use Rattle.std.proofs.lemmas.Result.{err_from_is_err_and}
 use Rattle.std.specs.List.{AllZip, Any}
 use Rattle.std.specs.Prelude.{IfSome}
 use Rattle.bsc_carrier.specs.Front.{IsPartial, HasWrongLength}
-use Rattle.bsc_carrier.specs.Cable.{Gives, BeginsOther, Explains}
+use Rattle.bsc_carrier.specs.Cable.{Gives, BeginsOther}
 use Rattle.bsc_carrier.proofs.Places.{ends_behind, AllZip-first_and_behind}
 use Rattle.bsc_carrier.proofs.Explained.{BeginsWith-given, Explains-behind}
 use Rattle.bsc_carrier.proofs.cable.read_same.Goals as goal

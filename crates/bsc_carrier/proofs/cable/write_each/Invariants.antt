@@ -1,4 +1,4 @@
-use Rattle.std.proofs.Common.{◌≡◌, ℕ, ◌<◌, ◌≤◌, length, get_or}
+use Rattle.std.proofs.Common.{◌≡◌, ℕ, ◌<◌, ◌≤◌, get_or}
 use Rattle.std.specs.Io.KnownBytes.{Appends}
 use Rattle.bsc_carrier.specs.Record.{socket_record}
 use Rattle.bsc_carrier.proofs.cable.write_each.Given as goal

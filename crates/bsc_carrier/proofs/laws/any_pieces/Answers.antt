@@ -1,4 +1,4 @@
-use Rattle.std.proofs.Common.{◌≡◌, List, ◌++◌, sym, ap, subst}
+use Rattle.std.proofs.Common.{◌++◌, sym, ap, subst}
 use Rattle.std.specs.List.{concat}
 use Rattle.bsc_carrier.specs.Front.{IsPartial}
 use Rattle.bsc_carrier.specs.Stream.{Splits}
