@@ -1,7 +1,9 @@
 -- One place of a list of ends, or every place of it.
 use Rattle.std.proofs.Common.{◌≡◌, ℕ, zero, suc, ◌-◌, ◌<◌, ◌≤◌, List, [], ◌∷◌, ◌++◌, length, get_or, take, drop, set, refl, sym, ap, ◌∙◌, subst, append-nil, arith}
 use Rattle.std.proofs.lemmas.List.{take_rest, drop_all}
+use Rattle.std.proofs.lemmas.Result.{IfOk-from_err}
 use Rattle.std.specs.List.{AllZip, Any}
+use Rattle.std.specs.Prelude.{Result, IsErr, OnOk}
 use borrow.Rule.Slice.PartMut.{put_mid}
 use Rattle.bsc_carrier.specs.Cable.{ChangesAt}
 
@@ -43,3 +45,9 @@ module _ {S : Type 0} where
   AllZip-first_and_behind R (end ∷ old) behind first d some one more =
       let none : drop (length (first ∷ old) - 1) old ≡ [] = drop_all (length (first ∷ old) - 1) old (omega arith) in
       (one, subst (AllZip R old) (sym (append-nil behind) ∙ ap (λ l. behind ++ l) (sym none)) more)
+
+  -- where a call failed, the end is left alone
+  pub stays_after_error : {T E : Type 0} (result : Result T E) (P : S → S → Type 0) (ends : List S) (t : ℕ) → t < length ends → IsErr result
+      → ChangesAt t (λ before after. OnOk result (P before after)) ends ends
+  stays_after_error result P ends t there failed =
+      stays_at (λ before after. OnOk result (P before after)) (λ end. IfOk-from_err result (λ _. P end end) failed) ends t there

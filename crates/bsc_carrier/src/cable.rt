@@ -39,6 +39,16 @@ impl<S, A: Allocator> Model for Cable<S, A> {
     ghost invariant = { λ c. (length c.control_ends.items ≡ length c.terminal_ends.items) × (1 ≤ length c.control_ends.items) × (length c.control_ends.items ≤ 64) };
 }
 
+/// Answers the error that came first, where there was one.
+fn pass_error(fault: Option<CarrierError>) -> Result<(), CarrierError>
+    ensures { result_err result ≡ fault }
+{
+    match fault {
+        Some(error) => Err(error),
+        None => Ok(()),
+    }
+}
+
 /// Reads a record where one has to come: an input that ends before it is `Short`.
 fn expect_record<S: Read>(end: &mut S, octets: &mut Octets) -> Result<(), CarrierError>
     ensures read { OnOk result (Gives S.remaining octets.new.items end.old end.new) }
@@ -181,16 +191,10 @@ impl<S: Read + Write + Drop, A: Allocator> Cable<S, A> {
         ensures first_error { (e : CarrierError) → self.old.fault ≡ Some e → (result ≡ Err e) × (self.new ≡ self.old) }
         ensures fault { self.new.fault ≡ result_err result }
     {
-        if let Some(fault) = self.fault {
-            return Err(fault);
-        }
-        let result = carry_at(
-            self.terminal_ends.as_mut_slice(),
-            self.control_ends.as_mut_slice(),
-            terminal,
-            octets,
-            heard,
-        );
+        pass_error(self.fault)?;
+        let near = self.terminal_ends.as_mut_slice();
+        let far = self.control_ends.as_mut_slice();
+        let result = carry_at(near, far, terminal, octets, heard);
         self.fault = result.err();
         result
     }
@@ -218,16 +222,10 @@ impl<S: Read + Write + Drop, A: Allocator> Cable<S, A> {
         ensures first_error { (e : CarrierError) → self.old.fault ≡ Some e → (result ≡ Err e) × (self.new ≡ self.old) }
         ensures fault { self.new.fault ≡ result_err result }
     {
-        if let Some(fault) = self.fault {
-            return Err(fault);
-        }
-        let result = carry_at(
-            self.control_ends.as_mut_slice(),
-            self.terminal_ends.as_mut_slice(),
-            terminal,
-            octets,
-            heard,
-        );
+        pass_error(self.fault)?;
+        let near = self.control_ends.as_mut_slice();
+        let far = self.terminal_ends.as_mut_slice();
+        let result = carry_at(near, far, terminal, octets, heard);
         self.fault = result.err();
         result
     }
@@ -251,9 +249,7 @@ impl<S: Read + Write + Drop, A: Allocator> Cable<S, A> {
         ensures first_error { (e : CarrierError) → self.old.fault ≡ Some e → (result ≡ Err e) × (self.new ≡ self.old) }
         ensures fault { self.new.fault ≡ result_err result }
     {
-        if let Some(fault) = self.fault {
-            return Err(fault);
-        }
+        pass_error(self.fault)?;
         let result = carry_down(
             self.control_ends.as_mut_slice(),
             self.terminal_ends.as_mut_slice(),

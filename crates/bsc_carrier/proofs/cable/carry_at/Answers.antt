@@ -2,9 +2,8 @@ use Rattle.std.proofs.Common.{ℕ, List, refl, subst, Option, Result, Ok, Err}
 use Rattle.std.specs.Result.{OnOk}
 use Rattle.std.specs.Io.KnownBytes.{Appends}
 use Rattle.std.proofs.lemmas.Option.{slice_get-get_or, get_or_from_slice_get}
-use Rattle.std.proofs.lemmas.Result.{IfOk-from_err}
-use Rattle.bsc_carrier.specs.Cable.{AnswersFor}
-use Rattle.bsc_carrier.proofs.Places.{stays_at}
+use Rattle.bsc_carrier.specs.Cable.{Gives, AnswersFor}
+use Rattle.bsc_carrier.proofs.Places.{stays_after_error}
 use Rattle.bsc_carrier.proofs.cable.carry_at.Goals as goal
 
 OnOk-appends : {T E : Type 0} (r : Result T E) (old new : Option (List ℕ)) (octets : List ℕ) → Appends old new octets → OnOk r (Appends old new octets)
@@ -13,7 +12,7 @@ OnOk-appends (Err e) old new octets appended = tt
 
 pub returns-in_err-write_record-clause-read : goal.returns-in_err-write_record-clause-read
 returns-in_err-write_record-clause-read g c =
-    stays_at _ (λ end. IfOk-from_err _ _ c.from_residual.ensures.0) c.args.far.now c.args.place c.requires.far_there
+    stays_after_error c.from_residual.result (Gives g.S.Read.remaining c.args.heard.now.items) c.args.far.now c.args.place c.requires.far_there c.from_residual.ensures.0
 
 pub returns-clause-wrote : goal.returns-clause-wrote
 returns-clause-wrote g c =
