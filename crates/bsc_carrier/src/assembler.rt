@@ -76,7 +76,7 @@ fn gather(begun: &mut RecordOctets, piece: &[u8]) -> usize
     ensures items { begun.new.items ≡ begun.old.items ++ take result piece.now }
 {
     let count = missing(begun).min(piece.len());
-    let _ = begun.try_extend_from_slice(&piece[..count]);
+    begun.try_extend_from_slice(&piece[..count]).unwrap();
     count
 }
 
@@ -128,7 +128,9 @@ impl Assembler {
         let (taken, is_complete) = advance(&mut self.begun, piece)?;
         if is_complete {
             self.complete.clear();
-            let _ = self.complete.try_extend_from_slice(&self.begun[2..]);
+            self.complete
+                .try_extend_from_slice(&self.begun[2..])
+                .unwrap();
             self.begun.clear();
         }
         Ok((taken, is_complete))

@@ -38,8 +38,10 @@ pub fn write_record<W: Write>(writer: &mut W, octets: &[u8]) -> Result<(), Carri
     ensures err { IfErr result (λ e. e ≡ CarrierError.Device) }
 {
     let mut record = RecordOctets::new();
-    let _ = record.try_extend_from_slice(&(octets.len() as u16).to_be_bytes());
-    let _ = record.try_extend_from_slice(octets);
+    record
+        .try_extend_from_slice(&(octets.len() as u16).to_be_bytes())
+        .unwrap();
+    record.try_extend_from_slice(octets).unwrap();
     write_whole(writer, &record)
 }
 
@@ -85,7 +87,7 @@ pub fn read_record<R: Read>(reader: &mut R, octets: &mut Octets) -> Result<bool,
     let is_whole = assemble(reader, &mut assembler)?;
     if is_whole {
         octets.clear();
-        let _ = octets.try_extend_from_slice(assembler.octets());
+        octets.try_extend_from_slice(assembler.octets()).unwrap();
     }
     Ok(is_whole)
 }
