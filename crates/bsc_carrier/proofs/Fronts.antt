@@ -19,7 +19,7 @@ pub not_wrong_and_right : (n : ℕ) → IsWrongLength n → IsLength n → ⊥
 not_wrong_and_right n (inl none) right = omega (arith, none, right.0)
 not_wrong_and_right n (inr many) right = omega (arith, many, right.1)
 
-whole_length : (stream octets rest : List ℕ) → stream ≡ socket_record octets ++ rest → length stream ≡ 2 + length octets + length rest
+pub whole_length : (stream octets rest : List ℕ) → stream ≡ socket_record octets ++ rest → length stream ≡ 2 + length octets + length rest
 whole_length stream octets rest is = ap length is ∙ length-append (socket_record octets) rest ∙ ap (λ n. n + length rest) (length-socket_record octets)
 
 pub not_whole_and_partial : (stream : List ℕ) → BeginsRecord stream → IsPartial stream → ⊥

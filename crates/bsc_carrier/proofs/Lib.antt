@@ -4,3 +4,4 @@ pub mod Fronts
 pub mod Streams
 pub mod Places
 pub mod Explained
+pub mod Splitting

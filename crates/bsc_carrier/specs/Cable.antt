@@ -3,7 +3,7 @@ use Rattle.std.specs.Prelude.{⊤, ◌≡◌, ◌≢◌, ℕ, List, ◌++◌, Op
 use Rattle.std.specs.Io.KnownBytes.{Appends, Consumes}
 use Rattle.bsc_carrier.specs.Record.{IsCarried, socket_record}
 use Rattle.bsc_carrier.specs.Front.{BeginsRecord, IsPartial, HasWrongLength}
-use Rattle.bsc_carrier.specs.Streams.{IsExactly}
+use Rattle.bsc_carrier.specs.KnownOctets.{IsExactly}
 use Rattle.bsc_carrier.specs.declared.error.CarrierError.{CarrierError}
 use Rattle.bsc_carrier.specs.declared.error.CarrierError.TheVariants.{Length, Short, Device, Unequal}
 

@@ -1,6 +1,6 @@
 pub mod Record
 pub mod Front
 pub mod Assembler
-pub mod Streams
+pub mod KnownOctets
 pub mod Stream
 pub mod Cable

@@ -13,8 +13,12 @@ use crate::error::CarrierError;
 pub fn any_pieces()
     ensures records { (old new : AssemblerValue) (pieces records : List (List ℕ)) → old.begun ≡ [] → Assembles old pieces records new
         → Splits (concat pieces) records new.begun × IsPartial new.begun }
+
+    // Every stream has one splitting into records and a rest.
+    ensures one { (stream : List ℕ) → (records : List (List ℕ)) × (rest : List ℕ) × Splits stream records rest }
     ensures no_others { (stream : List ℕ) (records others : List (List ℕ)) (rest other : List ℕ)
         → Splits stream records rest → Splits stream others other → (records ≡ others) × (rest ≡ other) }
+
     ensures wrong { (old mid new : AssemblerValue) (pieces records : List (List ℕ)) (piece : List ℕ) → old.begun ≡ []
         → Assembles old pieces records mid → Fed mid piece (Err CarrierError.Length) new
         → Splits (concat pieces ++ piece) records (mid.begun ++ piece) × HasWrongLength (mid.begun ++ piece) }

@@ -4,7 +4,7 @@ ghost use Rattle.std.specs.Prelude.{◌≡◌, ◌≢◌, [], Ok, Err, true, fal
 ghost use Rattle.std.specs.Io.KnownBytes.{Appends};
 ghost use Rattle.bsc_carrier.specs.Record.{socket_record, IsCarried};
 ghost use Rattle.bsc_carrier.specs.Front.{BeginsRecord, EndsWithin, HasWrongLength};
-ghost use Rattle.bsc_carrier.specs.Streams.{AppendsPart, ReadsRecord, IsExactly};
+ghost use Rattle.bsc_carrier.specs.KnownOctets.{AppendsPart, ReadsRecord, IsExactly};
 
 use crate::assembler::{Assembler, RecordOctets};
 use crate::error::{CarrierError, Octets};

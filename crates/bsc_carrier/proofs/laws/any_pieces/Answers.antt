@@ -4,6 +4,7 @@ use Rattle.bsc_carrier.specs.Front.{IsPartial}
 use Rattle.bsc_carrier.specs.Stream.{Splits}
 use Rattle.bsc_carrier.proofs.Fronts.{IsPartial-nil}
 use Rattle.bsc_carrier.proofs.Streams.{one_splitting, splits_when_fed, splits_when_wrong}
+use Rattle.bsc_carrier.proofs.Splitting.{every_stream_splits}
 use Rattle.bsc_carrier.proofs.laws.any_pieces.Goals as goal
 
 pub returns-clause-records : goal.returns-clause-records
@@ -16,3 +17,6 @@ returns-clause-no_others c = one_splitting
 
 pub returns-clause-wrong : goal.returns-clause-wrong
 returns-clause-wrong c = splits_when_wrong
+
+pub returns-clause-one : goal.returns-clause-one
+returns-clause-one c = every_stream_splits
