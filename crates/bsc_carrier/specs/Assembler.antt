@@ -14,13 +14,15 @@ pub record AssemblerValue : Type 0 where
 abbrev pub IsBegun : List ℕ → Type 0
 IsBegun begun = IsPartial begun ⊎ (HasWrongLength begun × (length begun ≡ 2))
 
--- how many octets may come next that all belong to this record: the rest of its length, and then the rest of its octets
+-- how many octets may come next that all belong to this record: the rest of its length, and then
+-- the rest of its octets
 abbrev pub wanted_after : List ℕ → ℕ
 wanted_after begun =
     if nat_lt (length begun) 2 then 2 - length begun
     else (if nat_le 1 (stated_length begun) && nat_le (stated_length begun) 2048 then 2 + stated_length begun - length begun else 0)
 
--- what came grows by the octets that were taken of the piece: they end the record, or are all of the piece and end nothing, or a wrong length came
+-- what came grows by the octets that were taken of the piece: they end the record, or are all of
+-- the piece and end nothing, or a wrong length came
 abbrev pub Gathers : List ℕ → List ℕ → Result (ℕ × Bool) CarrierError → List ℕ → Type 0
 Gathers old piece (Ok (taken, true)) new =
     (taken ≤ length piece) × (new ≡ old ++ take taken piece) × IsCarried (drop 2 new) × (new ≡ socket_record (drop 2 new))

@@ -23,9 +23,10 @@ Gives remaining octets before after = Consumes (remaining before) (remaining aft
 
 -- the end at this place goes from one state to another so, and all others stay as they were
 abbrev pub ChangesAt : {S : Type 0} → ℕ → (S → S → Type 0) → List S → List S → Type 0
-ChangesAt {S} t P old new = (before : S) × (after : S) × (slice_get old t ≡ Some before) × (new ≡ slice_set old t after) × P before after
+ChangesAt {S} place P old new = (before : S) × (after : S) × (slice_get old place ≡ Some before) × (new ≡ slice_set old place after) × P before after
 
--- what a call answers that reads one record at an end which has this left: each answer comes exactly where it is due
+-- what a call answers that reads one record at an end which has this left: each answer comes
+-- exactly where it is due
 pub record AnswersFor {T : Type 0} (result : Result T CarrierError) (stream : Option (List ℕ)) : Type 0 where
   pub whole : IsExactly result (IsOk result) BeginsRecord stream
   pub wrong : IsExactly result (result ≡ Err Length) HasWrongLength stream
@@ -40,7 +41,8 @@ BeginsWith octets stream = IsCarried octets × IfSome stream (λ all. (rest : Li
 abbrev pub BeginsOther : {S : Type 0} → (S → Option (List ℕ)) → List ℕ → List S → Type 0
 BeginsOther remaining octets ends = (other : List ℕ) × (octets ≢ other) × Any (λ end. BeginsWith other (remaining end)) ends
 
--- why a call that reads one record at each of these ends answers an error, as far as they tell what they have left
+-- why a call that reads one record at each of these ends answers an error, as far as they tell what
+-- they have left
 abbrev pub Explains : {S : Type 0} → (S → Option (List ℕ)) → CarrierError → List S → Type 0
 Explains remaining Length ends = Any (λ end. IfSome (remaining end) HasWrongLength) ends
 Explains remaining Short ends = Any (λ end. IfSome (remaining end) IsPartial) ends

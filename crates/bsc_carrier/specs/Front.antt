@@ -11,7 +11,8 @@ stated_length stream = from_be_bytes w16 (take 2 stream)
 abbrev pub BeginsRecord : List ℕ → Type 0
 BeginsRecord stream = (octets : List ℕ) × (rest : List ℕ) × IsCarried octets × (stream ≡ socket_record octets ++ rest)
 
--- less than a record: not both octets of length, or a length that a record may have and fewer octets than it says
+-- less than a record: not both octets of length, or a length that a record may have and fewer
+-- octets than it says
 abbrev pub IsPartial : List ℕ → Type 0
 IsPartial stream = 2 ≤ length stream → IsLength (stated_length stream) × (length stream < 2 + stated_length stream)
 

@@ -14,6 +14,7 @@ IsWrongLength n = (n ≡ 0) ⊎ (2048 < n)
 abbrev pub IsCarried : List ℕ → Type 0
 IsCarried octets = IsLength (length octets)
 
--- the record of these octets: their number in two octets, the most significant first, and then they themselves
+-- the record of these octets: their number in two octets, the most significant first, and then they
+-- themselves
 abbrev pub socket_record : List ℕ → List ℕ
 socket_record octets = to_be_bytes w16 (length octets) ++ octets

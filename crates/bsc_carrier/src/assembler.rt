@@ -1,4 +1,5 @@
-//! Records out of pieces: a stream gives octets in pieces of its own choosing, and whoever reads it wants records.
+//! Records out of pieces: a stream gives octets in pieces of its own choosing, and whoever reads it
+//! wants records.
 
 ghost use Rattle.std.specs.Prelude.{◌≡◌, ◌+◌, ◌<◌, ◌≤◌, ◌↔◌, [], ◌++◌, min, length, take, IsTrue, MatchBool, IfOk, IsErrOf};
 ghost use Rattle.std.specs.Int.{to_be_bytes, w16};
@@ -55,7 +56,8 @@ fn length_at_front(begun: &[u8]) -> usize
     usize::from(u16::from_be_bytes([high, low]))
 }
 
-/// How many octets are missing, to the end of the length or else of the record. None are after a wrong length.
+/// How many octets are missing, to the end of the length or else of the record. None are after a
+/// wrong length.
 fn missing(begun: &[u8]) -> usize
     ensures { result ≡ wanted_after begun.now }
 {
@@ -70,7 +72,8 @@ fn missing(begun: &[u8]) -> usize
     }
 }
 
-/// Moves the octets that are missing from the piece to what is begun, as far as they are there, and gives their count.
+/// Moves the octets that are missing from the piece to what is begun, as far as they are there, and
+/// gives their count.
 fn gather(begun: &mut RecordOctets, piece: &[u8]) -> usize
     ensures count { result ≡ min (wanted_after begun.old.items) (length piece.now) }
     ensures items { begun.new.items ≡ begun.old.items ++ take result piece.now }
@@ -80,7 +83,8 @@ fn gather(begun: &mut RecordOctets, piece: &[u8]) -> usize
     count
 }
 
-/// Takes octets of the piece up to the end of the record that is begun, and says how many and whether they end it.
+/// Takes octets of the piece up to the end of the record that is begun, and says how many and
+/// whether they end it.
 fn advance(begun: &mut RecordOctets, piece: &[u8]) -> Result<(usize, bool), CarrierError>
     requires { IsBegun begun.old.items }
     ensures { Gathers begun.old.items piece.now result begun.new.items }
@@ -113,17 +117,19 @@ impl Assembler {
         }
     }
 
-    /// Takes octets of the piece up to the end of a record, and none of the next record. Gives how many it took, and
-    /// whether the last of them completed a record. `Length` comes at the second octet of a wrong length, and is the
-    /// answer to every later feed.
+    /// Takes octets of the piece up to the end of a record, and none of the next record. Gives how
+    /// many it took, and whether the last of them completed a record. `Length` comes at the second
+    /// octet of a wrong length, and is the answer to every later feed.
     pub fn feed(&mut self, piece: &[u8]) -> Result<(usize, bool), CarrierError>
         ensures fed { Fed self.old piece.now result self.new }
 
         // Exactly where the stream states a wrong length in a record's place.
-        ensures wrong { IsErrOf result CarrierError.Length ↔ HasWrongLength (self.old.begun ++ piece.now) }
+        ensures wrong { IsErrOf result CarrierError.Length
+            ↔ HasWrongLength (self.old.begun ++ piece.now) }
 
         // A piece of no more octets than are wanted is taken whole.
-        ensures wanted { length piece.now ≤ wanted_after self.old.begun → IfOk result (λ r. r.0 ≡ length piece.now) }
+        ensures wanted { length piece.now ≤ wanted_after self.old.begun
+            → IfOk result (λ r. r.0 ≡ length piece.now) }
     {
         let (taken, is_complete) = advance(&mut self.begun, piece)?;
         if is_complete {
@@ -150,8 +156,8 @@ impl Assembler {
         self.begun.is_empty()
     }
 
-    /// How many octets may be fed that are taken whole: 2 between records, 1 after one octet of length, then as many as
-    /// the record is short of, and 0 after a wrong length.
+    /// How many octets may be fed that are taken whole: 2 between records, 1 after one octet of
+    /// length, then as many as the record is short of, and 0 after a wrong length.
     pub fn wanted(&self) -> usize
         ensures { result ≡ wanted_after self.now.begun }
     {

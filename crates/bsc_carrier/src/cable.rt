@@ -1,5 +1,5 @@
-//! A cable: one process holds both ends of each connection, and carries a transmission down to the terminals or up from
-//! one of them.
+//! A cable: one process holds both ends of each connection, and carries a transmission down to the
+//! terminals or up from one of them.
 
 ghost use Rattle.std.specs.Prelude.{◌≡◌, ◌<◌, ◌≤◌, ℕ, length, None, Some, Err, OnOk, OnErr, IfErr, IfSome, IsErrOf, Any, slice_get};
 ghost use Rattle.std.specs.List.{AllZip};
@@ -17,8 +17,8 @@ use std::marker::Model;
 #[cfg(test)]
 mod tests;
 
-/// The two ends of 1 to 64 connections, one for each terminal (own). After an error every later call answers that error
-/// and touches no stream.
+/// The two ends of 1 to 64 connections, one for each terminal (own). After an error every later
+/// call answers that error and touches no stream.
 #[derive(Drop)]
 pub struct Cable<S, A: Allocator = Global> {
     control_ends: Vec<S, A>,
@@ -34,9 +34,14 @@ impl<S, A: Allocator> Model for Cable<S, A> {
 
     ghost use Rattle.std.specs.Prelude.{◌≡◌, ◌≤◌, length};
 
-    ghost view = { λ c. record { control_ends = c.control_ends.items; terminal_ends = c.terminal_ends.items; fault = c.fault } };
+    ghost view = { λ c. record {
+      control_ends = c.control_ends.items;
+      terminal_ends = c.terminal_ends.items;
+      fault = c.fault;
+    } };
 
-    ghost invariant = { λ c. (length c.control_ends.items ≡ length c.terminal_ends.items) × (1 ≤ length c.control_ends.items) × (length c.control_ends.items ≤ 64) };
+    ghost invariant = { λ c. (length c.control_ends.items ≡ length c.terminal_ends.items)
+        × (1 ≤ length c.control_ends.items) × (length c.control_ends.items ≤ 64) };
 }
 
 /// Answers the error that came first, where there was one.
@@ -74,13 +79,14 @@ fn carry_at<S: Read + Write>(
     requires near_there { place < length near.old }
     requires far_there { place < length far.old }
     requires carried { IsCarried octets.now }
-    ensures wrote { ChangesAt place (λ before after. OnOk result (Takes S.contents octets.now before after))
-        near.old near.new }
-    ensures read { ChangesAt place (λ before after. OnOk result (Gives S.remaining heard.new.items before after))
-        far.old far.new }
+    ensures wrote { ChangesAt place (λ before after.
+        OnOk result (Takes S.contents octets.now before after)) near.old near.new }
+    ensures read { ChangesAt place (λ before after.
+        OnOk result (Gives S.remaining heard.new.items before after)) far.old far.new }
     ensures carried { OnOk result (IsCarried heard.new.items) }
     ensures kept { OnErr result (heard.new.items ≡ heard.old.items) }
-    ensures exact { (end : S) → slice_get far.old place ≡ Some end → AnswersFor result (S.remaining end) }
+    ensures exact { (end : S) → slice_get far.old place ≡ Some end
+        → AnswersFor result (S.remaining end) }
 {
     write_record(&mut near[place], octets)?;
     expect_record(&mut far[place], heard)
@@ -101,9 +107,12 @@ fn write_each<S: Write>(ends: &mut [S], octets: &[u8]) -> Result<(), CarrierErro
 /// Reads a record at every end. Each has to be the record of these octets.
 fn expect_same<S: Read>(ends: &mut [S], octets: &[u8]) -> Result<(), CarrierError>
     ensures read { OnOk result (AllZip (Gives S.remaining octets.now) ends.old ends.new) }
-    ensures wrong { IsErrOf result CarrierError.Length → Any (λ end. IfSome (S.remaining end) HasWrongLength) ends.old }
-    ensures short { IsErrOf result CarrierError.Short → Any (λ end. IfSome (S.remaining end) IsPartial) ends.old }
-    ensures unequal { IsErrOf result CarrierError.Unequal → BeginsOther S.remaining octets.now ends.old }
+    ensures wrong { IsErrOf result CarrierError.Length
+        → Any (λ end. IfSome (S.remaining end) HasWrongLength) ends.old }
+    ensures short { IsErrOf result CarrierError.Short
+        → Any (λ end. IfSome (S.remaining end) IsPartial) ends.old }
+    ensures unequal { IsErrOf result CarrierError.Unequal
+        → BeginsOther S.remaining octets.now ends.old }
 {
     let mut other = Octets::new();
     'ends: for end in ends.iter_mut() {
@@ -150,8 +159,8 @@ fn carry_down<S: Read + Write>(
 }
 
 impl<S: Read + Write + Drop, A: Allocator> Cable<S, A> {
-    /// The two ends of each connection, in the order of the terminals. There are as many of one side as of the other, 1
-    /// to 64.
+    /// The two ends of each connection, in the order of the terminals. There are as many of one
+    /// side as of the other, 1 to 64.
     pub fn new(control_ends: Vec<S, A>, terminal_ends: Vec<S, A>) -> Cable<S, A>
         requires paired { length control_ends.items ≡ length terminal_ends.items }
         requires least { 1 ≤ length control_ends.items }
@@ -167,9 +176,10 @@ impl<S: Read + Write + Drop, A: Allocator> Cable<S, A> {
         }
     }
 
-    /// This terminal's end writes the record, and the control station's end of its connection reads it. The other ends are left
-    /// alone. `Device` comes where a read or a write failed, `Length` and `Short` as at `read_record`, and `Short` also
-    /// where the input ended before the record. `heard` has the octets that came, and after an error it is as before.
+    /// This terminal's end writes the record, and the control station's end of its connection reads
+    /// it. The other ends are left alone. `Device` comes where a read or a write failed, `Length`
+    /// and `Short` as at `read_record`, and `Short` also where the input ended before the record.
+    /// `heard` has the octets that came, and after an error it is as before.
     pub fn up(
         &mut self,
         terminal: usize,
@@ -178,17 +188,21 @@ impl<S: Read + Write + Drop, A: Allocator> Cable<S, A> {
     ) -> Result<(), CarrierError>
         requires there { terminal < length self.old.terminal_ends }
         requires carried { IsCarried octets.now }
-        ensures wrote { ChangesAt terminal (λ before after. OnOk result (Takes S.contents octets.now before after))
+        ensures wrote { ChangesAt terminal (λ before after.
+            OnOk result (Takes S.contents octets.now before after))
             self.old.terminal_ends self.new.terminal_ends }
-        ensures read { ChangesAt terminal (λ before after. OnOk result (Gives S.remaining heard.new.items before after))
+        ensures read { ChangesAt terminal (λ before after.
+            OnOk result (Gives S.remaining heard.new.items before after))
             self.old.control_ends self.new.control_ends }
         ensures carried { OnOk result (IsCarried heard.new.items) }
         ensures kept { OnErr result (heard.new.items ≡ heard.old.items) }
         ensures count { length self.new.terminal_ends ≡ length self.old.terminal_ends }
 
         // Each answer comes where it is due, and after an error that error comes.
-        ensures exact { (end : S) → slice_get self.old.control_ends terminal ≡ Some end → self.old.fault ≡ None → AnswersFor result (S.remaining end) }
-        ensures first_error { (e : CarrierError) → self.old.fault ≡ Some e → (result ≡ Err e) × (self.new ≡ self.old) }
+        ensures exact { (end : S) → slice_get self.old.control_ends terminal ≡ Some end
+            → self.old.fault ≡ None → AnswersFor result (S.remaining end) }
+        ensures first_error { (e : CarrierError) → self.old.fault ≡ Some e
+            → (result ≡ Err e) × (self.new ≡ self.old) }
         ensures fault { self.new.fault ≡ result_err result }
     {
         pass_error(self.fault)?;
@@ -199,8 +213,8 @@ impl<S: Read + Write + Drop, A: Allocator> Cable<S, A> {
         result
     }
 
-    /// As `up`, the other way: the control station's end of this terminal's connection writes the record, and the terminal's
-    /// end reads it.
+    /// As `up`, the other way: the control station's end of this terminal's connection writes the
+    /// record, and the terminal's end reads it.
     pub fn down_to(
         &mut self,
         terminal: usize,
@@ -209,17 +223,21 @@ impl<S: Read + Write + Drop, A: Allocator> Cable<S, A> {
     ) -> Result<(), CarrierError>
         requires there { terminal < length self.old.terminal_ends }
         requires carried { IsCarried octets.now }
-        ensures wrote { ChangesAt terminal (λ before after. OnOk result (Takes S.contents octets.now before after))
+        ensures wrote { ChangesAt terminal (λ before after.
+            OnOk result (Takes S.contents octets.now before after))
             self.old.control_ends self.new.control_ends }
-        ensures read { ChangesAt terminal (λ before after. OnOk result (Gives S.remaining heard.new.items before after))
+        ensures read { ChangesAt terminal (λ before after.
+            OnOk result (Gives S.remaining heard.new.items before after))
             self.old.terminal_ends self.new.terminal_ends }
         ensures carried { OnOk result (IsCarried heard.new.items) }
         ensures kept { OnErr result (heard.new.items ≡ heard.old.items) }
         ensures count { length self.new.terminal_ends ≡ length self.old.terminal_ends }
 
         // Each answer comes where it is due, and after an error that error comes.
-        ensures exact { (end : S) → slice_get self.old.terminal_ends terminal ≡ Some end → self.old.fault ≡ None → AnswersFor result (S.remaining end) }
-        ensures first_error { (e : CarrierError) → self.old.fault ≡ Some e → (result ≡ Err e) × (self.new ≡ self.old) }
+        ensures exact { (end : S) → slice_get self.old.terminal_ends terminal ≡ Some end
+            → self.old.fault ≡ None → AnswersFor result (S.remaining end) }
+        ensures first_error { (e : CarrierError) → self.old.fault ≡ Some e
+            → (result ≡ Err e) × (self.new ≡ self.old) }
         ensures fault { self.new.fault ≡ result_err result }
     {
         pass_error(self.fault)?;
@@ -230,9 +248,10 @@ impl<S: Read + Write + Drop, A: Allocator> Cable<S, A> {
         result
     }
 
-    /// The control station writes the record to every connection, and every terminal's end reads it. `heard` has the
-    /// octets that came, and after an error it is as before. `Device`, `Length` and `Short` are those of `up` at one of
-    /// the ends, and `Unequal` comes where two ends gave different octets.
+    /// The control station writes the record to every connection, and every terminal's end reads
+    /// it. `heard` has the octets that came, and after an error it is as before. `Device`, `Length`
+    /// and `Short` are those of `up` at one of the ends, and `Unequal` comes where two ends gave
+    /// different octets.
     pub fn down(&mut self, octets: &[u8], heard: &mut Octets) -> Result<(), CarrierError>
         requires { IsCarried octets.now }
         ensures wrote { OnOk result (AllZip (Takes S.contents octets.now)
@@ -245,8 +264,10 @@ impl<S: Read + Write + Drop, A: Allocator> Cable<S, A> {
         ensures terminal_count { length self.new.terminal_ends ≡ length self.old.terminal_ends }
 
         // Each error has its cause, and after an error that error comes.
-        ensures why { self.old.fault ≡ None → IfErr result (λ e. Explains S.remaining e self.old.terminal_ends) }
-        ensures first_error { (e : CarrierError) → self.old.fault ≡ Some e → (result ≡ Err e) × (self.new ≡ self.old) }
+        ensures why { self.old.fault ≡ None
+            → IfErr result (λ e. Explains S.remaining e self.old.terminal_ends) }
+        ensures first_error { (e : CarrierError) → self.old.fault ≡ Some e
+            → (result ≡ Err e) × (self.new ≡ self.old) }
         ensures fault { self.new.fault ≡ result_err result }
     {
         pass_error(self.fault)?;

@@ -8,18 +8,25 @@ ghost use Rattle.bsc_carrier.specs.Stream.{Splits, Assembles};
 
 use crate::error::CarrierError;
 
-/// However a stream is cut into pieces, an assembler that is fed them completes the stream's records, in their order
-/// and no others, and holds what follows them. `Length` comes only where a wrong length stands in a record's place.
+/// However a stream is cut into pieces, an assembler that is fed them completes the stream's
+/// records, in their order and no others, and holds what follows them. `Length` comes only where a
+/// wrong length stands in a record's place.
 pub fn any_pieces()
-    ensures records { (old new : AssemblerValue) (pieces records : List (List ℕ)) → old.begun ≡ [] → Assembles old pieces records new
+    ensures records { (old new : AssemblerValue) (pieces records : List (List ℕ))
+        → old.begun ≡ [] → Assembles old pieces records new
         → Splits (concat pieces) records new.begun × IsPartial new.begun }
 
-    // Every stream has one splitting into records and a rest.
-    ensures one { (stream : List ℕ) → (records : List (List ℕ)) × (rest : List ℕ) × Splits stream records rest }
-    ensures no_others { (stream : List ℕ) (records others : List (List ℕ)) (rest other : List ℕ)
-        → Splits stream records rest → Splits stream others other → (records ≡ others) × (rest ≡ other) }
+    // Where a feed answers `Length`, the stream so far has a wrong length behind its records.
+    ensures wrong { (old mid new : AssemblerValue) (pieces records : List (List ℕ)) (piece : List ℕ)
+        → old.begun ≡ [] → Assembles old pieces records mid
+        → Fed mid piece (Err CarrierError.Length) new
+        → Splits (concat pieces ++ piece) records (mid.begun ++ piece)
+        × HasWrongLength (mid.begun ++ piece) }
 
-    ensures wrong { (old mid new : AssemblerValue) (pieces records : List (List ℕ)) (piece : List ℕ) → old.begun ≡ []
-        → Assembles old pieces records mid → Fed mid piece (Err CarrierError.Length) new
-        → Splits (concat pieces ++ piece) records (mid.begun ++ piece) × HasWrongLength (mid.begun ++ piece) }
+    // Every stream is records and a rest, in one way.
+    ensures one { (stream : List ℕ)
+        → (records : List (List ℕ)) × (rest : List ℕ) × Splits stream records rest }
+    ensures no_others { (stream : List ℕ) (records others : List (List ℕ)) (rest other : List ℕ)
+        → Splits stream records rest → Splits stream others other
+        → (records ≡ others) × (rest ≡ other) }
 {}

@@ -1,4 +1,5 @@
-//! A stream over memory for the tests: it moves a few octets a call, counts its calls, and fails when it is told to.
+//! A stream over memory for the tests: it moves a few octets a call, counts its calls, and fails
+//! when it is told to.
 
 use std::alloc::{AllocError, Global};
 use std::io;

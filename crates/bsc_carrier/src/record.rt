@@ -1,4 +1,5 @@
-//! One record at a time over a reader or a writer: each end of a connection writes records and reads them.
+//! One record at a time over a reader or a writer: each end of a connection writes records and
+//! reads them.
 
 ghost use Rattle.std.specs.Prelude.{◌≡◌, ◌≢◌, [], Ok, Err, true, false, OnOk, IfErr, OnErr};
 ghost use Rattle.std.specs.Io.KnownBytes.{Appends};
@@ -16,7 +17,8 @@ mod tests;
 /// Writes all of the octets. A write that fails, or takes nothing, ends it.
 fn write_whole<W: Write>(writer: &mut W, octets: &[u8]) -> Result<(), CarrierError>
     ensures ok { OnOk result (Appends (W.contents writer.old) (W.contents writer.new) octets.now) }
-    ensures part { OnErr result (AppendsPart (W.contents writer.old) (W.contents writer.new) octets.now) }
+    ensures part { OnErr result
+        (AppendsPart (W.contents writer.old) (W.contents writer.new) octets.now) }
     ensures err { IfErr result (λ e. e ≡ CarrierError.Device) }
 {
     let mut rest = octets;
@@ -29,12 +31,15 @@ fn write_whole<W: Write>(writer: &mut W, octets: &[u8]) -> Result<(), CarrierErr
     Ok(())
 }
 
-/// Writes the record of 1 to 2,048 octets, in at most 2,050 writes. `Device` comes where a write failed or took
-/// nothing, an interrupted one included; then a part of the record was written, from its beginning on.
+/// Writes the record of 1 to 2,048 octets, in at most 2,050 writes. `Device` comes where a write
+/// failed or took nothing, an interrupted one included; then a part of the record was written, from
+/// its beginning on.
 pub fn write_record<W: Write>(writer: &mut W, octets: &[u8]) -> Result<(), CarrierError>
     requires { IsCarried octets.now }
-    ensures ok { OnOk result (Appends (W.contents writer.old) (W.contents writer.new) (socket_record octets.now)) }
-    ensures part { OnErr result (AppendsPart (W.contents writer.old) (W.contents writer.new) (socket_record octets.now)) }
+    ensures ok { OnOk result
+        (Appends (W.contents writer.old) (W.contents writer.new) (socket_record octets.now)) }
+    ensures part { OnErr result
+        (AppendsPart (W.contents writer.old) (W.contents writer.new) (socket_record octets.now)) }
     ensures err { IfErr result (λ e. e ≡ CarrierError.Device) }
 {
     let mut record = RecordOctets::new();
@@ -48,7 +53,8 @@ pub fn write_record<W: Write>(writer: &mut W, octets: &[u8]) -> Result<(), Carri
 /// Reads into the assembler until a record is whole, at most as many octets a read as are wanted.
 fn assemble<R: Read>(reader: &mut R, assembler: &mut Assembler) -> Result<bool, CarrierError>
     requires { assembler.old.begun ≡ [] }
-    ensures { ReadsRecord (R.remaining reader.old) result assembler.new.complete (R.remaining reader.new) }
+    ensures { ReadsRecord (R.remaining reader.old) result assembler.new.complete
+        (R.remaining reader.new) }
 {
     let mut piece = [0u8; 2048];
     'reads: loop {
@@ -70,18 +76,24 @@ fn assemble<R: Read>(reader: &mut R, assembler: &mut Assembler) -> Result<bool, 
     }
 }
 
-/// Reads one record in at most 2,050 reads, and puts its octets in place of what was there. False where the input ended
-/// before the record's first octet; `Short` where it ended later; `Length` at a wrong length; `Device` where a read
-/// failed, an interrupted one included. Unless it answers true, `octets` is as before, and what was read is gone.
+/// Reads one record in at most 2,050 reads, and puts its octets in place of what was there. False
+/// where the input ended before the record's first octet; `Short` where it ended later; `Length` at
+/// a wrong length; `Device` where a read failed, an interrupted one included. Unless it answers
+/// true, `octets` is as before, and what was read is gone.
 pub fn read_record<R: Read>(reader: &mut R, octets: &mut Octets) -> Result<bool, CarrierError>
-    ensures read { ReadsRecord (R.remaining reader.old) result octets.new.items (R.remaining reader.new) }
+    ensures read { ReadsRecord (R.remaining reader.old) result octets.new.items
+        (R.remaining reader.new) }
     ensures kept { result ≢ Ok true → octets.new.items ≡ octets.old.items }
 
     // Unless a read failed:
-    ensures whole { IsExactly result (result ≡ Ok true) BeginsRecord (R.remaining reader.old) }
-    ensures ended { IsExactly result (result ≡ Ok false) (λ stream. stream ≡ []) (R.remaining reader.old) }
-    ensures wrong { IsExactly result (result ≡ Err CarrierError.Length) HasWrongLength (R.remaining reader.old) }
-    ensures short { IsExactly result (result ≡ Err CarrierError.Short) EndsWithin (R.remaining reader.old) }
+    ensures whole { IsExactly result (result ≡ Ok true) BeginsRecord
+        (R.remaining reader.old) }
+    ensures ended { IsExactly result (result ≡ Ok false) (λ stream. stream ≡ [])
+        (R.remaining reader.old) }
+    ensures wrong { IsExactly result (result ≡ Err CarrierError.Length) HasWrongLength
+        (R.remaining reader.old) }
+    ensures short { IsExactly result (result ≡ Err CarrierError.Short) EndsWithin
+        (R.remaining reader.old) }
 {
     let mut assembler = Assembler::new();
     let is_whole = assemble(reader, &mut assembler)?;

@@ -54,7 +54,8 @@ fn lengths_from_1_to_2048_are_taken(rt: HostRuntime) {
     }
 }
 
-/// Feeds the piece until all of it is taken, and counts the records that come, each of which has to be ACK0.
+/// Feeds the piece until all of it is taken, and counts the records that come, each of which has to
+/// be ACK0.
 fn feed_whole(assembler: &mut Assembler, piece: &[u8]) -> Option<usize> {
     let mut rest = piece;
     let mut records = 0usize;

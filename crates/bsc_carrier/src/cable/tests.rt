@@ -8,7 +8,8 @@ use std::net::{TcpListener, TcpStream};
 use std::process::Abort;
 use std::test::Fail;
 
-/// Two connections over memory. The terminals' ends give these octets, and the control station's ends a record of EOT.
+/// Two connections over memory. The terminals' ends give these octets, and the control station's
+/// ends a record of EOT.
 fn two_connections(
     rt: &impl Abort,
     alloc: Global,
@@ -80,7 +81,8 @@ fn input_that_ends_before_a_record_is_short(rt: HostRuntime) -> Result<(), Fail>
     Ok(())
 }
 
-/// What `down` and then `up` answer where one call of these ends fails. After an error no end is touched.
+/// What `down` and then `up` answer where one call of these ends fails. After an error no end is
+/// touched.
 fn answers_when_failing(
     rt: &impl Abort,
     alloc: Global,
