@@ -9,30 +9,36 @@ use Rattle.bsc_carrier.specs.Assembler.{wanted_after, IsBegun}
 use Rattle.bsc_carrier.proofs.Fronts.{not_wrong_and_right}
 use Rattle.bsc_carrier.proofs.Wanted.{stated_length-append, wanted_after-short, wanted_after-right, wanted_after-wrong}
 
-module _ (begun piece rest mid new : List ℕ) (head body : ℕ)
-    (head_is : head ≡ min (wanted_after begun) (length piece)) (mid_is : mid ≡ begun ++ take head piece) (rest_is : rest ≡ drop head piece)
-    (body_is : body ≡ min (wanted_after mid) (length rest)) (new_is : new ≡ mid ++ take body rest) where
+-- of the piece `head` octets and then `body` octets were taken, each time as many as were wanted and there
+pub record TakesTwice (begun piece rest mid new : List ℕ) (head body : ℕ) : Type 0 where
+  pub head_is : head ≡ min (wanted_after begun) (length piece)
+  pub mid_is : mid ≡ begun ++ take head piece
+  pub rest_is : rest ≡ drop head piece
+  pub body_is : body ≡ min (wanted_after mid) (length rest)
+  pub new_is : new ≡ mid ++ take body rest
+
+module _ {begun piece rest mid new : List ℕ} {head body : ℕ} (took : TakesTwice begun piece rest mid new head body) where
   -- both together are one front of the piece
   pub joined : new ≡ begun ++ take (head + body) piece
-  joined = new_is ∙ ap (λ l. mid ++ take body l) rest_is ∙ ap (λ l. l ++ take body (drop head piece)) mid_is ∙ append_assoc begun (take head piece) (take body (drop head piece)) ∙ ap (λ l. begun ++ l) (sym (take-add head body piece))
+  joined = took.new_is ∙ ap (λ l. mid ++ take body l) took.rest_is ∙ ap (λ l. l ++ take body (drop head piece)) took.mid_is ∙ append_assoc begun (take head piece) (take body (drop head piece)) ∙ ap (λ l. begun ++ l) (sym (take-add head body piece))
 
   rest_length : length rest ≡ length piece - head
-  rest_length = ap length rest_is ∙ length-drop head piece
+  rest_length = ap length took.rest_is ∙ length-drop head piece
 
   pub within : head + body ≤ length piece
   within = omega (arith, rest_length)
 
   mid_length : length mid ≡ length begun + head
-  mid_length = ap length mid_is ∙ simp (length-append, length-take) (omega arith)
+  mid_length = ap length took.mid_is ∙ simp (length-append, length-take) (omega arith)
 
   pub new_length : length new ≡ length begun + (head + body)
   new_length = ap length joined ∙ simp (length-append, length-take) (omega (arith, within))
 
   stated_new : 2 ≤ length mid → stated_length new ≡ stated_length mid
-  stated_new two = ap stated_length new_is ∙ stated_length-append mid (take body rest) two
+  stated_new two = ap stated_length took.new_is ∙ stated_length-append mid (take body rest) two
 
   stated_mid : 2 ≤ length begun → stated_length mid ≡ stated_length begun
-  stated_mid two = ap stated_length mid_is ∙ stated_length-append begun (take head piece) two
+  stated_mid two = ap stated_length took.mid_is ∙ stated_length-append begun (take head piece) two
 
   -- where the record lacks an octet of length, none is left in the piece
   pub short_exhausted : length new < 2 → head + body ≡ length piece
