@@ -1,0 +1,84 @@
+-- What has been printed of the lines so far.
+use Rattle.std.proofs.Common.{◌≡◌, ◌==◌, ℕ, ◌+◌, map, List, [], ◌∷◌, ◌++◌, true, false, Option, Some, None, length, position, refl, sym, ap, ◌∙◌, append_assoc, append-nil, length-append}
+use Rattle.std.proofs.Math.Seq.{take-append_seam}
+use Rattle.std.specs.Prelude.{IfSome}
+use Rattle.std.specs.List.{flat_map, slice_split}
+use Rattle.std.specs.Str.Lines.{strip_carriage_return}
+use Rattle.std.proofs.KnownBytes.{Appends-nil, Appends-trans}
+use Rattle.bsc_frame.specs.declared.message.Heard.{Heard}
+use Rattle.bsc_command.specs.Names.{Prints}
+use Rattle.bsc_command.specs.Lines.{AreShown, PrintsLines, StopsAt, is_blank, is_wrong, lines_of, transmission}
+use Rattle.bsc_command.specs.Hexadecimal.{octets_of}
+use Rattle.bsc_command.proofs.ListLemmas.{NonePasses, NonePasses-more, position-append, position-none}
+
+AreShown-append : (show : Heard → List ℕ) (xs ys : List (List ℕ)) (t u : List ℕ) → AreShown show xs t → AreShown show ys u → AreShown show (xs ++ ys) (t ++ u)
+AreShown-append show [] ys t u h k = rw h k
+AreShown-append show (x ∷ xs) ys t u (heard, rest, is_heard, e, more) k =
+    (heard, rest ++ u, is_heard, rw e (append_assoc (show heard) rest u), AreShown-append show xs ys rest u more k)
+
+flat_map-append : {X Y : Type 0} (f : X → List Y) (xs ys : List X) → flat_map f (xs ++ ys) ≡ flat_map f xs ++ flat_map f ys
+flat_map-append f [] ys = refl
+flat_map-append f (x ∷ xs) ys = ap (λ l. f x ++ l) (flat_map-append f xs ys) ∙ sym (append_assoc (f x) (flat_map f xs) (flat_map f ys))
+
+PrintsLines-nil : (show : Heard → List ℕ) (a : Option (List ℕ)) → PrintsLines show [] a a
+PrintsLines-nil show a = record { text = []; shown = refl; appended = Appends-nil a }
+
+PrintsLines-append : (show : Heard → List ℕ) (xs ys : List (List ℕ)) (a b c : Option (List ℕ)) → PrintsLines show xs a b → PrintsLines show ys b c → PrintsLines show (xs ++ ys) a c
+PrintsLines-append show xs ys a b c p q = record {
+  text = p.text ++ q.text;
+  shown = rw (flat_map-append transmission xs ys) (AreShown-append show _ _ p.text q.text p.shown q.shown);
+  appended = Appends-trans a b c p.text q.text p.appended q.appended;
+}
+
+-- a line that gives a transmission
+pub PrintsLines-one : (show : Heard → List ℕ) (line octets : List ℕ) (a b : Option (List ℕ)) → is_blank line ≡ false → octets_of line ≡ Some octets → Prints show octets a b → PrintsLines show (line ∷ []) a b
+PrintsLines-one show line octets a b blank e p = record {
+  text = show p.heard;
+  shown = rw (blank, e) (p.heard, [], p.is_heard, sym (append-nil (show p.heard)), refl);
+  appended = p.appended;
+}
+
+-- what a text's first line leaves
+pub lines_left : {B : Type 0} (now : B → List ℕ) (rest : Option B) (text line : List ℕ) → (rest ≡ None → slice_split (λ octet. octet == 10) text ≡ line ∷ [])
+    → IfSome rest (λ r. slice_split (λ octet. octet == 10) text ≡ line ∷ slice_split (λ octet. octet == 10) (now r)) → (left : List (List ℕ)) × (lines_of text ≡ strip_carriage_return line ∷ left)
+lines_left now None text line last more = ([], ap (map strip_carriage_return) (last refl))
+lines_left now (Some r) text line last more = (lines_of (now r), ap (map strip_carriage_return) more)
+
+-- of all lines, the first ones are not wrong and were printed, and these are left
+pub record HasPrinted (show : Heard → List ℕ) (all left : List (List ℕ)) (before : ℕ) (old new : Option (List ℕ)) : Type 0 where
+  pub done : List (List ℕ)
+  pub whole : all ≡ done ++ left
+  pub count : length done ≡ before
+  pub right : NonePasses is_wrong done
+  pub printed : PrintsLines show done old new
+
+module _ {show : Heard → List ℕ} {all : List (List ℕ)} where
+  pub has_printed_none : (a : Option (List ℕ)) → HasPrinted show all all 0 a a
+  has_printed_none a = record { done = []; whole = refl; count = refl; right = tt; printed = PrintsLines-nil show a }
+
+  pub has_printed_more : {n : ℕ} {a b : Option (List ℕ)} (x : List ℕ) (left : List (List ℕ)) (c : Option (List ℕ)) → HasPrinted show all (x ∷ left) n a b → is_wrong x ≡ false → PrintsLines show (x ∷ []) b c
+      → HasPrinted show all left (n + 1) a c
+  has_printed_more {n} {a} {b} x left c h e p = record {
+    done = h.done ++ x ∷ [];
+    whole = h.whole ∙ sym (append_assoc h.done (x ∷ []) left);
+    count = length-append h.done (x ∷ []) ∙ ap (λ k. k + 1) h.count;
+    right = NonePasses-more is_wrong h.done x h.right e;
+    printed = PrintsLines-append show h.done (x ∷ []) a b c h.printed p;
+  }
+
+  all_done : {n : ℕ} {a b : Option (List ℕ)} → (h : HasPrinted show all [] n a b) → all ≡ h.done
+  all_done h = h.whole ∙ append-nil h.done
+
+  pub has_printed_right : {n : ℕ} {a b : Option (List ℕ)} → HasPrinted show all [] n a b → position is_wrong all ≡ None
+  has_printed_right h = rw (all_done h) (position-none is_wrong h.done h.right)
+
+  pub has_printed_all : {n : ℕ} {a b : Option (List ℕ)} → HasPrinted show all [] n a b → PrintsLines show all a b
+  has_printed_all h = rw (all_done h) h.printed
+
+  pub has_printed_wrong : {n : ℕ} {a b : Option (List ℕ)} (x : List ℕ) (left : List (List ℕ)) → HasPrinted show all (x ∷ left) n a b → is_wrong x ≡ true → StopsAt show (n + 1) all a b
+  has_printed_wrong {n} {a} {b} x left h e = record {
+    place = n;
+    counted = refl;
+    first = rw h.whole (position-append is_wrong h.done x left h.right e ∙ ap Some h.count);
+    before = rw (h.whole, ← h.count) (rw (take-append_seam h.done (x ∷ left)) h.printed);
+  }

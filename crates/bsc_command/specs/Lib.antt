@@ -1,0 +1,5 @@
+pub mod Hexadecimal
+pub mod Names
+pub mod Lines
+pub mod Faults
+pub mod CommandLine

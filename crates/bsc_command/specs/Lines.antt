@@ -1,0 +1,45 @@
+-- The lines of the command's input, and what is printed for them (own).
+use Rattle.std.specs.Prelude.{◌≡◌, ℕ, ◌+◌, ◌==◌, ◌&&◌, not, Bool, List, [], ◌∷◌, ◌++◌, map, take, position, Option, Some, is_none, if◌then◌else◌}
+use Rattle.std.specs.List.{flat_map, list_all, slice_split}
+use Rattle.std.specs.Option.{option_to_list}
+use Rattle.std.specs.Str.Lines.{strip_carriage_return}
+use Rattle.std.specs.Io.KnownBytes.{Appends}
+use Rattle.bsc_frame.specs.declared.message.Heard.{Heard}
+use Rattle.bsc_command.specs.Hexadecimal.{is_space, octets_of}
+use Rattle.bsc_command.specs.Names.{IsHeard}
+
+-- The text is cut at each line feed, and each part loses one carriage return at its end. What follows the
+-- last line feed is a line too, so that no octet is left out.
+abbrev pub lines_of : List ℕ → List (List ℕ)
+lines_of text = map strip_carriage_return (slice_split (λ octet. octet == 10) text)
+
+-- spaces alone, or no octet
+abbrev pub is_blank : List ℕ → Bool
+is_blank line = list_all is_space line
+
+-- neither blank nor hexadecimal text
+abbrev pub is_wrong : List ℕ → Bool
+is_wrong line = not (is_blank line) && is_none (octets_of line)
+
+-- the transmission that a line gives: none where it is blank
+abbrev pub transmission : List ℕ → List (List ℕ)
+transmission line = if is_blank line then [] else option_to_list (octets_of line)
+
+-- the text is what is shown of each transmission as it is heard, in order
+abbrev pub AreShown : (Heard → List ℕ) → List (List ℕ) → List ℕ → Type 0
+AreShown show [] text = text ≡ []
+AreShown show (octets ∷ more) text =
+    (heard : Heard) × (rest : List ℕ) × IsHeard octets heard × (text ≡ show heard ++ rest) × AreShown show more rest
+
+-- a writer that held old holds new: what is shown of the lines' transmissions was appended
+pub record PrintsLines (show : Heard → List ℕ) (lines : List (List ℕ)) (old new : Option (List ℕ)) : Type 0 where
+  pub text : List ℕ
+  pub shown : AreShown show (flat_map transmission lines) text
+  pub appended : Appends old new text
+
+-- the line with this number, counted from 1, is the first wrong one, and the lines before it were printed
+pub record StopsAt (show : Heard → List ℕ) (number : ℕ) (lines : List (List ℕ)) (old new : Option (List ℕ)) : Type 0 where
+  pub place : ℕ
+  pub counted : number ≡ place + 1
+  pub first : position is_wrong lines ≡ Some place
+  pub before : PrintsLines show (take place lines) old new

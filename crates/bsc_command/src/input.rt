@@ -1,0 +1,51 @@
+//! Reading the whole of an input of bounded length.
+ghost use Rattle.std.specs.Prelude.{◌≡◌, ◌<◌, ◌≤◌, length, IfOk, OnOk, IfSome, IsErrOf};
+ghost use Rattle.std.specs.Io.KnownBytes.{IsAtEnd};
+
+use std::alloc::Allocator;
+use std::io::Read;
+use thiserror::Error;
+
+/// The most octets that an input has.
+pub const MAX_INPUT: usize = 1_048_576;
+
+/// Why an input was not read.
+#[derive(Clone, Copy, Debug, PartialEq, Eq, Error)]
+pub enum InputError {
+    /// There are more than `MAX_INPUT` octets.
+    #[error("input too long")]
+    TooLong,
+
+    /// A read failed, an interrupted one included.
+    #[error("input fault")]
+    Device,
+
+    #[error("out of memory")]
+    Memory,
+}
+
+/// The whole input, of at most `MAX_INPUT` octets, in at most one read more than that. An error leaves
+/// the reader where its last read left it.
+pub fn read_input<A: Allocator, R: Read>(alloc: A, reader: &mut R) -> Result<Vec<u8, A>, InputError>
+    ensures whole { IfOk result (λ v. IfSome (R.remaining reader.old) (λ octets. v.items ≡ octets)) }
+    ensures end { OnOk result (IsAtEnd (R.remaining reader.new)) }
+    ensures fits { IfOk result (λ v. length v.items ≤ MAX_INPUT) }
+    ensures too_long { IsErrOf result InputError.TooLong → IfSome (R.remaining reader.old) (λ octets. MAX_INPUT < length octets) }
+{
+    let mut input = Vec::new(alloc);
+    let mut piece = [0u8; 4096];
+    'reads: loop {
+        match reader.read(&mut piece) {
+            Ok(0) => return Ok(input),
+            Ok(count) => {
+                if MAX_INPUT - input.len() < count {
+                    return Err(InputError::TooLong);
+                }
+                if input.extend_from_slice(&piece[..count]).is_err() {
+                    return Err(InputError::Memory);
+                }
+            }
+            Err(_) => return Err(InputError::Device),
+        }
+    }
+}

@@ -1,0 +1,18 @@
+//! What the command `bscline` does: it names transmissions of a line, and shows the units of texts.
+#![tactic(auto)]
+
+mod fault;
+mod hexadecimal;
+mod input;
+mod lines;
+mod naming;
+mod printed;
+mod words;
+
+pub use fault::{Fault, status};
+pub use input::{InputError, MAX_INPUT, read_input};
+pub use naming::{name, names, show};
+pub use words::{Work, help_or_fault, not_text, read_words};
+
+#[cfg(test)]
+mod tests;

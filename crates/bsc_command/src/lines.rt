@@ -1,0 +1,43 @@
+//! The lines of the command's input.
+ghost use Rattle.std.specs.Prelude.{◌≡◌, ◌==◌, ◌∷◌, ◌+◌, ◌≤◌, [], length, None, IfSome, position};
+ghost use Rattle.std.specs.List.{slice_split};
+ghost use Rattle.std.specs.Str.Lines.{strip_carriage_return};
+ghost use Rattle.bsc_command.specs.Lines.{is_blank as blank};
+
+/// The place of the first line feed.
+fn line_end(text: &[u8]) -> Option<usize>
+    ensures { result ≡ position (λ octet. octet == 10) text.now }
+{
+    text.iter().position(|&octet| octet == b'\n')
+}
+
+/// The first line without its line feed, and what follows that; None where the line ends with the text.
+pub(crate) fn split_line(text: &[u8]) -> (&[u8], Option<&[u8]>)
+    ensures last { result.1 ≡ None → slice_split (λ octet. octet == 10) text.now ≡ result.0.now ∷ [] }
+    ensures more { IfSome result.1 (λ rest. slice_split (λ octet. octet == 10) text.now ≡ result.0.now ∷ slice_split (λ octet. octet == 10) rest.now) }
+    ensures length { IfSome result.1 (λ rest. length result.0.now + 1 + length rest.now ≡ length text.now) }
+    ensures within { length result.0.now ≤ length text.now }
+{
+    match line_end(text) {
+        Some(end) => (&text[..end], Some(&text[end + 1..])),
+        None => (text, None),
+    }
+}
+
+/// The line less one carriage return at its end.
+pub(crate) fn without_return(line: &[u8]) -> &[u8]
+    ensures { result.now ≡ strip_carriage_return line.now }
+{
+    if !line.is_empty() && line[line.len() - 1] == b'\r' {
+        &line[..line.len() - 1]
+    } else {
+        line
+    }
+}
+
+/// Whether the line has no octet but spaces.
+pub(crate) fn is_blank(line: &[u8]) -> bool
+    ensures { result ≡ blank line.now }
+{
+    line.iter().all(|&octet| octet == b' ')
+}

@@ -1,0 +1,115 @@
+//! Names of transmissions that are given in hexadecimal text.
+ghost use Rattle.std.specs.Prelude.{◌≡◌, ◌+◌, ◌<◌, ◌^◌, ◌∷◌, [], length, true, false, None, OnOk, IfErr, IsErrOf, IsSomeAnd, ℕ, position};
+ghost use Rattle.bsc_command.specs.Hexadecimal.{octets_of};
+ghost use Rattle.bsc_command.specs.Names.{Prints, name_line, unit_lines, shown};
+ghost use Rattle.bsc_command.specs.Lines.{PrintsLines, StopsAt, lines_of, is_wrong};
+ghost use Rattle.bsc_command.specs.Faults.{IsLineFault, IsNameFault, IsPrintFault};
+
+use crate::Fault;
+use crate::hexadecimal::read_octets;
+use crate::lines::{is_blank, split_line, without_return};
+use crate::printed::{Detail, write_shown};
+use bsc_frame::decode;
+use std::alloc::Allocator;
+use std::io::Write;
+
+/// Prints the name of the transmission that the hexadecimal text gives, and a line feed. Where the
+/// text is not hexadecimal nothing is printed.
+pub fn name<A: Allocator + Copy, W: Write>(alloc: A, text: &str, out: &mut W) -> Result<(), Fault>
+    ensures ok { OnOk result (IsSomeAnd (octets_of text.now) (λ octets. Prints name_line octets (W.contents out.old) (W.contents out.new))) }
+    ensures wrong { IsErrOf result Fault.NotHexadecimal → (octets_of text.now ≡ None) × (out.new ≡ out.old) }
+    ensures faults { IfErr result IsNameFault }
+{
+    match read_octets(alloc, text.as_bytes())? {
+        Some(octets) => write_transmission(alloc, Detail::Name, &octets, out),
+        None => Err(Fault::NotHexadecimal),
+    }
+}
+
+/// Prints the name of each line's transmission, one a line. Blank lines are skipped and counted. At a
+/// line that is not hexadecimal text it stops; the names of the lines before stay printed.
+pub fn names<A: Allocator + Copy, W: Write>(
+    alloc: A,
+    input: &[u8],
+    out: &mut W,
+) -> Result<(), Fault>
+    ensures right { OnOk result (position is_wrong (lines_of input.now) ≡ None) }
+    ensures ok { OnOk result (PrintsLines name_line (lines_of input.now) (W.contents out.old) (W.contents out.new)) }
+    ensures wrong { (n : ℕ) → result ≡ Err (Fault.NotHexadecimalAt n) → StopsAt name_line n (lines_of input.now) (W.contents out.old) (W.contents out.new) }
+    ensures faults { IfErr result IsLineFault }
+{
+    write_lines(alloc, Detail::Name, input, out)
+}
+
+/// Prints the name of each line's transmission, and under the name of a text a line for each unit.
+/// Otherwise as `names`.
+pub fn show<A: Allocator + Copy, W: Write>(alloc: A, input: &[u8], out: &mut W) -> Result<(), Fault>
+    ensures right { OnOk result (position is_wrong (lines_of input.now) ≡ None) }
+    ensures ok { OnOk result (PrintsLines unit_lines (lines_of input.now) (W.contents out.old) (W.contents out.new)) }
+    ensures wrong { (n : ℕ) → result ≡ Err (Fault.NotHexadecimalAt n) → StopsAt unit_lines n (lines_of input.now) (W.contents out.old) (W.contents out.new) }
+    ensures faults { IfErr result IsLineFault }
+{
+    write_lines(alloc, Detail::Units, input, out)
+}
+
+/// Prints what the lines of the input give.
+fn write_lines<A: Allocator + Copy, W: Write>(
+    alloc: A,
+    detail: Detail,
+    input: &[u8],
+    out: &mut W,
+) -> Result<(), Fault>
+    ensures right { OnOk result (position is_wrong (lines_of input.now) ≡ None) }
+    ensures ok { OnOk result (PrintsLines (shown detail) (lines_of input.now) (W.contents out.old) (W.contents out.new)) }
+    ensures wrong { (n : ℕ) → result ≡ Err (Fault.NotHexadecimalAt n) → StopsAt (shown detail) n (lines_of input.now) (W.contents out.old) (W.contents out.new) }
+    ensures faults { IfErr result IsLineFault }
+{
+    let mut before = 0;
+    let mut text = input;
+    'lines: loop {
+        let (line, rest) = split_line(text);
+        write_line(alloc, detail, without_return(line), before, out)?;
+        match rest {
+            Some(rest) => text = rest,
+            None => return Ok(()),
+        }
+        before += 1;
+    }
+}
+
+/// Prints what a line gives that has this many lines before it.
+fn write_line<A: Allocator + Copy, W: Write>(
+    alloc: A,
+    detail: Detail,
+    line: &[u8],
+    before: u64,
+    out: &mut W,
+) -> Result<(), Fault>
+    requires { before + length line.now < 2 ^ 64 }
+    ensures right { OnOk result (is_wrong line.now ≡ false) }
+    ensures ok { OnOk result (PrintsLines (shown detail) (line.now ∷ []) (W.contents out.old) (W.contents out.new)) }
+    ensures wrong { (n : ℕ) → result ≡ Err (Fault.NotHexadecimalAt n) → (n ≡ before + 1) × (is_wrong line.now ≡ true) × (out.new ≡ out.old) }
+    ensures faults { IfErr result IsLineFault }
+{
+    if is_blank(line) {
+        return Ok(());
+    }
+    match read_octets(alloc, line)? {
+        Some(octets) => write_transmission(alloc, detail, &octets, out),
+        None => Err(Fault::NotHexadecimalAt { line: before + 1 }),
+    }
+}
+
+/// Prints what the octets are heard as.
+fn write_transmission<A: Allocator + Copy, W: Write>(
+    alloc: A,
+    detail: Detail,
+    octets: &[u8],
+    out: &mut W,
+) -> Result<(), Fault>
+    ensures ok { OnOk result (Prints (shown detail) octets.now (W.contents out.old) (W.contents out.new)) }
+    ensures fault { IfErr result IsPrintFault }
+{
+    let heard = decode(octets);
+    write_shown(alloc, detail, &heard, out)
+}

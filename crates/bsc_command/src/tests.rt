@@ -1,0 +1,3 @@
+//! What no contract says: printed texts, and calls that succeed.
+mod naming;
+mod words;

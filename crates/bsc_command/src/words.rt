@@ -1,0 +1,140 @@
+//! The words of the command line.
+ghost use Rattle.std.specs.Prelude.{◌≡◌, ◌⊎◌, ◌≢◌, [], map, IfOk, IfErr, OnOk, codes, false, string_bytes, unwrap_or};
+ghost use Rattle.clap.specs.Words.{app_of, kind_of, HasKind, first_value, found_of, rule_of, subcommand_rows_of};
+ghost use Rattle.clap.specs.declared.builder.command.Command.TheViews.{out-Command};
+ghost use Rattle.bsc_command.specs.CommandLine.{IsHelp, bscline_app, name_app, program_app, show_app, required, faults_at, asked, asked_of, asked_sub};
+
+use crate::Fault;
+use clap::error::ErrorKind;
+use clap::{Arg, ArgAction, ArgMatches, Command, Error};
+use std::alloc::{AllocError, Global};
+use std::io::Write;
+
+/// What the command line asks for.
+#[derive(Debug, Drop)]
+pub enum Work {
+    /// The names of the lines of standard input.
+    Names,
+
+    /// The name of one transmission, by its hexadecimal text.
+    Name(String),
+
+    /// The names of the lines of standard input, with the units of texts.
+    Show,
+}
+
+/// The argument of `name`.
+fn hex_argument<'a>(alloc: Global) -> Arg<'a>
+    ensures rule { rule_of result ≡ required (codes "HEX") }
+    ensures local { result.global ≡ false }
+{
+    Arg::new(alloc, "HEX")
+        .help("The octets in hexadecimal text; spaces are dropped")
+        .required(true)
+        .action(ArgAction::Set)
+}
+
+/// `name HEX`.
+fn name_command<'a>(alloc: Global) -> Result<Command<'a>, AllocError>
+    ensures app { IfOk result (λ c. app_of c ≡ name_app) }
+    ensures local { IfOk result (λ c. (out-Command c).has_globals ≡ false) }
+{
+    Command::new(alloc, "name")
+        .about("Print the name of one transmission")
+        .arg(hex_argument(alloc))
+}
+
+/// `show`.
+fn show_command<'a>(alloc: Global) -> Command<'a>
+    ensures app { app_of result ≡ show_app }
+    ensures local { (out-Command result).has_globals ≡ false }
+{
+    Command::new(alloc, "show").about("Print the names of standard input, with the units of texts")
+}
+
+/// The program without its commands.
+fn program<'a>(alloc: Global) -> Command<'a>
+    ensures { app_of result ≡ program_app }
+{
+    Command::new(alloc, "bscline")
+        .about("Prints the names of the transmissions on standard input, one a line")
+        .version("0.1.0")
+}
+
+/// The command line of `bscline`.
+fn command_line<'a>(alloc: Global) -> Result<Command<'a>, AllocError>
+    ensures { IfOk result (λ c. app_of c ≡ bscline_app) }
+{
+    let named = program(alloc).subcommand(name_command(alloc)?)?;
+    named.subcommand(show_command(alloc))
+}
+
+/// The text of a value that the command requires.
+fn text_of(alloc: Global, matches: &ArgMatches<'_>, id: &str) -> Result<String, AllocError>
+    ensures { IfOk result (λ s. string_bytes s ≡ unwrap_or (first_value (found_of matches.now) id.now) []) }
+{
+    match matches.get_str(id) {
+        Some(text) => String::from_str(alloc, text),
+        None => Ok(String::new(alloc)),
+    }
+}
+
+/// The work that the matches ask for.
+fn work_of(alloc: Global, matches: &ArgMatches<'_>) -> Result<Work, AllocError>
+    ensures { IfOk result (λ w. asked w ≡ asked_sub (subcommand_rows_of matches.now)) }
+{
+    match matches.subcommand() {
+        None => Ok(Work::Names),
+        Some((sub, inner)) => match sub {
+            "name" => Ok(Work::Name(text_of(alloc, inner, "HEX")?)),
+            _ => Ok(Work::Show),
+        },
+    }
+}
+
+/// What the words ask for, the program's name first.
+pub fn read_words(alloc: Global, words: &[&str]) -> Result<Work, Error>
+    ensures asked { IfOk result (λ w. asked w ≡ asked_of (map (λ s. s.now) words.now)) }
+    ensures kinds { IfErr result (HasKind (faults_at (map (λ s. s.now) words.now))) }
+    ensures fits { OnOk result (faults_at (map (λ s. s.now) words.now) ≡ []) }
+{
+    let command_line = command_line(alloc)?;
+    match command_line.try_get_matches_from(words) {
+        Ok(matches) => Ok(work_of(alloc, &matches)?),
+        Err(error) => Err(error),
+    }
+}
+
+/// The answer where a word is no text, as `clap` has it for any other wrong value.
+pub fn not_text(alloc: Global) -> Error
+    ensures { (kind_of result ≡ ErrorKind.InvalidValue) ⊎ (kind_of result ≡ ErrorKind.OutOfMemory) }
+{
+    match not_text_error(alloc) {
+        Ok(error) => error,
+        Err(error) => Error::from(error),
+    }
+}
+
+/// The same, unless memory ran out.
+fn not_text_error(alloc: Global) -> Result<Error, AllocError>
+    ensures { IfOk result (λ e. kind_of e ≡ ErrorKind.InvalidValue) }
+{
+    let mut command_line = command_line(alloc)?;
+    command_line.error(ErrorKind::InvalidValue, "a word is not UTF-8")
+}
+
+/// Prints the help or the version, where the words asked for one. Every other answer of `clap` is a
+/// fault, and nothing is printed.
+pub fn help_or_fault<W: Write>(error: Error, out: &mut W) -> Result<(), Fault>
+    ensures help { IsHelp (kind_of error) → (result ≡ Ok tt) ⊎ (result ≡ Err Fault.Output) }
+    ensures memory { kind_of error ≡ ErrorKind.OutOfMemory → result ≡ Err Fault.OutOfMemory }
+    ensures usage { (IsHelp (kind_of error) → ⊥) → kind_of error ≢ ErrorKind.OutOfMemory → result ≡ Err (Fault.Usage error) }
+{
+    match error.kind() {
+        ErrorKind::DisplayHelp | ErrorKind::DisplayVersion => match write!(out, "{error}") {
+            Ok(()) => Ok(()),
+            Err(_) => Err(Fault::Output),
+        },
+        _ => Err(Fault::from(error)),
+    }
+}
