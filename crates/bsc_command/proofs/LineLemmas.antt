@@ -1,13 +1,13 @@
 -- What has been printed of the lines so far.
-use Rattle.std.proofs.Common.{◌≡◌, ◌==◌, ℕ, ◌+◌, map, List, [], ◌∷◌, ◌++◌, true, false, Option, Some, None, length, position, refl, sym, ap, ◌∙◌, append_assoc, append-nil, length-append}
+use Rattle.std.proofs.Common.{◌≡◌, ℕ, ◌+◌, map, List, [], ◌∷◌, ◌++◌, true, false, Option, Some, None, length, refl, sym, ap, ◌∙◌, append_assoc, append-nil, length-append}
 use Rattle.std.proofs.Math.Seq.{take-append_seam}
 use Rattle.std.specs.Prelude.{IfSome}
-use Rattle.std.specs.List.{flat_map, slice_split}
+use Rattle.std.specs.List.{flat_map}
 use Rattle.std.specs.Str.Lines.{strip_carriage_return}
 use Rattle.std.proofs.KnownBytes.{Appends-nil, Appends-trans}
 use Rattle.bsc_frame.specs.declared.message.Heard.{Heard}
 use Rattle.bsc_command.specs.Names.{Prints}
-use Rattle.bsc_command.specs.Lines.{AreShown, PrintsLines, StopsAt, is_blank, is_wrong, lines_of, transmission}
+use Rattle.bsc_command.specs.Lines.{AreShown, PrintsInput, PrintsLines, StopsAt, is_blank, is_wrong, lines_of, parts_of, transmission}
 use Rattle.bsc_command.specs.Hexadecimal.{octets_of}
 use Rattle.bsc_command.proofs.ListLemmas.{NonePasses, NonePasses-more, position-append, position-none}
 
@@ -39,8 +39,8 @@ PrintsLines-one show line octets a b blank e p = record {
 }
 
 -- what a text's first line leaves
-pub lines_left : {B : Type 0} (now : B → List ℕ) (rest : Option B) (text line : List ℕ) → (rest ≡ None → slice_split (λ octet. octet == 10) text ≡ line ∷ [])
-    → IfSome rest (λ r. slice_split (λ octet. octet == 10) text ≡ line ∷ slice_split (λ octet. octet == 10) (now r)) → (left : List (List ℕ)) × (lines_of text ≡ strip_carriage_return line ∷ left)
+pub lines_left : {B : Type 0} (now : B → List ℕ) (rest : Option B) (text line : List ℕ) → (rest ≡ None → parts_of text ≡ line ∷ [])
+    → IfSome rest (λ r. parts_of text ≡ line ∷ parts_of (now r)) → (left : List (List ℕ)) × (lines_of text ≡ strip_carriage_return line ∷ left)
 lines_left now None text line last more = ([], ap (map strip_carriage_return) (last refl))
 lines_left now (Some r) text line last more = (lines_of (now r), ap (map strip_carriage_return) more)
 
@@ -66,17 +66,16 @@ module _ {show : Heard → List ℕ} {all : List (List ℕ)} where
     printed = PrintsLines-append show h.done (x ∷ []) a b c h.printed p;
   }
 
-  all_done : {n : ℕ} {a b : Option (List ℕ)} → (h : HasPrinted show all [] n a b) → all ≡ h.done
-  all_done h = h.whole ∙ append-nil h.done
+module _ {show : Heard → List ℕ} {input : List ℕ} {n : ℕ} {a b : Option (List ℕ)} where
+  -- no line is left
+  pub has_printed_all : HasPrinted show (lines_of input) [] n a b → PrintsInput show input a b
+  has_printed_all h =
+      let all_done : lines_of input ≡ h.done = h.whole ∙ append-nil h.done in
+      record { right = rw all_done (position-none is_wrong h.done h.right); printed = rw all_done h.printed }
 
-  pub has_printed_right : {n : ℕ} {a b : Option (List ℕ)} → HasPrinted show all [] n a b → position is_wrong all ≡ None
-  has_printed_right h = rw (all_done h) (position-none is_wrong h.done h.right)
-
-  pub has_printed_all : {n : ℕ} {a b : Option (List ℕ)} → HasPrinted show all [] n a b → PrintsLines show all a b
-  has_printed_all h = rw (all_done h) h.printed
-
-  pub has_printed_wrong : {n : ℕ} {a b : Option (List ℕ)} (x : List ℕ) (left : List (List ℕ)) → HasPrinted show all (x ∷ left) n a b → is_wrong x ≡ true → StopsAt show (n + 1) all a b
-  has_printed_wrong {n} {a} {b} x left h e = record {
+  -- the next line is wrong
+  pub has_printed_wrong : (x : List ℕ) (left : List (List ℕ)) → HasPrinted show (lines_of input) (x ∷ left) n a b → is_wrong x ≡ true → StopsAt show (n + 1) input a b
+  has_printed_wrong x left h e = record {
     place = n;
     counted = refl;
     first = rw h.whole (position-append is_wrong h.done x left h.right e ∙ ap Some h.count);

@@ -3,3 +3,4 @@ pub mod Names
 pub mod Lines
 pub mod Faults
 pub mod CommandLine
+pub mod Program

@@ -1,5 +1,5 @@
 -- The lines of the command's input, and what is printed for them (own).
-use Rattle.std.specs.Prelude.{◌≡◌, ℕ, ◌+◌, ◌==◌, ◌&&◌, not, Bool, List, [], ◌∷◌, ◌++◌, map, take, position, Option, Some, is_none, if◌then◌else◌}
+use Rattle.std.specs.Prelude.{◌≡◌, ℕ, ◌+◌, ◌==◌, ◌&&◌, not, Bool, List, [], ◌∷◌, ◌++◌, map, take, position, Option, Some, None, is_none, if◌then◌else◌}
 use Rattle.std.specs.List.{flat_map, list_all, slice_split}
 use Rattle.std.specs.Option.{option_to_list}
 use Rattle.std.specs.Str.Lines.{strip_carriage_return}
@@ -8,10 +8,13 @@ use Rattle.bsc_frame.specs.declared.message.Heard.{Heard}
 use Rattle.bsc_command.specs.Hexadecimal.{is_space, octets_of}
 use Rattle.bsc_command.specs.Names.{IsHeard}
 
--- The text is cut at each line feed, and each part loses one carriage return at its end. What follows the
--- last line feed is a line too, so that no octet is left out.
+-- the parts of the text between its line feeds; what follows the last line feed is a part too
+abbrev pub parts_of : List ℕ → List (List ℕ)
+parts_of text = slice_split (λ octet. octet == 10) text
+
+-- the lines of the text: each part less one carriage return at its end
 abbrev pub lines_of : List ℕ → List (List ℕ)
-lines_of text = map strip_carriage_return (slice_split (λ octet. octet == 10) text)
+lines_of text = map strip_carriage_return (parts_of text)
 
 -- spaces alone, or no octet
 abbrev pub is_blank : List ℕ → Bool
@@ -37,9 +40,15 @@ pub record PrintsLines (show : Heard → List ℕ) (lines : List (List ℕ)) (ol
   pub shown : AreShown show (flat_map transmission lines) text
   pub appended : Appends old new text
 
--- the line with this number, counted from 1, is the first wrong one, and the lines before it were printed
-pub record StopsAt (show : Heard → List ℕ) (number : ℕ) (lines : List (List ℕ)) (old new : Option (List ℕ)) : Type 0 where
+-- no line of the input is wrong, and all were printed
+pub record PrintsInput (show : Heard → List ℕ) (input : List ℕ) (old new : Option (List ℕ)) : Type 0 where
+  pub right : position is_wrong (lines_of input) ≡ None
+  pub printed : PrintsLines show (lines_of input) old new
+
+-- the line with this number, counted from 1, is the first wrong one of the input, and the lines before it
+-- were printed
+pub record StopsAt (show : Heard → List ℕ) (number : ℕ) (input : List ℕ) (old new : Option (List ℕ)) : Type 0 where
   pub place : ℕ
   pub counted : number ≡ place + 1
-  pub first : position is_wrong lines ≡ Some place
-  pub before : PrintsLines show (take place lines) old new
+  pub first : position is_wrong (lines_of input) ≡ Some place
+  pub before : PrintsLines show (take place (lines_of input)) old new

@@ -30,7 +30,8 @@ pub fn read_input<A: Allocator, R: Read>(alloc: A, reader: &mut R) -> Result<Vec
     ensures whole { IfOk result (λ v. IfSome (R.remaining reader.old) (λ octets. v.items ≡ octets)) }
     ensures end { OnOk result (IsAtEnd (R.remaining reader.new)) }
     ensures fits { IfOk result (λ v. length v.items ≤ MAX_INPUT) }
-    ensures too_long { IsErrOf result InputError.TooLong → IfSome (R.remaining reader.old) (λ octets. MAX_INPUT < length octets) }
+    ensures too_long { IsErrOf result InputError.TooLong →
+        IfSome (R.remaining reader.old) (λ octets. MAX_INPUT < length octets) }
 {
     let mut input = Vec::new(alloc);
     let mut piece = [0u8; 4096];

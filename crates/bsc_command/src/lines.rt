@@ -1,8 +1,7 @@
 //! The lines of the command's input.
 ghost use Rattle.std.specs.Prelude.{◌≡◌, ◌==◌, ◌∷◌, ◌+◌, ◌≤◌, [], length, None, IfSome, position};
-ghost use Rattle.std.specs.List.{slice_split};
 ghost use Rattle.std.specs.Str.Lines.{strip_carriage_return};
-ghost use Rattle.bsc_command.specs.Lines.{is_blank as blank};
+ghost use Rattle.bsc_command.specs.Lines.{is_blank as blank, parts_of};
 
 /// The place of the first line feed.
 fn line_end(text: &[u8]) -> Option<usize>
@@ -13,9 +12,10 @@ fn line_end(text: &[u8]) -> Option<usize>
 
 /// The first line without its line feed, and what follows that; None where the line ends with the text.
 pub(crate) fn split_line(text: &[u8]) -> (&[u8], Option<&[u8]>)
-    ensures last { result.1 ≡ None → slice_split (λ octet. octet == 10) text.now ≡ result.0.now ∷ [] }
-    ensures more { IfSome result.1 (λ rest. slice_split (λ octet. octet == 10) text.now ≡ result.0.now ∷ slice_split (λ octet. octet == 10) rest.now) }
-    ensures length { IfSome result.1 (λ rest. length result.0.now + 1 + length rest.now ≡ length text.now) }
+    ensures last { result.1 ≡ None → parts_of text.now ≡ result.0.now ∷ [] }
+    ensures more { IfSome result.1 (λ rest. parts_of text.now ≡ result.0.now ∷ parts_of rest.now) }
+    ensures length { IfSome result.1 (λ rest.
+        length result.0.now + 1 + length rest.now ≡ length text.now) }
     ensures within { length result.0.now ≤ length text.now }
 {
     match line_end(text) {

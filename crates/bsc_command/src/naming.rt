@@ -1,8 +1,8 @@
 //! Names of transmissions that are given in hexadecimal text.
-ghost use Rattle.std.specs.Prelude.{◌≡◌, ◌+◌, ◌<◌, ◌^◌, ◌∷◌, [], length, true, false, None, OnOk, IfErr, IsErrOf, IsSomeAnd, ℕ, position};
+ghost use Rattle.std.specs.Prelude.{◌≡◌, ◌+◌, ◌<◌, ◌^◌, ◌∷◌, [], length, true, false, None, OnOk, IfErr, IsErrOf, IsSomeAnd, ℕ};
 ghost use Rattle.bsc_command.specs.Hexadecimal.{octets_of};
 ghost use Rattle.bsc_command.specs.Names.{Prints, name_line, unit_lines, shown};
-ghost use Rattle.bsc_command.specs.Lines.{PrintsLines, StopsAt, lines_of, is_wrong};
+ghost use Rattle.bsc_command.specs.Lines.{PrintsInput, PrintsLines, StopsAt, is_wrong};
 ghost use Rattle.bsc_command.specs.Faults.{IsLineFault, IsNameFault, IsPrintFault};
 
 use crate::Fault;
@@ -16,8 +16,11 @@ use std::io::Write;
 /// Prints the name of the transmission that the hexadecimal text gives, and a line feed. Where the
 /// text is not hexadecimal nothing is printed.
 pub fn name<A: Allocator + Copy, W: Write>(alloc: A, text: &str, out: &mut W) -> Result<(), Fault>
-    ensures ok { OnOk result (IsSomeAnd (octets_of text.now) (λ octets. Prints name_line octets (W.contents out.old) (W.contents out.new))) }
-    ensures wrong { IsErrOf result Fault.NotHexadecimal → (octets_of text.now ≡ None) × (out.new ≡ out.old) }
+    ensures ok { OnOk result
+        (IsSomeAnd (octets_of text.now) (λ octets.
+        Prints name_line octets (W.contents out.old) (W.contents out.new))) }
+    ensures wrong { IsErrOf result Fault.NotHexadecimal →
+        (octets_of text.now ≡ None) × (out.new ≡ out.old) }
     ensures faults { IfErr result IsNameFault }
 {
     match read_octets(alloc, text.as_bytes())? {
@@ -33,9 +36,10 @@ pub fn names<A: Allocator + Copy, W: Write>(
     input: &[u8],
     out: &mut W,
 ) -> Result<(), Fault>
-    ensures right { OnOk result (position is_wrong (lines_of input.now) ≡ None) }
-    ensures ok { OnOk result (PrintsLines name_line (lines_of input.now) (W.contents out.old) (W.contents out.new)) }
-    ensures wrong { (n : ℕ) → result ≡ Err (Fault.NotHexadecimalAt n) → StopsAt name_line n (lines_of input.now) (W.contents out.old) (W.contents out.new) }
+    ensures ok { OnOk result
+        (PrintsInput name_line input.now (W.contents out.old) (W.contents out.new)) }
+    ensures wrong { (n : ℕ) → result ≡ Err (Fault.NotHexadecimalAt n) →
+        StopsAt name_line n input.now (W.contents out.old) (W.contents out.new) }
     ensures faults { IfErr result IsLineFault }
 {
     write_lines(alloc, Detail::Name, input, out)
@@ -44,9 +48,10 @@ pub fn names<A: Allocator + Copy, W: Write>(
 /// Prints the name of each line's transmission, and under the name of a text a line for each unit.
 /// Otherwise as `names`.
 pub fn show<A: Allocator + Copy, W: Write>(alloc: A, input: &[u8], out: &mut W) -> Result<(), Fault>
-    ensures right { OnOk result (position is_wrong (lines_of input.now) ≡ None) }
-    ensures ok { OnOk result (PrintsLines unit_lines (lines_of input.now) (W.contents out.old) (W.contents out.new)) }
-    ensures wrong { (n : ℕ) → result ≡ Err (Fault.NotHexadecimalAt n) → StopsAt unit_lines n (lines_of input.now) (W.contents out.old) (W.contents out.new) }
+    ensures ok { OnOk result
+        (PrintsInput unit_lines input.now (W.contents out.old) (W.contents out.new)) }
+    ensures wrong { (n : ℕ) → result ≡ Err (Fault.NotHexadecimalAt n) →
+        StopsAt unit_lines n input.now (W.contents out.old) (W.contents out.new) }
     ensures faults { IfErr result IsLineFault }
 {
     write_lines(alloc, Detail::Units, input, out)
@@ -59,9 +64,10 @@ fn write_lines<A: Allocator + Copy, W: Write>(
     input: &[u8],
     out: &mut W,
 ) -> Result<(), Fault>
-    ensures right { OnOk result (position is_wrong (lines_of input.now) ≡ None) }
-    ensures ok { OnOk result (PrintsLines (shown detail) (lines_of input.now) (W.contents out.old) (W.contents out.new)) }
-    ensures wrong { (n : ℕ) → result ≡ Err (Fault.NotHexadecimalAt n) → StopsAt (shown detail) n (lines_of input.now) (W.contents out.old) (W.contents out.new) }
+    ensures ok { OnOk result
+        (PrintsInput (shown detail) input.now (W.contents out.old) (W.contents out.new)) }
+    ensures wrong { (n : ℕ) → result ≡ Err (Fault.NotHexadecimalAt n) →
+        StopsAt (shown detail) n input.now (W.contents out.old) (W.contents out.new) }
     ensures faults { IfErr result IsLineFault }
 {
     let mut before = 0;
@@ -87,8 +93,10 @@ fn write_line<A: Allocator + Copy, W: Write>(
 ) -> Result<(), Fault>
     requires { before + length line.now < 2 ^ 64 }
     ensures right { OnOk result (is_wrong line.now ≡ false) }
-    ensures ok { OnOk result (PrintsLines (shown detail) (line.now ∷ []) (W.contents out.old) (W.contents out.new)) }
-    ensures wrong { (n : ℕ) → result ≡ Err (Fault.NotHexadecimalAt n) → (n ≡ before + 1) × (is_wrong line.now ≡ true) × (out.new ≡ out.old) }
+    ensures ok { OnOk result
+        (PrintsLines (shown detail) (line.now ∷ []) (W.contents out.old) (W.contents out.new)) }
+    ensures wrong { (n : ℕ) → result ≡ Err (Fault.NotHexadecimalAt n) →
+        (n ≡ before + 1) × (is_wrong line.now ≡ true) × (out.new ≡ out.old) }
     ensures faults { IfErr result IsLineFault }
 {
     if is_blank(line) {
@@ -107,7 +115,8 @@ fn write_transmission<A: Allocator + Copy, W: Write>(
     octets: &[u8],
     out: &mut W,
 ) -> Result<(), Fault>
-    ensures ok { OnOk result (Prints (shown detail) octets.now (W.contents out.old) (W.contents out.new)) }
+    ensures ok { OnOk result
+        (Prints (shown detail) octets.now (W.contents out.old) (W.contents out.new)) }
     ensures fault { IfErr result IsPrintFault }
 {
     let heard = decode(octets);

@@ -44,7 +44,8 @@ fn end_name(end: End) -> &'static str
 
 /// Writes the name of a text.
 fn write_text_name<W: Write>(text: &Text, out: &mut W) -> Result<(), Fault>
-    ensures ok { OnOk result (Appends (W.contents out.old) (W.contents out.new) (message_name (Message.Text text.now))) }
+    ensures ok { OnOk result
+        (Appends (W.contents out.old) (W.contents out.new) (message_name (Message.Text text.now))) }
     ensures fault { IfErr result (λ fault. fault ≡ Fault.Output) }
 {
     let end = end_name(text.end());
@@ -57,7 +58,8 @@ fn write_text_name<W: Write>(text: &Text, out: &mut W) -> Result<(), Fault>
 
 /// Writes the name of a message.
 fn write_message<W: Write>(message: &Message, out: &mut W) -> Result<(), Fault>
-    ensures ok { OnOk result (Appends (W.contents out.old) (W.contents out.new) (message_name message.now)) }
+    ensures ok { OnOk result
+        (Appends (W.contents out.old) (W.contents out.new) (message_name message.now)) }
     ensures fault { IfErr result (λ fault. fault ≡ Fault.Output) }
 {
     match message {
@@ -78,7 +80,8 @@ fn write_message<W: Write>(message: &Message, out: &mut W) -> Result<(), Fault>
 
 /// Writes the name of what is heard.
 pub(crate) fn write_name<W: Write>(heard: &Heard, out: &mut W) -> Result<(), Fault>
-    ensures ok { OnOk result (Appends (W.contents out.old) (W.contents out.new) (name_of heard.now)) }
+    ensures ok { OnOk result
+        (Appends (W.contents out.old) (W.contents out.new) (name_of heard.now)) }
     ensures fault { IfErr result (λ fault. fault ≡ Fault.Output) }
 {
     match heard {
@@ -90,7 +93,8 @@ pub(crate) fn write_name<W: Write>(heard: &Heard, out: &mut W) -> Result<(), Fau
 
 /// Writes the name, and a line feed.
 fn write_name_line<W: Write>(heard: &Heard, out: &mut W) -> Result<(), Fault>
-    ensures ok { OnOk result (Appends (W.contents out.old) (W.contents out.new) (name_line heard.now)) }
+    ensures ok { OnOk result
+        (Appends (W.contents out.old) (W.contents out.new) (name_line heard.now)) }
     ensures fault { IfErr result (λ fault. fault ≡ Fault.Output) }
 {
     write_name(heard, out)?;
@@ -104,7 +108,8 @@ pub(crate) fn write_shown<A: Allocator + Copy, W: Write>(
     heard: &Heard,
     out: &mut W,
 ) -> Result<(), Fault>
-    ensures ok { OnOk result (Appends (W.contents out.old) (W.contents out.new) (shown detail heard.now)) }
+    ensures ok { OnOk result
+        (Appends (W.contents out.old) (W.contents out.new) (shown detail heard.now)) }
     ensures fault { IfErr result IsPrintFault }
 {
     write_name_line(heard, out)?;
@@ -120,7 +125,8 @@ fn write_units<A: Allocator + Copy, W: Write>(
     heard: &Heard,
     out: &mut W,
 ) -> Result<(), Fault>
-    ensures ok { OnOk result (Appends (W.contents out.old) (W.contents out.new) (flat_map unit_line (units_of heard.now))) }
+    ensures ok { OnOk result
+        (Appends (W.contents out.old) (W.contents out.new) (flat_map unit_line (units_of heard.now))) }
     ensures fault { IfErr result IsPrintFault }
 {
     match heard {
@@ -135,7 +141,8 @@ fn write_message_units<A: Allocator + Copy, W: Write>(
     message: &Message,
     out: &mut W,
 ) -> Result<(), Fault>
-    ensures ok { OnOk result (Appends (W.contents out.old) (W.contents out.new) (flat_map unit_line (message_units message.now))) }
+    ensures ok { OnOk result
+        (Appends (W.contents out.old) (W.contents out.new) (flat_map unit_line (message_units message.now))) }
     ensures fault { IfErr result IsPrintFault }
 {
     if let Message::Text(text) = message {
@@ -150,7 +157,8 @@ fn write_text_units<A: Allocator + Copy, W: Write>(
     text: &Text,
     out: &mut W,
 ) -> Result<(), Fault>
-    ensures ok { OnOk result (Appends (W.contents out.old) (W.contents out.new) (flat_map unit_line text.now.units)) }
+    ensures ok { OnOk result
+        (Appends (W.contents out.old) (W.contents out.new) (flat_map unit_line text.now.units)) }
     ensures fault { IfErr result IsPrintFault }
 {
     'units: for place in 0..text.count() {
@@ -161,7 +169,8 @@ fn write_text_units<A: Allocator + Copy, W: Write>(
 
 /// Writes the line of a unit.
 fn write_unit<A: Allocator, W: Write>(alloc: A, unit: Unit<'_>, out: &mut W) -> Result<(), Fault>
-    ensures ok { OnOk result (Appends (W.contents out.old) (W.contents out.new) (unit_line (text_unit unit.entry))) }
+    ensures ok { OnOk result
+        (Appends (W.contents out.old) (W.contents out.new) (unit_line (text_unit unit.entry))) }
     ensures fault { IfErr result IsPrintFault }
 {
     put(b"unit ", out)?;
@@ -172,7 +181,8 @@ fn write_unit<A: Allocator, W: Write>(alloc: A, unit: Unit<'_>, out: &mut W) -> 
 
 /// Writes the codes of characters in hexadecimal text, or a dash where there are none.
 fn write_chars<A: Allocator, W: Write>(alloc: A, chars: &[u8], out: &mut W) -> Result<(), Fault>
-    ensures ok { OnOk result (Appends (W.contents out.old) (W.contents out.new) (chars_shown chars.now)) }
+    ensures ok { OnOk result
+        (Appends (W.contents out.old) (W.contents out.new) (chars_shown chars.now)) }
     ensures fault { IfErr result IsPrintFault }
 {
     if chars.is_empty() {

@@ -1,3 +1,6 @@
-//! What no contract says: printed texts, and calls that succeed.
+//! What no contract says: printed texts, calls that succeed, and streams that fail.
+mod faults;
+mod inputs;
 mod naming;
+mod streams;
 mod words;

@@ -2,9 +2,7 @@
 //! its exit status how that went. All else is in the library `bsc_command`.
 #![tactic(auto)]
 
-use bsc_command::{
-    Fault, Work, help_or_fault, name, names, not_text, read_input, read_words, show, status,
-};
+use bsc_command::{Fault, help_or_fault, not_text, perform, read_words, status};
 use std::io::{BufWriter, ErrorKind, Write};
 use std::process::ExitCode;
 use std::rt::Env;
@@ -34,7 +32,7 @@ fn run<R: AllocGlobal + Env + Input + Print>(rt: &R) -> Result<(), Fault> {
     let Ok(mut out) = BufWriter::new(rt.alloc(), io::writer(rt)) else {
         return Err(Fault::OutOfMemory);
     };
-    let outcome = perform(rt, &mut out);
+    let outcome = obey(rt, &mut out);
     match out.flush() {
         Ok(()) => outcome,
         Err(_) => Err(Fault::Output),
@@ -42,7 +40,7 @@ fn run<R: AllocGlobal + Env + Input + Print>(rt: &R) -> Result<(), Fault> {
 }
 
 /// Does what the command line asks for.
-fn perform<R: AllocGlobal + Env + Input, W: Write>(rt: &R, out: &mut W) -> Result<(), Fault> {
+fn obey<R: AllocGlobal + Env + Input, W: Write>(rt: &R, out: &mut W) -> Result<(), Fault> {
     let alloc = rt.alloc();
     let arguments = arguments(rt)?;
     let mut words = Vec::new(alloc);
@@ -50,9 +48,7 @@ fn perform<R: AllocGlobal + Env + Input, W: Write>(rt: &R, out: &mut W) -> Resul
         words.push(argument.as_str())?;
     }
     match read_words(alloc, &words) {
-        Ok(Work::Name(text)) => name(alloc, text.as_str(), out),
-        Ok(Work::Names) => names(alloc, &read_input(alloc, &mut rt.reader())?, out),
-        Ok(Work::Show) => show(alloc, &read_input(alloc, &mut rt.reader())?, out),
+        Ok(work) => perform(alloc, &work, &mut rt.reader(), out),
         Err(error) => help_or_fault(error, out),
     }
 }

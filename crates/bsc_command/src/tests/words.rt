@@ -1,16 +1,129 @@
-use crate::{Work, read_words};
+use super::streams::Full;
+use crate::{Fault, help_or_fault, read_words};
+use std::alloc::Global;
+use std::io::Write;
 use std::test::Fail;
 
-#[test]
-fn words_of_the_command(rt: HostRuntime) -> Result<(), Fail> {
-    let alloc = rt.alloc();
-    match read_words(alloc, ["bscline", "--help"].as_slice()) {
-        Ok(work) => println!(rt; "{work:?}")?,
-        Err(error) => println!(rt; "{error}")?,
+/// The work that the words ask for, or the help, or the text of the fault.
+fn answer(alloc: Global, words: &[&str]) -> Result<Vec<u8>, Fail> {
+    let mut out = Vec::new(alloc);
+    match read_words(alloc, words) {
+        Ok(work) => write!(out, "{work:?}")?,
+        Err(error) => {
+            if let Err(fault) = help_or_fault(error, &mut out) {
+                write!(out, "fault: {fault}")?;
+            }
+        }
     }
-    match read_words(alloc, ["bscline", "run", "c", "s"].as_slice()) {
-        Ok(work) => println!(rt; "{work:?}")?,
-        Err(error) => println!(rt; "{error}")?,
+    Ok(out)
+}
+
+#[test]
+fn work_of_the_words(rt: HostRuntime) -> Result<(), Fail> {
+    let table: [(&[&str], &[u8]); 7] = [
+        (&["bscline"], b"Names"),
+        (&["bscline", "show"], b"Show"),
+        (&["bscline", "name", "161610B0FF"], b"Name(\"161610B0FF\")"),
+        (&["bscline", "name", "16 04"], b"Name(\"16 04\")"),
+        (&["bscline", "name", ""], b"Name(\"\")"),
+        (&["bscline", "name", "--", "-1"], b"Name(\"-1\")"),
+        (&["bscline", "--version"], b"bscline 0.1.0\n"),
+    ];
+    for (words, text) in table {
+        assert_eq!(rt; answer(rt.alloc(), words)?.as_slice(), text);
+    }
+    Ok(())
+}
+
+#[test]
+fn help(rt: HostRuntime) -> Result<(), Fail> {
+    let top = b"Prints the names of the transmissions on standard input, one a line
+
+Usage: bscline [COMMAND]
+
+Commands:
+  name  Print the name of one transmission
+  show  Print the names of standard input, with the units of texts
+  help  Print this message or the help of the given subcommand(s)
+
+Options:
+  -h, --help     Print help
+  -V, --version  Print version
+";
+    let name = b"Print the name of one transmission
+
+Usage: bscline name <HEX>
+
+Arguments:
+  <HEX>  The octets in hexadecimal text; spaces are dropped
+
+Options:
+  -h, --help  Print help
+";
+    let alloc = rt.alloc();
+    assert_eq!(rt;
+        answer(alloc, &["bscline", "--help"])?.as_slice(),
+        top.as_slice()
+    );
+    assert_eq!(rt;
+        answer(alloc, &["bscline", "help"])?.as_slice(),
+        top.as_slice()
+    );
+    assert_eq!(rt;
+        answer(alloc, &["bscline", "name", "-h"])?.as_slice(),
+        name.as_slice()
+    );
+    let error = read_words(alloc, &["bscline", "-V"]).err().ok_or("work")?;
+    let refused = help_or_fault(error, &mut Full { left: 0 });
+    assert!(rt; matches!(&refused, Err(Fault::Output)));
+    Ok(())
+}
+
+/// A word that is no command, one too many and one too few. The word of a command that does not exist
+/// yet is none.
+#[test]
+fn wrong_usage(rt: HostRuntime) -> Result<(), Fail> {
+    let table: [(&[&str], &[u8]); 4] = [
+        (
+            &["bscline", "run", "c", "s"],
+            b"fault: error: unrecognized subcommand 'run'
+
+Usage: bscline [COMMAND]
+
+For more information, try '--help'.
+",
+        ),
+        (
+            &["bscline", "name"],
+            b"fault: error: the following required arguments were not provided:
+  <HEX>
+
+Usage: bscline name <HEX>
+
+For more information, try '--help'.
+",
+        ),
+        (
+            &["bscline", "name", "16", "04"],
+            b"fault: error: unexpected argument '04' found
+
+Usage: bscline name <HEX>
+
+For more information, try '--help'.
+",
+        ),
+        (
+            &["bscline", "--units"],
+            b"fault: error: unexpected argument '--units' found
+
+Usage: bscline [COMMAND]
+
+For more information, try '--help'.
+",
+        ),
+    ];
+    for (words, text) in table {
+        assert_eq!(rt; answer(rt.alloc(), words)?.as_slice(), text);
     }
     Ok(())
 }

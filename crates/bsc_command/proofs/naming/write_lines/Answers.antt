@@ -2,7 +2,7 @@ use Rattle.std.proofs.Common.{◌≡◌, ◌∷◌, [], map, sym, ap, ◌∙◌,
 use Rattle.std.specs.Str.Lines.{strip_carriage_return}
 use Rattle.bsc_command.specs.Lines.{lines_of}
 use Rattle.bsc_command.specs.declared.fault.Fault.TheVariants.{NotHexadecimalAt}
-use Rattle.bsc_command.proofs.LineLemmas.{has_printed_more, has_printed_right, has_printed_all, has_printed_wrong, lines_left}
+use Rattle.bsc_command.proofs.LineLemmas.{has_printed_more, has_printed_all, has_printed_wrong, lines_left}
 use Rattle.bsc_command.proofs.naming.write_lines.Goals as goal
 
 pub returns-in_err-write_line-clause-wrong : goal.returns-in_err-write_line-clause-wrong
@@ -13,11 +13,6 @@ returns-in_err-write_line-clause-wrong g c = λ n e.
     let left = lines_left (λ r. r.now) c.split_line.result.1 c.lines.text.now c.split_line.result.0.now c.split_line.ensures.last c.split_line.ensures.more in
     let lines : lines_of c.lines.text.now ≡ c.without_return.result.now ∷ left.0 = left.1 ∙ ap (λ l. l ∷ left.0) (sym c.without_return.ensures) in
     rw (told.0, told.2) (has_printed_wrong c.without_return.result.now left.0 (rw lines at c.lines.invariant.printed) told.1)
-
-pub returns-in-None-clause-right : goal.returns-in-None-clause-right
-returns-in-None-clause-right g c =
-    let lines : lines_of c.lines.text.now ≡ c.without_return.result.now ∷ [] = ap (map strip_carriage_return) (c.split_line.ensures.last c.in-None.is) ∙ ap (λ l. l ∷ []) (sym c.without_return.ensures) in
-    has_printed_right (has_printed_more c.without_return.result.now [] (g.W.Write.contents c.write_line.new.out) (rw lines at c.lines.invariant.printed) c.in_ok-write_line.ensures.right c.in_ok-write_line.ensures.ok)
 
 pub returns-in-None-clause-ok : goal.returns-in-None-clause-ok
 returns-in-None-clause-ok g c =

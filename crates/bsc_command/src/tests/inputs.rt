@@ -1,0 +1,53 @@
+use super::streams::{Broken, Drip};
+use crate::{Fault, InputError, MAX_INPUT, Work, perform, read_input};
+use std::test::Fail;
+
+/// An input of the greatest length at one octet a read, and one that is longer.
+#[test]
+fn one_octet_a_read(rt: HostRuntime) -> Result<(), Fail> {
+    let mut drip = Drip {
+        left: MAX_INPUT,
+        reads: 0,
+    };
+    let input = read_input(rt.alloc(), &mut drip)?;
+    assert_eq!(rt; input.len(), 1_048_576);
+    assert_eq!(rt; drip.reads, 1_048_577);
+    let mut longer = Drip {
+        left: MAX_INPUT + 1,
+        reads: 0,
+    };
+    assert!(rt; read_input(rt.alloc(), &mut longer).err() == Some(InputError::TooLong));
+    assert_eq!(rt; longer.reads, 1_048_577);
+    Ok(())
+}
+
+/// A read that fails behind good lines, an interrupted one too.
+#[test]
+fn failing_read(rt: HostRuntime) -> Result<(), Fail> {
+    let mut broken = Broken {
+        text: Some(b"16 04\n"),
+    };
+    assert!(rt; read_input(rt.alloc(), &mut broken).err() == Some(InputError::Device));
+    Ok(())
+}
+
+/// Where the input is too long or not read, its good lines are not printed either.
+#[test]
+fn nothing_is_printed_before_all_is_read(rt: HostRuntime) -> Result<(), Fail> {
+    let alloc = rt.alloc();
+    let mut out = Vec::new(alloc);
+    let mut broken = Broken {
+        text: Some(b"16 04\n"),
+    };
+    let failed = perform(alloc, &Work::Names, &mut broken, &mut out);
+    assert!(rt; matches!(&failed, Err(Fault::Input)));
+    let mut input = vec![in alloc; b' '; MAX_INPUT + 1]?;
+    input[0] = b'\n';
+    let long = perform(alloc, &Work::Show, &mut input.as_slice(), &mut out);
+    assert!(rt; matches!(&long, Err(Fault::InputTooLong)));
+    assert_eq!(rt; out.len(), 0);
+    let fits = &input.as_slice()[1..];
+    perform(alloc, &Work::Show, &mut { fits }, &mut out)?;
+    assert_eq!(rt; out.len(), 0);
+    Ok(())
+}
