@@ -1,4 +1,4 @@
--- The faults of the command (own).
+-- The faults of the command. All of it is own.
 use Rattle.std.specs.Prelude.{◌≡◌, ◌≢◌, ℕ}
 use Rattle.clap.specs.Words.{kind_of}
 use Rattle.clap.specs.declared.error.Error.{Error}
@@ -8,7 +8,7 @@ use Rattle.bsc_command.specs.declared.fault.Fault.TheVariants.{NotHexadecimal, N
 use Rattle.bsc_command.specs.declared.input.InputError.{InputError}
 use Rattle.bsc_command.specs.declared.input.InputError.TheVariants.{TooLong, Device, Memory}
 
--- the exit status: 2 for wrong usage, 1 for every other fault
+-- The exit status: 2 for wrong usage, 1 for every other fault.
 abbrev pub status_of : Fault → ℕ
 status_of NotHexadecimal = 1
 status_of (NotHexadecimalAt line) = 1
@@ -18,29 +18,29 @@ status_of Output = 1
 status_of OutOfMemory = 1
 status_of (Usage text) = 2
 
--- the fault of an input that was not read
+-- The fault of an input that was not read.
 abbrev pub input_fault : InputError → Fault
 input_fault TooLong = InputTooLong
 input_fault Device = Input
 input_fault Memory = OutOfMemory
 
--- the faults of printing
+-- The faults of printing.
 abbrev pub IsPrintFault : Fault → Type 0
 IsPrintFault Output = Unit {0}
 IsPrintFault OutOfMemory = Unit {0}
 IsPrintFault _ = ⊥
 
--- the faults of one transmission
+-- The faults of naming one transmission.
 abbrev pub IsNameFault : Fault → Type 0
 IsNameFault NotHexadecimal = Unit {0}
 IsNameFault fault = IsPrintFault fault
 
--- the faults of an input of many lines
+-- The faults of an input of many lines.
 abbrev pub IsLineFault : Fault → Type 0
 IsLineFault (NotHexadecimalAt line) = Unit {0}
 IsLineFault fault = IsPrintFault fault
 
--- the fault of words that `clap` refuses: want of memory is told apart from wrong usage
+-- The fault of words that `clap` refuses: want of memory is told apart from wrong usage.
 pub record IsWordsFault (error : Error) (fault : Fault) : Type 0 where
   pub memory : kind_of error ≡ kind.OutOfMemory → fault ≡ OutOfMemory
   pub usage : kind_of error ≢ kind.OutOfMemory → fault ≡ Usage error

@@ -1,12 +1,13 @@
--- Hexadecimal text (own).
+-- Hexadecimal text. All of it is own.
 use Rattle.std.specs.Prelude.{ℕ, ◌==◌, Bool, not, List, filter, Option}
 use Rattle.std.specs.Result.{result_ok}
 use Rattle.hex.specs.Hex.{decode_of}
 
+-- A space.
 abbrev pub is_space : ℕ → Bool
 is_space octet = octet == 32
 
--- the text less its spaces
+-- The text less its spaces.
 abbrev pub without_spaces : List ℕ → List ℕ
 without_spaces text = filter (λ octet. not (is_space octet)) text
 

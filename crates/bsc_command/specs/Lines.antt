@@ -1,4 +1,4 @@
--- The lines of the command's input, and what is printed for them (own).
+-- The lines of the command's input, and what is printed for them. All of it is own.
 use Rattle.std.specs.Prelude.{◌≡◌, ℕ, ◌+◌, ◌==◌, ◌&&◌, not, Bool, List, [], ◌∷◌, ◌++◌, map, take, position, Option, Some, None, is_none, if◌then◌else◌}
 use Rattle.std.specs.List.{flat_map, list_all, slice_split}
 use Rattle.std.specs.Option.{option_to_list}
@@ -8,45 +8,45 @@ use Rattle.bsc_frame.specs.declared.message.Heard.{Heard}
 use Rattle.bsc_command.specs.Hexadecimal.{is_space, octets_of}
 use Rattle.bsc_command.specs.Names.{IsHeard}
 
--- the parts of the text between its line feeds; what follows the last line feed is a part too
+-- The parts of the text between its line feeds. What follows the last line feed is a part too.
 abbrev pub parts_of : List ℕ → List (List ℕ)
 parts_of text = slice_split (λ octet. octet == 10) text
 
--- the lines of the text: each part less one carriage return at its end
+-- The lines of the text: each part, less one carriage return at its end.
 abbrev pub lines_of : List ℕ → List (List ℕ)
 lines_of text = map strip_carriage_return (parts_of text)
 
--- spaces alone, or no octet
+-- Spaces alone, or no octet.
 abbrev pub is_blank : List ℕ → Bool
 is_blank line = list_all is_space line
 
--- neither blank nor hexadecimal text
+-- Neither blank nor hexadecimal text.
 abbrev pub is_wrong : List ℕ → Bool
 is_wrong line = not (is_blank line) && is_none (octets_of line)
 
--- the transmission that a line gives: none where it is blank
+-- The transmission that a line gives: none where it is blank.
 abbrev pub transmission : List ℕ → List (List ℕ)
 transmission line = if is_blank line then [] else option_to_list (octets_of line)
 
--- the text is what is shown of each transmission as it is heard, in order
+-- The text is what is shown of each of these transmissions, as it is heard, in order.
 abbrev pub AreShown : (Heard → List ℕ) → List (List ℕ) → List ℕ → Type 0
 AreShown show [] text = text ≡ []
 AreShown show (octets ∷ more) text =
     (heard : Heard) × (rest : List ℕ) × IsHeard octets heard × (text ≡ show heard ++ rest) × AreShown show more rest
 
--- a writer that held old holds new: what is shown of the lines' transmissions was appended
+-- A writer that held old holds new: what is shown of the lines' transmissions was appended.
 pub record PrintsLines (show : Heard → List ℕ) (lines : List (List ℕ)) (old new : Option (List ℕ)) : Type 0 where
   pub text : List ℕ
   pub shown : AreShown show (flat_map transmission lines) text
   pub appended : Appends old new text
 
--- no line of the input is wrong, and all were printed
+-- No line of the input is wrong, and all were printed.
 pub record PrintsInput (show : Heard → List ℕ) (input : List ℕ) (old new : Option (List ℕ)) : Type 0 where
   pub right : position is_wrong (lines_of input) ≡ None
   pub printed : PrintsLines show (lines_of input) old new
 
--- the line with this number, counted from 1, is the first wrong one of the input, and the lines before it
--- were printed
+-- The line with this number, counted from 1, is the first wrong one of the input, and the lines before it
+-- were printed, and nothing else.
 pub record StopsAt (show : Heard → List ℕ) (number : ℕ) (input : List ℕ) (old new : Option (List ℕ)) : Type 0 where
   pub place : ℕ
   pub counted : number ≡ place + 1

@@ -1,17 +1,17 @@
--- What the program prints for its work (own).
+-- What the program prints for its work. All of it is own.
 use Rattle.std.specs.Prelude.{ℕ, List, Option, IfSome, IsSomeAnd}
 use Rattle.bsc_command.specs.CommandLine.{Asked, names, name, show}
 use Rattle.bsc_command.specs.Hexadecimal.{octets_of}
 use Rattle.bsc_command.specs.Names.{Prints, name_line, unit_lines}
 use Rattle.bsc_command.specs.Lines.{PrintsInput, StopsAt}
 
--- the work was done with this input: a writer that held old holds new
+-- The work was done with this input: a writer that held old holds new.
 abbrev pub IsDone : Asked → Option (List ℕ) → Option (List ℕ) → Option (List ℕ) → Type 0
 IsDone names input old new = IfSome input (λ octets. PrintsInput name_line octets old new)
 IsDone (name text) input old new = IsSomeAnd (octets_of text) (λ octets. Prints name_line octets old new)
 IsDone show input old new = IfSome input (λ octets. PrintsInput unit_lines octets old new)
 
--- the work stopped at the line with this number
+-- The work stopped at the line with this number.
 abbrev pub StopsAtLine : Asked → ℕ → Option (List ℕ) → Option (List ℕ) → Option (List ℕ) → Type 0
 StopsAtLine names number input old new = IfSome input (λ octets. StopsAt name_line number octets old new)
 StopsAtLine (name text) number input old new = ⊥
