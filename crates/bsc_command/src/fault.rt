@@ -32,6 +32,7 @@ pub enum Fault {
     #[error("output fault")]
     Output,
 
+    /// A growth was refused. It may stand in place of any other fault.
     #[error("out of memory")]
     OutOfMemory,
 

@@ -20,6 +20,7 @@ pub enum InputError {
     #[error("input fault")]
     Device,
 
+    /// A growth was refused.
     #[error("out of memory")]
     Memory,
 }

@@ -2,5 +2,6 @@
 mod faults;
 mod inputs;
 mod naming;
+mod refusals;
 mod streams;
 mod words;

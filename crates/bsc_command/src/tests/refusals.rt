@@ -1,0 +1,53 @@
+use super::streams::Drip;
+use crate::{Fault, InputError, read_input, show};
+use refusing_alloc::Refusing;
+use std::test::Fail;
+
+const INPUT: &[u8] = b"16 04\n16 16 02 C8 49 19 1F 07 19 83 1A FF\n16 04";
+
+const PRINTED: &[u8] = b"EOT\nTEXT ETX 2\nunit 4849 EM\nunit - EM\nEOT\n";
+
+/// Each growth is refused in turn: want of memory is told, and what was printed before it stays.
+#[test]
+fn each_growth_of_show(rt: HostRuntime) -> Result<(), Fail> {
+    let alloc = Refusing::new(rt.alloc());
+    let mut refused = 0;
+    for request in 1..50 {
+        alloc.refuse_nth(request);
+        let mut out = Vec::new(rt.alloc());
+        let answer = show(&alloc, INPUT, &mut out);
+        if alloc.refused() == 0 {
+            answer?;
+            assert_eq!(rt; out.as_slice(), PRINTED);
+        } else {
+            assert!(rt; matches!(&answer, Err(Fault::OutOfMemory)));
+            assert!(rt; out.len() < PRINTED.len() && PRINTED.starts_with(&out));
+            refused = request;
+        }
+    }
+    assert!(rt; 3 < refused && refused < 49);
+    Ok(())
+}
+
+/// The same of a whole input, at one octet a read.
+#[test]
+fn each_growth_of_an_input(rt: HostRuntime) -> Result<(), Fail> {
+    let alloc = Refusing::new(rt.alloc());
+    let mut refused = 0;
+    for request in 1..20 {
+        alloc.refuse_nth(request);
+        let mut drip = Drip {
+            left: 1000,
+            reads: 0,
+        };
+        let answer = read_input(&alloc, &mut drip);
+        if alloc.refused() == 0 {
+            assert_eq!(rt; answer?.len(), 1000);
+        } else {
+            assert!(rt; answer.err() == Some(InputError::Memory));
+            refused = request;
+        }
+    }
+    assert!(rt; 3 < refused && refused < 19);
+    Ok(())
+}
