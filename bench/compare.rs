@@ -1,0 +1,89 @@
+//! Whether the proved crates and plain Rust answer alike.
+
+use crate::content::{Content, bsc_decode, bsc_encode, kind};
+use crate::inputs::{self, Random};
+use crate::plain::{plain_decode, plain_encode};
+
+const DECODED: usize = 40_000;
+const ENCODED: usize = 0;
+
+const KINDS: [&str; 11] = ["noise", "failed", "eot", "call", "enq", "ack0", "ack1", "nak", "wack", "rvi", "text"];
+
+/// Compares both on random and on spoiled transmissions and contents, and prints how many there were.
+pub fn all() -> Result<(), String> {
+    let mut random = Random::new(1);
+    let mut counts = [0usize; KINDS.len()];
+    for _ in 0..DECODED {
+        counts[decoded(&inputs::any(&mut random))? as usize] += 1;
+    }
+    let kinds: Vec<String> = KINDS.iter().zip(counts).map(|(name, count)| format!("{name} {count}")).collect();
+    println!("{DECODED} transmissions decoded alike: {}", kinds.join(", "));
+    let mut refused = 0;
+    for _ in 0..ENCODED {
+        let (kind, content) = inputs::any_content(&mut random);
+        if encoded(kind, &content)? == 0 {
+            refused += 1;
+        }
+    }
+    println!("{ENCODED} contents encoded alike, {refused} of them no message");
+    Ok(())
+}
+
+/// A content whose every octet tells whether it was written.
+fn marked(mark: u8) -> Content {
+    let mut content = Content::new();
+    content.chars = [mark; 1008];
+    content.ends = [mark as u16; 7];
+    content.em = [mark; 7];
+    content.count = mark;
+    content.end = mark;
+    content.address = [mark; 7];
+    content.address_len = mark;
+    content
+}
+
+/// What a content says of its kind: the address, or the units with their marks and the end.
+fn said(kind: u32, content: &Content) -> (Vec<u8>, Vec<(Vec<u8>, bool)>, u8) {
+    match kind {
+        kind::CALL => (content.address[..content.address_len as usize].to_vec(), vec![], 0),
+        kind::TEXT => {
+            let mut units = Vec::new();
+            let mut start = 0;
+            for place in 0..content.count as usize {
+                let end = content.ends[place] as usize;
+                units.push((content.chars[start..end].to_vec(), content.em[place] != 0));
+                start = end;
+            }
+            (vec![], units, content.end)
+        }
+        _ => (vec![], vec![], 0),
+    }
+}
+
+fn decoded(octets: &[u8]) -> Result<u32, String> {
+    let mut proved = marked(0xee);
+    let mut plain = marked(0x77);
+    // SAFETY: a slice's own address and length.
+    let kind = unsafe { bsc_decode(octets.as_ptr(), octets.len(), &mut proved) };
+    let plain_kind = plain_decode(octets.as_ptr(), octets.len(), &mut plain);
+    if kind != plain_kind || said(kind, &proved) != said(kind, &plain) {
+        return Err(format!("decoded as {kind}, and by plain Rust as {plain_kind}: {octets:02x?}"));
+    }
+    Ok(kind)
+}
+
+fn encoded(kind: u32, content: &Content) -> Result<usize, String> {
+    let mut proved = [0u8; 1100];
+    let mut plain = [0u8; 1100];
+    // SAFETY: an array's own address and length.
+    let len = unsafe { bsc_encode(kind, content, proved.as_mut_ptr(), proved.len()) };
+    let plain_len = plain_encode(kind, content, plain.as_mut_ptr(), plain.len());
+    if len != plain_len || proved != plain {
+        return Err(format!(
+            "kind {kind} encoded as {:02x?}, and by plain Rust as {:02x?}",
+            &proved[..len],
+            &plain[..plain_len]
+        ));
+    }
+    Ok(len)
+}

@@ -1,0 +1,22 @@
+//! The proved decoder and encoder, through `bsc_embed`, beside plain Rust: first that both answer alike, and
+//! then how long each takes.
+
+mod clock;
+mod compare;
+mod content;
+mod inputs;
+mod plain;
+
+use inputs::Random;
+
+fn main() {
+    if let Err(difference) = compare::all() {
+        eprintln!("{difference}");
+        std::process::exit(1);
+    }
+    let mut random = Random::new(2);
+    clock::heading("decode");
+    for (name, make) in clock::DECODED {
+        clock::decoding(name, &clock::inputs(&mut random, make));
+    }
+}
