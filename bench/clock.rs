@@ -44,7 +44,7 @@ pub fn texts(random: &mut Random) -> Vec<(u32, Content)> {
 }
 
 fn content_of(octets: &[u8]) -> (u32, Content) {
-    let mut content = Content::new();
+    let mut content = Content::of(0);
     let kind = plain_decode(octets.as_ptr(), octets.len(), &mut content);
     assert!(kind >= kind::EOT);
     (kind, content)
@@ -95,8 +95,8 @@ fn line(name: &str, octets: usize, (proved, plain): (f64, f64)) {
 }
 
 pub fn decoding(name: &str, inputs: &[Vec<u8>]) {
-    let mut content = Content::new();
-    let mut plain_content = Content::new();
+    let mut content = Content::of(0);
+    let mut plain_content = Content::of(0);
     let octets = inputs.iter().map(Vec::len).sum();
     let times = best(
         inputs,

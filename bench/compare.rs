@@ -5,7 +5,7 @@ use crate::inputs::{self, Random};
 use crate::plain::{plain_decode, plain_encode};
 
 const DECODED: usize = 40_000;
-const ENCODED: usize = 0;
+const ENCODED: usize = 20_000;
 
 const KINDS: [&str; 11] = ["noise", "failed", "eot", "call", "enq", "ack0", "ack1", "nak", "wack", "rvi", "text"];
 
@@ -29,40 +29,22 @@ pub fn all() -> Result<(), String> {
     Ok(())
 }
 
-/// A content whose every octet tells whether it was written.
-fn marked(mark: u8) -> Content {
-    let mut content = Content::new();
-    content.chars = [mark; 1008];
-    content.ends = [mark as u16; 7];
-    content.em = [mark; 7];
-    content.count = mark;
-    content.end = mark;
-    content.address = [mark; 7];
-    content.address_len = mark;
-    content
-}
-
 /// What a content says of its kind: the address, or the units with their marks and the end.
 fn said(kind: u32, content: &Content) -> (Vec<u8>, Vec<(Vec<u8>, bool)>, u8) {
     match kind {
         kind::CALL => (content.address[..content.address_len as usize].to_vec(), vec![], 0),
         kind::TEXT => {
-            let mut units = Vec::new();
-            let mut start = 0;
-            for place in 0..content.count as usize {
-                let end = content.ends[place] as usize;
-                units.push((content.chars[start..end].to_vec(), content.em[place] != 0));
-                start = end;
-            }
-            (vec![], units, content.end)
+            let units = content.units[..content.count as usize].iter();
+            let units = units.map(|unit| (unit.chars[..unit.len as usize].to_vec(), unit.em != 0));
+            (vec![], units.collect(), content.end)
         }
         _ => (vec![], vec![], 0),
     }
 }
 
 fn decoded(octets: &[u8]) -> Result<u32, String> {
-    let mut proved = marked(0xee);
-    let mut plain = marked(0x77);
+    let mut proved = Content::of(0xee);
+    let mut plain = Content::of(0x77);
     // SAFETY: a slice's own address and length.
     let kind = unsafe { bsc_decode(octets.as_ptr(), octets.len(), &mut proved) };
     let plain_kind = plain_decode(octets.as_ptr(), octets.len(), &mut plain);

@@ -17,10 +17,16 @@ pub mod kind {
 
 #[repr(C)]
 #[derive(Clone, Copy)]
+pub struct StoredUnit {
+    pub chars: [u8; 144],
+    pub len: u8,
+    pub em: u8,
+}
+
+#[repr(C)]
+#[derive(Clone, Copy)]
 pub struct Content {
-    pub chars: [u8; 1008],
-    pub ends: [u16; 7],
-    pub em: [u8; 7],
+    pub units: [StoredUnit; 7],
     pub count: u8,
     pub end: u8,
     pub address: [u8; 7],
@@ -28,8 +34,15 @@ pub struct Content {
 }
 
 impl Content {
-    pub const fn new() -> Content {
-        Content { chars: [0; 1008], ends: [0; 7], em: [0; 7], count: 0, end: 0, address: [0; 7], address_len: 0 }
+    /// Every octet of it is this one.
+    pub const fn of(octet: u8) -> Content {
+        Content {
+            units: [StoredUnit { chars: [octet; 144], len: octet, em: octet }; 7],
+            count: octet,
+            end: octet,
+            address: [octet; 7],
+            address_len: octet,
+        }
     }
 }
 

@@ -136,7 +136,7 @@ pub fn filled_text(random: &mut Random) -> Vec<u8> {
 
 /// The octets that are sent for a message without a text.
 pub fn short(random: &mut Random, number: usize) -> Vec<u8> {
-    let mut content = Content::new();
+    let mut content = Content::of(0);
     let kind = kind::EOT + (number % 8) as u32;
     random_address(random, &mut content);
     let mut octets = vec![0; 1100];
@@ -257,19 +257,20 @@ fn spoil(random: &mut Random, octets: &mut Vec<u8>) {
 
 /// The content of a message for encoding: mostly well formed, at times out of a limit.
 pub fn any_content(random: &mut Random) -> (u32, Content) {
-    let mut content = Content::new();
+    let mut content = Content::of(0);
     random_address(random, &mut content);
     random_units(random, &mut content);
     if random.one_in(4) {
+        let unit = &mut content.units[random.below(7)];
         match random.below(8) {
             0 => content.address_len = random.octet(),
             1 => content.address[random.below(7)] = random.octet(),
             2 => content.count = random.octet(),
-            3 => content.end = random.octet(),
-            4 => content.ends[random.below(7)] = random.word() as u16,
-            5 => content.ends[random.below(7)] = random.below(1010) as u16,
-            6 => content.chars[random.below(1008)] = random.octet(),
-            _ => content.em[random.below(7)] = random.octet(),
+            3 => content.count = random.below(9) as u8,
+            4 => content.end = random.octet(),
+            5 => unit.len = random.octet(),
+            6 => unit.chars[random.below(144)] = random.octet(),
+            _ => unit.em = random.octet(),
         }
     }
     let kind = match random.below(10) {
@@ -284,15 +285,13 @@ pub fn any_content(random: &mut Random) -> (u32, Content) {
 fn random_units(random: &mut Random, content: &mut Content) {
     content.count = 1 + random.below(7) as u8;
     content.end = if random.one_in(2) { 0x17 } else { 0x03 };
-    let most = [0, 10, 143, 144, 144, 145][random.below(6)];
+    let most = [0, 10, 143, 144, 144, 144, 145][random.below(7)];
     let full = random.one_in(3);
-    let mut end = 0;
-    for place in 0..content.count as usize {
-        end += if full { most } else { random.below(most + 1) };
-        content.ends[place] = end.min(1008) as u16;
-        content.em[place] = random.one_in(2) as u8;
-    }
-    for char in &mut content.chars {
-        *char = random.record_char();
+    for unit in &mut content.units {
+        unit.len = if full { most } else { random.below(most + 1) } as u8;
+        unit.em = random.one_in(2) as u8;
+        for char in &mut unit.chars {
+            *char = random.record_char();
+        }
     }
 }

@@ -19,4 +19,7 @@ fn main() {
     for (name, make) in clock::DECODED {
         clock::decoding(name, &clock::inputs(&mut random, make));
     }
+    clock::heading("encode");
+    clock::encoding("control sequences and calls", &clock::shorts(&mut random));
+    clock::encoding("text, 1,033 octets", &clock::texts(&mut random));
 }

@@ -385,14 +385,12 @@ fn put(message: &Message, content: &mut Content) -> u32 {
         Message::Wack => kind::WACK,
         Message::Rvi => kind::RVI,
         Message::Text(text) => {
-            let mut start = 0;
             for place in 0..text.count() {
                 let unit = text.unit(place);
-                let end = start + unit.chars.len();
-                content.chars[start..end].copy_from_slice(unit.chars);
-                content.ends[place] = end as u16;
-                content.em[place] = unit.em as u8;
-                start = end;
+                let stored = &mut content.units[place];
+                stored.chars[..unit.chars.len()].copy_from_slice(unit.chars);
+                stored.len = unit.chars.len() as u8;
+                stored.em = unit.em as u8;
             }
             content.count = text.count() as u8;
             content.end = if text.end() == End::Etb { ETB } else { 0x03 };
@@ -442,14 +440,10 @@ fn text_of(content: &Content) -> Option<Text> {
         0x03 => End::Etx,
         _ => return None,
     };
-    let count = content.count as usize;
-    let ends = content.ends.get(..count)?;
+    let stored = content.units.get(..content.count as usize)?;
     let mut units = [Unit { chars: &[], em: false }; MAX_UNITS];
-    let mut start = 0;
-    for (place, &unit_end) in ends.iter().enumerate() {
-        let chars = content.chars.get(start..unit_end as usize)?;
-        units[place] = Unit { chars, em: content.em[place] != 0 };
-        start = unit_end as usize;
+    for (unit, stored) in units.iter_mut().zip(stored) {
+        *unit = Unit { chars: stored.chars.get(..stored.len as usize)?, em: stored.em != 0 };
     }
-    Text::of(&units[..count], end)
+    Text::of(&units[..stored.len()], end)
 }

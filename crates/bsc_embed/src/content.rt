@@ -1,44 +1,147 @@
-//! What a call or a text holds, in storage of the caller's.
-use bsc_frame::{Address, End, Text};
+//! What a call or a text holds, in storage of fixed size that C declares.
+ghost use Rattle.std.specs.Prelude.{◌≡◌, ◌≤◌, Some, option_map, IsTrue};
+ghost use Rattle.std.specs.List.{list_all};
+ghost use Rattle.bsc_octet.specs.Octet.{is_record_char as is_record_code};
+ghost use Rattle.bsc_frame.specs.Units.{text_unit};
+ghost use Rattle.bsc_frame.specs.Texts.{IsUnit};
+ghost use Rattle.bsc_embed.specs.Contents.{unit_in, end_at, text_in, address_in};
 
-/// The content of a message.
+use bsc_frame::{Address, End, Text, Unit};
+use bsc_octet::is_record_char;
+
+/// A unit of a text: `struct bsc_unit` of `bsc.h`.
 #[repr(C)]
+#[derive(Clone, Copy)]
+pub struct StoredUnit {
+    pub chars: [u8; 144],
+    pub len: u8,
+    pub em: u8,
+}
+
+/// What a call or a text holds: `struct bsc_content` of `bsc.h`.
+#[repr(C)]
+#[derive(Clone, Copy)]
 pub struct Content {
-    pub chars: [u8; 1008],
-    pub ends: [u16; 7],
-    pub em: [u8; 7],
+    pub units: [StoredUnit; 7],
     pub count: u8,
     pub end: u8,
     pub address: [u8; 7],
     pub address_len: u8,
 }
 
-impl Content {
-    pub(crate) fn put_address(&mut self, address: &Address) {
-        let codes = address.codes();
-        let len = codes.len().min(7);
-        self.address[..len].copy_from_slice(&codes[..len]);
-        self.address_len = len as u8;
+impl StoredUnit {
+    /// Puts the unit here.
+    fn put(&mut self, unit: Unit<'_>)
+        requires { IsUnit (text_unit unit) }
+        ensures { unit_in self.new ≡ Some (text_unit unit.entry) }
+    {
+        let len = unit.chars.len();
+        self.chars[..len].copy_from_slice(unit.chars);
+        self.len = len as u8;
+        self.em = unit.em as u8;
     }
 
-    pub(crate) fn put_text(&mut self, text: &Text) {
-        let count = text.count().min(7);
-        let mut start = 0usize;
-        for place in 0..count {
-            let unit = text.unit(place);
-            let len = unit.chars.len().min(1008usize.saturating_sub(start));
-            let end = (start + len).min(1008);
-            if start <= end && len == end - start {
-                self.chars[start..end].copy_from_slice(&unit.chars[..len]);
-                self.ends[place] = end as u16;
-                self.em[place] = unit.em as u8;
-            }
-            start = end;
+    /// The unit here, if it is one.
+    #[tactic(auto, unfolding(crate::specs::Contents::unit_in))]
+    fn unit(&self) -> Option<Unit<'_>>
+        ensures { option_map text_unit result ≡ unit_in self.now }
+    {
+        let len = self.len as usize;
+        if len > 144 {
+            return None;
         }
-        self.count = count as u8;
-        self.end = match text.end() {
-            End::Etb => 0x17,
-            End::Etx => 0x03,
-        };
+        let chars = &self.chars[..len];
+        if !are_record_chars(chars) {
+            return None;
+        }
+        Some(Unit {
+            chars,
+            em: self.em > 0,
+        })
+    }
+}
+
+/// Whether each code is a record character. It looks at all of them, so that it is done by lanes.
+fn are_record_chars(codes: &[u8]) -> bool
+    ensures { result ≡ list_all is_record_code codes.now }
+{
+    let mut all = true;
+    for code in codes {
+        all &= is_record_char(*code);
+    }
+    all
+}
+
+/// The character that ends a text, by its code.
+fn end_of(code: u8) -> Option<End>
+    ensures { result ≡ end_at code }
+{
+    match code {
+        0x17 => Some(End::Etb),
+        0x03 => Some(End::Etx),
+        _ => None,
+    }
+}
+
+/// The code of the character that ends a text.
+fn end_code(end: End) -> u8
+    ensures { end_at result ≡ Some end }
+{
+    match end {
+        End::Etb => 0x17,
+        End::Etx => 0x03,
+    }
+}
+
+impl Content {
+    /// Puts the address here.
+    pub(crate) fn put_address(&mut self, address: &Address)
+        ensures { address_in self.new ≡ Some address.now }
+    {
+        let codes = address.codes();
+        self.address[..codes.len()].copy_from_slice(codes);
+        self.address_len = codes.len() as u8;
+    }
+
+    /// The address here, if it is one.
+    #[tactic(auto, unfolding(crate::specs::Contents::address_in))]
+    pub(crate) fn address(&self) -> Option<Address>
+        ensures { result ≡ address_in self.now }
+    {
+        let len = self.address_len as usize;
+        if len > 7 {
+            return None;
+        }
+        Address::read(&self.address[..len]).ok()
+    }
+
+    /// Puts the text here.
+    pub(crate) fn put_text(&mut self, text: &Text)
+        ensures { text_in self.new ≡ Some text.now }
+    {
+        for place in 0..text.count() {
+            self.units[place].put(text.unit(place));
+        }
+        self.count = text.count() as u8;
+        self.end = end_code(text.end());
+    }
+
+    /// The text here, if it is one.
+    pub(crate) fn text(&self) -> Option<Text>
+        ensures { result ≡ text_in self.now }
+    {
+        let count = self.count as usize;
+        if count == 0 || count > 7 {
+            return None;
+        }
+        let end = end_of(self.end)?;
+        let mut units = [Unit {
+            chars: &[],
+            em: false,
+        }; 7];
+        for place in 0..count {
+            units[place] = self.units[place].unit()?;
+        }
+        Some(Text::of(&units[..count], end))
     }
 }

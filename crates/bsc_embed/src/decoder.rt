@@ -1,10 +1,19 @@
 //! Decoding for C.
-use crate::Content;
-use crate::kind::Kind;
+ghost use Rattle.std.specs.Prelude.{◌≡◌, ◌↔◌, ℕ, List, Some};
+ghost use Rattle.bsc_frame.specs.Texts.{TextValue};
+ghost use Rattle.bsc_frame.specs.Spells.{Spells, IsFailed, IsNoise};
+ghost use Rattle.bsc_frame.specs.declared.message.Message.{Message};
+ghost use Rattle.bsc_embed.specs.Contents.{message_as, message_in};
+
+use crate::{Content, Kind};
 use bsc_frame::{Heard, Message, decode};
 
-/// Puts a message that was heard whole into the content.
-fn put(message: &Message, content: &mut Content) -> Kind {
+/// Puts what the message holds into the content, and gives its kind.
+fn put(message: &Message, content: &mut Content) -> Kind
+    ensures message { message_as result content.new ≡ Some message.now }
+    ensures kept { ((a : List ℕ) → message.now ≡ Message.Call a → ⊥) → ((t : TextValue) → message.now ≡ Message.Text t → ⊥)
+        → content.new ≡ content.old }
+{
     match message {
         Message::Eot => Kind::Eot,
         Message::Call(address) => {
@@ -24,13 +33,21 @@ fn put(message: &Message, content: &mut Content) -> Kind {
     }
 }
 
-/// What the octets are heard as.
+/// What the octets are heard as, by the number of its kind: 0 where they are noise, 1 where they begin as a
+/// text and spell no message, else the number of the message that they spell. The address of a call and the
+/// units and the end of a text are put into the content; else it stays as it was (GA27-3004: control
+/// sequences, polling and selection, ITB blocks, VRC and LRC checking).
 #[unsafe(no_mangle)]
-pub extern "C" fn bsc_decode(octets: &[u8], content: &mut Content) -> u32 {
-    let kind = match &decode(octets) {
-        Heard::Whole(message) => put(message, content),
-        Heard::Failed => Kind::Failed,
-        Heard::Noise => Kind::Noise,
-    };
-    kind as u32
+pub extern "C" fn bsc_decode(octets: &[u8], content: &mut Content) -> u32
+    ensures whole { (m : Message) → (message_in result content.new ≡ Some m) ↔ Spells octets.now m }
+    ensures failed { (result ≡ 1) ↔ IsFailed octets.now }
+    ensures noise { (result ≡ 0) ↔ IsNoise octets.now }
+    ensures kept { ((a : List ℕ) → Spells octets.now (Message.Call a) → ⊥) → ((t : TextValue) → Spells octets.now (Message.Text t) → ⊥)
+        → content.new ≡ content.old }
+{
+    match &decode(octets) {
+        Heard::Whole(message) => put(message, content).number(),
+        Heard::Failed => Kind::Failed.number(),
+        Heard::Noise => Kind::Noise.number(),
+    }
 }

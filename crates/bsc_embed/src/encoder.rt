@@ -1,8 +1,47 @@
 //! Encoding for C.
-use crate::Content;
+ghost use Rattle.std.specs.Prelude.{◌≡◌, ◌++◌, length, drop};
+ghost use Rattle.bsc_embed.specs.Contents.{message_in};
+ghost use Rattle.bsc_embed.specs.Sent.{octets_within};
 
-/// The octets of a message.
+use crate::{Content, Kind};
+use bsc_frame::{Message, Wire, encode};
+
+/// The message of this kind with this content, if it is one.
+#[tactic(auto, unfolding(crate::specs::Contents::message_in))]
+fn message_of(number: u32, content: &Content) -> Option<Message>
+    ensures { result ≡ message_in number content.now }
+{
+    match Kind::numbered(number)? {
+        Kind::Noise | Kind::Failed => None,
+        Kind::Eot => Some(Message::Eot),
+        Kind::Call => Some(Message::Call(content.address()?)),
+        Kind::Enq => Some(Message::Enq),
+        Kind::Ack0 => Some(Message::Ack0),
+        Kind::Ack1 => Some(Message::Ack1),
+        Kind::Nak => Some(Message::Nak),
+        Kind::Wack => Some(Message::Wack),
+        Kind::Rvi => Some(Message::Rvi),
+        Kind::Text => Some(Message::Text(content.text()?)),
+    }
+}
+
+/// Puts the octets of the message of this kind with this content at the front of the buffer, and gives how
+/// many they are: at most 1,033. It gives 0, and the buffer stays as it was, where this is no message or the
+/// buffer is shorter (GA27-3004: control sequences, polling and selection, ITB blocks).
 #[unsafe(no_mangle)]
-pub extern "C" fn bsc_encode(_kind: u32, _content: &Content, _octets: &mut [u8]) -> usize {
-    0
+pub extern "C" fn bsc_encode(kind: u32, content: &Content, octets: &mut [u8]) -> usize
+    ensures count { result ≡ length (octets_within (length octets.old) (message_in kind content.now)) }
+    ensures octets { octets.new ≡ octets_within (length octets.old) (message_in kind content.now) ++ drop result octets.old }
+{
+    let Some(message) = message_of(kind, content) else {
+        return 0;
+    };
+    let mut wire = Wire::new();
+    encode(&message, &mut wire);
+    let len = wire.len();
+    if len > octets.len() {
+        return 0;
+    }
+    octets[..len].copy_from_slice(&wire);
+    len
 }

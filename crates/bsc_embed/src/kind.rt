@@ -1,16 +1,61 @@
-//! The number that C has for what is sent or heard.
-/// What is sent or heard.
+//! What is sent or heard, by the numbers that C has for it.
+ghost use Rattle.std.specs.Prelude.{◌≡◌, Some};
+
+/// What is sent or heard: `enum bsc_kind` of `bsc.h` (own).
 #[derive(Clone, Copy, Debug, PartialEq, Eq)]
-pub(crate) enum Kind {
-    Noise = 0,
-    Failed = 1,
-    Eot = 2,
-    Call = 3,
-    Enq = 4,
-    Ack0 = 5,
-    Ack1 = 6,
-    Nak = 7,
-    Wack = 8,
-    Rvi = 9,
-    Text = 10,
+pub enum Kind {
+    Noise,
+    Failed,
+    Eot,
+    Call,
+    Enq,
+    Ack0,
+    Ack1,
+    Nak,
+    Wack,
+    Rvi,
+    Text,
+}
+
+impl Kind {
+    ghost use Rattle.bsc_embed.specs.Kinds.{kind_at};
+
+    /// The kind with this number.
+    pub(crate) fn numbered(number: u32) -> Option<Kind>
+        ensures { result ≡ kind_at number }
+    {
+        match number {
+            0 => Some(Kind::Noise),
+            1 => Some(Kind::Failed),
+            2 => Some(Kind::Eot),
+            3 => Some(Kind::Call),
+            4 => Some(Kind::Enq),
+            5 => Some(Kind::Ack0),
+            6 => Some(Kind::Ack1),
+            7 => Some(Kind::Nak),
+            8 => Some(Kind::Wack),
+            9 => Some(Kind::Rvi),
+            10 => Some(Kind::Text),
+            _ => None,
+        }
+    }
+
+    /// Its number.
+    pub(crate) fn number(self) -> u32
+        ensures { kind_at result ≡ Some self }
+    {
+        match self {
+            Kind::Noise => 0,
+            Kind::Failed => 1,
+            Kind::Eot => 2,
+            Kind::Call => 3,
+            Kind::Enq => 4,
+            Kind::Ack0 => 5,
+            Kind::Ack1 => 6,
+            Kind::Nak => 7,
+            Kind::Wack => 8,
+            Kind::Rvi => 9,
+            Kind::Text => 10,
+        }
+    }
 }

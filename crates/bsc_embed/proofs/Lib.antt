@@ -1,0 +1,4 @@
+mod UnitLemmas
+mod AddressLemmas
+mod TextLemmas
+mod HeardLemmas
