@@ -1,5 +1,5 @@
 //! What a call or a text holds, in storage of fixed size that C declares.
-ghost use Rattle.std.specs.Prelude.{◌≡◌, ◌≤◌, Some, option_map, IsTrue};
+ghost use Rattle.std.specs.Prelude.{◌≡◌, Some, option_map};
 ghost use Rattle.std.specs.List.{list_all};
 ghost use Rattle.bsc_octet.specs.Octet.{is_record_char as is_record_code};
 ghost use Rattle.bsc_frame.specs.Units.{text_unit};
