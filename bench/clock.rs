@@ -7,10 +7,10 @@ use std::hint::black_box;
 use std::time::{Duration, Instant};
 
 /// How often each side has its turn.
-const ROUNDS: usize = 15;
+const ROUNDS: usize = 150;
 
-/// How long a turn takes at least.
-const TURN: Duration = Duration::from_millis(40);
+/// How long a turn takes at least: so short that some are left alone by whatever else the machine does.
+const TURN: Duration = Duration::from_millis(4);
 
 /// How many inputs of a sort there are, so that no branch is learnt from one of them.
 const INPUTS: usize = 32;
@@ -21,12 +21,20 @@ type Make = fn(&mut Random, usize) -> Vec<u8>;
 pub const DECODED: [(&str, Make); 8] = [
     ("control sequences and calls", inputs::short),
     ("text, 1,033 octets", |random, _| inputs::full_text(random)),
-    ("the same, one bit turned", |random, _| inputs::turned_text(random)),
-    ("the same, last check wrong", |random, _| inputs::wrong_text(random)),
-    ("text with fill, 2,048 octets", |random, _| inputs::filled_text(random)),
+    ("the same, one bit turned", |random, _| {
+        inputs::turned_text(random)
+    }),
+    ("the same, last check wrong", |random, _| {
+        inputs::wrong_text(random)
+    }),
+    ("text with fill, 2,048 octets", |random, _| {
+        inputs::filled_text(random)
+    }),
     ("2,048 octets of SYN", |_, _| vec![0x16; 2048]),
     ("2,048 octets of 55", |_, _| vec![0x55; 2048]),
-    ("2,048 random octets", |random, _| (0..2048).map(|_| random.octet()).collect()),
+    ("2,048 random octets", |random, _| {
+        (0..2048).map(|_| random.octet()).collect()
+    }),
 ];
 
 pub fn inputs(random: &mut Random, make: Make) -> Vec<Vec<u8>> {
@@ -35,12 +43,18 @@ pub fn inputs(random: &mut Random, make: Make) -> Vec<Vec<u8>> {
 
 /// Messages without a text, for encoding.
 pub fn shorts(random: &mut Random) -> Vec<(u32, Content)> {
-    inputs(random, inputs::short).iter().map(|octets| content_of(octets)).collect()
+    inputs(random, inputs::short)
+        .iter()
+        .map(|octets| content_of(octets))
+        .collect()
 }
 
 /// Full texts, for encoding.
 pub fn texts(random: &mut Random) -> Vec<(u32, Content)> {
-    inputs(random, |random, _| inputs::full_text(random)).iter().map(|octets| content_of(octets)).collect()
+    inputs(random, |random, _| inputs::full_text(random))
+        .iter()
+        .map(|octets| content_of(octets))
+        .collect()
 }
 
 fn content_of(octets: &[u8]) -> (u32, Content) {
@@ -79,15 +93,19 @@ fn best<T>(inputs: &[T], mut proved: impl FnMut(&T), mut plain: impl FnMut(&T)) 
 pub fn heading(what: &str) {
     println!();
     println!(
-        "{what:30} {:>12} {:>12} {:>14} {:>14} {:>7}",
-        "proved, ns", "plain, ns", "proved, MB/s", "plain, MB/s", "ratio"
+        "{:28} {:^21}  {:^21}",
+        "", "ns a transmission", "million octets/s"
+    );
+    println!(
+        "{what:28} {:>10} {:>10}  {:>10} {:>10} {:>7}",
+        "proved", "plain", "proved", "plain", "ratio"
     );
 }
 
 fn line(name: &str, octets: usize, (proved, plain): (f64, f64)) {
     let rate = |nanoseconds: f64| octets as f64 / INPUTS as f64 / nanoseconds * 1000.0;
     println!(
-        "{name:30} {proved:12.1} {plain:12.1} {:14.0} {:14.0} {:7.2}",
+        "{name:28} {proved:10.1} {plain:10.1}  {:10.0} {:10.0} {:7.2}",
         rate(proved),
         rate(plain),
         proved / plain
@@ -105,7 +123,11 @@ pub fn decoding(name: &str, inputs: &[Vec<u8>]) {
             black_box(unsafe { bsc_decode(octets.as_ptr(), octets.len(), &mut content) });
         },
         |octets| {
-            black_box(plain_decode(octets.as_ptr(), octets.len(), &mut plain_content));
+            black_box(plain_decode(
+                octets.as_ptr(),
+                octets.len(),
+                &mut plain_content,
+            ));
         },
     );
     line(name, octets, times);
@@ -116,7 +138,9 @@ pub fn encoding(name: &str, contents: &[(u32, Content)]) {
     let mut plain_wire = [0u8; 1100];
     let octets = contents
         .iter()
-        .map(|(kind, content)| plain_encode(*kind, content, plain_wire.as_mut_ptr(), plain_wire.len()))
+        .map(|(kind, content)| {
+            plain_encode(*kind, content, plain_wire.as_mut_ptr(), plain_wire.len())
+        })
         .sum();
     let times = best(
         contents,
@@ -125,7 +149,12 @@ pub fn encoding(name: &str, contents: &[(u32, Content)]) {
             black_box(unsafe { bsc_encode(*kind, content, wire.as_mut_ptr(), wire.len()) });
         },
         |(kind, content)| {
-            black_box(plain_encode(*kind, content, plain_wire.as_mut_ptr(), plain_wire.len()));
+            black_box(plain_encode(
+                *kind,
+                content,
+                plain_wire.as_mut_ptr(),
+                plain_wire.len(),
+            ));
         },
     );
     line(name, octets, times);

@@ -7,7 +7,9 @@ use crate::plain::{plain_decode, plain_encode};
 const DECODED: usize = 40_000;
 const ENCODED: usize = 20_000;
 
-const KINDS: [&str; 11] = ["noise", "failed", "eot", "call", "enq", "ack0", "ack1", "nak", "wack", "rvi", "text"];
+const KINDS: [&str; 11] = [
+    "noise", "failed", "eot", "call", "enq", "ack0", "ack1", "nak", "wack", "rvi", "text",
+];
 
 /// Compares both on random and on spoiled transmissions and contents, and prints how many there were.
 pub fn all() -> Result<(), String> {
@@ -16,8 +18,15 @@ pub fn all() -> Result<(), String> {
     for _ in 0..DECODED {
         counts[decoded(&inputs::any(&mut random))? as usize] += 1;
     }
-    let kinds: Vec<String> = KINDS.iter().zip(counts).map(|(name, count)| format!("{name} {count}")).collect();
-    println!("{DECODED} transmissions decoded alike: {}", kinds.join(", "));
+    let kinds: Vec<String> = KINDS
+        .iter()
+        .zip(counts)
+        .map(|(name, count)| format!("{name} {count}"))
+        .collect();
+    println!(
+        "{DECODED} transmissions decoded alike: {}",
+        kinds.join(", ")
+    );
     let mut refused = 0;
     for _ in 0..ENCODED {
         let (kind, content) = inputs::any_content(&mut random);
@@ -32,7 +41,11 @@ pub fn all() -> Result<(), String> {
 /// What a content says of its kind: the address, or the units with their marks and the end.
 fn said(kind: u32, content: &Content) -> (Vec<u8>, Vec<(Vec<u8>, bool)>, u8) {
     match kind {
-        kind::CALL => (content.address[..content.address_len as usize].to_vec(), vec![], 0),
+        kind::CALL => (
+            content.address[..content.address_len as usize].to_vec(),
+            vec![],
+            0,
+        ),
         kind::TEXT => {
             let units = content.units[..content.count as usize].iter();
             let units = units.map(|unit| (unit.chars[..unit.len as usize].to_vec(), unit.em != 0));
@@ -49,7 +62,9 @@ fn decoded(octets: &[u8]) -> Result<u32, String> {
     let kind = unsafe { bsc_decode(octets.as_ptr(), octets.len(), &mut proved) };
     let plain_kind = plain_decode(octets.as_ptr(), octets.len(), &mut plain);
     if kind != plain_kind || said(kind, &proved) != said(kind, &plain) {
-        return Err(format!("decoded as {kind}, and by plain Rust as {plain_kind}: {octets:02x?}"));
+        return Err(format!(
+            "decoded as {kind}, and by plain Rust as {plain_kind}: {octets:02x?}"
+        ));
     }
     Ok(kind)
 }

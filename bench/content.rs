@@ -37,7 +37,11 @@ impl Content {
     /// Every octet of it is this one.
     pub const fn of(octet: u8) -> Content {
         Content {
-            units: [StoredUnit { chars: [octet; 144], len: octet, em: octet }; 7],
+            units: [StoredUnit {
+                chars: [octet; 144],
+                len: octet,
+                em: octet,
+            }; 7],
             count: octet,
             end: octet,
             address: [octet; 7],

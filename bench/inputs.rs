@@ -45,7 +45,11 @@ impl Random {
 }
 
 fn odd(code: u8) -> u8 {
-    if code.count_ones() % 2 == 1 { code } else { code | 0x80 }
+    if code.count_ones() % 2 == 1 {
+        code
+    } else {
+        code | 0x80
+    }
 }
 
 /// How a text is made.
@@ -74,7 +78,11 @@ pub fn text(random: &mut Random, shape: &Shape, em: impl Fn(&mut Random) -> bool
         if place > 0 && shape.starts && random.one_in(2) {
             codes.push(0x02);
         }
-        let len = if shape.full { shape.most } else { random.below(shape.most + 1) };
+        let len = if shape.full {
+            shape.most
+        } else {
+            random.below(shape.most + 1)
+        };
         codes.extend((0..len).map(|_| random.record_char()));
         if em(random) {
             codes.push(0x19);
@@ -102,7 +110,13 @@ pub fn text(random: &mut Random, shape: &Shape, em: impl Fn(&mut Random) -> bool
 
 /// A text as long as one may be sent: 1,033 octets.
 pub fn full_text(random: &mut Random) -> Vec<u8> {
-    let shape = Shape { units: 7, most: 144, full: true, fill: 0, starts: false };
+    let shape = Shape {
+        units: 7,
+        most: 144,
+        full: true,
+        fill: 0,
+        starts: false,
+    };
     let mut octets = text(random, &shape, |_| true);
     octets.push(0xff);
     octets
@@ -126,7 +140,13 @@ pub fn wrong_text(random: &mut Random) -> Vec<u8> {
 
 /// A text with SYN before each character, made 2,048 octets long by pads before it.
 pub fn filled_text(random: &mut Random) -> Vec<u8> {
-    let shape = Shape { units: 7, most: 144, full: true, fill: 100, starts: false };
+    let shape = Shape {
+        units: 7,
+        most: 144,
+        full: true,
+        fill: 100,
+        starts: false,
+    };
     let mut octets = text(random, &shape, |_| false);
     octets.push(0xff);
     let mut padded = vec![0x55; 2048 - octets.len()];
@@ -195,22 +215,38 @@ fn any_start(random: &mut Random) -> Vec<u8> {
 /// Up to 2,100 octets of these.
 fn one_of(random: &mut Random, set: &[u8]) -> Vec<u8> {
     let few = 1 + random.below(set.len());
-    let len = if random.one_in(2) { random.below(20) } else { random.below(2100) };
+    let len = if random.one_in(2) {
+        random.below(20)
+    } else {
+        random.below(2100)
+    };
     (0..len).map(|_| set[random.below(few)]).collect()
 }
 
 /// A text of one to eight units of up to 145 characters, mostly within the limits.
 fn any_text(random: &mut Random) -> Vec<u8> {
-    let units = if random.one_in(12) { 8 } else { 1 + random.below(7) };
+    let units = if random.one_in(12) {
+        8
+    } else {
+        1 + random.below(7)
+    };
     let most = [0, 3, 20, 143, 144, 144, 145][random.below(7)];
     let fill = [0, 0, 0, 5, 50, 100][random.below(6)];
-    let shape = Shape { units, most, full: random.one_in(3), fill, starts: random.one_in(2) };
+    let shape = Shape {
+        units,
+        most,
+        full: random.one_in(3),
+        fill,
+        starts: random.one_in(2),
+    };
     text(random, &shape, |random| random.one_in(2))
 }
 
 /// A text of one unit whose check is the octet of SYN, with or without another SYN before it.
 fn syn_check(random: &mut Random) -> Vec<u8> {
-    let mut codes: Vec<u8> = (0..random.below(10)).map(|_| random.record_char() | 0x40).collect();
+    let mut codes: Vec<u8> = (0..random.below(10))
+        .map(|_| random.record_char() | 0x40)
+        .collect();
     codes.push(0x03);
     let sum = codes.iter().fold(0x16, |sum, code| sum ^ code);
     codes.insert(0, sum);
@@ -225,10 +261,20 @@ fn syn_check(random: &mut Random) -> Vec<u8> {
 
 /// Pads before and behind, more than the 2,048 octets at times.
 fn pad(random: &mut Random, octets: &mut Vec<u8>) {
-    let before = if random.one_in(8) { random.below(40) } else { random.below(3) };
-    let pads: Vec<u8> = (0..before).map(|_| if random.one_in(2) { 0x55 } else { 0xaa }).collect();
+    let before = if random.one_in(8) {
+        random.below(40)
+    } else {
+        random.below(3)
+    };
+    let pads: Vec<u8> = (0..before)
+        .map(|_| if random.one_in(2) { 0x55 } else { 0xaa })
+        .collect();
     octets.splice(0..0, pads);
-    let behind = if random.one_in(8) { random.below(40) } else { random.below(3) };
+    let behind = if random.one_in(8) {
+        random.below(40)
+    } else {
+        random.below(3)
+    };
     octets.resize(octets.len() + behind, 0xff);
     if random.one_in(40) {
         octets.resize(2046 + random.below(5), 0xff);

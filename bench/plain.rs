@@ -114,7 +114,11 @@ static LINE: [u8; 128] = {
 };
 
 const fn to_line(code: u8) -> u8 {
-    if code.count_ones() % 2 == 1 { code } else { code | 0x80 }
+    if code.count_ones() % 2 == 1 {
+        code
+    } else {
+        code | 0x80
+    }
 }
 
 fn is_record_char(code: u8) -> bool {
@@ -123,10 +127,16 @@ fn is_record_char(code: u8) -> bool {
 
 impl Address {
     pub fn read(codes: &[u8]) -> Option<Address> {
-        if codes.is_empty() || codes.len() > 7 || !codes.iter().all(|code| (0x21..=0x7e).contains(code)) {
+        if codes.is_empty()
+            || codes.len() > 7
+            || !codes.iter().all(|code| (0x21..=0x7e).contains(code))
+        {
             return None;
         }
-        let mut address = Address { codes: [0; 7], len: codes.len() as u8 };
+        let mut address = Address {
+            codes: [0; 7],
+            len: codes.len() as u8,
+        };
         address.codes[..codes.len()].copy_from_slice(codes);
         Some(address)
     }
@@ -153,12 +163,16 @@ impl Text {
         let mut text = Text::new();
         let mut len = 0;
         for unit in units {
-            if unit.chars.len() > MAX_CHARS || !unit.chars.iter().all(|&code| is_record_char(code)) {
+            if unit.chars.len() > MAX_CHARS || !unit.chars.iter().all(|&code| is_record_char(code))
+            {
                 return None;
             }
             text.chars[len..len + unit.chars.len()].copy_from_slice(unit.chars);
             len += unit.chars.len();
-            text.marks[text.count] = Mark { end: len as u16, em: unit.em };
+            text.marks[text.count] = Mark {
+                end: len as u16,
+                em: unit.em,
+            };
             text.count += 1;
         }
         text.end = end;
@@ -174,9 +188,16 @@ impl Text {
     }
 
     pub fn unit(&self, place: usize) -> Unit<'_> {
-        let start = if place == 0 { 0 } else { self.marks[place - 1].end };
+        let start = if place == 0 {
+            0
+        } else {
+            self.marks[place - 1].end
+        };
         let mark = self.marks[place];
-        Unit { chars: &self.chars[start as usize..mark.end as usize], em: mark.em }
+        Unit {
+            chars: &self.chars[start as usize..mark.end as usize],
+            em: mark.em,
+        }
     }
 }
 
@@ -185,7 +206,10 @@ pub fn decode(octets: &[u8]) -> Heard {
     if octets.len() > MAX_HEARD {
         return Heard::Noise;
     }
-    let pads = octets.iter().take_while(|&&octet| octet == 0x55 || octet == 0xaa).count();
+    let pads = octets
+        .iter()
+        .take_while(|&&octet| octet == 0x55 || octet == 0xaa)
+        .count();
     let octets = &octets[pads..];
     let syns = octets.iter().take_while(|&&octet| octet == SYN).count();
     if syns == 0 {
@@ -272,10 +296,17 @@ fn read_text(octets: &[u8]) -> Option<Text> {
             return None;
         }
         at += 1;
-        text.marks[text.count] = Mark { end: len as u16, em };
+        text.marks[text.count] = Mark {
+            end: len as u16,
+            em,
+        };
         text.count += 1;
         if ending != US {
-            text.end = if ending & 0x7f == ETB { End::Etb } else { End::Etx };
+            text.end = if ending & 0x7f == ETB {
+                End::Etb
+            } else {
+                End::Etx
+            };
             return if at == octets.len() { Some(text) } else { None };
         }
     }
@@ -284,7 +315,10 @@ fn read_text(octets: &[u8]) -> Option<Text> {
 
 impl Wire {
     pub fn new() -> Wire {
-        Wire { octets: [0; 1100], len: 0 }
+        Wire {
+            octets: [0; 1100],
+            len: 0,
+        }
     }
 
     pub fn octets(&self) -> &[u8] {
@@ -304,7 +338,10 @@ impl Wire {
     /// Appends the octets that carry the codes, and gives the codes' exclusive or.
     fn append_codes(&mut self, codes: &[u8]) -> u8 {
         let mut sum = 0;
-        for (octet, &code) in self.octets[self.len..self.len + codes.len()].iter_mut().zip(codes) {
+        for (octet, &code) in self.octets[self.len..self.len + codes.len()]
+            .iter_mut()
+            .zip(codes)
+        {
             *octet = LINE[(code & 0x7f) as usize];
             sum ^= code;
         }
@@ -441,9 +478,15 @@ fn text_of(content: &Content) -> Option<Text> {
         _ => return None,
     };
     let stored = content.units.get(..content.count as usize)?;
-    let mut units = [Unit { chars: &[], em: false }; MAX_UNITS];
+    let mut units = [Unit {
+        chars: &[],
+        em: false,
+    }; MAX_UNITS];
     for (unit, stored) in units.iter_mut().zip(stored) {
-        *unit = Unit { chars: stored.chars.get(..stored.len as usize)?, em: stored.em != 0 };
+        *unit = Unit {
+            chars: stored.chars.get(..stored.len as usize)?,
+            em: stored.em != 0,
+        };
     }
     Text::of(&units[..stored.len()], end)
 }
