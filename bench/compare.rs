@@ -38,32 +38,45 @@ pub fn all() -> Result<(), String> {
     Ok(())
 }
 
-/// What a content says of its kind: the address, or the units with their marks and the end.
-fn said(kind: u32, content: &Content) -> (Vec<u8>, Vec<(Vec<u8>, bool)>, u8) {
+/// What was decoded.
+#[derive(Debug, PartialEq)]
+enum Said<'a> {
+    /// The octets of the content are still those from before.
+    Nothing(&'a Content),
+    Address(&'a [u8]),
+    Text {
+        units: Vec<(&'a [u8], bool)>,
+        end: u8,
+    },
+}
+
+fn said(kind: u32, content: &Content) -> Said<'_> {
     match kind {
-        kind::CALL => (
-            content.address[..content.address_len as usize].to_vec(),
-            vec![],
-            0,
-        ),
+        kind::CALL => Said::Address(&content.address[..content.address_len as usize]),
         kind::TEXT => {
             let units = content.units[..content.count as usize].iter();
-            let units = units.map(|unit| (unit.chars[..unit.len as usize].to_vec(), unit.em != 0));
-            (vec![], units.collect(), content.end)
+            Said::Text {
+                units: units
+                    .map(|unit| (&unit.chars[..unit.len as usize], unit.em != 0))
+                    .collect(),
+                end: content.end,
+            }
         }
-        _ => (vec![], vec![], 0),
+        _ => Said::Nothing(content),
     }
 }
 
 fn decoded(octets: &[u8]) -> Result<u32, String> {
     let mut proved = Content::of(0xee);
-    let mut plain = Content::of(0x77);
+    let mut plain = Content::of(0xee);
     // SAFETY: a slice's own address and length.
     let kind = unsafe { bsc_decode(octets.as_ptr(), octets.len(), &mut proved) };
     let plain_kind = plain_decode(octets.as_ptr(), octets.len(), &mut plain);
     if kind != plain_kind || said(kind, &proved) != said(kind, &plain) {
         return Err(format!(
-            "decoded as {kind}, and by plain Rust as {plain_kind}: {octets:02x?}"
+            "{octets:02x?} decoded as {kind}, {:02x?}, and by plain Rust as {plain_kind}, {:02x?}",
+            said(kind, &proved),
+            said(plain_kind, &plain)
         ));
     }
     Ok(kind)

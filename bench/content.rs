@@ -16,7 +16,7 @@ pub mod kind {
 }
 
 #[repr(C)]
-#[derive(Clone, Copy)]
+#[derive(Clone, Copy, Debug, PartialEq)]
 pub struct StoredUnit {
     pub chars: [u8; 144],
     pub len: u8,
@@ -24,7 +24,7 @@ pub struct StoredUnit {
 }
 
 #[repr(C)]
-#[derive(Clone, Copy)]
+#[derive(Clone, Copy, Debug, PartialEq)]
 pub struct Content {
     pub units: [StoredUnit; 7],
     pub count: u8,

@@ -70,8 +70,9 @@ pub struct Shape {
     pub starts: bool,
 }
 
-/// The octets of a text of random characters, from its first SYN to its last check.
-pub fn text(random: &mut Random, shape: &Shape, em: impl Fn(&mut Random) -> bool) -> Vec<u8> {
+/// The octets of a text of random characters, from its first SYN to its last check, with so many EM behind
+/// the characters of each unit.
+pub fn text(random: &mut Random, shape: &Shape, ems: impl Fn(&mut Random) -> usize) -> Vec<u8> {
     let mut octets = vec![0x16, 0x16, 0x02];
     for place in 0..shape.units {
         let mut codes = Vec::new();
@@ -84,9 +85,7 @@ pub fn text(random: &mut Random, shape: &Shape, em: impl Fn(&mut Random) -> bool
             random.below(shape.most + 1)
         };
         codes.extend((0..len).map(|_| random.record_char()));
-        if em(random) {
-            codes.push(0x19);
-        }
+        codes.extend(std::iter::repeat_n(0x19, ems(random)));
         codes.push(if place + 1 < shape.units {
             0x1f
         } else if random.one_in(2) {
@@ -117,7 +116,7 @@ pub fn full_text(random: &mut Random) -> Vec<u8> {
         fill: 0,
         starts: false,
     };
-    let mut octets = text(random, &shape, |_| true);
+    let mut octets = text(random, &shape, |_| 1);
     octets.push(0xff);
     octets
 }
@@ -147,7 +146,7 @@ pub fn filled_text(random: &mut Random) -> Vec<u8> {
         fill: 100,
         starts: false,
     };
-    let mut octets = text(random, &shape, |_| false);
+    let mut octets = text(random, &shape, |_| 0);
     octets.push(0xff);
     let mut padded = vec![0x55; 2048 - octets.len()];
     padded.append(&mut octets);
@@ -223,7 +222,7 @@ fn one_of(random: &mut Random, set: &[u8]) -> Vec<u8> {
     (0..len).map(|_| set[random.below(few)]).collect()
 }
 
-/// A text of one to eight units of up to 145 characters, mostly within the limits.
+/// A text of one to eight units of up to 145 characters and at times two EM, mostly within the limits.
 fn any_text(random: &mut Random) -> Vec<u8> {
     let units = if random.one_in(12) {
         8
@@ -239,7 +238,13 @@ fn any_text(random: &mut Random) -> Vec<u8> {
         fill,
         starts: random.one_in(2),
     };
-    text(random, &shape, |random| random.one_in(2))
+    text(random, &shape, |random| {
+        if random.one_in(20) {
+            2
+        } else {
+            random.below(2)
+        }
+    })
 }
 
 /// A text of one unit whose check is the octet of SYN, with or without another SYN before it.

@@ -9,23 +9,37 @@ ghost use Rattle.bsc_embed.specs.Contents.{unit_in, end_at, text_in, address_in}
 use bsc_frame::{Address, End, Text, Unit};
 use bsc_octet::is_record_char;
 
-/// A unit of a text: `struct bsc_unit` of `bsc.h`.
+/// A unit of a text: `struct bsc_unit` of `bsc.h`. C may put any octet into any field.
 #[repr(C)]
 #[derive(Clone, Copy)]
 pub struct StoredUnit {
+    /// The codes, of which the first `len` count.
     pub chars: [u8; 144],
+
+    /// How many characters there are: 0 to 144.
     pub len: u8,
+
+    /// Whether EM follows the characters: not 0 where it does.
     pub em: u8,
 }
 
-/// What a call or a text holds: `struct bsc_content` of `bsc.h`.
+/// What a call or a text holds: `struct bsc_content` of `bsc.h`. C may put any octet into any field.
 #[repr(C)]
 #[derive(Clone, Copy)]
 pub struct Content {
+    /// The units of a text, of which the first `count` count.
     pub units: [StoredUnit; 7],
+
+    /// How many units the text has: 1 to 7.
     pub count: u8,
+
+    /// The code of the character that ends the text: 0x17 for ETB, 0x03 for ETX.
     pub end: u8,
+
+    /// The codes of the address of a call, of which the first `address_len` count.
     pub address: [u8; 7],
+
+    /// How many codes the address has: 1 to 7.
     pub address_len: u8,
 }
 

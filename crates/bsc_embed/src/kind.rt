@@ -1,11 +1,16 @@
 //! What is sent or heard, by the numbers that C has for it.
 ghost use Rattle.std.specs.Prelude.{◌≡◌, Some};
 
-/// What is sent or heard: `enum bsc_kind` of `bsc.h` (own).
+/// What is heard, and from `Eot` on what is sent too: `enum bsc_kind` of `bsc.h`, whose numbers are the places
+/// in this list from 0 on (own).
 #[derive(Clone, Copy, Debug, PartialEq, Eq)]
 pub enum Kind {
+    /// The octets spell nothing.
     Noise,
+
+    /// They begin as a text and spell no message.
     Failed,
+
     Eot,
     Call,
     Enq,
@@ -20,7 +25,7 @@ pub enum Kind {
 impl Kind {
     ghost use Rattle.bsc_embed.specs.Kinds.{kind_at};
 
-    /// The kind with this number.
+    /// The kind with this number, 0 to 10.
     pub(crate) fn numbered(number: u32) -> Option<Kind>
         ensures { result ≡ kind_at number }
     {
