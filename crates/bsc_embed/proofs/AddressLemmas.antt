@@ -3,12 +3,12 @@ use Rattle.std.proofs.Common.{◌≡◌, ℕ, ◌<◌, ◌≤◌, ◌==◌, true
 use Rattle.std.specs.List.{AllByRecursion, position_or_len}
 use Rattle.std.proofs.Math.Seq.{take-append_seam}
 use Rattle.std.proofs.lemmas.Bool.Decides.{nat_tests}
-use Rattle.bsc_frame.specs.Addresses.{address_code, IsAddress}
+use Rattle.bsc_frame.specs.Addresses.{is_address_code, IsAddress}
 use Rattle.bsc_frame.specs.Message.{read_address}
 use Rattle.bsc_embed.specs.Contents.{address_in}
 use Rattle.bsc_embed.specs.declared.content.Content.{Content}
 
-none_wrong : (a : List ℕ) → AllByRecursion (λ c. IsTrue (address_code c)) a → position_or_len (λ c. not (address_code c)) a ≡ length a
+none_wrong : (a : List ℕ) → AllByRecursion (λ c. IsTrue (is_address_code c)) a → position_or_len (λ c. not (is_address_code c)) a ≡ length a
 none_wrong [] h = refl
 none_wrong (c ∷ a) h = rw (h.0, none_wrong a h.1) (omega arith)
 
@@ -26,7 +26,7 @@ fits n h = grind (arith, nat_tests)
 
 address_read : (a : List ℕ) → IsAddress a → read_address a ≡ Ok a
 address_read a h =
-    let none : position (λ c. not (address_code c)) a ≡ None = not_found _ (length a) (none_wrong a h.each) in
+    let none : position (λ c. not (is_address_code c)) a ≡ None = not_found _ (length a) (none_wrong a h.each) in
     rw (is_long (length a) h.some, not_long (length a) h.most, none) refl
 
 -- the codes at the front and their count hold the address

@@ -65,3 +65,15 @@ message_as kind.Text c = option_map Text (text_in c)
 -- The message of a kind by its number.
 unfoldable pub message_in : ℕ → Content → Option Message
 message_in number c = option_and_then (λ k. message_as k c) (kind_at number)
+
+-- Messages of all kinds but a call and a text hold nothing.
+abbrev pub HoldsNothing : Message → Type 0
+HoldsNothing Eot = Unit {0}
+HoldsNothing (Call a) = ⊥
+HoldsNothing Enq = Unit {0}
+HoldsNothing Ack0 = Unit {0}
+HoldsNothing Ack1 = Unit {0}
+HoldsNothing Nak = Unit {0}
+HoldsNothing Wack = Unit {0}
+HoldsNothing Rvi = Unit {0}
+HoldsNothing (Text t) = ⊥

@@ -1,9 +1,8 @@
 //! Decoding for C.
-ghost use Rattle.std.specs.Prelude.{◌≡◌, ◌↔◌, ℕ, List, Some};
-ghost use Rattle.bsc_frame.specs.Texts.{TextValue};
+ghost use Rattle.std.specs.Prelude.{◌≡◌, ◌↔◌, Some};
 ghost use Rattle.bsc_frame.specs.Spells.{Spells, IsFailed, IsNoise};
 ghost use Rattle.bsc_frame.specs.declared.message.Message.{Message};
-ghost use Rattle.bsc_embed.specs.Contents.{message_as, message_in};
+ghost use Rattle.bsc_embed.specs.Contents.{message_as, message_in, HoldsNothing};
 
 use crate::{Content, Kind};
 use bsc_frame::{Heard, Message, decode};
@@ -11,8 +10,7 @@ use bsc_frame::{Heard, Message, decode};
 /// Puts what the message holds into the content, and gives its kind.
 fn put(message: &Message, content: &mut Content) -> Kind
     ensures message { message_as result content.new ≡ Some message.now }
-    ensures kept { ((a : List ℕ) → message.now ≡ Message.Call a → ⊥) → ((t : TextValue) → message.now ≡ Message.Text t → ⊥)
-        → content.new ≡ content.old }
+    ensures kept { HoldsNothing message.now → content.new ≡ content.old }
 {
     match message {
         Message::Eot => Kind::Eot,
@@ -42,8 +40,7 @@ pub extern "C" fn bsc_decode(octets: &[u8], content: &mut Content) -> u32
     ensures whole { (m : Message) → (message_in result content.new ≡ Some m) ↔ Spells octets.now m }
     ensures failed { (result ≡ 1) ↔ IsFailed octets.now }
     ensures noise { (result ≡ 0) ↔ IsNoise octets.now }
-    ensures kept { ((a : List ℕ) → Spells octets.now (Message.Call a) → ⊥) → ((t : TextValue) → Spells octets.now (Message.Text t) → ⊥)
-        → content.new ≡ content.old }
+    ensures kept { ((m : Message) → Spells octets.now m → HoldsNothing m) → content.new ≡ content.old }
 {
     match &decode(octets) {
         Heard::Whole(message) => put(message, content).number(),

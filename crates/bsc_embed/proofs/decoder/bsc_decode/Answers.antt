@@ -1,5 +1,4 @@
 use Rattle.std.proofs.Common.{refl}
-use Rattle.bsc_frame.specs.declared.message.Message.TheVariants.{Call, Text}
 use Rattle.bsc_embed.proofs.HeardLemmas.{whole_holds, none_holds, noise_number}
 use Rattle.bsc_embed.proofs.decoder.bsc_decode.Goals as goal
 
@@ -9,10 +8,7 @@ returns-in-Whole-clause-whole c =
     c.put.ensures.message
 
 pub returns-in-Whole-clause-kept : goal.returns-in-Whole-clause-kept
-returns-in-Whole-clause-kept c = λ a t.
-    c.put.ensures.kept
-    (λ x e. a x ((c.decode.ensures.whole (Call x)).0 (rw (← e) c.in-Whole.is)))
-    (λ x e. t x ((c.decode.ensures.whole (Text x)).0 (rw (← e) c.in-Whole.is)))
+returns-in-Whole-clause-kept c = λ none. c.put.ensures.kept (none c.in-Whole.message ((c.decode.ensures.whole c.in-Whole.message).0 c.in-Whole.is))
 
 pub returns-in-Failed-clause-whole : goal.returns-in-Failed-clause-whole
 returns-in-Failed-clause-whole c =
