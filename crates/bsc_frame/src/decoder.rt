@@ -3,7 +3,7 @@ ghost use Rattle.std.specs.Prelude.{◌≡◌, ℕ, ◌↔◌, option_map, false
 ghost use Rattle.bsc_frame.specs.Addresses.{is_address_code};
 ghost use Rattle.bsc_frame.specs.Spells.{Spells, IsFailed, IsNoise};
 ghost use Rattle.bsc_frame.specs.declared.message.Message.{Message};
-ghost use Rattle.bsc_frame.specs.Reading.{skip, is_pad_octet, is_octet, trimmed, called, call, control, heard_body, heard, begins, units_at, whole_or_failed};
+ghost use Rattle.bsc_frame.specs.Reading.{skip, is_pad_octet, is_octet, trimmed, called, call, control, heard_as, heard_body, heard, begins, units_at, whole_or_failed, whole_or_noise};
 
 use crate::unit_decoder::read_units;
 use crate::{Address, Heard, Message};
@@ -86,39 +86,57 @@ fn address_codes(octets: &[u8]) -> Option<ArrayVec<u8, 7>>
     None
 }
 
-/// The call, behind its EOT.
-#[tactic(auto, unfolding(crate::specs::Reading::call))]
-fn call_behind(octets: &[u8]) -> Option<Message>
-    ensures { result ≡ call octets.now }
-{
-    let codes = address_codes(behind_all(behind_all(octets, 0xff), 0x16))?;
-    let address = Address::read(&codes).ok()?;
-    Some(Message::Call(address))
+/// What a body is that is no text. It is small, where a `Heard` has room for a text.
+#[derive(Clone, Copy)]
+enum Kind {
+    Eot,
+    Call(Address),
+    Enq,
+    Ack0,
+    Ack1,
+    Nak,
+    Wack,
+    Rvi,
+    Noise,
 }
 
-/// The message of a body that is no text.
+/// What a call is, behind its EOT.
+#[tactic(auto, unfolding(crate::specs::Reading::call))]
+fn call_kind(octets: &[u8]) -> Kind
+    ensures { heard_as result ≡ whole_or_noise (call octets.now) }
+{
+    let Some(codes) = address_codes(behind_all(behind_all(octets, 0xff), 0x16)) else {
+        return Kind::Noise;
+    };
+    match Address::read(&codes) {
+        Ok(address) => Kind::Call(address),
+        Err(_) => Kind::Noise,
+    }
+}
+
+/// What a body is that is no text.
 #[tactic(auto, unfolding(crate::specs::Reading::control))]
-fn control_of(body: &[u8]) -> Option<Message>
-    ensures { result ≡ control body.now }
+fn control_kind(body: &[u8]) -> Kind
+    ensures { heard_as result ≡ whole_or_noise (control body.now) }
 {
     if body == [0x04].as_slice() {
-        Some(Message::Eot)
+        Kind::Eot
     } else if body == [0x85].as_slice() {
-        Some(Message::Enq)
+        Kind::Enq
     } else if body == [0x15].as_slice() {
-        Some(Message::Nak)
+        Kind::Nak
     } else if body == [0x10, 0xb0].as_slice() {
-        Some(Message::Ack0)
+        Kind::Ack0
     } else if body == [0x10, 0x31].as_slice() {
-        Some(Message::Ack1)
+        Kind::Ack1
     } else if body == [0x10, 0x3b].as_slice() {
-        Some(Message::Wack)
+        Kind::Wack
     } else if body == [0x10, 0xbc].as_slice() {
-        Some(Message::Rvi)
+        Kind::Rvi
     } else if starts_with(body, 0x04) {
-        call_behind(&body[1..])
+        call_kind(&body[1..])
     } else {
-        None
+        Kind::Noise
     }
 }
 
@@ -137,24 +155,25 @@ fn text_heard(units: &[u8]) -> Heard
     if !all_odd(units) {
         return Heard::Failed;
     }
-    match read_units(units) {
-        Some(text) => Heard::Whole(Message::Text(text)),
-        None => Heard::Failed,
-    }
+    let Some(text) = read_units(units) else {
+        return Heard::Failed;
+    };
+    Heard::Whole(Message::Text(text))
 }
 
-/// What a body is heard as.
-#[tactic(auto, unfolding(crate::specs::Reading::heard_body))]
-fn body_heard(body: &[u8]) -> Heard
-    ensures { result ≡ heard_body body.now }
+/// The body that the octets carry; the empty one where they carry none.
+#[tactic(auto, unfolding(crate::specs::Reading::heard, crate::specs::Reading::heard_body, crate::specs::Reading::control))]
+fn body_of(octets: &[u8]) -> &[u8]
+    ensures { heard octets.now ≡ heard_body result.now }
 {
-    if starts_with(body, 0x02) {
-        return text_heard(&body[1..]);
+    if octets.len() > MAX_HEARD {
+        return &[];
     }
-    match control_of(body) {
-        Some(message) => Heard::Whole(message),
-        None => Heard::Noise,
+    let rest = behind_pads(octets);
+    if !starts_with(rest, 0x16) {
+        return &[];
     }
+    trim(behind_all(rest, 0x16))
 }
 
 /// What the octets are heard as.
@@ -166,18 +185,26 @@ pub fn decode(octets: &[u8]) -> Heard
     octets_heard(octets)
 }
 
-/// What the octets are heard as, found from left to right.
-#[tactic(auto, unfolding(crate::specs::Reading::heard))]
+/// What the octets are heard as, found from left to right. A `Heard` has room for a text, so each one is
+/// made where it is returned.
+#[tactic(auto, unfolding(crate::specs::Reading::heard_body))]
 fn octets_heard(octets: &[u8]) -> Heard
     ensures { result ≡ heard octets.now }
 {
-    if octets.len() > MAX_HEARD {
-        return Heard::Noise;
+    let body = body_of(octets);
+    if starts_with(body, 0x02) {
+        return text_heard(&body[1..]);
     }
-    let rest = behind_pads(octets);
-    if starts_with(rest, 0x16) {
-        body_heard(trim(behind_all(rest, 0x16)))
-    } else {
-        Heard::Noise
+    match control_kind(body) {
+        Kind::Eot => return Heard::Whole(Message::Eot),
+        Kind::Call(address) => return Heard::Whole(Message::Call(address)),
+        Kind::Enq => return Heard::Whole(Message::Enq),
+        Kind::Ack0 => return Heard::Whole(Message::Ack0),
+        Kind::Ack1 => return Heard::Whole(Message::Ack1),
+        Kind::Nak => return Heard::Whole(Message::Nak),
+        Kind::Wack => return Heard::Whole(Message::Wack),
+        Kind::Rvi => return Heard::Whole(Message::Rvi),
+        Kind::Noise => {}
     }
+    Heard::Noise
 }
