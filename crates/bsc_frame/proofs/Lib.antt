@@ -10,3 +10,5 @@ pub mod GatherSteps
 pub mod UnitSteps
 pub mod WireSteps
 pub mod OddLemmas
+pub mod LaneLemmas
+pub mod RunLemmas

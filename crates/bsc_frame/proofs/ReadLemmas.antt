@@ -1,10 +1,10 @@
 -- The steps of reading.
-use Rattle.std.proofs.Common.{◌≡◌, ◌≢◌, ℕ, zero, suc, ◌+◌, ◌-◌, ◌<◌, ◌≤◌, ◌==◌, Bool, true, false, cond, refl, le_refl, sym, ap, ◌∙◌, arith, List, [], ◌∷◌, ◌++◌, length, take, drop, get_or, drop-cons, add-one, append-nil, append_assoc, length-append, length-drop, Option, Some, None}
+use Rattle.std.proofs.Common.{◌≡◌, ◌≢◌, ℕ, zero, suc, ◌+◌, ◌-◌, ◌<◌, ◌≤◌, ◌==◌, Bool, true, false, cond, refl, sym, ap, ◌∙◌, arith, List, [], ◌∷◌, ◌++◌, length, take, drop, get_or, drop-cons, add-one, append-nil, append_assoc, length-append, length-drop, Option, Some, None}
 use Rattle.std.proofs.lemmas.List.{drop_all, take_more, take_all}
 use Rattle.std.proofs.lemmas.Bool.Decides.{nat_tests}
 use Rattle.std.proofs.lemmas.Bool.{eqb-true}
 use Rattle.bsc_octet.specs.Octet.{code_of}
-use Rattle.bsc_frame.specs.Reading.{skip, trimmed, before_rest, called, with_code, at_end}
+use Rattle.bsc_frame.specs.Reading.{trimmed, before_rest, called, with_code, at_end}
 
 -- numbers that differ fail the test
 pub test_false : (a b : ℕ) → (a ≡ b → ⊥) → (a == b) ≡ false
@@ -13,26 +13,6 @@ test_false a b h = grind (arith, nat_tests)
 -- what `&s[i..]` is
 pub rest_is : (s : List ℕ) (i : ℕ) → take (length s - i) (drop i s) ≡ drop i s
 rest_is s i = take_all (length s - i) (drop i s) (omega (arith, length-drop i s))
-
--- ---- skip
-
-pub skip_pass : (test : ℕ → Bool) (s : List ℕ) (i : ℕ) → i < length s → test (get_or s i 0) ≡ true → skip test (drop (i + 1) s) ≡ skip test (drop i s)
-unfolding skip
-skip_pass test s i l h = rw (drop-cons s i 0 l, h, add-one i) refl
-
-pub skip_stop : (test : ℕ → Bool) (s : List ℕ) (i : ℕ) → skip test (drop i s) ≡ skip test s → i < length s → test (get_or s i 0) ≡ false
-    → take (length s - i) (drop i s) ≡ skip test s
-unfolding skip
-skip_stop test s i e l h =
-    let stops : skip test (drop i s) ≡ drop i s = rw (drop-cons s i 0 l, h) refl in
-    rest_is s i ∙ sym stops ∙ e
-
-pub skip_end : (test : ℕ → Bool) (s : List ℕ) (i : ℕ) → skip test (drop i s) ≡ skip test s → length s ≤ i
-    → take (length s - length s) (drop (length s) s) ≡ skip test s
-unfolding skip
-skip_end test s i e l =
-    let none : skip test (drop i s) ≡ [] = rw (drop_all i s l) refl in
-    rest_is s (length s) ∙ drop_all (length s) s (le_refl (length s)) ∙ sym none ∙ e
 
 -- ---- trimmed
 

@@ -1,5 +1,5 @@
 -- What octets read as, found from left to right.
-use Rattle.std.specs.Prelude.{ℕ, ◌-◌, ◌==◌, ◌||◌, ◌&&◌, Bool, true, false, zero, suc, nat_lt, take, if◌then◌else◌, List, [], ◌∷◌, length, drop, Option, Some, None, Result, Ok, Err, option_and_then}
+use Rattle.std.specs.Prelude.{ℕ, ◌-◌, ◌==◌, ◌||◌, ◌&&◌, not, Bool, true, false, zero, suc, nat_lt, take, if◌then◌else◌, List, [], ◌∷◌, length, drop, Option, Some, None, Result, Ok, Err, option_and_then}
 use Rattle.std.specs.Str.{bytes_eq}
 use Rattle.std.specs.List.{prefix_len}
 use Rattle.bsc_octet.specs.Octet.{code_of, odd_octet, longitudinal_sum, is_record_char}
@@ -24,6 +24,9 @@ is_pad_octet x = (x == 0x55) || (x == 0xaa)
 
 abbrev pub is_octet : ℕ → ℕ → Bool
 is_octet octet x = x == octet
+
+abbrev pub is_either : ℕ → ℕ → ℕ → Bool
+is_either one other x = (x == one) || (x == other)
 
 -- x before what is left of the rest
 abbrev pub before_rest : ℕ → List ℕ → List ℕ
@@ -93,6 +96,13 @@ None >>= f = None
 -- US, ETB or ETX
 abbrev pub is_ending_code : ℕ → Bool
 is_ending_code c = (c == 0x1f) || ((c == 0x17) || (c == 0x03))
+
+-- the octets that carry US, ETB and ETX
+abbrev pub is_ending_octet : ℕ → Bool
+is_ending_octet x = (x == 0x1f) || ((x == 0x97) || (x == 0x83))
+
+abbrev pub is_before_ending : ℕ → Bool
+is_before_ending x = not (is_ending_octet x)
 
 abbrev pub before_gathered : ℕ → Option (List ℕ × List ℕ) → Option (List ℕ × List ℕ)
 before_gathered c None = None

@@ -3,63 +3,13 @@ ghost use Rattle.std.specs.Prelude.{◌≡◌, ℕ, ◌↔◌, option_map, false
 ghost use Rattle.bsc_frame.specs.Addresses.{is_address_code};
 ghost use Rattle.bsc_frame.specs.Spells.{Spells, IsFailed, IsNoise};
 ghost use Rattle.bsc_frame.specs.declared.message.Message.{Message};
-ghost use Rattle.bsc_frame.specs.Reading.{skip, is_pad_octet, is_octet, trimmed, called, call, control, heard_as, heard_body, heard, begins, units_at, whole_or_failed, whole_or_noise};
+ghost use Rattle.bsc_frame.specs.Reading.{called, call, control, heard_as, heard, units_at, whole_or_failed, whole_or_noise};
 
+use crate::body::{behind_all, body_of, starts_with};
 use crate::unit_decoder::read_units;
 use crate::{Address, Heard, Message};
 use arrayvec::ArrayVec;
 use bsc_octet::{all_odd, from_line};
-
-/// The most octets that are heard as one transmission.
-const MAX_HEARD: usize = 2048;
-
-/// Whether the octet is a leading pad.
-fn is_pad(octet: u8) -> bool
-    ensures { result ≡ is_pad_octet octet }
-{
-    octet == 0x55 || octet == 0xaa
-}
-
-/// What stands behind the leading pads.
-#[tactic(auto, using(crate::proofs::ReadLemmas::skip_pass, crate::proofs::ReadLemmas::skip_stop, crate::proofs::ReadLemmas::skip_end))]
-fn behind_pads(octets: &[u8]) -> &[u8]
-    ensures { result.now ≡ skip is_pad_octet octets.now }
-{
-    for (start, octet) in octets.iter().enumerate() {
-        if !is_pad(*octet) {
-            return &octets[start..];
-        }
-    }
-    &octets[octets.len()..]
-}
-
-/// What stands behind the front that is of this octet alone.
-#[tactic(auto, using(crate::proofs::ReadLemmas::skip_pass, crate::proofs::ReadLemmas::skip_stop, crate::proofs::ReadLemmas::skip_end))]
-fn behind_all(octets: &[u8], octet: u8) -> &[u8]
-    ensures { result.now ≡ skip (is_octet octet) octets.now }
-{
-    for (start, x) in octets.iter().enumerate() {
-        if *x != octet {
-            return &octets[start..];
-        }
-    }
-    &octets[octets.len()..]
-}
-
-/// Without the pads at the end.
-#[tactic(auto, using(crate::proofs::ReadLemmas::trimmed_less, crate::proofs::ReadLemmas::trimmed_done, crate::proofs::ReadLemmas::trimmed_none))]
-fn trim(octets: &[u8]) -> &[u8]
-    ensures { result.now ≡ trimmed octets.now }
-{
-    let mut end = octets.len();
-    while end > 0 {
-        if octets[end - 1] != 0xff {
-            return &octets[..end];
-        }
-        end -= 1;
-    }
-    &octets[..0]
-}
 
 /// The address of a call, behind its EOT.
 #[tactic(auto, using(crate::proofs::ReadLemmas::called_end, crate::proofs::ReadLemmas::called_early, crate::proofs::ReadLemmas::called_full, crate::proofs::ReadLemmas::called_wrong, crate::proofs::ReadLemmas::called_more, crate::proofs::ReadLemmas::called_none))]
@@ -140,13 +90,6 @@ fn control_kind(body: &[u8]) -> Kind
     }
 }
 
-/// Whether the octet comes first.
-fn starts_with(octets: &[u8], octet: u8) -> bool
-    ensures { result ≡ begins (is_octet octet) octets.now }
-{
-    !octets.is_empty() && octets[0] == octet
-}
-
 /// What a text is heard as, behind its STX.
 #[tactic(auto, using(crate::proofs::OddLemmas::not_odd_fails))]
 fn text_heard(units: &[u8]) -> Heard
@@ -159,21 +102,6 @@ fn text_heard(units: &[u8]) -> Heard
         return Heard::Failed;
     };
     Heard::Whole(Message::Text(text))
-}
-
-/// The body that the octets carry; the empty one where they carry none.
-#[tactic(auto, unfolding(crate::specs::Reading::heard, crate::specs::Reading::heard_body, crate::specs::Reading::control))]
-fn body_of(octets: &[u8]) -> &[u8]
-    ensures { heard octets.now ≡ heard_body result.now }
-{
-    if octets.len() > MAX_HEARD {
-        return &[];
-    }
-    let rest = behind_pads(octets);
-    if !starts_with(rest, 0x16) {
-        return &[];
-    }
-    trim(behind_all(rest, 0x16))
 }
 
 /// What the octets are heard as.

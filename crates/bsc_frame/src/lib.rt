@@ -6,9 +6,11 @@
 #![tactic(auto)]
 
 mod address;
+mod body;
 mod buffer;
 mod decoder;
 mod encoder;
+mod front;
 pub mod laws;
 mod message;
 mod text;

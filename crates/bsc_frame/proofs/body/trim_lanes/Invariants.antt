@@ -1,6 +1,6 @@
 use Rattle.std.proofs.Common.{◌≡◌, ◌≤◌, length, take}
 use Rattle.bsc_frame.specs.Reading.{trimmed}
-use Rattle.bsc_frame.proofs.decoder.trim.Given as goal
+use Rattle.bsc_frame.proofs.body.trim_lanes.Given as goal
 
 abbrev pub invariant-loop-end : goal.invariant-loop-end
 invariant-loop-end l = record {

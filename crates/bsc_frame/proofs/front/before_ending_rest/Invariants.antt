@@ -1,0 +1,6 @@
+use Rattle.bsc_frame.specs.Reading.{is_before_ending}
+use Rattle.bsc_frame.proofs.RunLemmas.{CountedTo}
+use Rattle.bsc_frame.proofs.front.before_ending_rest.Given as goal
+
+abbrev pub invariant-loop-i : goal.invariant-loop-i
+invariant-loop-i l = CountedTo is_before_ending l.i l.octets

@@ -1,0 +1,87 @@
+//! The body of a transmission: what stands between its pads and SYN and its PAD.
+ghost use Rattle.std.specs.Prelude.{◌≡◌};
+ghost use Rattle.bsc_frame.specs.Reading.{skip, is_pad_octet, is_octet, trimmed, begins, heard_body, heard};
+
+use crate::front::{LANES, either_front, either_in};
+
+/// The most octets that are heard as one transmission.
+const MAX_HEARD: usize = 2048;
+
+const PAD: u8 = 0xff;
+
+/// What stands behind the leading pads.
+#[tactic(auto, using(crate::proofs::RunLemmas::skip_pads))]
+fn behind_pads(octets: &[u8]) -> &[u8]
+    ensures { result.now ≡ skip is_pad_octet octets.now }
+{
+    let start = either_front(octets, 0x55, 0xaa);
+    &octets[start..]
+}
+
+/// What stands behind the front that is of this octet alone.
+#[tactic(auto, using(crate::proofs::RunLemmas::skip_all))]
+pub(crate) fn behind_all(octets: &[u8], octet: u8) -> &[u8]
+    ensures { result.now ≡ skip (is_octet octet) octets.now }
+{
+    let start = either_front(octets, octet, octet);
+    &octets[start..]
+}
+
+/// Without PAD at the end as long as there are 32 of them.
+#[tactic(auto, using(crate::proofs::RunLemmas::trim_more))]
+fn trim_lanes(octets: &[u8]) -> &[u8]
+    ensures { trimmed result.now ≡ trimmed octets.now }
+{
+    let mut end = octets.len();
+    while end >= LANES {
+        if either_in(octets, end - LANES, PAD, PAD) < LANES {
+            return &octets[..end];
+        }
+        end -= LANES;
+    }
+    &octets[..end]
+}
+
+/// Without PAD at the end, taken one at a time.
+#[tactic(auto, using(crate::proofs::ReadLemmas::trimmed_less, crate::proofs::ReadLemmas::trimmed_done, crate::proofs::ReadLemmas::trimmed_none))]
+fn trim_rest(octets: &[u8]) -> &[u8]
+    ensures { result.now ≡ trimmed octets.now }
+{
+    let mut end = octets.len();
+    while end > 0 {
+        if octets[end - 1] != PAD {
+            return &octets[..end];
+        }
+        end -= 1;
+    }
+    &octets[..0]
+}
+
+/// Without PAD at the end.
+fn trim(octets: &[u8]) -> &[u8]
+    ensures { result.now ≡ trimmed octets.now }
+{
+    trim_rest(trim_lanes(octets))
+}
+
+/// Whether the octet comes first.
+pub(crate) fn starts_with(octets: &[u8], octet: u8) -> bool
+    ensures { result ≡ begins (is_octet octet) octets.now }
+{
+    !octets.is_empty() && octets[0] == octet
+}
+
+/// The body that the octets carry; the empty one where they carry none.
+#[tactic(auto, unfolding(crate::specs::Reading::heard, crate::specs::Reading::heard_body, crate::specs::Reading::control))]
+pub(crate) fn body_of(octets: &[u8]) -> &[u8]
+    ensures { heard octets.now ≡ heard_body result.now }
+{
+    if octets.len() > MAX_HEARD {
+        return &[];
+    }
+    let rest = behind_pads(octets);
+    if !starts_with(rest, 0x16) {
+        return &[];
+    }
+    trim(behind_all(rest, 0x16))
+}

@@ -1,0 +1,104 @@
+//! How many octets at the front pass a test, 32 at a time.
+ghost use Rattle.std.specs.Prelude.{◌≡◌, ◌+◌, ◌≤◌, ◌==◌, length, take, drop, if◌then◌else◌};
+ghost use Rattle.std.specs.Int.{w64, trailing_zeros};
+ghost use Rattle.std.specs.List.{prefix_len};
+ghost use Rattle.bsc_frame.specs.Reading.{is_either, is_before_ending};
+
+use std::simd::prelude::*;
+
+pub(crate) const LANES: usize = 32;
+
+/// The first lane of the 32 that is set in the mask; 32 where none is.
+fn first_lane(mask: u64) -> usize
+    ensures { result ≡ (if mask == 0 then 32 else trailing_zeros w64 mask) }
+{
+    if mask == 0 {
+        LANES
+    } else {
+        mask.trailing_zeros() as usize
+    }
+}
+
+/// How many of the 32 octets from the place on come before the first that is neither of the two.
+pub(crate) fn either_in(octets: &[u8], at: usize, one: u8, other: u8) -> usize
+    requires { at + 32 ≤ length octets.now }
+    ensures { result ≡ prefix_len (is_either one other) (take 32 (drop at octets.now)) }
+{
+    let lanes = u8x32::from_slice(&octets[at..]);
+    let stops = lanes.simd_ne(u8x32::splat(one)) & lanes.simd_ne(u8x32::splat(other));
+    first_lane(stops.to_bitmask())
+}
+
+/// How many of the 32 octets from the place on come before the first US, ETB or ETX.
+fn before_ending_in(octets: &[u8], at: usize) -> usize
+    requires { at + 32 ≤ length octets.now }
+    ensures { result ≡ prefix_len is_before_ending (take 32 (drop at octets.now)) }
+{
+    let lanes = u8x32::from_slice(&octets[at..]);
+    let ends = lanes.simd_eq(u8x32::splat(0x1f))
+        | lanes.simd_eq(u8x32::splat(0x97))
+        | lanes.simd_eq(u8x32::splat(0x83));
+    first_lane(ends.to_bitmask())
+}
+
+/// How many octets at the front are one of the two, taken one at a time.
+#[tactic(auto, using(crate::proofs::RunLemmas::run_more, crate::proofs::RunLemmas::run_stop, crate::proofs::RunLemmas::run_end))]
+fn either_rest(octets: &[u8], one: u8, other: u8) -> usize
+    ensures count { result ≡ prefix_len (is_either one other) octets.now }
+    ensures within { result ≤ length octets.now }
+{
+    for (i, octet) in octets.iter().enumerate() {
+        if *octet != one && *octet != other {
+            return i;
+        }
+    }
+    octets.len()
+}
+
+/// How many octets come before the first US, ETB or ETX, taken one at a time.
+#[tactic(auto, using(crate::proofs::RunLemmas::run_more, crate::proofs::RunLemmas::run_stop, crate::proofs::RunLemmas::run_end))]
+fn before_ending_rest(octets: &[u8]) -> usize
+    ensures count { result ≡ prefix_len is_before_ending octets.now }
+    ensures within { result ≤ length octets.now }
+{
+    for (i, octet) in octets.iter().enumerate() {
+        if *octet == 0x1f || *octet == 0x97 || *octet == 0x83 {
+            return i;
+        }
+    }
+    octets.len()
+}
+
+/// How many octets at the front are one of the two.
+#[tactic(auto, using(crate::proofs::RunLemmas::run_rest))]
+pub(crate) fn either_front(octets: &[u8], one: u8, other: u8) -> usize
+    ensures count { result ≡ prefix_len (is_either one other) octets.now }
+    ensures within { result ≤ length octets.now }
+{
+    let mut at = 0;
+    while octets.len() - at >= LANES {
+        let run = either_in(octets, at, one, other);
+        if run < LANES {
+            return at + run;
+        }
+        at += LANES;
+    }
+    at + either_rest(&octets[at..], one, other)
+}
+
+/// How many octets come before the first US, ETB or ETX.
+#[tactic(auto, using(crate::proofs::RunLemmas::run_rest))]
+pub(crate) fn before_ending(octets: &[u8]) -> usize
+    ensures count { result ≡ prefix_len is_before_ending octets.now }
+    ensures within { result ≤ length octets.now }
+{
+    let mut at = 0;
+    while octets.len() - at >= LANES {
+        let run = before_ending_in(octets, at);
+        if run < LANES {
+            return at + run;
+        }
+        at += LANES;
+    }
+    at + before_ending_rest(&octets[at..])
+}
