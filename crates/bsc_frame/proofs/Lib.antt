@@ -6,9 +6,12 @@ pub mod HeardLemmas
 pub mod GatherLemmas
 pub mod UnitLemmas
 pub mod DraftLemmas
-pub mod GatherSteps
 pub mod UnitSteps
 pub mod WireSteps
 pub mod OddLemmas
 pub mod LaneLemmas
 pub mod RunLemmas
+pub mod CarriedLemmas
+pub mod CutLemmas
+pub mod TakeLemmas
+pub mod SqueezeLemmas

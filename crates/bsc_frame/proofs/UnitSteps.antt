@@ -1,17 +1,20 @@
 -- The steps of reading units.
-use Rattle.std.proofs.Common.{◌≡◌, ℕ, zero, suc, ◌+◌, ◌-◌, ◌<◌, ◌≤◌, ◌==◌, Bool, true, false, cond, refl, sym, ap, ◌∙◌, arith, List, [], ◌∷◌, ◌++◌, length, take, drop, get_or, append_assoc, length-append, Option, Some, None, nat_lt}
+use Rattle.std.proofs.Common.{◌≡◌, ℕ, zero, suc, ◌+◌, ◌-◌, ◌<◌, ◌≤◌, ◌==◌, Bool, true, false, cond, refl, sym, ap, subst, All, ◌∙◌, arith, List, [], ◌∷◌, ◌++◌, length, take, drop, get_or, append_assoc, length-append, Option, Some, None, nat_lt}
 use Rattle.std.proofs.lemmas.Bool.{eq-eqb}
 use Rattle.std.proofs.lemmas.Bool.Decides.{nat_tests}
-use Rattle.bsc_octet.specs.Octet.{odd_octet, longitudinal_sum}
+use Rattle.std.proofs.Math.Seq.{drop-append_seam}
+use Rattle.std.proofs.lemmas.List.Elements.{All-drop}
+use Rattle.bsc_frame.specs.Units.{unit_codes}
+use Rattle.bsc_octet.specs.Octet.{IsOdd, odd_octet, longitudinal_sum}
 use Rattle.bsc_octet.proofs.SumLemmas.{longitudinal_sum-lt}
-use Rattle.bsc_frame.specs.Texts.{TextUnit, TextValue, IsUnit}
-use Rattle.bsc_frame.specs.Drafts.{draft_units, IsDraft, TakesUnit}
-use Rattle.bsc_frame.specs.Reading.{gathered, behind_check, behind_start, unit_of, unit_at, units_at, before_units, last_unit}
+use Rattle.bsc_frame.specs.Texts.{TextUnit, TextValue}
+use Rattle.bsc_frame.specs.Drafts.{draft_units, IsDraft, TakesUnit, ReadsText}
+use Rattle.bsc_frame.specs.Reading.{behind_check, unit_at, units_at, before_units, last_unit}
 use Rattle.bsc_frame.specs.declared.text.End.{End}
 use Rattle.bsc_frame.specs.declared.text.End.TheVariants.{Etb, Etx}
 use Rattle.bsc_frame.specs.declared.text.Draft.{Draft}
 use Rattle.bsc_frame.proofs.ReadLemmas.{test_false, rest_is}
-use Rattle.bsc_frame.proofs.UnitLemmas.{unit_of_reads}
+use Rattle.bsc_frame.proofs.UnitLemmas.{unit_at_reads}
 
 -- ---- the check
 
@@ -33,29 +36,6 @@ pub check_right : (s octets : List ℕ) → get_or octets 0 0 ≡ odd_octet (lon
     → Some (take (length octets - 1) (drop 1 octets)) ≡ behind_check s octets
 check_right s [] h p = absurd (p refl)
 check_right s (x ∷ octets) h p = rw (eq-eqb (odd_octet (longitudinal_sum s)) x (sym h)) (ap Some (rest_is (x ∷ octets) 1))
-
--- ---- one unit
-
-pub at_gathered : (behind : Bool) (s : List ℕ) → None ≡ gathered 147 s → unit_at behind s ≡ None
-unfolding unit_at
-at_gathered behind s e = rw (← e) refl
-
-pub at_checked : (behind : Bool) (s codes rest : List ℕ) → Some (codes, rest) ≡ gathered 147 s → None ≡ behind_check codes rest → unit_at behind s ≡ None
-unfolding unit_at
-at_checked behind s codes rest e h = rw (← e, ← h) refl
-
-pub at_unit : (behind : Bool) (s codes rest more : List ℕ) → Some (codes, rest) ≡ gathered 147 s → Some more ≡ behind_check codes rest
-    → None ≡ unit_of (behind_start behind codes) → unit_at behind s ≡ None
-unfolding unit_at
-at_unit behind s codes rest more e h k = rw (← e, ← h, ← k) refl
-
-pub at_found : (behind : Bool) (s codes rest more : List ℕ) (u : TextUnit) (c : ℕ) → Some (codes, rest) ≡ gathered 147 s → Some more ≡ behind_check codes rest
-    → Some (u, c) ≡ unit_of (behind_start behind codes) → unit_at behind s ≡ Some (u, c, more)
-unfolding unit_at
-at_found behind s codes rest more u c e h k = rw (← e, ← h, ← k) refl
-
-pub found_is_unit : (codes : List ℕ) (u : TextUnit) (c : ℕ) → Some (u, c) ≡ unit_of codes → IsUnit u
-found_is_unit codes u c e = (unit_of_reads codes (u, c) (sym e)).1
 
 -- ---- all units
 
@@ -116,10 +96,21 @@ read_extra d new count e rest [] s r l t us p = absurd (p refl)
 read_extra d new count e rest (x ∷ more) s r l t us p = read_last d new count e rest (x ∷ more) s r l t us
 
 pub read_whole : (d new : Draft) (count e : ℕ) (rest more s : List ℕ) (end : End) → ReadTo d count rest s → count < 7 → TakesUnit d new (unit_at (nat_lt 0 count) rest) e more → (e ≡ 0x1f → ⊥)
-    → length more ≡ 0 → cond (e == 0x17) Etb Etx ≡ end → Some (record { units = draft_units new; end = end }) ≡ units_at 7 false s
+    → length more ≡ 0 → cond (e == 0x17) Etb Etx ≡ end → ReadsText new end (units_at 7 false s)
 read_whole d new count e rest (x ∷ more) s end r l t us p q = absurd (omega arith)
-read_whole d new count e rest [] s end r l t us p q = ap Some (ap (λ z. record { units = z; end = end }) t.units ∙ ap (λ z. record { units = draft_units d ++ t.unit ∷ []; end = z }) (sym q))
-    ∙ read_last d new count e rest [] s r l t us
+read_whole d new count e rest [] s end r l t us p q = record {
+  reads = sym (read_last d new count e rest [] s r l t us) ∙ ap Some (ap (λ z. record { units = draft_units d ++ t.unit ∷ []; end = z }) q ∙ sym (ap (λ z. record { units = z; end = end }) t.units));
+  draft = t.draft;
+  some = omega (arith, ap length t.units, length-append (draft_units d) (t.unit ∷ []));
+}
+
+-- what stands behind a unit is odd as it was
+pub rest_odd : (behind : Bool) (s : List ℕ) (u : TextUnit) (e : ℕ) (rest : List ℕ) → All IsOdd s → unit_at behind s ≡ Some (u, e, rest) → All IsOdd rest
+rest_odd behind s u e rest h r =
+    let a = unit_at_reads behind s (u, e, rest) r in
+    let front : List ℕ = a.front ++ odd_octet (longitudinal_sum (a.start ++ unit_codes u e)) ∷ [] in
+    let whole : s ≡ front ++ rest = a.whole ∙ sym (append_assoc a.front (odd_octet (longitudinal_sum (a.start ++ unit_codes u e)) ∷ []) rest) in
+    subst (All IsOdd) (ap (drop (length front)) whole ∙ drop-append_seam front rest) (All-drop IsOdd (length front) s h)
 
 pub read_all : (d : Draft) (count : ℕ) (rest s : List ℕ) → ReadTo d count rest s → 7 ≤ count → None ≡ units_at 7 false s
 unfolding units_at

@@ -1,5 +1,5 @@
 -- What octets read as, found from left to right.
-use Rattle.std.specs.Prelude.{ℕ, ◌-◌, ◌==◌, ◌||◌, ◌&&◌, not, Bool, true, false, zero, suc, nat_lt, take, if◌then◌else◌, List, [], ◌∷◌, length, drop, Option, Some, None, Result, Ok, Err, option_and_then}
+use Rattle.std.specs.Prelude.{ℕ, ◌-◌, ◌%◌, ◌==◌, ◌||◌, ◌&&◌, not, Bool, true, false, zero, suc, nat_lt, take, if◌then◌else◌, List, [], ◌∷◌, ◌++◌, ◌≡◌, length, drop, Option, Some, None, Result, Ok, Err, option_and_then}
 use Rattle.std.specs.Str.{bytes_eq}
 use Rattle.std.specs.List.{prefix_len}
 use Rattle.bsc_octet.specs.Octet.{code_of, odd_octet, longitudinal_sum, is_record_char}
@@ -104,6 +104,17 @@ is_ending_octet x = (x == 0x1f) || ((x == 0x97) || (x == 0x83))
 abbrev pub is_before_ending : ℕ → Bool
 is_before_ending x = not (is_ending_octet x)
 
+-- the code of an octet with odd parity
+abbrev pub low_bits : ℕ → ℕ
+low_bits x = x % 128
+
+-- any octet but fill
+abbrev pub is_other : ℕ → Bool
+is_other x = not (x == 0x16)
+
+abbrev pub is_char_octet : ℕ → Bool
+is_char_octet x = is_record_char (low_bits x)
+
 abbrev pub before_gathered : ℕ → Option (List ℕ × List ℕ) → Option (List ℕ × List ℕ)
 before_gathered c None = None
 before_gathered c (Some g) = Some (c ∷ g.0, g.1)
@@ -142,13 +153,30 @@ unit_of codes =
     if nat_lt 144 (prefix_len is_record_char codes) then None
     else unit_of_tail (take (prefix_len is_record_char codes) codes) (drop (prefix_len is_record_char codes) codes)
 
+-- octets of which the last carries an ending character
+pub record IsFront (octets : List ℕ) : Type 0 where
+  pub front : List ℕ
+  pub last : ℕ
+  pub whole : octets ≡ front ++ last ∷ []
+  pub ends : is_ending_octet last ≡ true
+
+-- characters, EM where it is marked, and one octet more
+pub record AreParts (octets chars : List ℕ) (em : Bool) (last : ℕ) : Type 0 where
+  pub whole : octets ≡ chars ++ (if em then 0x19 ∷ [] else []) ++ last ∷ []
+  pub no_em : em ≡ false → (front : List ℕ) → chars ≡ front ++ 0x19 ∷ [] → ⊥
+
+-- the unit of the codes before these octets, its ending character, and the octets behind its check
+abbrev pub unit_before : Bool → List ℕ → List ℕ → Option (TextUnit × ℕ × List ℕ)
+unit_before behind codes octets = do
+  rest ← behind_check codes octets
+  u ← unit_of (behind_start behind codes)
+  Some (u.0, u.1, rest)
+
 -- the first unit, its ending character, and the octets behind its check
 unfoldable pub unit_at : Bool → List ℕ → Option (TextUnit × ℕ × List ℕ)
 unit_at behind octets = do
   g ← gathered 147 octets
-  rest ← behind_check g.0 g.1
-  u ← unit_of (behind_start behind g.0)
-  Some (u.0, u.1, rest)
+  unit_before behind g.0 g.1
 
 abbrev pub before_units : TextUnit → Option TextValue → Option TextValue
 before_units u None = None

@@ -6,8 +6,9 @@ ghost use Rattle.bsc_frame.specs.declared.message.Message.{Message};
 ghost use Rattle.bsc_frame.specs.Reading.{called, call, control, heard_as, heard, units_at, whole_or_failed, whole_or_noise};
 
 use crate::body::{behind_all, body_of, starts_with};
+use crate::text::Draft;
 use crate::unit_decoder::read_units;
-use crate::{Address, Heard, Message};
+use crate::{Address, Heard, Message, Text};
 use arrayvec::ArrayVec;
 use bsc_octet::{all_odd, from_line};
 
@@ -98,10 +99,11 @@ fn text_heard(units: &[u8]) -> Heard
     if !all_odd(units) {
         return Heard::Failed;
     }
-    let Some(text) = read_units(units) else {
+    let mut draft = Draft::new();
+    let Some(end) = read_units(units, &mut draft) else {
         return Heard::Failed;
     };
-    Heard::Whole(Message::Text(text))
+    Heard::Whole(Message::Text(Text::from_draft(draft, end)))
 }
 
 /// What the octets are heard as.

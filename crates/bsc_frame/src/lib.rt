@@ -13,6 +13,7 @@ mod encoder;
 mod front;
 pub mod laws;
 mod message;
+mod squeeze;
 mod text;
 mod unit_decoder;
 

@@ -1,60 +1,23 @@
 //! From octets to the units of a text.
-ghost use Rattle.std.specs.Prelude.{◌≡◌, ◌<◌, ◌≤◌, ◌++◌, [], ◌∷◌, length, Option, Some, None, option_map, IfSome, IfNone, map, false};
+ghost use Rattle.std.specs.Prelude.{◌≡◌, ◌<◌, [], length, map, All, None, IfSome, IfNone, false};
 ghost use Rattle.std.specs.Option.{option_copied};
-ghost use Rattle.std.specs.List.{prefix_len};
-ghost use Rattle.bsc_octet.specs.Octet.{odd_octet, longitudinal_sum, is_record_char};
-ghost use Rattle.bsc_frame.specs.Units.{text_unit};
-ghost use Rattle.bsc_frame.specs.Drafts.{draft_units, IsDraft, TakesUnit};
-ghost use Rattle.bsc_frame.specs.Reading.{is_ending_code, gathered, behind_check, behind_start, unit_of, unit_at, units_at};
+ghost use Rattle.bsc_octet.specs.Octet.{IsOdd, odd_octet, longitudinal_sum};
+ghost use Rattle.bsc_frame.specs.Drafts.{draft_units, IsDraft, AddsUnit, TakesUnit, ReadsText};
+ghost use Rattle.bsc_frame.specs.Reading.{low_bits, IsFront, AreParts, behind_check, behind_start, unit_of, unit_before, unit_at, units_at};
 
+use crate::front::before_ending;
+use crate::squeeze::{MAX_CODES, copy_codes, has_fill, squeeze};
 use crate::text::Draft;
-use crate::{End, Text, Unit};
-use arrayvec::ArrayVec;
-use bsc_octet::{from_line, is_record_char, sum, to_line};
+use crate::{End, Unit};
+use bsc_octet::{sum, to_line};
 
 const STX: u8 = 0x02;
-
-const SYN: u8 = 0x16;
 
 const ETB: u8 = 0x17;
 
 const EM: u8 = 0x19;
 
 const US: u8 = 0x1f;
-
-/// The codes of a unit: an STX behind a check, 144 characters, EM, the ending character.
-type Codes = ArrayVec<u8, 147>;
-
-/// Whether the code is US, ETB or ETX.
-fn is_ending(code: u8) -> bool
-    ensures { result ≡ is_ending_code code }
-{
-    code == 0x1f || code == 0x17 || code == 0x03
-}
-
-/// The codes up to the first ending character, and the octets behind it.
-#[tactic(auto, using(crate::proofs::GatherSteps::gather_syn, crate::proofs::GatherSteps::gather_full, crate::proofs::GatherSteps::gather_wrong, crate::proofs::GatherSteps::gather_last, crate::proofs::GatherSteps::gather_more, crate::proofs::GatherSteps::gather_none))]
-fn gather(octets: &[u8]) -> Option<(Codes, &[u8])>
-    ensures { option_map (λ g. (g.0.items, g.1.now)) result ≡ gathered 147 octets.now }
-{
-    let mut codes = Codes::new();
-    for (i, octet) in octets.iter().enumerate() {
-        if *octet == SYN {
-            continue;
-        }
-        if codes.is_full() {
-            return None;
-        }
-        let Some(code) = from_line(*octet) else {
-            return None;
-        };
-        codes.push(code);
-        if is_ending(code) {
-            return Some((codes, &octets[i + 1..]));
-        }
-    }
-    None
-}
 
 /// The check of the codes: the octet that carries their sum.
 #[tactic(auto, using(crate::proofs::UnitSteps::check_no, crate::proofs::UnitSteps::check_is))]
@@ -67,106 +30,135 @@ pub(crate) fn check_of(codes: &[u8]) -> u8
     check
 }
 
-/// The octets behind the check of the codes.
+/// The octets behind the check of the unit.
 #[tactic(auto, using(crate::proofs::UnitSteps::check_wrong, crate::proofs::UnitSteps::check_right))]
-fn checked<'a>(codes: &[u8], octets: &'a [u8]) -> Option<&'a [u8]>
-    ensures { option_copied result ≡ behind_check codes.now octets.entry.now }
+fn checked<'a>(unit: &[u8], octets: &'a [u8]) -> Option<&'a [u8]>
+    ensures { option_copied result ≡ behind_check unit.now octets.entry.now }
 {
     if octets.is_empty() {
         return None;
     }
-    if octets[0] != check_of(codes) {
+    if octets[0] != check_of(unit) {
         return None;
     }
     Some(&octets[1..])
 }
 
-/// The codes without an STX behind a check.
-fn without_start(behind: bool, codes: &[u8]) -> &[u8]
-    ensures { result.now ≡ behind_start behind codes.now }
+/// The octets without an STX behind a check.
+fn without_start(behind: bool, octets: &[u8]) -> &[u8]
+    ensures { result.now ≡ behind_start behind octets.now }
 {
-    if behind && !codes.is_empty() && codes[0] == STX {
-        &codes[1..]
+    if behind && !octets.is_empty() && octets[0] == STX {
+        &octets[1..]
     } else {
-        codes
+        octets
     }
 }
 
-/// How many record characters stand at the front.
-#[tactic(auto, using(crate::proofs::GatherSteps::count_more, crate::proofs::GatherSteps::count_stop, crate::proofs::GatherSteps::count_end))]
-fn char_count(codes: &[u8]) -> usize
-    ensures count { result ≡ prefix_len is_record_char codes.now }
-    ensures within { result ≤ length codes.now }
+/// The characters, whether EM follows them, and the last octet.
+fn parts(octets: &[u8]) -> (&[u8], bool, u8)
+    requires { 0 < length octets.now }
+    ensures { AreParts octets.now result.0.now result.1 result.2 }
 {
-    for (i, code) in codes.iter().enumerate() {
-        if !is_record_char(*code) {
-            return i;
-        }
+    let count = octets.len() - 1;
+    let last = octets[count];
+    if count > 0 && octets[count - 1] == EM {
+        return (&octets[..count - 1], true, last);
     }
-    codes.len()
+    (&octets[..count], false, last)
 }
 
-/// The unit and its ending character.
-#[tactic(auto, using(crate::proofs::GatherSteps::tail_many), unfolding(crate::specs::Reading::unit_of))]
-fn unit_in(codes: &[u8]) -> Option<(Unit<'_>, u8)>
-    ensures { option_map (λ u. (text_unit u.0, u.1)) result ≡ unit_of codes.now }
+/// Adds the unit of these octets to the draft, and gives its ending character.
+fn take_chars(octets: &[u8], draft: &mut Draft) -> Option<u8>
+    requires draft { IsDraft draft.old }
+    requires room { length (draft_units draft.old) < 7 }
+    requires odd { All IsOdd octets.now }
+    requires ends { IsFront octets.now }
+    ensures found { IfSome result (λ e. AddsUnit draft.old draft.new (unit_of (map low_bits octets.now)) e) }
+    ensures none { IfNone result (unit_of (map low_bits octets.now) ≡ None) }
 {
-    let count = char_count(codes);
-    if count > 144 {
+    let (chars, em, last) = parts(octets);
+    if chars.len() > 144 {
         return None;
     }
-    let (chars, tail) = codes.split_at(count);
-    if tail.len() == 1 {
-        return Some((Unit { chars, em: false }, tail[0]));
+    let mut codes = [0; 144];
+    if !copy_codes(chars, &mut codes) {
+        return None;
     }
-    if tail.len() == 2 {
-        if tail[0] != EM {
-            return None;
-        }
-        return Some((Unit { chars, em: true }, tail[1]));
-    }
-    None
+    draft.push(Unit {
+        chars: &codes[..chars.len()],
+        em,
+    });
+    Some(last % 0x80)
+}
+
+/// Reads the unit of these octets without fill, adds it to the draft, and gives its ending character and
+/// the octets behind its check.
+fn take_front<'a>(
+    behind: bool,
+    front: &[u8],
+    octets: &'a [u8],
+    draft: &mut Draft,
+) -> Option<(u8, &'a [u8])>
+    requires draft { IsDraft draft.old }
+    requires room { length (draft_units draft.old) < 7 }
+    requires odd { All IsOdd front.now }
+    requires ends { IsFront front.now }
+    ensures found { IfSome result (λ r. TakesUnit draft.old draft.new (unit_before behind (map low_bits front.now) octets.entry.now) r.0 r.1.now) }
+    ensures none { IfNone result (unit_before behind (map low_bits front.now) octets.now ≡ None) }
+{
+    let Some(rest) = checked(front, octets) else {
+        return None;
+    };
+    let Some(ending) = take_chars(without_start(behind, front), draft) else {
+        return None;
+    };
+    Some((ending, rest))
 }
 
 /// Reads the first unit, adds it to the draft, and gives its ending character and the octets behind
 /// its check.
-#[tactic(auto, using(crate::proofs::UnitSteps::at_gathered, crate::proofs::UnitSteps::at_checked, crate::proofs::UnitSteps::at_unit))]
 fn take_unit<'a>(behind: bool, octets: &'a [u8], draft: &mut Draft) -> Option<(u8, &'a [u8])>
     requires draft { IsDraft draft.old }
     requires room { length (draft_units draft.old) < 7 }
+    requires odd { All IsOdd octets.now }
     ensures found { IfSome result (λ r. TakesUnit draft.old draft.new (unit_at behind octets.entry.now) r.0 r.1.now) }
-    ensures none { IfNone result (unit_at behind octets.entry.now ≡ None) }
+    ensures none { IfNone result (unit_at behind octets.now ≡ None) }
 {
-    let Some((codes, rest)) = gather(octets) else {
+    let place = before_ending(octets);
+    if place == octets.len() {
+        return None;
+    }
+    let (front, rest) = octets.split_at(place + 1);
+    if !has_fill(front) {
+        return take_front(behind, front, rest, draft);
+    }
+    let mut unit = [0; MAX_CODES];
+    let Some(count) = squeeze(front, &mut unit) else {
         return None;
     };
-    let Some(rest) = checked(&codes, rest) else {
-        return None;
-    };
-    let Some((unit, ending)) = unit_in(without_start(behind, &codes)) else {
-        return None;
-    };
-    draft.push(unit);
-    Some((ending, rest))
+    take_front(behind, &unit[..count], rest, draft)
 }
 
-/// The text of these units, behind its STX.
+/// Reads the units of a text, behind its STX, into an empty draft, and gives the end of the text.
 #[tactic(auto, using(crate::proofs::UnitSteps::read_start, crate::proofs::UnitSteps::read_stop, crate::proofs::UnitSteps::read_more, crate::proofs::UnitSteps::read_extra, crate::proofs::UnitSteps::read_whole, crate::proofs::UnitSteps::read_all))]
-pub(crate) fn read_units(octets: &[u8]) -> Option<Text>
-    ensures { result ≡ units_at 7 false octets.now }
+pub(crate) fn read_units(octets: &[u8], draft: &mut Draft) -> Option<End>
+    requires draft { IsDraft draft.old }
+    requires empty { draft_units draft.old ≡ [] }
+    requires odd { All IsOdd octets.now }
+    ensures found { IfSome result (λ e. ReadsText draft.new e (units_at 7 false octets.now)) }
+    ensures none { IfNone result (units_at 7 false octets.now ≡ None) }
 {
-    let mut draft = Draft::new();
     let mut rest = octets;
     for count in 0..7usize {
-        let Some((ending, behind)) = take_unit(count > 0, rest, &mut draft) else {
+        let Some((ending, behind)) = take_unit(count > 0, rest, draft) else {
             return None;
         };
         if ending != US {
             if !behind.is_empty() {
                 return None;
             }
-            let end = if ending == ETB { End::Etb } else { End::Etx };
-            return Some(Text::from_draft(draft, end));
+            return Some(if ending == ETB { End::Etb } else { End::Etx });
         }
         rest = behind;
     }

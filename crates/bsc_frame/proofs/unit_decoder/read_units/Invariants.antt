@@ -1,5 +1,10 @@
+use Rattle.std.proofs.Common.{All}
+use Rattle.bsc_octet.specs.Octet.{IsOdd}
 use Rattle.bsc_frame.proofs.UnitSteps.{ReadTo}
 use Rattle.bsc_frame.proofs.unit_decoder.read_units.Given as goal
 
 abbrev pub invariant-loop-count : goal.invariant-loop-count
-invariant-loop-count l = ReadTo l.draft l.count l.rest l.fn.octets
+invariant-loop-count l = record {
+  read : ReadTo l.draft l.count l.rest l.fn.octets;
+  odd : All IsOdd l.rest;
+}

@@ -1,0 +1,94 @@
+-- Octets that carry their low seven bits.
+use Rattle.std.proofs.Common.{◌≡◌, ℕ, ◌+◌, ◌%◌, ◌<◌, ◌==◌, Bool, true, false, cond, refl, sym, ap, ◌∙◌, arith, List, [], ◌∷◌, map, get_or, Some, All, Fits, w8}
+use Rattle.std.specs.List.{AllByRecursion}
+use Rattle.std.specs.Int.{bit_at}
+use Rattle.std.specs.Int.Count.{ones}
+use Rattle.std.proofs.lemmas.Bool.Decides.{nat_tests}
+use Rattle.std.proofs.lemmas.List.Elements.{All-from_get_or, recursion_from_All}
+use Rattle.std.proofs.lemmas.List.Sums.{sum_by-cons}
+use Rattle.bsc_octet.specs.Octet.{IsOdd, odd_octet, code_of, longitudinal_sum, with_bit}
+use Rattle.bsc_octet.proofs.ParityLemmas.{code_of_odd, code_of_some}
+use Rattle.bsc_frame.specs.Reading.{low_bits, is_ending_code, is_ending_octet, behind_start, behind_check}
+
+-- each octet carries its low seven bits
+abbrev pub AreCarried : List ℕ → Type 0
+AreCarried = AllByRecursion (λ x. code_of x ≡ Some (low_bits x))
+
+carried_by : (s : List ℕ) → AllByRecursion IsOdd s → AllByRecursion (λ x. x < 256) s → AreCarried s
+carried_by [] o f = tt
+carried_by (x ∷ s) o f = (code_of_odd x f.0 o.0, carried_by s o.1 f.1)
+
+pub carried : (s : List ℕ) → All IsOdd s → ((i : ℕ) → Fits w8 (get_or s i 0)) → AreCarried s
+carried s o f =
+    carried_by s (recursion_from_All IsOdd s o) (recursion_from_All (λ x. x < 256) s (All-from_get_or (λ x. x < 256) s 0 (λ i _. (f i).fits)))
+
+-- ---- one octet
+
+same_test : (a b c d : ℕ) → (a ≡ b → c ≡ d) → (c ≡ d → a ≡ b) → (a == b) ≡ (c == d)
+same_test a b c d f g = grind (arith, nat_tests, f, g)
+
+-- an octet is the one of a code where its low bits are the code
+low_test : (x k o : ℕ) → code_of x ≡ Some (low_bits x) → odd_octet k ≡ o → o % 128 ≡ k → (low_bits x == k) ≡ (x == o)
+low_test x k o c e l = same_test (low_bits x) k x o (λ h. sym (code_of_some x (low_bits x) c).1 ∙ ap odd_octet h ∙ e) (λ h. ap low_bits h ∙ l)
+
+pub low_is : (x k o : ℕ) → code_of x ≡ Some (low_bits x) → odd_octet k ≡ o → low_bits x ≡ k → x ≡ o
+low_is x k o c e h = sym (code_of_some x (low_bits x) c).1 ∙ ap odd_octet h ∙ e
+
+pub ending_same : (x : ℕ) → code_of x ≡ Some (low_bits x) → is_ending_code (low_bits x) ≡ is_ending_octet x
+unfolding odd_octet ones
+ending_same x c = rw (low_test x 0x1f 0x1f c refl refl, low_test x 0x17 0x97 c refl refl, low_test x 0x03 0x83 c refl refl) refl
+
+pub stx_same : (x : ℕ) → code_of x ≡ Some (low_bits x) → (low_bits x == 0x02) ≡ (x == 0x02)
+unfolding odd_octet ones
+stx_same x c = low_test x 0x02 0x02 c refl refl
+
+pub em_is : (x : ℕ) → code_of x ≡ Some (low_bits x) → low_bits x ≡ 0x19 → x ≡ 0x19
+unfolding odd_octet ones
+em_is x c h = low_is x 0x19 0x19 c refl h
+
+-- ---- sums
+
+with_bit_low : (i : ℕ) → ((x : ℕ) → bit_at (low_bits x) i ≡ bit_at x i) → (s : List ℕ) → with_bit i (map low_bits s) ≡ with_bit i s
+with_bit_low i e [] = refl
+with_bit_low i e (x ∷ s) =
+    sum_by-cons (λ y. cond (bit_at y i == 1) 1 0) (low_bits x) (map low_bits s)
+    ∙ rw (e x) (ap (λ n. cond (bit_at x i == 1) 1 0 + n) (with_bit_low i e s))
+    ∙ sym (sum_by-cons (λ y. cond (bit_at y i == 1) 1 0) x s)
+
+-- the eighth bit is in no sum
+pub sum_low : (s : List ℕ) → longitudinal_sum (map low_bits s) ≡ longitudinal_sum s
+unfolding longitudinal_sum
+sum_low s =
+    rw (
+      with_bit_low 0 (λ x. omega arith) s,
+      with_bit_low 1 (λ x. omega arith) s,
+      with_bit_low 2 (λ x. omega arith) s,
+      with_bit_low 3 (λ x. omega arith) s,
+      with_bit_low 4 (λ x. omega arith) s,
+      with_bit_low 5 (λ x. omega arith) s,
+      with_bit_low 6 (λ x. omega arith) s,
+    ) refl
+
+pub check_low : (s octets : List ℕ) → behind_check (map low_bits s) octets ≡ behind_check s octets
+check_low s [] = refl
+check_low s (k ∷ rest) = rw (sum_low s) refl
+
+-- ---- an STX behind a check
+
+by_stx : (b : Bool) (x : ℕ) (s : List ℕ) → cond b (map low_bits s) (low_bits x ∷ map low_bits s) ≡ map low_bits (cond b s (x ∷ s))
+by_stx true x s = refl
+by_stx false x s = refl
+
+pub start_low : (behind : Bool) (s : List ℕ) → AreCarried s → behind_start behind (map low_bits s) ≡ map low_bits (behind_start behind s)
+start_low false s c = refl
+start_low true [] c = refl
+start_low true (x ∷ s) c = rw (stx_same x c.0) (by_stx (x == 0x02) x s)
+
+pub carried_start : (behind : Bool) (s : List ℕ) → AreCarried s → AreCarried (behind_start behind s)
+carried_start false s c = c
+carried_start true [] c = tt
+carried_start true (x ∷ s) c = by_test (x == 0x02)
+  where
+    by_test : (b : Bool) → AreCarried (cond b s (x ∷ s))
+    by_test true = c.1
+    by_test false = c

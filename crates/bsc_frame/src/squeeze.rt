@@ -1,0 +1,59 @@
+//! Loops over the octets of a unit that go to their end, so that a compiler makes lanes or moves of them:
+//! a branch that depends on the octet costs more than the work that it saves.
+ghost use Rattle.std.specs.Prelude.{◌≡◌, ◌<◌, ◌≤◌, length, take, map, filter, IfSome, IfNone};
+ghost use Rattle.std.specs.List.{list_any, list_all};
+ghost use Rattle.bsc_octet.specs.Octet.{is_record_char};
+ghost use Rattle.bsc_frame.specs.Reading.{low_bits, is_octet, is_other, is_char_octet};
+
+use bsc_octet::is_record_char;
+
+const SYN: u8 = 0x16;
+
+/// One more than the most codes of a unit: an STX behind a check, 144 characters, EM, the ending character.
+pub(crate) const MAX_CODES: usize = 148;
+
+/// Whether there is fill among the octets.
+#[tactic(auto, using(crate::proofs::SqueezeLemmas::fill_more))]
+pub(crate) fn has_fill(octets: &[u8]) -> bool
+    ensures { result ≡ list_any (is_octet 0x16) octets.now }
+{
+    let mut found = false;
+    for octet in octets {
+        found |= *octet == SYN;
+    }
+    found
+}
+
+/// Puts the octets without fill to the front of the buffer, and gives their count. `None` where they are
+/// more than there is room for.
+#[tactic(auto, using(crate::proofs::SqueezeLemmas::squeeze_more, crate::proofs::SqueezeLemmas::squeeze_full, crate::proofs::SqueezeLemmas::squeeze_all))]
+pub(crate) fn squeeze(octets: &[u8], buffer: &mut [u8; MAX_CODES]) -> Option<usize>
+    ensures some { IfSome result (λ n. (n ≤ 148) × (take n buffer.new ≡ filter is_other octets.now)) }
+    ensures none { IfNone result (147 < length (filter is_other octets.now)) }
+{
+    let mut count = 0;
+    for octet in octets {
+        if count == MAX_CODES {
+            return None;
+        }
+        buffer[count] = *octet;
+        count += usize::from(*octet != SYN);
+    }
+    Some(count)
+}
+
+/// Puts the codes of the octets to the front of the buffer, and says whether they all are record characters.
+#[tactic(auto, using(crate::proofs::SqueezeLemmas::codes_more, crate::proofs::SqueezeLemmas::codes_all))]
+pub(crate) fn copy_codes(octets: &[u8], buffer: &mut [u8; 144]) -> bool
+    requires { length octets.now ≤ 144 }
+    ensures codes { take (length octets.now) buffer.new ≡ map low_bits octets.now }
+    ensures chars { result ≡ list_all is_char_octet octets.now }
+{
+    let mut chars = true;
+    for (i, octet) in octets.iter().enumerate() {
+        let code = *octet % 0x80;
+        buffer[i] = code;
+        chars &= is_record_char(code);
+    }
+    chars
+}
