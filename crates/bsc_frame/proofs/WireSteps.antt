@@ -1,9 +1,14 @@
 -- The steps of sending units.
-use Rattle.std.proofs.Common.{◌≡◌, ℕ, zero, suc, ◌+◌, ◌<◌, ◌≤◌, Bool, true, false, cond, refl, sym, ap, ◌∙◌, arith, lit<, List, [], ◌∷◌, ◌++◌, length, drop, add-one, append_assoc, length-append, Some, slice_get, All, IsTrue}
+use Rattle.std.proofs.Common.{◌≡◌, ℕ, zero, suc, ◌+◌, ◌<◌, ◌≤◌, Bool, true, false, cond, refl, sym, ap, ◌∙◌, arith, lit<, List, [], ◌∷◌, ◌++◌, length, take, drop, get_or, set, map, nat_lt, None, add-one, append_assoc, length-set, length-append, Some, slice_get, All, IsTrue}
 use Rattle.std.specs.List.{AllByRecursion}
-use Rattle.std.proofs.lemmas.List.{drop_all}
-use Rattle.std.proofs.lemmas.List.Elements.{All-from_recursion, All-append, All-cons, All-nil}
-use Rattle.bsc_octet.specs.Octet.{is_record_char}
+use Rattle.std.proofs.lemmas.List.{drop_all, take_all, take_more, take_more_set, map-append}
+use Rattle.std.proofs.lemmas.Bool.Decides.{nat_tests}
+use Rattle.std.proofs.lemmas.List.Elements.{recursion_from_All, All-from_recursion, All-append, All-cons, All-nil}
+use Rattle.bsc_octet.specs.Octet.{odd_octet, longitudinal_sum, is_record_char}
+use Rattle.bsc_octet.proofs.ParityLemmas.{odd_octet-low}
+use Rattle.std.specs.Int.Count.{ones}
+use Rattle.bsc_frame.specs.Reading.{low_bits}
+use Rattle.bsc_frame.proofs.CarriedLemmas.{sum_low}
 use Rattle.bsc_frame.specs.Texts.{TextUnit, IsUnit}
 use Rattle.bsc_frame.specs.Units.{unit_codes, unit_wire, units_wire, ending, end_code}
 use Rattle.bsc_frame.specs.declared.text.End.{End}
@@ -17,11 +22,72 @@ em_small : (b : Bool) → All (λ c. c < 128) (cond b (0x19 ∷ []) [])
 em_small true = All-cons (λ c. c < 128) 0x19 [] (lit< tt) (All-nil (λ c. c < 128))
 em_small false = All-nil (λ c. c < 128)
 
-pub codes_small : (u : TextUnit) (e : ℕ) → IsUnit u → e < 128 → All (λ c. c < 128) (unit_codes u e)
+codes_small : (u : TextUnit) (e : ℕ) → IsUnit u → e < 128 → All (λ c. c < 128) (unit_codes u e)
 codes_small u e h l =
     All-append (λ c. c < 128) (u.chars ++ cond u.em (0x19 ∷ []) []) (e ∷ [])
     (All-append (λ c. c < 128) u.chars (cond u.em (0x19 ∷ []) []) (All-from_recursion (λ c. c < 128) u.chars (all_small u.chars h.each)) (em_small u.em))
     (All-cons (λ c. c < 128) e [] l (All-nil (λ c. c < 128)))
+
+-- ---- the octets of a unit
+
+is_code : (c : ℕ) → c < 128 → nat_lt c 128 ≡ true
+is_code c l = grind (arith, nat_tests)
+
+-- a code has an octet
+pub carried_no : (c : ℕ) → c < 128 → cond (nat_lt c 128) (Some (odd_octet c)) None ≡ None → ⊥
+carried_no c l e = let h : Some (odd_octet c) ≡ None = rw (is_code c l) at e in cc
+
+pub carried_is : (c o : ℕ) → c < 128 → cond (nat_lt c 128) (Some (odd_octet c)) None ≡ Some o → o ≡ odd_octet c
+carried_is c o l e = let h : Some (odd_octet c) ≡ Some o = rw (is_code c l) at e in cc
+
+-- the first i codes stand as octets at the front
+pub record PutTo (octets : List ℕ) (i : ℕ) (codes : List ℕ) : Type 0 where
+  pub long : length octets ≡ 147
+  pub front : take i octets ≡ map odd_octet (take i codes)
+
+pub put_more : (octets : List ℕ) (i : ℕ) (codes : List ℕ) (o : ℕ) → PutTo octets i codes → i < length codes → length codes ≤ 147 → o ≡ odd_octet (get_or codes i 0)
+    → PutTo (set octets i o) (i + 1) codes
+put_more octets i codes o p l few e =
+    let next : map odd_octet (take (i + 1) codes) ≡ map odd_octet (take i codes) ++ odd_octet (get_or codes i 0) ∷ [] =
+    ap (map odd_octet) (take_more codes i 0 l) ∙ map-append odd_octet (take i codes) (get_or codes i 0 ∷ []) in
+    record {
+      long = omega (arith, p.long, length-set octets i o);
+      front = take_more_set octets i o (omega (arith, p.long)) ∙ ap (λ z. z ++ o ∷ []) p.front ∙ ap (λ z. map odd_octet (take i codes) ++ z ∷ []) e ∙ sym next;
+    }
+
+pub put_all : (octets : List ℕ) (i : ℕ) (codes : List ℕ) → PutTo octets i codes → length codes ≤ i → i ≤ length codes → take (length codes) octets ≡ map odd_octet codes
+put_all octets i codes p l u =
+    let same : length codes ≡ i = omega arith in
+    ap (λ n. take n octets) same ∙ p.front ∙ ap (map odd_octet) (take_all i codes l)
+
+pub chars_small : (u : TextUnit) → IsUnit u → All (λ c. c < 128) u.chars
+chars_small u h = All-from_recursion (λ c. c < 128) u.chars (all_small u.chars h.each)
+
+low_odd : (codes : List ℕ) → AllByRecursion (λ c. c < 128) codes → map low_bits (map odd_octet codes) ≡ codes
+low_odd [] h = refl
+low_odd (c ∷ codes) h = rw (odd_octet-low c h.0, low_odd codes h.1) refl
+
+-- the sum of the octets is that of their codes
+sum_odd : (codes : List ℕ) → All (λ c. c < 128) codes → longitudinal_sum (map odd_octet codes) ≡ longitudinal_sum codes
+sum_odd codes h = sym (sum_low (map odd_octet codes)) ∙ ap longitudinal_sum (low_odd codes (recursion_from_All (λ c. c < 128) codes h))
+
+odd_em : (em : Bool) → map odd_octet (cond em (0x19 ∷ []) []) ≡ cond em (0x19 ∷ []) []
+unfolding odd_octet ones
+odd_em true = refl
+odd_em false = refl
+
+odd_codes : (u : TextUnit) (e : ℕ) → map odd_octet (unit_codes u e) ≡ (map odd_octet u.chars ++ cond u.em (0x19 ∷ []) []) ++ odd_octet e ∷ []
+odd_codes u e =
+    map-append odd_octet (u.chars ++ cond u.em (0x19 ∷ []) []) (e ∷ [])
+    ∙ ap (λ z. z ++ odd_octet e ∷ []) (map-append odd_octet u.chars (cond u.em (0x19 ∷ []) []) ∙ ap (λ z. map odd_octet u.chars ++ z) (odd_em u.em))
+
+-- the octets of the codes and the check behind them
+pub unit_wire_is : (u : TextUnit) (e : ℕ) (line : List ℕ) → IsUnit u → e < 128 → line ≡ (map odd_octet u.chars ++ cond u.em (0x19 ∷ []) []) ++ odd_octet e ∷ []
+    → line ++ odd_octet (longitudinal_sum line) ∷ [] ≡ unit_wire u e
+unit_wire_is u e line h l w =
+    let same : line ≡ map odd_octet (unit_codes u e) = w ∙ sym (odd_codes u e) in
+    ap (λ z. z ++ odd_octet (longitudinal_sum z) ∷ []) same
+    ∙ ap (λ n. map odd_octet (unit_codes u e) ++ odd_octet n ∷ []) (sum_odd (unit_codes u e) (codes_small u e h l))
 
 -- ---- which character ends a unit
 

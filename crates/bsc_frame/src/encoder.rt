@@ -1,8 +1,8 @@
 //! From messages to octets.
-ghost use Rattle.std.specs.Prelude.{◌≡◌, ◌≤◌, ◌<◌, ◌++◌, ◌+◌, length, map, drop, All};
+ghost use Rattle.std.specs.Prelude.{◌≡◌, ◌≤◌, ◌<◌, ◌+◌, [], ◌∷◌, ◌++◌, length, take, drop, map, All, if◌then◌else◌};
 ghost use Rattle.bsc_octet.specs.Octet.{odd_octet};
 ghost use Rattle.bsc_frame.specs.Texts.{IsUnit};
-ghost use Rattle.bsc_frame.specs.Units.{text_unit, end_code, ending, unit_codes, unit_wire, units_wire};
+ghost use Rattle.bsc_frame.specs.Units.{text_unit, end_code, ending, unit_wire, units_wire};
 ghost use Rattle.bsc_frame.specs.Wire.{wire as wire_of};
 
 use crate::buffer::append;
@@ -18,16 +18,78 @@ const EM: u8 = 0x19;
 
 const US: u8 = 0x1f;
 
-/// Appends the octets that carry the codes.
+/// The octets of a unit: 144 characters, EM, the ending character and the check.
+type UnitOctets = [u8; 147];
+
+/// The octet that carries the code.
+#[tactic(auto, using(crate::proofs::WireSteps::carried_no, crate::proofs::WireSteps::carried_is))]
+fn carried(code: u8) -> u8
+    requires { code < 128 }
+    ensures { result ≡ odd_octet code }
+{
+    let Some(octet) = to_line(code) else {
+        unreachable!();
+    };
+    octet
+}
+
+/// Puts the octets that carry the codes to the front. The loop has no branch, so a compiler makes lanes of it.
+#[tactic(auto, using(crate::proofs::WireSteps::put_more, crate::proofs::WireSteps::put_all))]
+fn put_codes(octets: &mut UnitOctets, codes: &[u8])
+    requires room { length codes.now ≤ 147 }
+    requires codes { All (λ c. c < 128) codes.now }
+    ensures { take (length codes.now) octets.new ≡ map odd_octet codes.now }
+{
+    for (i, code) in codes.iter().enumerate() {
+        octets[i] = carried(*code);
+    }
+}
+
+/// Puts the octet behind the first ones, and gives how many there are then.
+#[tactic(auto, using(std::proofs::lemmas::List::take_more_set))]
+fn put(octets: &mut UnitOctets, count: usize, octet: u8) -> usize
+    requires { count < 147 }
+    ensures octets { take result octets.new ≡ take count octets.old ++ octet ∷ [] }
+    ensures count { result ≡ count + 1 }
+{
+    octets[count] = octet;
+    count + 1
+}
+
+/// Puts EM behind the first octets where the unit is marked, and gives how many there are then.
+fn put_em(octets: &mut UnitOctets, count: usize, em: bool) -> usize
+    requires { count < 147 }
+    ensures octets { take result octets.new ≡ take count octets.old ++ (if em then 0x19 ∷ [] else []) }
+    ensures count { result ≤ count + 1 }
+{
+    if em {
+        return put(octets, count, EM);
+    }
+    count
+}
+
+/// Puts the octets of the unit with its check, and gives how many there are.
+fn put_unit(octets: &mut UnitOctets, unit: Unit<'_>, ending: u8) -> usize
+    requires unit { IsUnit (text_unit unit) }
+    requires ending { ending < 128 }
+    ensures octets { take result octets.new ≡ unit_wire (text_unit unit.entry) ending }
+    ensures count { result ≤ 147 }
+{
+    put_codes(octets, unit.chars);
+    let count = put_em(octets, unit.chars.len(), unit.em);
+    let count = put(octets, count, carried(ending));
+    let check = check_of(&octets[..count]);
+    put(octets, count, check)
+}
+
+/// Appends the octets that carry the codes, one at a time.
 fn append_codes(wire: &mut Wire, codes: &[u8])
     requires room { length wire.old.items + length codes.now ≤ 1100 }
     requires codes { All (λ c. c < 128) codes.now }
     ensures { wire.new.items ≡ wire.old.items ++ map odd_octet codes.now }
 {
     for code in codes {
-        if let Some(octet) = to_line(*code) {
-            wire.push(octet);
-        }
+        wire.push(carried(*code));
     }
 }
 
@@ -41,31 +103,16 @@ fn end_char(end: End) -> u8
     }
 }
 
-/// The codes of the unit.
-fn codes_of(unit: Unit<'_>, ending: u8) -> ArrayVec<u8, 146>
-    requires { length unit.chars.now ≤ 144 }
-    ensures { result.items ≡ unit_codes (text_unit unit.entry) ending }
-{
-    let mut codes = ArrayVec::new();
-    append(&mut codes, unit.chars);
-    if unit.em {
-        codes.push(EM);
-    }
-    codes.push(ending);
-    codes
-}
-
 /// Appends the unit with its check.
-#[tactic(auto, using(crate::proofs::WireSteps::codes_small))]
 fn append_unit(wire: &mut Wire, unit: Unit<'_>, ending: u8)
     requires unit { IsUnit (text_unit unit) }
     requires ending { ending < 128 }
     requires room { length wire.old.items + length (unit_wire (text_unit unit) ending) ≤ 1100 }
     ensures { wire.new.items ≡ wire.old.items ++ unit_wire (text_unit unit.entry) ending }
 {
-    let codes = codes_of(unit, ending);
-    append_codes(wire, &codes);
-    wire.push(check_of(&codes));
+    let mut octets = [0; 147];
+    let count = put_unit(&mut octets, unit, ending);
+    append(wire, &octets[..count]);
 }
 
 /// The character that ends the unit at the place.
