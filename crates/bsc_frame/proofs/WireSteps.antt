@@ -1,8 +1,7 @@
 -- The steps of sending units.
-use Rattle.std.proofs.Common.{◌≡◌, ℕ, zero, suc, ◌+◌, ◌<◌, ◌≤◌, Bool, true, false, cond, refl, sym, ap, ◌∙◌, arith, lit<, List, [], ◌∷◌, ◌++◌, length, take, drop, get_or, set, map, nat_lt, None, add-one, append_assoc, length-set, length-append, Some, slice_get, All, IsTrue}
+use Rattle.std.proofs.Common.{◌≡◌, ℕ, zero, suc, ◌+◌, ◌<◌, ◌≤◌, Bool, true, false, cond, refl, sym, ap, ◌∙◌, arith, lit<, List, [], ◌∷◌, ◌++◌, length, take, drop, get_or, set, map, add-one, append_assoc, length-set, length-append, Some, slice_get, All, IsTrue}
 use Rattle.std.specs.List.{AllByRecursion}
 use Rattle.std.proofs.lemmas.List.{drop_all, take_all, take_more, take_more_set, map-append}
-use Rattle.std.proofs.lemmas.Bool.Decides.{nat_tests}
 use Rattle.std.proofs.lemmas.List.Elements.{recursion_from_All, All-from_recursion, All-append, All-cons, All-nil}
 use Rattle.bsc_octet.specs.Octet.{odd_octet, longitudinal_sum, is_record_char}
 use Rattle.bsc_octet.proofs.ParityLemmas.{odd_octet-low}
@@ -29,16 +28,6 @@ codes_small u e h l =
     (All-cons (λ c. c < 128) e [] l (All-nil (λ c. c < 128)))
 
 -- ---- the octets of a unit
-
-is_code : (c : ℕ) → c < 128 → nat_lt c 128 ≡ true
-is_code c l = grind (arith, nat_tests)
-
--- a code has an octet
-pub carried_no : (c : ℕ) → c < 128 → cond (nat_lt c 128) (Some (odd_octet c)) None ≡ None → ⊥
-carried_no c l e = let h : Some (odd_octet c) ≡ None = rw (is_code c l) at e in cc
-
-pub carried_is : (c o : ℕ) → c < 128 → cond (nat_lt c 128) (Some (odd_octet c)) None ≡ Some o → o ≡ odd_octet c
-carried_is c o l e = let h : Some (odd_octet c) ≡ Some o = rw (is_code c l) at e in cc
 
 -- the first i codes stand as octets at the front
 pub record PutTo (octets : List ℕ) (i : ℕ) (codes : List ℕ) : Type 0 where

@@ -9,7 +9,6 @@ use crate::buffer::append;
 use crate::unit_decoder::check_of;
 use crate::{End, Message, Text, Unit};
 use arrayvec::ArrayVec;
-use bsc_octet::to_line;
 
 /// The octets of one transmission.
 pub type Wire = ArrayVec<u8, 1100>;
@@ -21,16 +20,16 @@ const US: u8 = 0x1f;
 /// The octets of a unit: 144 characters, EM, the ending character and the check.
 type UnitOctets = [u8; 147];
 
-/// The octet that carries the code.
-#[tactic(auto, using(crate::proofs::WireSteps::carried_no, crate::proofs::WireSteps::carried_is))]
+/// The octet that carries the code. It is found by folding bits, for a compiler makes lanes of that, and of
+/// a count of ones with a test it does not.
 fn carried(code: u8) -> u8
     requires { code < 128 }
     ensures { result ≡ odd_octet code }
 {
-    let Some(octet) = to_line(code) else {
-        unreachable!();
-    };
-    octet
+    let fours = code ^ (code >> 4);
+    let twos = fours ^ (fours >> 2);
+    let ones = twos ^ (twos >> 1);
+    code | ((!ones & 1) << 7)
 }
 
 /// Puts the octets that carry the codes to the front. The loop has no branch, so a compiler makes lanes of it.

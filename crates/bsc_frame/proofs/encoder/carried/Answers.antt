@@ -1,0 +1,25 @@
+use Rattle.std.proofs.Common.{◌≡◌, ℕ, ◌-◌, ◌*◌, ◌/◌, ◌%◌, ◌==◌, true, refl, bit_and, bit_or, bit_xor}
+use Rattle.std.specs.Int.Count.{ones}
+use Rattle.std.proofs.lemmas.Bool.{agree_below, agree_below_at, eqb-true}
+use Rattle.bsc_octet.specs.Octet.{odd_octet}
+use Rattle.bsc_frame.proofs.encoder.carried.Goals as goal
+
+fours : ℕ → ℕ
+fours x = bit_xor x (x / 16)
+
+twos : ℕ → ℕ
+unfolding fours
+twos x = bit_xor (fours x) (fours x / 4)
+
+folded : ℕ → ℕ
+unfolding fours twos
+folded x = bit_or x (bit_and (255 - bit_xor (twos x) (twos x / 2)) 1 * 128 % 256)
+
+-- by all 128 codes
+folds : agree_below (λ x. folded x == odd_octet x) (λ _. true) 128 ≡ true
+unfolding fours twos folded odd_octet ones
+folds = refl
+
+pub returns : goal.returns
+unfolding fours twos folded
+returns c = eqb-true (folded c.args.code) (odd_octet c.args.code) (agree_below_at (λ x. folded x == odd_octet x) (λ _. true) 128 c.args.code folds c.requires)
