@@ -1,5 +1,5 @@
 -- The steps of the loops over the octets of a unit.
-use Rattle.std.proofs.Common.{◌≡◌, ℕ, ◌+◌, ◌<◌, ◌≤◌, ◌==◌, Bool, true, false, not, ◌||◌, ◌&&◌, cond, List, [], ◌∷◌, ◌++◌, length, take, drop, get_or, set, map, refl, sym, ap, ◌∙◌, arith, length-append, length-take, length-set, append-nil, take-append-drop}
+use Rattle.std.proofs.Common.{◌≡◌, ℕ, ◌+◌, ◌-◌, ◌<◌, ◌≤◌, ◌==◌, Bool, true, false, not, ◌||◌, ◌&&◌, cond, List, [], ◌∷◌, ◌++◌, length, take, drop, get_or, set, map, refl, sym, ap, ◌∙◌, arith, length-append, length-take, length-set, append-nil, append_assoc, take-add, le_refl, take-append-drop}
 use Rattle.std.specs.List.{filter, list_any, list_all}
 use Rattle.std.proofs.lemmas.List.{take_more, take_all, take_more_set, take-set, map-append}
 use Rattle.std.proofs.lemmas.List.Elements.{filter_more, filter-append}
@@ -14,44 +14,77 @@ fill_more found i s e l = ap (λ b. b || (get_or s i 0 == 0x16)) e ∙ sym (list
 
 -- ---- squeezing
 
--- count octets of the first i are no fill, and stand at the front of the buffer
-pub record SqueezedTo (count : ℕ) (buffer : List ℕ) (i : ℕ) (s : List ℕ) : Type 0 where
-  pub long : length buffer ≡ 148
-  pub room : count ≤ 148
-  pub front : take count buffer ≡ filter is_other (take i s)
+-- behind the first ones stand those of the first i octets that are no fill
+pub record SqueezedTo (first : List ℕ) (start count : ℕ) (buffer : List ℕ) (i : ℕ) (s : List ℕ) : Type 0 where
+  pub long : length buffer ≡ 164
+  pub room : count ≤ start + i
+  pub front : take count buffer ≡ take start first ++ filter is_other (take i s)
 
-stored : (count : ℕ) (buffer : List ℕ) (x : ℕ) (all : List ℕ) (i : ℕ) (s : List ℕ) → length buffer ≡ 148 → count < 148 → (b : Bool)
-    → all ≡ take count buffer ++ cond b (x ∷ []) [] → all ≡ filter is_other (take i s) → SqueezedTo (count + cond b 1 0) (set buffer count x) i s
-stored count buffer x all i s long less true e f = record {
-  long = omega (arith, length-set buffer count x);
-  room = omega arith;
-  front = take_more_set buffer count x (omega arith) ∙ sym e ∙ f;
+pub squeeze_start : (buffer : List ℕ) (start : ℕ) (s : List ℕ) → length buffer ≡ 164 → SqueezedTo buffer start start buffer 0 s
+squeeze_start buffer start s l = record { long = l; room = omega arith; front = sym (append-nil (take start buffer)) }
+
+stored : (first : List ℕ) (start count : ℕ) (buffer : List ℕ) (x : ℕ) (i : ℕ) (s : List ℕ) → SqueezedTo first start count buffer i s → count < 164 → (b : Bool)
+    → filter is_other (take (i + 1) s) ≡ filter is_other (take i s) ++ cond b (x ∷ []) [] → SqueezedTo first start (count + cond b 1 0) (set buffer count x) (i + 1) s
+stored first start count buffer x i s k less true e = record {
+  long = omega (arith, k.long, length-set buffer count x);
+  room = omega (arith, k.room);
+  front = take_more_set buffer count x (omega (arith, k.long)) ∙ ap (λ z. z ++ x ∷ []) k.front
+      ∙ append_assoc (take start first) (filter is_other (take i s)) (x ∷ []) ∙ ap (λ z. take start first ++ z) (sym e);
 }
-stored count buffer x all i s long less false e f =
+stored first start count buffer x i s k less false e =
     let same : count + 0 ≡ count = omega arith in
     record {
-      long = omega (arith, length-set buffer count x);
-      room = omega arith;
-      front = ap (λ n. take n (set buffer count x)) same ∙ take-set buffer count x ∙ sym (append-nil (take count buffer)) ∙ sym e ∙ f;
+      long = omega (arith, k.long, length-set buffer count x);
+      room = omega (arith, k.room);
+      front = ap (λ n. take n (set buffer count x)) same ∙ take-set buffer count x ∙ k.front ∙ ap (λ z. take start first ++ z) (sym (e ∙ append-nil (filter is_other (take i s))));
     }
 
-pub squeeze_more : (count : ℕ) (buffer : List ℕ) (i : ℕ) (s : List ℕ) → SqueezedTo count buffer i s → i < length s → (count ≡ 148 → ⊥)
-    → SqueezedTo (count + cond (not (get_or s i 0 == 0x16)) 1 0) (set buffer count (get_or s i 0)) (i + 1) s
-squeeze_more count buffer i s k l less =
-    let x : ℕ = get_or s i 0 in
-    let next : filter is_other (take (i + 1) s) ≡ take count buffer ++ cond (is_other x) (x ∷ []) [] =
-    filter_more is_other s i 0 l ∙ ap (λ z. z ++ cond (is_other x) (x ∷ []) []) (sym k.front) in
-    stored count buffer x (filter is_other (take (i + 1) s)) (i + 1) s k.long (omega (arith, k.room)) (is_other x) next refl
+pub squeeze_more : (first : List ℕ) (start count : ℕ) (buffer : List ℕ) (i : ℕ) (s : List ℕ) → SqueezedTo first start count buffer i s → i < length s → length s ≤ 16 → start ≤ 148
+    → SqueezedTo first start (count + cond (not (get_or s i 0 == 0x16)) 1 0) (set buffer count (get_or s i 0)) (i + 1) s
+squeeze_more first start count buffer i s k l part few =
+    stored first start count buffer (get_or s i 0) i s k (omega (arith, k.room)) (is_other (get_or s i 0)) (filter_more is_other s i 0 l)
 
-pub squeeze_full : (count : ℕ) (buffer : List ℕ) (i : ℕ) (s : List ℕ) → SqueezedTo count buffer i s → count ≡ 148 → 147 < length (filter is_other s)
-squeeze_full count buffer i s k full =
-    let parts : filter is_other s ≡ filter is_other (take i s) ++ filter is_other (drop i s) =
-    ap (filter is_other) (sym (take-append-drop i s)) ∙ filter-append is_other (take i s) (drop i s) in
-    let front : length (filter is_other (take i s)) ≡ 148 = ap length (sym k.front) ∙ length-take count buffer ∙ omega (arith, k.long) in
-    omega (arith, ap length parts, length-append (filter is_other (take i s)) (filter is_other (drop i s)))
+pub squeeze_all : (first : List ℕ) (start count : ℕ) (buffer : List ℕ) (i : ℕ) (s : List ℕ) → SqueezedTo first start count buffer i s → length s ≤ i
+    → take count buffer ≡ take start first ++ filter is_other s
+squeeze_all first start count buffer i s k l = k.front ∙ ap (λ z. take start first ++ filter is_other z) (take_all i s l)
 
-pub squeeze_all : (count : ℕ) (buffer : List ℕ) (i : ℕ) (s : List ℕ) → SqueezedTo count buffer i s → length s ≤ i → take count buffer ≡ filter is_other s
-squeeze_all count buffer i s k l = k.front ∙ ap (filter is_other) (take_all i s l)
+-- ---- part by part
+
+-- the octets up to a place were squeezed
+pub record PartsTo (count : ℕ) (buffer : List ℕ) (at : ℕ) (s : List ℕ) : Type 0 where
+  pub long : length buffer ≡ 164
+  pub within : at ≤ length s
+  pub room : count ≤ 163
+  pub front : take count buffer ≡ filter is_other (take at s)
+
+pub part_start : (buffer : List ℕ) (s : List ℕ) → length buffer ≡ 164 → PartsTo 0 buffer 0 s
+part_start buffer s l = record { long = l; within = omega arith; room = omega arith; front = refl }
+
+filter_part : (n at : ℕ) (s : List ℕ) → filter is_other (take (at + n) s) ≡ filter is_other (take at s) ++ filter is_other (take n (drop at s))
+filter_part n at s = ap (filter is_other) (take-add at n s) ∙ filter-append is_other (take at s) (take n (drop at s))
+
+pub part_more : (count new part : ℕ) (buffer after : List ℕ) (at : ℕ) (s : List ℕ) → PartsTo count buffer at s → 16 ≤ length s - at → count < 148
+    → take new after ≡ take count buffer ++ filter is_other (take part (drop at s)) → part ≡ 16 → new ≤ count + 16 → length after ≡ 164 → PartsTo new after (at + 16) s
+part_more count new part buffer after at s k l few e p n long = record {
+  long = long;
+  within = omega arith;
+  room = omega arith;
+  front = rw p at e ∙ ap (λ z. z ++ filter is_other (take 16 (drop at s))) k.front ∙ sym (filter_part 16 at s);
+}
+
+pub part_full : (count : ℕ) (buffer : List ℕ) (at : ℕ) (s : List ℕ) → PartsTo count buffer at s → 148 ≤ count → 147 < length (filter is_other s)
+part_full count buffer at s k full =
+    let parts : filter is_other s ≡ filter is_other (take at s) ++ filter is_other (drop at s) =
+    ap (filter is_other) (sym (take-append-drop at s)) ∙ filter-append is_other (take at s) (drop at s) in
+    let front : length (filter is_other (take at s)) ≡ count = ap length (sym k.front) ∙ length-take count buffer ∙ omega (arith, k.long, k.room) in
+    omega (arith, ap length parts, length-append (filter is_other (take at s)) (filter is_other (drop at s)))
+
+pub part_last : (count new : ℕ) (buffer after : List ℕ) (at : ℕ) (s : List ℕ) → PartsTo count buffer at s → take new after ≡ take count buffer ++ filter is_other (take (length s - at) (drop at s))
+    → take new after ≡ filter is_other s
+part_last count new buffer after at s k e =
+    let all : at + (length s - at) ≡ length s = omega (arith, k.within) in
+    e ∙ ap (λ z. z ++ filter is_other (take (length s - at) (drop at s))) k.front ∙ sym (filter_part (length s - at) at s) ∙ ap (λ n. filter is_other (take n s)) all
+    ∙ ap (filter is_other) (take_all (length s) s (le_refl (length s)))
 
 -- ---- copying
 

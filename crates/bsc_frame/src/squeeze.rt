@@ -1,6 +1,6 @@
 //! Loops over the octets of a unit that go to their end, so that a compiler makes lanes or moves of them:
 //! a branch that depends on the octet costs more than the work that it saves.
-ghost use Rattle.std.specs.Prelude.{◌≡◌, ◌<◌, ◌≤◌, length, take, map, filter, IfSome, IfNone};
+ghost use Rattle.std.specs.Prelude.{◌≡◌, ◌<◌, ◌≤◌, ◌+◌, ◌++◌, length, take, map, filter, IfSome, IfNone};
 ghost use Rattle.std.specs.List.{list_any, list_all};
 ghost use Rattle.bsc_octet.specs.Octet.{is_record_char};
 ghost use Rattle.bsc_frame.specs.Reading.{low_bits, is_octet, is_other, is_char_octet};
@@ -10,7 +10,13 @@ use bsc_octet::is_record_char;
 const SYN: u8 = 0x16;
 
 /// One more than the most codes of a unit: an STX behind a check, 144 characters, EM, the ending character.
-pub(crate) const MAX_CODES: usize = 148;
+const MAX_CODES: usize = 148;
+
+/// How many octets are squeezed before their count is tested.
+const PART: usize = 16;
+
+/// Room for the octets of a unit without fill, and for a part more.
+pub(crate) type UnitBuffer = [u8; 164];
 
 /// Whether there is fill among the octets.
 #[tactic(auto, using(crate::proofs::SqueezeLemmas::fill_more))]
@@ -24,22 +30,44 @@ pub(crate) fn has_fill(octets: &[u8]) -> bool
     found
 }
 
-/// Puts the octets without fill to the front of the buffer, and gives their count. `None` where they are
-/// more than there is room for.
-#[tactic(auto, using(crate::proofs::SqueezeLemmas::squeeze_more, crate::proofs::SqueezeLemmas::squeeze_full, crate::proofs::SqueezeLemmas::squeeze_all))]
-pub(crate) fn squeeze(octets: &[u8], buffer: &mut [u8; MAX_CODES]) -> Option<usize>
-    ensures some { IfSome result (λ n. (n ≤ 148) × (take n buffer.new ≡ filter is_other octets.now)) }
-    ensures none { IfNone result (147 < length (filter is_other octets.now)) }
+/// Puts the octets without fill behind the first ones of the buffer, and gives how many there are then. Each
+/// octet is stored, and the next one is stored in its place where it is fill.
+#[inline(always)]
+#[tactic(auto, using(crate::proofs::SqueezeLemmas::squeeze_more, crate::proofs::SqueezeLemmas::squeeze_start, crate::proofs::SqueezeLemmas::squeeze_all))]
+fn squeeze_part(octets: &[u8], buffer: &mut UnitBuffer, start: usize) -> usize
+    requires part { length octets.now ≤ 16 }
+    requires start { start ≤ 148 }
+    ensures octets { take result buffer.new ≡ take start buffer.old ++ filter is_other octets.now }
+    ensures count { result ≤ start + length octets.now }
 {
-    let mut count = 0;
+    let mut count = start;
     for octet in octets {
-        if count == MAX_CODES {
-            return None;
-        }
         buffer[count] = *octet;
         count += usize::from(*octet != SYN);
     }
-    Some(count)
+    count
+}
+
+/// Puts the octets without fill to the front of the buffer, and gives their count. `None` where they are
+/// more than a unit has.
+#[tactic(auto, using(crate::proofs::SqueezeLemmas::part_start, crate::proofs::SqueezeLemmas::part_more, crate::proofs::SqueezeLemmas::part_full, crate::proofs::SqueezeLemmas::part_last))]
+pub(crate) fn squeeze(octets: &[u8], buffer: &mut UnitBuffer) -> Option<usize>
+    ensures some { IfSome result (λ n. (n ≤ 164) × (take n buffer.new ≡ filter is_other octets.now)) }
+    ensures none { IfNone result (147 < length (filter is_other octets.now)) }
+{
+    let mut at = 0;
+    let mut count = 0;
+    while octets.len() - at >= PART {
+        if count >= MAX_CODES {
+            return None;
+        }
+        count = squeeze_part(&octets[at..at + PART], buffer, count);
+        at += PART;
+    }
+    if count >= MAX_CODES {
+        return None;
+    }
+    Some(squeeze_part(&octets[at..], buffer, count))
 }
 
 /// Puts the codes of the octets to the front of the buffer, and says whether they all are record characters.

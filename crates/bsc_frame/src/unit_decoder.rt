@@ -6,7 +6,7 @@ ghost use Rattle.bsc_frame.specs.Drafts.{draft_units, IsDraft, AddsUnit, TakesUn
 ghost use Rattle.bsc_frame.specs.Reading.{low_bits, IsFront, AreParts, behind_check, behind_start, unit_of, unit_before, unit_at, units_at};
 
 use crate::front::before_ending;
-use crate::squeeze::{MAX_CODES, copy_codes, has_fill, squeeze};
+use crate::squeeze::{UnitBuffer, copy_codes, has_fill, squeeze};
 use crate::text::Draft;
 use crate::{End, Unit};
 use bsc_octet::{sum, to_line};
@@ -133,7 +133,7 @@ fn take_unit<'a>(behind: bool, octets: &'a [u8], draft: &mut Draft) -> Option<(u
     if !has_fill(front) {
         return take_front(behind, front, rest, draft);
     }
-    let mut unit = [0; MAX_CODES];
+    let mut unit: UnitBuffer = [0; 164];
     let Some(count) = squeeze(front, &mut unit) else {
         return None;
     };

@@ -1,5 +1,9 @@
-use Rattle.bsc_frame.proofs.SqueezeLemmas.{SqueezedTo}
+use Rattle.std.proofs.Common.{◌-◌, length}
+use Rattle.bsc_frame.proofs.SqueezeLemmas.{PartsTo}
 use Rattle.bsc_frame.proofs.squeeze.squeeze.Given as goal
 
-abbrev pub invariant-loop-octet : goal.invariant-loop-octet
-invariant-loop-octet l = SqueezedTo l.count l.buffer l.octet-index l.octets
+abbrev pub invariant-loop-at : goal.invariant-loop-at
+invariant-loop-at l = PartsTo l.count l.buffer l.at l.octets
+
+abbrev pub decreases-loop-at : goal.decreases-loop-at
+decreases-loop-at l = length l.octets - l.at

@@ -1,0 +1,5 @@
+use Rattle.bsc_frame.proofs.SqueezeLemmas.{SqueezedTo}
+use Rattle.bsc_frame.proofs.squeeze.squeeze_part.Given as goal
+
+abbrev pub invariant-loop-octet : goal.invariant-loop-octet
+invariant-loop-octet l = SqueezedTo l.fn.buffer l.start l.count l.buffer l.octet-index l.octets
