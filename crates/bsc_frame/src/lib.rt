@@ -24,4 +24,6 @@ pub use message::{Heard, Message};
 pub use text::{End, Text, Unit};
 
 #[cfg(test)]
+mod plain;
+#[cfg(test)]
 mod tests;
