@@ -14,4 +14,5 @@ pub mod RunLemmas
 pub mod CarriedLemmas
 pub mod CutLemmas
 pub mod TakeLemmas
+pub mod ShortLemmas
 pub mod SqueezeLemmas

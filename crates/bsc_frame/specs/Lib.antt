@@ -6,3 +6,4 @@ pub mod Message
 pub mod Wire
 pub mod Spells
 pub mod Reading
+pub mod Short

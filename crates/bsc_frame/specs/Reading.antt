@@ -9,8 +9,6 @@ use Rattle.bsc_frame.specs.Message.{read_address}
 use Rattle.bsc_frame.specs.declared.address.AddressError.{AddressError}
 use Rattle.bsc_frame.specs.declared.message.Message.{Message}
 use Rattle.bsc_frame.specs.declared.message.Message.TheVariants.{Eot, Call, Enq, Ack0, Ack1, Nak, Wack, Rvi, Text}
-use Rattle.bsc_frame.specs.declared.decoder.Kind.{Kind}
-use Rattle.bsc_frame.specs.declared.decoder.Kind.TheVariants as kind
 use Rattle.bsc_frame.specs.declared.message.Heard.{Heard}
 use Rattle.bsc_frame.specs.declared.message.Heard.TheVariants.{Whole, Failed, Noise}
 
@@ -201,18 +199,6 @@ whole_or_failed None = Failed
 -- what a body is heard as
 unfoldable pub heard_body : List ℕ → Heard
 heard_body body = if begins (is_octet 0x02) body then whole_or_failed (units_at 7 false (drop 1 body)) else whole_or_noise (control body)
-
--- what a body of this kind is heard as
-abbrev pub heard_as : Kind → Heard
-heard_as kind.Eot = Whole Eot
-heard_as (kind.Call a) = Whole (Call a)
-heard_as kind.Enq = Whole Enq
-heard_as kind.Ack0 = Whole Ack0
-heard_as kind.Ack1 = Whole Ack1
-heard_as kind.Nak = Whole Nak
-heard_as kind.Wack = Whole Wack
-heard_as kind.Rvi = Whole Rvi
-heard_as kind.Noise = Noise
 
 -- behind the pads
 abbrev pub heard_from_syn : List ℕ → Heard

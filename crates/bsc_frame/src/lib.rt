@@ -13,6 +13,7 @@ mod encoder;
 mod front;
 pub mod laws;
 mod message;
+mod short;
 mod squeeze;
 mod text;
 mod unit_decoder;
@@ -21,6 +22,7 @@ pub use address::{Address, AddressError};
 pub use decoder::decode;
 pub use encoder::{Wire, encode};
 pub use message::{Heard, Message};
+pub use short::{Short, decode_short};
 pub use text::{End, Text, Unit};
 
 #[cfg(test)]

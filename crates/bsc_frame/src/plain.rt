@@ -1,6 +1,6 @@
 //! Plain forms, one octet at a time, that the loops over lanes and the reader of texts are compared with.
 use crate::front::{before_ending, either_front};
-use crate::{Heard, Message, Wire, decode};
+use crate::{Address, Heard, Message, Short, Wire, decode, decode_short};
 use bsc_octet::{from_line, is_record_char, to_line};
 
 // Reads the octets behind the STX of a text in one pass, and gives how many characters it has.
@@ -158,4 +158,33 @@ fn fronts_are_counted_past_each_place(rt: HostRuntime) {
         }
         octets[place] = 0x16;
     }
+}
+
+#[test]
+fn short_messages_are_told_without_a_text(rt: HostRuntime) {
+    for (octets, short) in [
+        ([0x16, 0x16, 0x04, 0xff].as_slice(), Some(Short::Eot)),
+        ([0x16, 0x16, 0x85, 0xff].as_slice(), Some(Short::Enq)),
+        ([0x16, 0x16, 0x15, 0xff].as_slice(), Some(Short::Nak)),
+        ([0x16, 0x16, 0x10, 0xb0, 0xff].as_slice(), Some(Short::Ack0)),
+        ([0x16, 0x16, 0x10, 0x31, 0xff].as_slice(), Some(Short::Ack1)),
+        ([0x16, 0x16, 0x10, 0x3b, 0xff].as_slice(), Some(Short::Wack)),
+        ([0x16, 0x16, 0x10, 0xbc, 0xff].as_slice(), Some(Short::Rvi)),
+        (
+            [0x16, 0x16, 0x10, 0x30, 0xff].as_slice(),
+            Some(Short::Noise),
+        ),
+        ([0x16, 0x16, 0x02, 0x85, 0xff].as_slice(), None),
+        (
+            [0x16, 0x16, 0x02, 0xc8, 0x49, 0x19, 0x83, 0x9b, 0xff].as_slice(),
+            None,
+        ),
+    ] {
+        assert_eq!(rt; decode_short(octets), short);
+    }
+    let call = [0x16, 0x16, 0x04, 0xff, 0x16, 0x16, 0xc1, 0x85, 0xff];
+    assert_eq!(rt;
+        decode_short(&call),
+        Address::read(b"A").ok().map(Short::Call)
+    );
 }

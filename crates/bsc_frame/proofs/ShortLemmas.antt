@@ -1,0 +1,26 @@
+-- What is told without a text is what is heard.
+use Rattle.std.proofs.Common.{◌≡◌, inl, inr, ℕ, true, false, refl, sym, ◌∙◌, List, drop, Option, Some, None}
+use Rattle.bsc_frame.specs.Texts.{TextValue}
+use Rattle.bsc_frame.specs.Short.{IsHeard, BeginsText}
+use Rattle.bsc_frame.specs.Reading.{is_octet, begins, control, heard, heard_body, whole_or_noise, whole_or_failed, units_at}
+use Rattle.bsc_frame.specs.declared.message.Message.TheVariants.{Text}
+use Rattle.bsc_frame.specs.declared.message.Heard.{Heard}
+use Rattle.bsc_frame.specs.declared.message.Heard.TheVariants.{Whole, Failed, Noise}
+use Rattle.bsc_frame.proofs.HeardLemmas.{spelled_heard, failed_heard, noise_heard}
+
+is_heard : (octets : List ℕ) (h : Heard) → heard octets ≡ h → IsHeard octets h
+is_heard octets (Whole m) e = spelled_heard octets m e
+is_heard octets Failed e = failed_heard octets e
+is_heard octets Noise e = noise_heard octets e
+
+pub short_is_heard : (octets body : List ℕ) (h : Heard) → heard octets ≡ heard_body body → false ≡ begins (is_octet 0x02) body → h ≡ whole_or_noise (control body) → IsHeard octets h
+unfolding heard_body
+short_is_heard octets body h e n k = is_heard octets h (e ∙ rw (← n) (sym k))
+
+pub text_begins : (octets body : List ℕ) → heard octets ≡ heard_body body → true ≡ begins (is_octet 0x02) body → BeginsText octets
+unfolding heard_body
+text_begins octets body e b = by_units (units_at 7 false (drop 1 body)) (e ∙ rw (← b) refl)
+  where
+    by_units : (o : Option TextValue) → heard octets ≡ whole_or_failed o → BeginsText octets
+    by_units None k = inr (failed_heard octets k)
+    by_units (Some t) k = inl (t, spelled_heard octets (Text t) k)

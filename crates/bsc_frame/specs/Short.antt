@@ -1,0 +1,31 @@
+-- What is heard that does not begin as a text (own).
+use Rattle.std.specs.Prelude.{◌⊎◌, List, ℕ}
+use Rattle.bsc_frame.specs.Texts.{TextValue}
+use Rattle.bsc_frame.specs.Spells.{Spells, IsFailed, IsNoise}
+use Rattle.bsc_frame.specs.declared.message.Message.TheVariants.{Eot, Call, Enq, Ack0, Ack1, Nak, Wack, Rvi, Text}
+use Rattle.bsc_frame.specs.declared.message.Heard.{Heard}
+use Rattle.bsc_frame.specs.declared.message.Heard.TheVariants.{Whole, Failed, Noise}
+use Rattle.bsc_frame.specs.declared.short.Short.{Short}
+use Rattle.bsc_frame.specs.declared.short.Short.TheVariants as short
+
+-- what is heard, where it was told as a short message or noise
+abbrev pub heard_as : Short → Heard
+heard_as short.Eot = Whole Eot
+heard_as (short.Call a) = Whole (Call a)
+heard_as short.Enq = Whole Enq
+heard_as short.Ack0 = Whole Ack0
+heard_as short.Ack1 = Whole Ack1
+heard_as short.Nak = Whole Nak
+heard_as short.Wack = Whole Wack
+heard_as short.Rvi = Whole Rvi
+heard_as short.Noise = Noise
+
+-- what the octets are heard as, by what they spell
+abbrev pub IsHeard : List ℕ → Heard → Type 0
+IsHeard octets (Whole m) = Spells octets m
+IsHeard octets Failed = IsFailed octets
+IsHeard octets Noise = IsNoise octets
+
+-- the octets spell a text, or begin as one and spell nothing
+abbrev pub BeginsText : List ℕ → Type 0
+BeginsText octets = ((t : TextValue) × Spells octets (Text t)) ⊎ IsFailed octets
