@@ -5,13 +5,14 @@ use Rattle.bsc_frame.specs.Short.{IsHeard, BeginsText}
 use Rattle.bsc_frame.specs.Reading.{is_octet, begins, control, heard, heard_body, whole_or_noise, whole_or_failed, units_at}
 use Rattle.bsc_frame.specs.declared.message.Message.TheVariants.{Text}
 use Rattle.bsc_frame.specs.declared.message.Heard.{Heard}
-use Rattle.bsc_frame.specs.declared.message.Heard.TheVariants.{Whole, Failed, Noise}
-use Rattle.bsc_frame.proofs.HeardLemmas.{spelled_heard, failed_heard, noise_heard}
+use Rattle.bsc_frame.proofs.HeardLemmas.{spelled_heard, heard_spelled, failed_heard, heard_failed, noise_heard, heard_noise}
 
 is_heard : (octets : List ℕ) (h : Heard) → heard octets ≡ h → IsHeard octets h
-is_heard octets (Whole m) e = spelled_heard octets m e
-is_heard octets Failed e = failed_heard octets e
-is_heard octets Noise e = noise_heard octets e
+is_heard octets h e = record {
+  whole = λ m. (λ k. spelled_heard octets m (e ∙ k), λ s. sym e ∙ heard_spelled octets m s);
+  failed = (λ k. failed_heard octets (e ∙ k), λ f. sym e ∙ heard_failed octets f);
+  noise = (λ k. noise_heard octets (e ∙ k), λ n. sym e ∙ heard_noise octets n);
+}
 
 pub short_is_heard : (octets body : List ℕ) (h : Heard) → heard octets ≡ heard_body body → false ≡ begins (is_octet 0x02) body → h ≡ whole_or_noise (control body) → IsHeard octets h
 unfolding heard_body

@@ -1,7 +1,8 @@
 -- What is heard that does not begin as a text (own).
-use Rattle.std.specs.Prelude.{◌⊎◌, List, ℕ}
+use Rattle.std.specs.Prelude.{◌≡◌, ◌⊎◌, ◌↔◌, List, ℕ}
 use Rattle.bsc_frame.specs.Texts.{TextValue}
 use Rattle.bsc_frame.specs.Spells.{Spells, IsFailed, IsNoise}
+use Rattle.bsc_frame.specs.declared.message.Message.{Message}
 use Rattle.bsc_frame.specs.declared.message.Message.TheVariants.{Eot, Call, Enq, Ack0, Ack1, Nak, Wack, Rvi, Text}
 use Rattle.bsc_frame.specs.declared.message.Heard.{Heard}
 use Rattle.bsc_frame.specs.declared.message.Heard.TheVariants.{Whole, Failed, Noise}
@@ -20,11 +21,11 @@ heard_as short.Wack = Whole Wack
 heard_as short.Rvi = Whole Rvi
 heard_as short.Noise = Noise
 
--- what the octets are heard as, by what they spell
-abbrev pub IsHeard : List ℕ → Heard → Type 0
-IsHeard octets (Whole m) = Spells octets m
-IsHeard octets Failed = IsFailed octets
-IsHeard octets Noise = IsNoise octets
+-- the octets are heard as this, by what they spell
+pub record IsHeard (octets : List ℕ) (h : Heard) : Type 0 where
+  pub whole : (m : Message) → (h ≡ Whole m) ↔ Spells octets m
+  pub failed : (h ≡ Failed) ↔ IsFailed octets
+  pub noise : (h ≡ Noise) ↔ IsNoise octets
 
 -- the octets spell a text, or begin as one and spell nothing
 abbrev pub BeginsText : List ℕ → Type 0
