@@ -65,9 +65,13 @@ fn short_call(octets: &[u8]) -> Short
 
 /// What a body is that is no text.
 #[tactic(auto, unfolding(crate::specs::Reading::control))]
+#[inline(always)]
 pub(crate) fn short_of(body: &[u8]) -> Short
     ensures { heard_as result ≡ whole_or_noise (control body.now) }
 {
+    if body.is_empty() {
+        return Short::Noise;
+    }
     if body == [0x04].as_slice() {
         Short::Eot
     } else if body == [0x85].as_slice() {
