@@ -1,0 +1,159 @@
+-- What the receiver hears keeps that both ends agree, and at most lands the unanswered block.
+use Rattle.std.proofs.Common.{◌≡◌, ◌⊎◌, inl, inr, ℕ, ◌+◌, ◌≤◌, Bool, true, false, List, ◌++◌, length, take, drop, map, Option, None, Some, refl, sym, ◌∙◌, ap, subst, arith, length-drop}
+use Rattle.std.proofs.Math.Seq.{take-add}
+use Rattle.std.proofs.lemmas.List.{length-take-le}
+use Rattle.bsc_frame.specs.declared.message.Message.{Message}
+use Rattle.bsc_frame.specs.declared.message.Message.TheVariants as m
+use Rattle.bsc_frame.specs.declared.message.Heard.{Heard}
+use Rattle.bsc_frame.specs.declared.message.Heard.TheVariants.{Whole, Failed, Noise}
+use Rattle.bsc_frame.specs.Texts.{TextValue}
+use Rattle.bsc_block.specs.Blocks.{unit_of, records_in}
+use Rattle.bsc_spool.specs.Queue.{QueueValue, IsQueue, waiting}
+use Rattle.bsc_spool.specs.Spool.{SpoolValue}
+use Rattle.bsc_text.specs.declared.parity.Parity.{Parity}
+use Rattle.bsc_text.specs.declared.parity.Parity.TheVariants.{Even, Odd}
+use Rattle.bsc_text.specs.declared.reply.Reply.{Reply}
+use Rattle.bsc_text.specs.declared.reply.Reply.TheVariants.{Ack0, Ack1, Nak, Wack, Rvi}
+use Rattle.bsc_text.specs.declared.phase.SentBlock.{SentBlock}
+use Rattle.bsc_text.specs.declared.phase.Phase.{Phase}
+use Rattle.bsc_text.specs.declared.phase.Phase.TheVariants.{Idle, Unanswered, Held, InDoubt}
+use Rattle.bsc_text.specs.Reply.{other, ack}
+use Rattle.bsc_text.specs.Sender.{text_of}
+use Rattle.bsc_text.specs.Receiver.{ReceiverValue, ReceiverStep, Rooms, text_step, enq_step, heard_step}
+use Rattle.bsc_text.specs.Ready.{CountsOn}
+use Rattle.bsc_text.specs.Channel.{channel, Lands}
+use Rattle.bsc_text.specs.Fair.{IsTextMessage, IsCallCutShort, IsFairlyHeard, IsFair}
+use Rattle.bsc_text.specs.Bid.{received}
+use Rattle.bsc_text.specs.OneBid.{MovesAtReceiver}
+use Rattle.bsc_text.specs.Agreement.{Flight, Still, Outward, Back, IsReplyAfter, IsReplyHeld, NotLanded, HasLanded, IsHeld, Agree, InBid, back}
+use Rattle.bsc_text.proofs.ReadyLemmas.{all_waiting, within_offered}
+
+-- the units that are built for records hold these records
+abbrev pub RecordsBack : Type 0
+RecordsBack = (full : ℕ) (rs : List (List ℕ)) → 1 ≤ full → records_in (map (unit_of full) rs) ≡ rs
+
+-- what hearing leaves: the ends agree with the reply on its way, and the channel moved as it may
+abbrev pub Keeps : Phase → QueueValue → List (List ℕ) → ReceiverStep → Type 0
+Keeps phase q spooled out =
+    Agree phase q out.receiver.parity out.receiver.last out.spool.records (back out.reply) × MovesAtReceiver phase (channel q spooled) (channel q out.spool.records)
+
+-- the records of a block that is sent
+pub block_records : RecordsBack → (q : QueueValue) (b : SentBlock) → IsQueue q → records_in (text_of q b).units ≡ take b.count (waiting q)
+block_records law q b h = law q.format.full (take b.count (waiting q)) h.format.full_from
+
+pub fits : (b : SentBlock) (n : ℕ) → CountsOn (Unanswered b) n → b.count ≤ n
+fits b n h = all_waiting b.count n b.end h.2
+
+other_after : (x y : Parity) → x ≡ other y → IsReplyAfter (ack (other x)) y
+other_after Odd Odd e = absurd (cc)
+other_after Odd Even e = tt
+other_after Even Odd e = tt
+other_after Even Even e = absurd (cc)
+
+other_other : (x y : Parity) → x ≡ other y → other x ≡ y
+other_other Odd Odd e = absurd (cc)
+other_other Odd Even e = refl
+other_other Even Odd e = refl
+other_other Even Even e = absurd (cc)
+
+-- the block lands
+landed : RecordsBack → (b : SentBlock) (q : QueueValue) (parity : Parity) (last x : Reply) (spooled : List (List ℕ)) (t : TextValue) → IsQueue q → CountsOn (Unanswered b) (length (waiting q)) → NotLanded b q parity last spooled (Outward (m.Text t)) → IsReplyAfter x b.parity →
+    (Agree (Unanswered b) q (other parity) x (spooled ++ records_in t.units) (Back x)) × MovesAtReceiver (Unanswered b) (channel q spooled) (channel q (spooled ++ records_in t.units))
+landed law b q parity last x spooled t queue counts h a =
+    let known : q.known ≤ length q.offered = queue.known in
+    let fit : b.count ≤ length (waiting q) = fits b _ counts in
+    let there : records_in t.units ≡ take b.count (drop q.known q.offered) = ap (λ (u : TextValue). records_in u.units) h.flight ∙ block_records law q b queue in
+    let long : length spooled ≡ q.known = ap length h.front ∙ length-take-le q.known q.offered known in
+    let all : spooled ++ records_in t.units ≡ take (q.known + b.count) q.offered = rw (h.front, there, take-add q.known b.count q.offered) in (
+      inr (record { front = all; counted = other_other parity b.parity h.counted; reply = a; flight = refl }),
+      inr (b, refl, record { some = counts.0; few = counts.1; all_known = long; there = omega (arith, length-drop q.known q.offered); landed = ap (λ u. channel q (spooled ++ u)) there }),
+    )
+
+-- a text is heard
+text_keeps : RecordsBack → (b : SentBlock) (q : QueueValue) (parity : Parity) (last : Reply) (s : SpoolValue) (t : TextValue) (urgent first after : Bool) → IsQueue q → CountsOn (Unanswered b) (length (waiting q)) → NotLanded b q parity last s.records (Outward (m.Text t)) →
+    Keeps (Unanswered b) q s.records (text_step (record { parity = parity; last = last }) s t urgent (record { first = first; after = after }))
+text_keeps law b q parity last s t urgent false after queue counts h =
+    (inl (record { front = h.front; counted = h.counted; reply = tt; flight = refl }), inl refl)
+text_keeps law b q parity last s t false true true queue counts h =
+    landed law b q parity last (ack (other parity)) s.records t queue counts h (other_after parity b.parity h.counted)
+text_keeps law b q parity last s t false true false queue counts h =
+    landed law b q parity last Wack s.records t queue counts h tt
+text_keeps law b q parity Rvi s t true true after queue counts h = absurd h.reply
+text_keeps law b q parity Wack s t true true after queue counts h = absurd h.reply
+text_keeps law b q parity Ack0 s t true true after queue counts h = landed law b q parity Ack0 Rvi s.records t queue counts h tt
+text_keeps law b q parity Ack1 s t true true after queue counts h = landed law b q parity Ack1 Rvi s.records t queue counts h tt
+text_keeps law b q parity Nak s t true true after queue counts h = landed law b q parity Nak Rvi s.records t queue counts h tt
+
+-- ENQ is heard before the block landed
+enq_before : (b : SentBlock) (q : QueueValue) (parity : Parity) (last : Reply) (s : SpoolValue) (rooms : Rooms) → NotLanded b q parity last s.records (Outward m.Enq) →
+    Keeps (Unanswered b) q s.records (enq_step (record { parity = parity; last = last }) s rooms)
+enq_before b q parity Ack0 s rooms h = (inl (record { front = h.front; counted = h.counted; reply = h.reply; flight = refl }), inl refl)
+enq_before b q parity Ack1 s rooms h = (inl (record { front = h.front; counted = h.counted; reply = h.reply; flight = refl }), inl refl)
+enq_before b q parity Nak s rooms h = (inl (record { front = h.front; counted = h.counted; reply = h.reply; flight = refl }), inl refl)
+enq_before b q parity Wack s rooms h = absurd h.reply
+enq_before b q parity Rvi s rooms h = absurd h.reply
+
+ack_after : (x y : Parity) → x ≡ y → IsReplyAfter (ack x) y
+ack_after Odd Odd e = tt
+ack_after Odd Even e = absurd (cc)
+ack_after Even Odd e = absurd (cc)
+ack_after Even Even e = tt
+
+-- and after it landed
+enq_after : (b : SentBlock) (q : QueueValue) (parity : Parity) (last : Reply) (s : SpoolValue) (first after : Bool) → HasLanded b q parity last s.records (Outward m.Enq) →
+    Keeps (Unanswered b) q s.records (enq_step (record { parity = parity; last = last }) s (record { first = first; after = after }))
+enq_after b q parity Ack0 s first after h = (inr (record { front = h.front; counted = h.counted; reply = h.reply; flight = refl }), inl refl)
+enq_after b q parity Ack1 s first after h = (inr (record { front = h.front; counted = h.counted; reply = h.reply; flight = refl }), inl refl)
+enq_after b q parity Nak s first after h = absurd h.reply
+enq_after b q parity Rvi s first after h = (inr (record { front = h.front; counted = h.counted; reply = tt; flight = refl }), inl refl)
+enq_after b q parity Wack s true after h = (inr (record { front = h.front; counted = h.counted; reply = ack_after parity b.parity h.counted; flight = refl }), inl refl)
+enq_after b q parity Wack s false after h = (inr (record { front = h.front; counted = h.counted; reply = tt; flight = refl }), inl refl)
+
+ack_held : (x y : Parity) → x ≡ y → IsReplyHeld (ack x) y
+ack_held Odd Odd e = tt
+ack_held Odd Even e = absurd (cc)
+ack_held Even Odd e = absurd (cc)
+ack_held Even Even e = tt
+
+-- and while the sender is held
+enq_held : (end_phase : Phase) (expected : Parity) (q : QueueValue) (parity : Parity) (last : Reply) (s : SpoolValue) (first after : Bool) → IsHeld expected q parity last s.records (Outward m.Enq) →
+    let out = enq_step (record { parity = parity; last = last }) s (record { first = first; after = after }) in
+    IsHeld expected q out.receiver.parity out.receiver.last out.spool.records (back out.reply) × MovesAtReceiver end_phase (channel q s.records) (channel q out.spool.records)
+enq_held p expected q parity Ack0 s first after h = (record { front = h.front; counted = h.counted; reply = h.reply; flight = refl }, inl refl)
+enq_held p expected q parity Ack1 s first after h = (record { front = h.front; counted = h.counted; reply = h.reply; flight = refl }, inl refl)
+enq_held p expected q parity Nak s first after h = absurd h.reply
+enq_held p expected q parity Rvi s first after h = absurd h.reply
+enq_held p expected q parity Wack s true after h = (record { front = h.front; counted = h.counted; reply = ack_held parity expected h.counted; flight = refl }, inl refl)
+enq_held p expected q parity Wack s false after h = (record { front = h.front; counted = h.counted; reply = tt; flight = refl }, inl refl)
+
+-- what was on its way is lost
+pub agree_still : (phase : Phase) (q : QueueValue) (parity : Parity) (last : Reply) (spooled : List (List ℕ)) (f : Flight) → Agree phase q parity last spooled f → Agree phase q parity last spooled Still
+agree_still Idle q parity last spooled f h = absurd h
+agree_still (InDoubt k) q parity last spooled f h = absurd h
+agree_still (Held e x) q parity last spooled f h = record { front = h.front; counted = h.counted; reply = h.reply; flight = tt }
+agree_still (Unanswered b) q parity last spooled f (inl h) = inl (record { front = h.front; counted = h.counted; reply = h.reply; flight = tt })
+agree_still (Unanswered b) q parity last spooled f (inr h) = inr (record { front = h.front; counted = h.counted; reply = h.reply; flight = tt })
+
+-- in a bid the sender sends texts and ENQ alone
+abbrev IsSenders : Message → Type 0
+IsSenders (m.Text t) = Unit {0}
+IsSenders m.Enq = Unit {0}
+IsSenders _ = ⊥
+
+abbrev IsOutward : Message → Type 0
+IsOutward w = IsSenders w
+
+before_senders : (q : QueueValue) (b : SentBlock) (parity : Parity) (last : Reply) (spooled : List (List ℕ)) (w : Message) → NotLanded b q parity last spooled (Outward w) → IsSenders w
+before_senders q b parity last spooled (m.Text t) h = tt
+before_senders q b parity last spooled m.Enq h = tt
+before_senders q b parity last spooled m.Eot h = h.flight
+before_senders q b parity last spooled (m.Call a) h = h.flight
+before_senders q b parity last spooled m.Ack0 h = h.flight
+before_senders q b parity last spooled m.Ack1 h = h.flight
+before_senders q b parity last spooled m.Nak h = h.flight
+before_senders q b parity last spooled m.Wack h = h.flight
+before_senders q b parity last spooled m.Rvi h = h.flight
+
+abbrev IsEnq : Message → Type 0
+IsEnq m.Enq = Unit {0}
+IsEnq _ = ⊥

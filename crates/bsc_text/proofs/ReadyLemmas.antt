@@ -1,0 +1,38 @@
+-- What a sender counts on in its queue stays true.
+use Rattle.std.proofs.Common.{◌≡◌, ℕ, ◌+◌, ◌<◌, ◌≤◌, length, drop, refl, arith, length-drop}
+use Rattle.bsc_frame.specs.declared.text.End.{End}
+use Rattle.bsc_frame.specs.declared.text.End.TheVariants.{Etb, Etx}
+use Rattle.bsc_spool.specs.declared.queue.Next.{Next}
+use Rattle.bsc_spool.specs.Queue.{QueueValue, IsQueue, IsNext, waiting}
+use Rattle.bsc_text.specs.declared.phase.SentBlock.{SentBlock}
+use Rattle.bsc_text.specs.declared.phase.Phase.TheVariants.{Unanswered}
+use Rattle.bsc_text.specs.Ready.{AreWaiting, CountsOn}
+use Rattle.bsc_text.specs.Sender.{marked}
+
+waiting_by : (k n : ℕ) (e : End) → k ≤ n → (e ≡ Etb → k < n) → AreWaiting k e n
+waiting_by k n Etb there more = omega (arith, more refl)
+waiting_by k n Etx there more = there
+
+-- a block that is sent next is counted on
+pub counts_next : (q : QueueValue) (n : Next) → IsNext q n → (1 ≤ n.count) × (n.count ≤ 7) × AreWaiting n.count n.end (length (waiting q))
+counts_next q n next = (next.some, next.few, waiting_by n.count (length (waiting q)) n.end next.there next.more)
+
+-- the records of a block are among those that wait
+pub all_waiting : (k n : ℕ) (e : End) → AreWaiting k e n → k ≤ n
+all_waiting k n Etb h = omega arith
+all_waiting k n Etx h = h
+
+pub within_offered : (q : QueueValue) (k : ℕ) → IsQueue q → k ≤ length (waiting q) → q.known + k ≤ length q.offered
+within_offered q k h there = let known : q.known ≤ length q.offered = h.known in omega (arith, length-drop q.known q.offered)
+
+-- a queue in which waiting records are marked is a queue
+pub is_queue_marked : (q : QueueValue) (k : ℕ) → IsQueue q → k ≤ length (waiting q) → IsQueue (marked q k)
+is_queue_marked q k h there = record { format = h.format; known = within_offered q k h there; short = h.short }
+
+wait_more : (q : QueueValue) (k j : ℕ) → k + j ≤ length (waiting q) → j ≤ length (waiting (marked q k))
+wait_more q k j h = omega (arith, length-drop q.known q.offered, length-drop (q.known + k) q.offered)
+
+-- behind ETB a record still waits once the block is marked
+pub still_waiting : (q : QueueValue) (k : ℕ) (e : End) → AreWaiting k e (length (waiting q)) → AreWaiting 0 e (length (waiting (marked q k)))
+still_waiting q k Etb h = wait_more q k 1 h
+still_waiting q k Etx h = omega arith

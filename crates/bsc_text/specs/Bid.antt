@@ -1,0 +1,126 @@
+-- One bid: a sender and a receiver with one channel, turn by turn (own).
+use Rattle.std.specs.Prelude.{◌≡◌, ◌≤◌, ◌+◌, ℕ, Bool, List, [], ◌∷◌, ◌++◌, length, Option, None, Some}
+use Rattle.bsc_frame.specs.declared.message.Message.{Message}
+use Rattle.bsc_frame.specs.declared.message.Message.TheVariants as m
+use Rattle.bsc_frame.specs.declared.message.Heard.{Heard}
+use Rattle.bsc_spool.specs.Queue.{QueueValue, IsQueue, waiting}
+use Rattle.bsc_spool.specs.Spool.{SpoolValue}
+use Rattle.bsc_text.specs.declared.act.Act.{Act}
+use Rattle.bsc_text.specs.declared.act.Act.TheVariants as a
+use Rattle.bsc_text.specs.declared.reply.Reply.{Reply}
+use Rattle.bsc_text.specs.declared.phase.Phase.TheVariants.{Idle}
+use Rattle.bsc_text.specs.Reply.{message_of, reply_heard}
+use Rattle.bsc_text.specs.Sender.{SenderValue, SenderStep, quiet, begin_step, reply_step, silence_step}
+use Rattle.bsc_text.specs.Receiver.{ReceiverValue, ReceiverStep, Rooms, begun, heard_step}
+use Rattle.bsc_text.specs.Channel.{Channel, channel, IsSound}
+use Rattle.bsc_text.specs.Fair.{IsFair}
+use Rattle.std.specs.Prelude.{true}
+
+-- the two ends of a bid, and what the sender did last
+pub record Bid : Type 0 where
+  pub sender : SenderValue
+  pub queue : QueueValue
+  pub receiver : ReceiverValue
+  pub spool : SpoolValue
+  pub act : Act
+
+abbrev pub channel_of : Bid → Channel
+channel_of b = channel b.queue b.spool.records
+
+-- what one exchange meets: how the sender's transmission is heard, the urgent flag and the room at the
+-- receiver, and how the reply is heard
+pub record Turn : Type 0 where
+  pub heard : Option Heard
+  pub urgent : Bool
+  pub rooms : Rooms
+  pub answer : Option Heard
+
+-- what is sent for an act
+abbrev pub message_for : Act → Option Message
+message_for (a.Send t) = Some (m.Text t)
+message_for a.Enq = Some m.Enq
+message_for a.Over = None
+message_for a.Quiet = None
+
+-- the receiver hears the transmission, or nothing
+abbrev pub received : ReceiverValue → SpoolValue → Option Heard → Bool → Rooms → ReceiverStep
+received r s None urgent rooms = record { receiver = r; spool = s; reply = None }
+received r s (Some h) urgent rooms = heard_step r s h urgent rooms
+
+-- the sender hears the reply, or nothing
+abbrev pub answered : SenderValue → QueueValue → Option Reply → Option Heard → SenderStep
+answered s q (Some r) (Some h) = reply_step s q (reply_heard h)
+answered s q (Some r) None = quiet s q
+answered s q None h = quiet s q
+
+-- where the sender then has sent nothing, a silence comes to it
+abbrev pub unless_quiet : SenderStep → Act → SenderStep
+unless_quiet t a.Quiet = silence_step t.sender t.queue
+unless_quiet t _ = t
+
+-- the parts of a turn, and what it leaves
+abbrev pub receiver_in : Bid → Turn → ReceiverStep
+receiver_in b t = received b.receiver b.spool t.heard t.urgent t.rooms
+
+abbrev pub sender_in : Bid → Turn → SenderStep
+sender_in b t = answered b.sender b.queue (receiver_in b t).reply t.answer
+
+abbrev pub after_turn : Bid → Turn → Bid
+after_turn b t =
+    let r = receiver_in b t in
+    let s = unless_quiet (sender_in b t) (sender_in b t).act in
+    record { sender = s.sender; queue = s.queue; receiver = r.receiver; spool = r.spool; act = s.act }
+
+-- what may be heard of what was sent, and nothing where nothing was
+abbrev pub IsFairTo : Option Message → Option Heard → Type 0
+IsFairTo (Some w) h = IsFair w h
+IsFairTo None None = Unit {0}
+IsFairTo None (Some h) = ⊥
+
+abbrev pub message_back : Option Reply → Option Message
+message_back None = None
+message_back (Some r) = Some (message_of r)
+
+-- a turn is taken while the bid goes on, and every spoiled transmission of it fails its check
+pub record IsFairTurn (b : Bid) (t : Turn) : Type 0 where
+  pub sent : Message
+  pub goes_on : message_for b.act ≡ Some sent
+  pub there : IsFair sent t.heard
+  pub back : IsFairTo (message_back (receiver_in b t).reply) t.answer
+
+-- between turns records may be offered
+pub data Event : Type 0 where
+  Exchange : (turn : Turn) → Event
+  Offering : (offered_record : List ℕ) → Event
+
+abbrev pub offered_to : QueueValue → List ℕ → QueueValue
+offered_to q r = record { format = q.format; offered = q.offered ++ r ∷ []; known = q.known }
+
+abbrev pub after_event : Bid → Event → Bid
+after_event b (Exchange t) = after_turn b t
+after_event b (Offering r) = record { sender = b.sender; queue = offered_to b.queue r; receiver = b.receiver; spool = b.spool; act = b.act }
+
+abbrev pub MayCome : Bid → Event → Type 0
+MayCome b (Exchange t) = IsFairTurn b t
+MayCome b (Offering r) = length r ≤ b.queue.format.full
+
+-- events, one after another
+abbrev pub AreEvents : Bid → List Event → Bid → Type 0
+AreEvents b [] c = c ≡ b
+AreEvents b (e ∷ es) c = MayCome b e × AreEvents (after_event b e) es c
+
+-- A bid begins: the sender is idle and not in doubt, records wait, all that was spooled is known, and the
+-- receiver begins with ACK 0.
+pub record IsBegun (b : Bid) : Type 0 where
+  pub sender : SenderValue
+  pub idle : sender.phase ≡ Idle
+  pub queue : IsQueue b.queue
+  pub waits : 1 ≤ length (waiting b.queue)
+  pub sound : IsSound Idle (channel_of b)
+  pub receiver : b.receiver ≡ begun true
+  pub first : record { sender = b.sender; queue = b.queue; act = b.act } ≡ begin_step sender b.queue
+
+-- a bid as it stands after some events
+pub record Reaches (b : Bid) (es : List Event) (c : Bid) : Type 0 where
+  pub begun : IsBegun b
+  pub events : AreEvents b es c

@@ -1,0 +1,13 @@
+pub mod Setup
+pub mod SetupErrors
+pub mod Terminal
+pub mod Station
+pub mod Reply
+pub mod Sender
+pub mod Ready
+pub mod Receiver
+pub mod Channel
+pub mod Fair
+pub mod Bid
+pub mod Agreement
+pub mod OneBid

@@ -1,0 +1,119 @@
+-- The law of one bid: what holds of a sender and a receiver over every list of fair turns (own).
+use Rattle.std.specs.Prelude.{◌≡◌, ◌⊎◌, ◌↔◌, ◌≤◌, ◌<◌, ◌+◌, ◌*◌, ℕ, Bool, true, false, nat_eq, List, [], ◌∷◌, length, take, Option, None, Some, Ok, if◌then◌else◌}
+use Rattle.bsc_frame.specs.declared.message.Message.{Message}
+use Rattle.bsc_frame.specs.declared.message.Message.TheVariants as m
+use Rattle.bsc_frame.specs.declared.message.Heard.TheVariants.{Whole}
+use Rattle.bsc_frame.specs.Texts.{TextValue}
+use Rattle.bsc_block.specs.Blocks.{records_in}
+use Rattle.bsc_spool.specs.Queue.{QueueValue, waiting}
+use Rattle.bsc_text.specs.declared.act.Act.{Act}
+use Rattle.bsc_text.specs.declared.act.Act.TheVariants as a
+use Rattle.bsc_text.specs.declared.phase.SentBlock.{SentBlock}
+use Rattle.bsc_text.specs.declared.phase.Phase.{Phase}
+use Rattle.bsc_text.specs.declared.phase.Phase.TheVariants.{Idle, Unanswered}
+use Rattle.bsc_text.specs.Setup.{SetupValue}
+use Rattle.bsc_text.specs.Sender.{SenderStep, ReleaseStep, text_of, with_phase, is_in_doubt, release_step}
+use Rattle.bsc_text.specs.Channel.{Channel, Nothing, Offer, Land, Learn, Makes, IsSound}
+use Rattle.bsc_text.specs.Fair.{IsTextMessage}
+use Rattle.bsc_text.specs.Bid.{Bid, Turn, Event, Exchange, Offering, channel_of, message_for, sender_in, after_turn, after_event, IsFairTurn, Reaches}
+
+-- the sender sends texts and ENQ alone
+abbrev pub SendsTextsAndEnq : Type 0
+SendsTextsAndEnq = (b : Bid) (w : Message) → message_for b.act ≡ Some w → IsTextMessage w ⊎ (w ≡ m.Enq)
+
+-- the text of a block: the one that is unanswered
+pub record CarriesBlock (b : Bid) (t : TextValue) : Type 0 where
+  pub block : SentBlock
+  pub unanswered : b.sender.phase ≡ Unanswered block
+  pub text : t ≡ text_of b.queue block
+  pub records : records_in t.units ≡ take block.count (waiting b.queue)
+
+-- each text that is sent, and each that is heard whole, has exactly the records of the block
+abbrev pub SendsItsBlocks : Type 0
+SendsItsBlocks = (b : Bid) (es : List Event) (c : Bid) (t : TextValue) → Reaches b es c → c.act ≡ a.Send t → CarriesBlock c t
+
+abbrev pub HearsItsBlocks : Type 0
+HearsItsBlocks =
+    (b : Bid) (es : List Event) (c : Bid) (turn : Turn) (t : TextValue) → Reaches b es c → IsFairTurn c turn → turn.heard ≡ Some (Whole (m.Text t)) → CarriesBlock c t
+
+-- where the receiver hears, nothing moves, or the unanswered block lands
+abbrev pub MovesAtReceiver : Phase → Channel → Channel → Type 0
+MovesAtReceiver phase old new = Makes Nothing old new ⊎ ((block : SentBlock) × (phase ≡ Unanswered block) × Makes (Land block.count) old new)
+
+-- where the sender hears, nothing moves, or it learns of what was spooled
+abbrev pub MovesAtSender : Channel → Channel → Type 0
+MovesAtSender old new = Makes Nothing old new ⊎ Makes Learn old new
+
+-- a turn moves the channel at the receiver, and then at the sender
+pub record MovesInTurn (phase : Phase) (old new : Channel) : Type 0 where
+  pub between : Channel
+  pub receiver : MovesAtReceiver phase old between
+  pub sender : MovesAtSender between new
+
+-- Each block lands at most once, since it lands only where all that was spooled is known; it is learnt only
+-- after it landed, since what is learnt is what was spooled.
+abbrev pub OnlyMoves : Type 0
+OnlyMoves =
+    (b : Bid) (es : List Event) (c : Bid) (t : Turn) → Reaches b es c → IsFairTurn c t → MovesInTurn c.sender.phase (channel_of c) (channel_of (after_turn c t))
+
+abbrev pub OffersMove : Type 0
+OffersMove = (b : Bid) (r : List ℕ) → Makes (Offer r) (channel_of b) (channel_of (after_event b (Offering r)))
+
+-- at each moment the channel is sound
+abbrev pub StaysSound : Type 0
+StaysSound = (b : Bid) (es : List Event) (c : Bid) → Reaches b es c → IsSound c.sender.phase (channel_of c)
+
+-- a bid that ended without doubt knows of all that was spooled
+abbrev pub EndsKnowing : Type 0
+EndsKnowing =
+    (b : Bid) (es : List Event) (c : Bid) → Reaches b es c → c.act ≡ a.Over → is_in_doubt c.sender.phase ≡ false → (c.sender.phase ≡ Idle) × (c.queue.known ≡ length c.spool.records)
+
+-- the sender gives up on a silence, with a block unanswered: nothing was acted on in the turn, and one more
+-- failure passes the limit
+pub record GivesUpUnanswered (b : Bid) (t : Turn) : Type 0 where
+  pub block : SentBlock
+  pub unanswered : b.sender.phase ≡ Unanswered block
+  pub silence : (sender_in b t).act ≡ a.Quiet
+  pub over : b.sender.setup.tries < b.sender.tries + 1
+
+-- no bid that goes on is in doubt; doubt begins exactly where the sender gives up so
+abbrev pub DoubtsAtSilence : Type 0
+DoubtsAtSilence =
+    (b : Bid) (es : List Event) (c : Bid) (t : Turn) → Reaches b es c → IsFairTurn c t →
+    (is_in_doubt c.sender.phase ≡ false) × ((is_in_doubt (after_turn c t).sender.phase ≡ true) ↔ GivesUpUnanswered c t)
+
+-- a release of the spooled count succeeds, makes it the known one, and ends the doubt
+abbrev pub released : Bid → ReleaseStep
+released c =
+    record { sender = with_phase c.sender Idle; queue = record { format = c.queue.format; offered = c.queue.offered; known = length c.spool.records }; answer = Ok tt }
+
+abbrev pub ReleaseEndsDoubt : Type 0
+ReleaseEndsDoubt =
+    (b : Bid) (es : List Event) (c : Bid) → Reaches b es c → is_in_doubt c.sender.phase ≡ true → release_step c.sender c.queue (length c.spool.records) ≡ released c
+
+-- the turns among the events
+abbrev pub turn_count : List Event → ℕ
+turn_count [] = 0
+turn_count (Exchange t ∷ es) = turn_count es + 1
+turn_count (Offering r ∷ es) = turn_count es
+
+-- a block was just begun: it is sent, and nothing has failed since
+abbrev pub is_begun : Act → ℕ → Bool
+is_begun (a.Send t) tries = nat_eq tries 0
+is_begun _ tries = false
+
+-- the blocks that are begun in these events
+abbrev pub begun_in : Bid → List Event → ℕ
+begun_in b [] = 0
+begun_in b (Exchange t ∷ es) =
+    (if is_begun (after_turn b t).act (after_turn b t).sender.tries then 1 else 0) + begun_in (after_turn b t) es
+begun_in b (Offering r ∷ es) = begun_in (after_event b (Offering r)) es
+
+-- the most turns that a block takes
+abbrev pub most_turns : SetupValue → ℕ
+most_turns setup = (setup.tries + 1) * (setup.waits + 1)
+
+-- a bid in which so many blocks were begun, the first one included, takes at most so many turns
+abbrev pub EndsSoon : Type 0
+EndsSoon =
+    (b : Bid) (es : List Event) (c : Bid) → Reaches b es c → turn_count es ≤ (1 + begun_in b es) * most_turns b.sender.setup

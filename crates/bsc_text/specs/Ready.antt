@@ -1,0 +1,46 @@
+-- What a sender counts on in its queue (own). It is true of the queue of `begin`, whatever is offered since.
+use Rattle.std.specs.Prelude.{ℕ, ◌+◌, ◌≤◌, length}
+use Rattle.bsc_frame.specs.declared.text.End.{End}
+use Rattle.bsc_frame.specs.declared.text.End.TheVariants.{Etb, Etx}
+use Rattle.bsc_spool.specs.Queue.{QueueValue, IsQueue, waiting}
+use Rattle.bsc_text.specs.declared.phase.Phase.{Phase}
+use Rattle.bsc_text.specs.declared.phase.Phase.TheVariants.{Idle, Unanswered, Held, InDoubt}
+use Rattle.bsc_text.specs.Setup.{SetupValue}
+use Rattle.bsc_text.specs.Sender.{SenderValue}
+
+-- so many records are among the n that wait, and behind ETB one more
+abbrev pub AreWaiting : ℕ → End → ℕ → Type 0
+AreWaiting k Etb n = k + 1 ≤ n
+AreWaiting k Etx n = k ≤ n
+
+-- what a sender in this phase counts on among n waiting records
+abbrev pub CountsOn : Phase → ℕ → Type 0
+CountsOn Idle n = Unit {0}
+CountsOn (InDoubt k) n = k ≤ n
+CountsOn (Unanswered b) n = (1 ≤ b.count) × (b.count ≤ 7) × AreWaiting b.count b.end n
+CountsOn (Held end parity) n = AreWaiting 0 end n
+
+-- the queue has what the sender counts on
+pub record IsReady (s : SenderValue) (q : QueueValue) : Type 0 where
+  pub queue : IsQueue q
+  pub counts : CountsOn s.phase (length (waiting q))
+
+-- while a bid goes on, no counter is over its limit
+abbrev pub AreWithin : SetupValue → ℕ → ℕ → Phase → Type 0
+AreWithin setup tries waits Idle = Unit {0}
+AreWithin setup tries waits (InDoubt k) = Unit {0}
+AreWithin setup tries waits (Unanswered b) = (tries ≤ setup.tries) × (waits ≤ setup.waits)
+AreWithin setup tries waits (Held end parity) = (tries ≤ setup.tries) × (waits ≤ setup.waits)
+
+-- a bid goes on, or not
+abbrev pub IsGoing : Phase → Type 0
+IsGoing Idle = ⊥
+IsGoing (InDoubt k) = ⊥
+IsGoing (Unanswered b) = Unit {0}
+IsGoing (Held end parity) = Unit {0}
+
+abbrev pub IsAtRest : Phase → Type 0
+IsAtRest Idle = Unit {0}
+IsAtRest (InDoubt k) = Unit {0}
+IsAtRest (Unanswered b) = ⊥
+IsAtRest (Held end parity) = ⊥

@@ -1,0 +1,30 @@
+-- The addresses of a terminal (GA27-3004, polling and selection; up to four selection addresses are own).
+use Rattle.std.specs.Prelude.{◌≡◌, ◌<◌, ◌≤◌, ◌-◌, ℕ, List, ◌++◌, length, take, replicate}
+use Rattle.std.specs.Prelude.{Bool, nat_lt, nat_eq, ◌||◌, if◌then◌else◌, Result, Ok, Err}
+use Rattle.bsc_text.specs.declared.terminal.TerminalError.{TerminalError}
+use Rattle.bsc_text.specs.declared.terminal.TerminalError.TheVariants.{Count}
+
+-- the address that a terminal is polled by, and those that it is selected by
+pub record TerminalValue : Type 0 where
+  pub poll : List ℕ
+  pub selects : List (List ℕ)
+
+-- one to four selection addresses
+pub record IsTerminal (t : TerminalValue) : Type 0 where
+  pub some : 0 < length t.selects
+  pub most : length t.selects ≤ 4
+
+-- the selection addresses as they lie in a table of four, the polling address behind them
+abbrev pub padded : List ℕ → List (List ℕ) → List (List ℕ)
+padded poll selects = selects ++ replicate (4 - length selects) poll
+
+-- a table of which the first count places are the selection addresses
+pub record HoldsSelects (poll : List ℕ) (table : List (List ℕ)) (count : ℕ) : Type 0 where
+  pub terminal : IsTerminal (record { poll = poll; selects = take count table })
+  pub long : length (take count table) ≡ count
+  pub rest : padded poll (take count table) ≡ table
+
+abbrev pub terminal_of : List ℕ → List (List ℕ) → Result TerminalValue TerminalError
+terminal_of poll selects =
+    if nat_eq (length selects) 0 || nat_lt 4 (length selects) then Err Count
+    else Ok (record { poll = poll; selects = selects })

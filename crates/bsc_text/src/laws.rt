@@ -1,0 +1,25 @@
+//! Laws over the definitions alone: what holds of every bid, whatever is lost or spoiled.
+
+ghost use Rattle.bsc_text.specs.OneBid.{SendsTextsAndEnq, SendsItsBlocks, HearsItsBlocks, OnlyMoves, OffersMove, StaysSound, EndsKnowing, DoubtsAtSilence, ReleaseEndsDoubt, EndsSoon};
+
+/// One bid, end to end. For every bid that begins while the spooled records are the known ones, and every
+/// list of turns in which each spoiled transmission fails its check, with offers between the turns:
+///
+/// - the sender sends texts and ENQ alone, and each text, sent or heard, has exactly the records of its block;
+/// - a block lands at most once, and is learnt only after it landed; an offer adds its record alone;
+/// - at each moment the channel is sound, and a bid that ended without doubt knows of all that was spooled;
+/// - doubt begins exactly where the sender gives up on a silence with a block unanswered, and a release of
+///   the spooled count ends it;
+/// - with b blocks begun there are at most b · (tries + 1) · (waits + 1) turns.
+pub fn one_bid()
+    ensures sends { SendsTextsAndEnq }
+    ensures sends_blocks { SendsItsBlocks }
+    ensures hears_blocks { HearsItsBlocks }
+    ensures moves { OnlyMoves }
+    ensures offers { OffersMove }
+    ensures sound { StaysSound }
+    ensures known { EndsKnowing }
+    ensures doubt { DoubtsAtSilence }
+    ensures release { ReleaseEndsDoubt }
+    ensures soon { EndsSoon }
+{}

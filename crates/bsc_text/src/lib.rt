@@ -1,0 +1,25 @@
+//! One bid: the sender of blocks, the receiver of blocks, and what both ends together keep.
+//!
+//! A control station and a terminal each have a sender for what they transmit and a receiver for what
+//! they take; a point-to-point user can drive a pair alone. Beside them stand what both stations share:
+//! their settings, a terminal's addresses, and the trait of a station of the line.
+#![tactic(auto)]
+
+mod act;
+pub mod laws;
+mod parity;
+mod phase;
+mod receiver;
+mod reply;
+mod sender;
+mod setup;
+mod station;
+mod terminal;
+
+pub use act::Act;
+pub use receiver::Receiver;
+pub use reply::Reply;
+pub use sender::{ReleaseError, Sender};
+pub use setup::{SettingError, Setup};
+pub use station::{Station, transmit};
+pub use terminal::{Terminal, TerminalError};

@@ -1,0 +1,310 @@
+//! The sender of one bid.
+
+ghost use Rattle.std.specs.Prelude.{◌≡◌, ◌+◌, ◌<◌, ◌≤◌, true, false, nat_lt, length};
+ghost use Rattle.bsc_spool.specs.Queue.{QueueValue, IsQueue, waiting, next_block};
+ghost use Rattle.bsc_text.specs.Ready.{AreWaiting, CountsOn, IsReady, IsGoing, IsAtRest};
+ghost use Rattle.bsc_text.specs.Reply.{reply_heard};
+ghost use Rattle.bsc_text.specs.Sender.{with_phase, with_counts, begin_step, sent_next, accepted, delayed, unanswered_step, held_step, reply_step, silence_step, cut_phase, is_in_doubt, release_step};
+
+use crate::act::Act;
+use crate::parity::Parity;
+use crate::phase::{Phase, SentBlock};
+use crate::reply::{Answer, Reply};
+use crate::setup::Setup;
+use bsc_frame::{End, Heard};
+use bsc_spool::Queue;
+use std::alloc::Allocator;
+use std::marker::Model;
+use thiserror::Error;
+
+/// The sender of one bid: it sends the waiting records of a queue, block by block, and marks in the queue
+/// which are known to have arrived.
+#[derive(Drop)]
+pub struct Sender {
+    setup: Setup,
+    phase: Phase,
+
+    /// The failures in a row.
+    tries: u8,
+
+    /// The WACKs since the last acknowledgement. At a limit of 255 the bid is over at 256.
+    waits: u16,
+}
+
+impl Model for Sender {
+    ghost use Rattle.bsc_text.specs.Sender.{SenderValue};
+    ghost use Rattle.bsc_text.specs.Ready.{AreWithin};
+
+    ghost Value = { SenderValue };
+
+    ghost view = { λ s. record { setup = s.setup; phase = s.phase; tries = s.tries; waits = s.waits } };
+
+    ghost invariant = { λ s. AreWithin s.setup s.tries s.waits s.phase };
+}
+
+/// Why a doubt is not released.
+#[derive(Clone, Copy, Debug, PartialEq, Eq, Error)]
+pub enum ReleaseError {
+    /// There is no doubt.
+    #[error("not in doubt")]
+    NotInDoubt,
+
+    /// The count is neither that of the known records nor that with the doubtful block.
+    #[error("count mismatch")]
+    CountMismatch,
+}
+
+impl Sender {
+    /// A sender without a bid and without a doubt.
+    pub fn new(setup: Setup) -> Self
+        ensures { result ≡ record { setup = setup; phase = Phase.Idle; tries = 0; waits = 0 } }
+    {
+        Sender {
+            setup,
+            phase: Phase::Idle,
+            tries: 0,
+            waits: 0,
+        }
+    }
+
+    /// Begins a bid: sends the first block of the waiting records. Condition: the sender is idle, without a
+    /// doubt, and records wait. (GA27-3004, transmission of blocks.)
+    pub fn begin<A: Allocator>(&mut self, queue: &Queue<A>) -> Act
+        requires idle { self.old.phase ≡ Phase.Idle }
+        requires some { 1 ≤ length (waiting queue.now) }
+        ensures row { record { sender = self.new; queue = queue.now; act = result } ≡ begin_step self.old queue.now }
+        ensures ready { IsReady self.old queue.now → IsReady self.new queue.now }
+    {
+        self.send_next(queue, Parity::Odd)
+    }
+
+    /// Hears a transmission. A reply is acted on; anything else changes nothing. Condition: in the queue
+    /// wait the records of the unanswered block, behind ETB one more, and while held behind ETB at least
+    /// one. (GA27-3004, ACK 0, ACK 1, NAK, WACK and RVI; the limits are own.)
+    pub fn reply<A: Allocator>(&mut self, heard: &Heard, queue: &mut Queue<A>) -> Act
+        requires { CountsOn self.old.phase (length (waiting queue.old)) }
+        ensures row { record { sender = self.new; queue = queue.new; act = result } ≡ reply_step self.old queue.old (reply_heard heard.now) }
+        ensures ready { IsReady self.old queue.old → IsReady self.new queue.new }
+    {
+        let Some(reply) = Reply::heard(heard) else {
+            return Act::Quiet;
+        };
+        match self.phase {
+            Phase::Idle | Phase::InDoubt { .. } => Act::Quiet,
+            Phase::Unanswered { block } => {
+                self.answer_unanswered(queue, block, reply.answer(block.parity))
+            }
+            Phase::Held { end, parity } => {
+                self.answer_held(queue, end, parity, reply.answer(parity))
+            }
+        }
+    }
+
+    /// Nothing was heard for the time of a time-out. (GA27-3004, time-outs; the limit and the doubt are
+    /// own.)
+    pub fn silence(&mut self) -> Act
+        ensures row { (q : QueueValue) → record { sender = self.new; queue = q; act = result } ≡ silence_step self.old q }
+        ensures ready { (q : QueueValue) → IsReady self.old q → IsReady self.new q }
+    {
+        match self.phase {
+            Phase::Idle | Phase::InDoubt { .. } => Act::Quiet,
+            Phase::Unanswered { block } => {
+                let left = Phase::InDoubt { count: block.count };
+                if self.fail(left) { Act::Over } else { Act::Enq }
+            }
+            Phase::Held { .. } => {
+                if self.fail(Phase::Idle) {
+                    Act::Over
+                } else {
+                    Act::Enq
+                }
+            }
+        }
+    }
+
+    /// The line was taken from the sender: an unanswered block is in doubt from now on, and a held sender
+    /// is idle. (Own.)
+    pub fn cut_off(&mut self)
+        ensures state { self.new ≡ with_phase self.old (cut_phase self.old.phase) }
+        ensures ready { (q : QueueValue) → IsReady self.old q → IsReady self.new q }
+    {
+        match self.phase {
+            Phase::Idle | Phase::InDoubt { .. } => {}
+            Phase::Unanswered { block } => self.phase = Phase::InDoubt { count: block.count },
+            Phase::Held { .. } => self.phase = Phase::Idle,
+        }
+    }
+
+    /// Whether it is not known if a block arrived. (Own.)
+    pub fn in_doubt(&self) -> bool
+        ensures { result ≡ is_in_doubt self.now.phase }
+    {
+        matches!(self.phase, Phase::InDoubt { .. })
+    }
+
+    /// Ends the doubt: the other end has `count` records. `NotInDoubt`, then `CountMismatch` where the
+    /// count is neither that of the known records nor that with the doubtful block; both change nothing.
+    /// Condition: the records of the doubtful block wait in the queue. (Own.)
+    pub fn release<A: Allocator>(
+        &mut self,
+        count: usize,
+        queue: &mut Queue<A>,
+    ) -> Result<(), ReleaseError>
+        requires { CountsOn self.old.phase (length (waiting queue.old)) }
+        ensures row { record { sender = self.new; queue = queue.new; answer = result } ≡ release_step self.old queue.old count }
+        ensures ready { IsReady self.old queue.old → IsReady self.new queue.new }
+    {
+        let Phase::InDoubt { count: doubtful } = self.phase else {
+            return Err(ReleaseError::NotInDoubt);
+        };
+        let known = queue.known();
+        if count != known && (count < known || count - known != doubtful) {
+            return Err(ReleaseError::CountMismatch);
+        }
+        queue.mark(count - known);
+        self.phase = Phase::Idle;
+        Ok(())
+    }
+
+    /// Ends the bid, with no doubt.
+    fn end(&mut self) -> Act
+        ensures state { self.new ≡ with_phase self.old Phase.Idle }
+        ensures act { result ≡ Act.Over }
+    {
+        self.phase = Phase::Idle;
+        Act::Over
+    }
+
+    /// Sends the next block.
+    #[tactic(auto, using(crate::proofs::ReadyLemmas::counts_next))]
+    fn send_next<A: Allocator>(&mut self, queue: &Queue<A>, parity: Parity) -> Act
+        ensures row { record { sender = self.new; queue = queue.now; act = result } ≡ sent_next self.old queue.now parity (next_block queue.now) }
+        ensures ready { IsQueue queue.now → IsReady self.new queue.now }
+    {
+        self.tries = 0;
+        self.waits = 0;
+        let Some(next) = queue.next() else {
+            self.phase = Phase::Idle;
+            return Act::Over;
+        };
+        self.phase = Phase::Unanswered {
+            block: SentBlock {
+                count: next.count,
+                end: next.end,
+                parity,
+            },
+        };
+        Act::Send(queue.text(next.count, next.end))
+    }
+
+    /// The expected acknowledgement of a block with this end came.
+    fn accept<A: Allocator>(&mut self, queue: &Queue<A>, end: End, parity: Parity) -> Act
+        ensures row { record { sender = self.new; queue = queue.now; act = result } ≡ accepted self.old queue.now end parity }
+        ensures ready { IsQueue queue.now → IsReady self.new queue.now }
+    {
+        match end {
+            End::Etx => {
+                self.tries = 0;
+                self.waits = 0;
+                self.phase = Phase::Idle;
+                Act::Over
+            }
+            End::Etb => self.send_next(queue, parity.other()),
+        }
+    }
+
+    /// One more failure in a row. True where the limit is passed: the bid is over, and `left` is its phase.
+    fn fail(&mut self, left: Phase) -> bool
+        requires going { IsGoing self.old.phase }
+        requires left { IsAtRest left }
+        ensures over { result ≡ nat_lt self.old.setup.tries (self.old.tries + 1) }
+        ensures ends { result ≡ true → self.new ≡ with_phase (with_counts self.old (self.old.tries + 1) self.old.waits) left }
+        ensures goes_on { result ≡ false → self.new ≡ with_counts self.old (self.old.tries + 1) self.old.waits }
+    {
+        let limit = self.setup.tries();
+        self.tries += 1;
+        if self.tries > limit {
+            self.phase = left;
+            return true;
+        }
+        false
+    }
+
+    /// One more WACK, to a block with this end.
+    fn delay(&mut self, end: End, parity: Parity) -> Act
+        requires { IsGoing self.old.phase }
+        ensures row { (q : QueueValue) → record { sender = self.new; queue = q; act = result } ≡ delayed self.old q end parity }
+        ensures ready { (q : QueueValue) → IsQueue q → AreWaiting 0 end (length (waiting q)) → IsReady self.new q }
+    {
+        self.tries = 0;
+        self.waits += 1;
+        if self.waits > u16::from(self.setup.waits()) {
+            self.phase = Phase::Idle;
+            return Act::Over;
+        }
+        self.phase = Phase::Held { end, parity };
+        Act::Enq
+    }
+
+    /// A reply while a block is unanswered.
+    #[tactic(auto, using(crate::proofs::ReadyLemmas::is_queue_marked, crate::proofs::ReadyLemmas::still_waiting, crate::proofs::ReadyLemmas::all_waiting))]
+    fn answer_unanswered<A: Allocator>(
+        &mut self,
+        queue: &mut Queue<A>,
+        block: SentBlock,
+        answer: Answer,
+    ) -> Act
+        requires phase { self.old.phase ≡ Phase.Unanswered block }
+        requires counts { CountsOn self.old.phase (length (waiting queue.old)) }
+        ensures row { record { sender = self.new; queue = queue.new; act = result } ≡ unanswered_step self.old queue.old block answer }
+        ensures ready { IsReady self.old queue.old → IsReady self.new queue.new }
+    {
+        match answer {
+            Answer::Accepted => {
+                queue.mark(block.count);
+                self.accept(queue, block.end, block.parity)
+            }
+            Answer::Refused => {
+                if self.fail(Phase::Idle) {
+                    Act::Over
+                } else {
+                    Act::Send(queue.text(block.count, block.end))
+                }
+            }
+            Answer::Delayed => {
+                queue.mark(block.count);
+                self.delay(block.end, block.parity)
+            }
+            Answer::Interrupted => {
+                queue.mark(block.count);
+                self.end()
+            }
+        }
+    }
+
+    /// A reply while the sender is held.
+    fn answer_held<A: Allocator>(
+        &mut self,
+        queue: &Queue<A>,
+        end: End,
+        parity: Parity,
+        answer: Answer,
+    ) -> Act
+        requires { self.old.phase ≡ Phase.Held end parity }
+        ensures row { record { sender = self.new; queue = queue.now; act = result } ≡ held_step self.old queue.now end parity answer }
+        ensures ready { IsReady self.old queue.now → IsReady self.new queue.now }
+    {
+        match answer {
+            Answer::Accepted => self.accept(queue, end, parity),
+            Answer::Refused => {
+                if self.fail(Phase::Idle) {
+                    Act::Over
+                } else {
+                    Act::Enq
+                }
+            }
+            Answer::Delayed => self.delay(end, parity),
+            Answer::Interrupted => self.end(),
+        }
+    }
+}
