@@ -25,7 +25,7 @@ use Rattle.bsc_text.specs.Channel.{channel, Lands}
 use Rattle.bsc_text.specs.Fair.{IsTextMessage, IsCallCutShort, IsFairlyHeard, IsFair}
 use Rattle.bsc_text.specs.Bid.{received}
 use Rattle.bsc_text.specs.OneBid.{MovesAtReceiver}
-use Rattle.bsc_text.specs.Agreement.{Flight, Still, Outward, Back, IsReplyAfter, IsReplyHeld, NotLanded, HasLanded, IsHeld, Agree, InBid, back}
+use Rattle.bsc_text.specs.Agreement.{Flight, Still, Outward, Back, IsReplyAfter, IsReplyHeld, IsFlightBefore, IsFlightAfter, NotLanded, HasLanded, IsHeld, Agree, InBid, back}
 use Rattle.bsc_text.proofs.ReadyLemmas.{all_waiting, within_offered}
 
 -- the units that are built for records hold these records
@@ -134,26 +134,70 @@ agree_still (Held e x) q parity last spooled f h = record { front = h.front; cou
 agree_still (Unanswered b) q parity last spooled f (inl h) = inl (record { front = h.front; counted = h.counted; reply = h.reply; flight = tt })
 agree_still (Unanswered b) q parity last spooled f (inr h) = inr (record { front = h.front; counted = h.counted; reply = h.reply; flight = tt })
 
--- in a bid the sender sends texts and ENQ alone
-abbrev IsSenders : Message → Type 0
+-- what a sender sends
+abbrev pub IsSenders : Message → Type 0
 IsSenders (m.Text t) = Unit {0}
 IsSenders m.Enq = Unit {0}
 IsSenders _ = ⊥
 
-abbrev IsOutward : Message → Type 0
-IsOutward w = IsSenders w
+flight_before : (q : QueueValue) (b : SentBlock) (last : Reply) (w : Message) → IsFlightBefore q b last (Outward w) → IsSenders w
+flight_before q b last (m.Text t) h = tt
+flight_before q b last m.Enq h = tt
+flight_before q b last _ h = absurd h
 
-before_senders : (q : QueueValue) (b : SentBlock) (parity : Parity) (last : Reply) (spooled : List (List ℕ)) (w : Message) → NotLanded b q parity last spooled (Outward w) → IsSenders w
-before_senders q b parity last spooled (m.Text t) h = tt
-before_senders q b parity last spooled m.Enq h = tt
-before_senders q b parity last spooled m.Eot h = h.flight
-before_senders q b parity last spooled (m.Call a) h = h.flight
-before_senders q b parity last spooled m.Ack0 h = h.flight
-before_senders q b parity last spooled m.Ack1 h = h.flight
-before_senders q b parity last spooled m.Nak h = h.flight
-before_senders q b parity last spooled m.Wack h = h.flight
-before_senders q b parity last spooled m.Rvi h = h.flight
+flight_after : (last : Reply) (w : Message) → IsFlightAfter last (Outward w) → IsSenders w
+flight_after last (m.Text t) h = tt
+flight_after last m.Enq h = tt
+flight_after last _ h = absurd h
 
-abbrev IsEnq : Message → Type 0
-IsEnq m.Enq = Unit {0}
-IsEnq _ = ⊥
+-- in a bid nothing but a text or ENQ goes out
+pub senders : (phase : Phase) (q : QueueValue) (parity : Parity) (last : Reply) (spooled : List (List ℕ)) (w : Message) → Agree phase q parity last spooled (Outward w) → IsSenders w
+senders Idle q parity last spooled w h = absurd h
+senders (InDoubt k) q parity last spooled w h = absurd h
+senders (Held e x) q parity last spooled w h = flight_after last w h.flight
+senders (Unanswered b) q parity last spooled w (inl h) = flight_before q b last w h.flight
+senders (Unanswered b) q parity last spooled w (inr h) = flight_after last w h.flight
+
+-- of a text or ENQ no EOT is heard
+pub no_call : (w v : Message) → IsSenders w → IsCallCutShort w v → ⊥
+no_call (m.Text t) v s e = e
+no_call m.Enq v s e = e
+no_call _ v s e = s
+
+-- a whole transmission is heard
+whole_keeps : RecordsBack → (phase : Phase) (q : QueueValue) (parity : Parity) (last : Reply) (s : SpoolValue) (w : Message) (urgent first after : Bool) → IsQueue q → CountsOn phase (length (waiting q)) → Agree phase q parity last s.records (Outward w) →
+    Keeps phase q s.records (heard_step (record { parity = parity; last = last }) s (Whole w) urgent (record { first = first; after = after }))
+whole_keeps law Idle q parity last s w urgent first after queue counts h = absurd h
+whole_keeps law (InDoubt k) q parity last s w urgent first after queue counts h = absurd h
+whole_keeps law (Unanswered b) q parity last s (m.Text t) urgent first after queue counts (inl h) = text_keeps law b q parity last s t urgent first after queue counts h
+whole_keeps law (Unanswered b) q parity last s (m.Text t) urgent first after queue counts (inr h) = absurd h.flight
+whole_keeps law (Unanswered b) q parity last s m.Enq urgent first after queue counts (inl h) = enq_before b q parity last s (record { first = first; after = after }) h
+whole_keeps law (Unanswered b) q parity last s m.Enq urgent first after queue counts (inr h) = enq_after b q parity last s first after h
+whole_keeps law (Held e x) q parity last s m.Enq urgent first after queue counts h = enq_held (Held e x) x q parity last s first after h
+whole_keeps law (Held e x) q parity last s (m.Text t) urgent first after queue counts h = absurd h.flight
+whole_keeps law (Unanswered b) q parity last s w urgent first after queue counts h = absurd (senders (Unanswered b) q parity last s.records w h)
+whole_keeps law (Held e x) q parity last s w urgent first after queue counts h = absurd (senders (Held e x) q parity last s.records w h)
+
+-- a spoiled text is heard
+spoiled_keeps : (phase : Phase) (q : QueueValue) (parity : Parity) (last : Reply) (s : SpoolValue) (w : Message) → IsTextMessage w → Agree phase q parity last s.records (Outward w) →
+    Agree phase q parity Nak s.records (Back Nak)
+spoiled_keeps Idle q parity last s w f h = absurd h
+spoiled_keeps (InDoubt k) q parity last s w f h = absurd h
+spoiled_keeps (Held e x) q parity last s (m.Text t) f h = absurd h.flight
+spoiled_keeps (Unanswered b) q parity last s (m.Text t) f (inl h) = inl (record { front = h.front; counted = h.counted; reply = tt; flight = refl })
+spoiled_keeps (Unanswered b) q parity last s (m.Text t) f (inr h) = absurd h.flight
+spoiled_keeps (Held e x) q parity last s w f h = absurd f
+spoiled_keeps (Unanswered b) q parity last s w f h = absurd f
+
+heard_keeps : RecordsBack → (phase : Phase) (q : QueueValue) (parity : Parity) (last : Reply) (s : SpoolValue) (w : Message) (h : Heard) (urgent first after : Bool) → InBid phase q parity last s.records (Outward w) → IsFairlyHeard w h →
+    Keeps phase q s.records (heard_step (record { parity = parity; last = last }) s h urgent (record { first = first; after = after }))
+heard_keeps law phase q parity last s w Noise urgent first after b f = (agree_still phase q parity last s.records (Outward w) b.agree, inl refl)
+heard_keeps law phase q parity last s w Failed urgent first after b f = (spoiled_keeps phase q parity last s w f b.agree, inl refl)
+heard_keeps law phase q parity last s w (Whole v) urgent first after b (inl e) =
+    whole_keeps law phase q parity last s v urgent first after b.queue b.counts (subst (λ (x : Message). Agree phase q parity last s.records (Outward x)) (sym e) b.agree)
+heard_keeps law phase q parity last s w (Whole v) urgent first after b (inr e) = absurd (no_call w v (senders phase q parity last s.records w b.agree) e)
+
+-- the sender's transmission is heard at the receiver, or not
+pub receiver_keeps : RecordsBack → (phase : Phase) (q : QueueValue) (r : ReceiverValue) (s : SpoolValue) (w : Message) (h : Option Heard) (urgent : Bool) (rooms : Rooms) → InBid phase q r.parity r.last s.records (Outward w) → IsFair w h → Keeps phase q s.records (received r s h urgent rooms)
+receiver_keeps law phase q r s w None urgent rooms b f = (agree_still phase q r.parity r.last s.records (Outward w) b.agree, inl refl)
+receiver_keeps law phase q r s w (Some h) urgent rooms b f = heard_keeps law phase q r.parity r.last s w h urgent rooms.first rooms.after b f

@@ -1,2 +1,11 @@
+pub mod Answering
+pub mod BlockLemmas
+pub mod DoubtLemmas
+pub mod Hearing
+pub mod OfferLemmas
 pub mod ReadyLemmas
+pub mod Resting
 pub mod SelectLemmas
+pub mod StepLemmas
+pub mod TurnCount
+pub mod Turning

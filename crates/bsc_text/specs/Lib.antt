@@ -11,3 +11,4 @@ pub mod Fair
 pub mod Bid
 pub mod Agreement
 pub mod OneBid
+pub mod EachStep

@@ -1,6 +1,10 @@
 //! Laws over the definitions alone: what holds of every bid, whatever is lost or spoiled.
 
 ghost use Rattle.bsc_text.specs.OneBid.{SendsTextsAndEnq, SendsItsBlocks, HearsItsBlocks, OnlyMoves, OffersMove, StaysSound, EndsKnowing, DoubtsAtSilence, ReleaseEndsDoubt, EndsSoon};
+ghost use Rattle.bsc_text.specs.EachStep.{HearingAgrees, AnsweringAgrees, SilenceAgrees, BeginAgrees, OfferAgrees, OfferKeepsRest, ReleaseKeepsRest, AgreementIsSound};
+
+use bsc_block::laws::records_back;
+use bsc_spool::laws::next_blocks;
 
 /// One bid, end to end. For every bid that begins while the spooled records are the known ones, and every
 /// list of turns in which each spoiled transmission fails its check, with offers between the turns:
@@ -22,4 +26,27 @@ pub fn one_bid()
     ensures doubt { DoubtsAtSilence }
     ensures release { ReleaseEndsDoubt }
     ensures soon { EndsSoon }
-{}
+{
+    records_back();
+    next_blocks();
+}
+
+/// One step of a bid, for those who interleave bids with other traffic. Where the ends agree before it they
+/// agree after it, whatever is lost or spoiled by failing its check:
+///
+/// - the receiver hears what the sender sent, or nothing; the sender hears the reply, or nothing;
+/// - a silence comes to the sender, a bid begins, or a record is offered;
+/// - a sender whose bid is over is at rest, and its channel is sound.
+pub fn each_step()
+    ensures hearing { HearingAgrees }
+    ensures answering { AnsweringAgrees }
+    ensures silence { SilenceAgrees }
+    ensures begin { BeginAgrees }
+    ensures offer { OfferAgrees }
+    ensures offer_at_rest { OfferKeepsRest }
+    ensures release { ReleaseKeepsRest }
+    ensures sound { AgreementIsSound }
+{
+    records_back();
+    next_blocks();
+}

@@ -75,7 +75,8 @@ impl Reply {
     {
         match (parity, self) {
             (Parity::Odd, Reply::Ack1) | (Parity::Even, Reply::Ack0) => Answer::Accepted,
-            (Parity::Odd, Reply::Ack0) | (Parity::Even, Reply::Ack1) | (_, Reply::Nak) => Answer::Refused,
+            (Parity::Odd, Reply::Ack0) | (Parity::Even, Reply::Ack1) | (_, Reply::Nak) =>
+                Answer::Refused,
             (_, Reply::Wack) => Answer::Delayed,
             (_, Reply::Rvi) => Answer::Interrupted,
         }

@@ -1,0 +1,74 @@
+-- Each single step of a bid keeps that its ends agree.
+use Rattle.std.proofs.Common.{◌≡◌, ℕ, ◌+◌, ◌≤◌, List, length, take, Option, Ok, refl, sym, ◌∙◌, ap, subst, arith}
+use Rattle.bsc_spool.specs.Queue.{QueueValue, IsQueue, waiting}
+use Rattle.bsc_text.specs.declared.act.Act.{Act}
+use Rattle.bsc_text.specs.declared.act.Act.TheVariants as a
+use Rattle.bsc_text.specs.declared.parity.Parity.{Parity}
+use Rattle.bsc_text.specs.declared.parity.Parity.TheVariants.{Even}
+use Rattle.bsc_text.specs.declared.reply.Reply.{Reply}
+use Rattle.bsc_text.specs.declared.reply.Reply.TheVariants.{Ack0}
+use Rattle.bsc_text.specs.declared.phase.Phase.{Phase}
+use Rattle.bsc_text.specs.declared.phase.Phase.TheVariants.{Idle, InDoubt}
+use Rattle.bsc_text.specs.Sender.{SenderValue, SenderStep, ReleaseStep, with_phase, begin_step, silent_in, released_in}
+use Rattle.bsc_text.specs.Ready.{CountsOn}
+use Rattle.bsc_text.specs.Channel.{channel, IsSound}
+use Rattle.bsc_text.specs.Bid.{answered}
+use Rattle.bsc_text.specs.Agreement.{Still, IsResting, Continues}
+use Rattle.bsc_text.specs.EachStep.{IsEnded, SenderAgrees, ReleaseAgrees, HearingAgrees, AnsweringAgrees, SilenceAgrees, BeginAgrees, OfferAgrees, OfferKeepsRest, ReleaseKeepsRest, AgreementIsSound}
+use Rattle.bsc_text.proofs.Hearing.{receiver_keeps}
+use Rattle.bsc_text.proofs.Answering.{Leaves, at_same, sender_keeps, silence_keeps, begin_keeps}
+use Rattle.bsc_text.proofs.OfferLemmas.{not_longer, bid_offered, resting_offered}
+use Rattle.bsc_text.proofs.Resting.{RestsBy, rests_heard, rests_silent, rests_begin}
+use Rattle.bsc_text.proofs.Turning.{LawsBelow, sound_by}
+use Rattle.bsc_text.proofs.BlockLemmas.{released_by}
+
+ended : (x : Act) (p : Phase) → RestsBy x p → IsEnded x p
+ended (a.Send t) p h = tt
+ended a.Enq p h = tt
+ended a.Over p h = h
+ended a.Quiet p h = tt
+
+agrees : (q : QueueValue) (parity : Parity) (last : Reply) (spooled : List (List ℕ)) (t : SenderStep) → Leaves q parity last spooled t → RestsBy t.act t.sender.phase → SenderAgrees q parity last spooled t
+agrees q parity last spooled t h r = record { continues = h.0; ended = ended t.act t.sender.phase r; moves = h.1 }
+
+pub hearing_agrees : LawsBelow → HearingAgrees
+hearing_agrees law phase q r s sent heard urgent rooms i fair =
+    let k = receiver_keeps law.records phase q r s sent heard urgent rooms i fair in
+    record { bid = record { queue = i.queue; counts = i.counts; agree = k.0 }; moves = k.1 }
+
+pub answering_agrees : LawsBelow → AnsweringAgrees
+answering_agrees law s q parity last spooled reply heard i fair =
+    agrees q parity last spooled (answered s q reply heard) (sender_keeps law.next s q parity last spooled reply heard i fair) (rests_heard s q reply heard)
+
+pub silence_agrees : SilenceAgrees
+silence_agrees s q parity last spooled h =
+    agrees q parity last spooled (silent_in s q s.phase) (at_same q parity last spooled (silent_in s q s.phase) (silence_keeps s s.phase q parity last spooled refl h)) (rests_silent s q s.phase)
+
+pub begin_agrees : LawsBelow → BeginAgrees
+begin_agrees law s q spooled h some =
+    agrees q Even Ack0 spooled (begin_step s q) (at_same q Even Ack0 spooled (begin_step s q) (begin_keeps law.next s q spooled h.queue h.sound some)) (rests_begin s q)
+
+pub offer_agrees : LawsBelow → OfferAgrees
+offer_agrees law phase q parity last spooled f r short i = bid_offered law.offers phase q r parity last spooled f short i
+
+pub offer_keeps_rest : LawsBelow → OfferKeepsRest
+offer_keeps_rest law phase q spooled r short h = resting_offered law.offers phase q r spooled short h
+
+-- all that was spooled is known
+known_all : (q : QueueValue) (spooled : List (List ℕ)) → IsQueue q → spooled ≡ take (length spooled) q.offered → length spooled ≤ length q.offered →
+    IsResting Idle (record { format = q.format; offered = q.offered; known = length spooled }) spooled
+known_all q spooled h front long = record { queue = record { format = h.format; known = long; short = h.short }; counts = tt; sound = record { front = front; known = omega arith; spooled = refl } }
+
+release_by : (s : SenderValue) (q : QueueValue) (k : ℕ) (spooled : List (List ℕ)) (p : Phase) → p ≡ InDoubt k → IsResting (InDoubt k) q spooled → length spooled ≤ length q.offered → ReleaseAgrees (released_in s q p (length spooled)) spooled
+release_by s q k spooled p e h long =
+    let there : released_in s q (InDoubt k) (length spooled) ≡ record { sender = with_phase s Idle; queue = record { format = q.format; offered = q.offered; known = length spooled }; answer = Ok tt } =
+    released_by s q (InDoubt k) (length spooled) refl h.sound.spooled in
+    let all : ReleaseAgrees (record { sender = with_phase s Idle; queue = record { format = q.format; offered = q.offered; known = length spooled }; answer = Ok tt }) spooled =
+    record { answer = refl; idle = refl; rest = known_all q spooled h.queue h.sound.front long } in
+    subst (λ (x : Phase). ReleaseAgrees (released_in s q x (length spooled)) spooled) (sym e) (subst (λ (x : ReleaseStep). ReleaseAgrees x spooled) (sym there) all)
+
+pub release_keeps_rest : ReleaseKeepsRest
+release_keeps_rest s q k spooled e h = release_by s q k spooled s.phase e h (not_longer spooled q.offered h.sound.front)
+
+pub agreement_is_sound : AgreementIsSound
+agreement_is_sound phase q parity last spooled f h = sound_by phase q parity last spooled f h

@@ -1,0 +1,119 @@
+-- Every event of a bid keeps that its two ends agree.
+use Rattle.std.proofs.Common.{◌≡◌, ◌⊎◌, inl, inr, ℕ, ◌+◌, ◌≤◌, Bool, true, false, List, [], ◌∷◌, length, take, map, Option, None, Some, refl, sym, ◌∙◌, ap, subst, arith}
+use Rattle.std.proofs.lemmas.List.{length-take-le}
+use Rattle.bsc_frame.specs.declared.message.Message.{Message}
+use Rattle.bsc_frame.specs.declared.message.Message.TheVariants as m
+use Rattle.bsc_frame.specs.declared.message.Heard.{Heard}
+use Rattle.bsc_frame.specs.declared.message.Heard.TheVariants.{Whole}
+use Rattle.bsc_frame.specs.Texts.{TextValue}
+use Rattle.bsc_spool.specs.Queue.{QueueValue, IsQueue, waiting}
+use Rattle.bsc_text.specs.declared.act.Act.{Act}
+use Rattle.bsc_text.specs.declared.act.Act.TheVariants as a
+use Rattle.bsc_text.specs.declared.parity.Parity.{Parity}
+use Rattle.bsc_text.specs.declared.parity.Parity.TheVariants.{Even}
+use Rattle.bsc_text.specs.declared.reply.Reply.{Reply}
+use Rattle.bsc_text.specs.declared.reply.Reply.TheVariants.{Ack0}
+use Rattle.bsc_text.specs.declared.phase.SentBlock.{SentBlock}
+use Rattle.bsc_text.specs.declared.phase.Phase.{Phase}
+use Rattle.bsc_text.specs.declared.phase.Phase.TheVariants.{Idle, Unanswered, Held, InDoubt}
+use Rattle.bsc_text.specs.Sender.{SenderStep, text_of, begin_step, is_in_doubt}
+use Rattle.bsc_text.specs.Receiver.{ReceiverValue, ReceiverStep, begun}
+use Rattle.bsc_text.specs.Ready.{IsAtRest}
+use Rattle.bsc_text.specs.Channel.{channel, IsSound}
+use Rattle.bsc_text.specs.Fair.{IsFair, IsFairlyHeard}
+use Rattle.bsc_text.specs.Bid.{Bid, Turn, Event, Exchange, Offering, channel_of, message_for, receiver_in, sender_in, unless_quiet, after_turn, after_event, IsFairTurn, MayCome, AreEvents, IsBegun, Reaches}
+use Rattle.bsc_text.specs.OneBid.{MovesInTurn, OnlyMoves, StaysSound}
+use Rattle.bsc_text.specs.Agreement.{Flight, Still, Outward, Back, Agree, InBid, IsResting, Continues, back, sent_flight}
+use Rattle.bsc_text.proofs.ReadyLemmas.{within_offered}
+use Rattle.bsc_text.proofs.Hearing.{RecordsBack, Keeps, fits, receiver_keeps}
+use Rattle.bsc_text.proofs.Answering.{NextLaw, Leaves, sender_keeps, settled_keeps, begin_keeps, busy}
+use Rattle.bsc_text.proofs.OfferLemmas.{OffersQueue, continues_offered}
+use Rattle.bsc_text.proofs.Resting.{RestsBy, rests_begin, rests_heard, rests_settled}
+
+-- the laws of the layers below that a bid rests on
+pub record LawsBelow : Type 0 where
+  pub records : RecordsBack
+  pub next : NextLaw
+  pub offers : OffersQueue
+
+-- the two ends agree, and a bid that is over left the sender at rest
+pub record Holds (b : Bid) : Type 0 where
+  pub ends : Continues b.sender.phase b.queue b.receiver.parity b.receiver.last b.spool.records (sent_flight b.act)
+  pub rests : RestsBy b.act b.sender.phase
+
+-- a channel is sound while the ends agree
+pub sound_by : (phase : Phase) (q : QueueValue) (parity : Parity) (last : Reply) (spooled : List (List ℕ)) (f : Flight) → Continues phase q parity last spooled f → IsSound phase (channel q spooled)
+sound_by Idle q parity last spooled f h = h.0.sound
+sound_by (InDoubt k) q parity last spooled f h = h.0.sound
+sound_by (Held e x) q parity last spooled f h =
+    let known : q.known ≤ length q.offered = h.queue.known in
+    let long : length spooled ≡ q.known = ap length h.agree.front ∙ length-take-le q.known q.offered known in
+    record { front = rw long h.agree.front; known = omega arith; spooled = long }
+sound_by (Unanswered b) q parity last spooled f h =
+    let known : q.known ≤ length q.offered = h.queue.known in
+    elim h.agree [
+      | inl x ↦
+          (let long : length spooled ≡ q.known = ap length x.front ∙ length-take-le q.known q.offered known in
+          record { front = rw long x.front; known = omega arith; spooled = inl long })
+      | inr x ↦
+          (let long : length spooled ≡ q.known + b.count = ap length x.front ∙ length-take-le (q.known + b.count) q.offered (within_offered q b.count h.queue (fits b _ h.counts)) in
+          record { front = rw long x.front; known = omega arith; spooled = inr long })
+    ]
+
+pub record Turned (b : Bid) (t : Turn) : Type 0 where
+  pub holds : Holds (after_turn b t)
+  pub moves : MovesInTurn b.sender.phase (channel_of b) (channel_of (after_turn b t))
+
+-- what goes out while a bid goes on
+outward : (x : Act) (sent : Message) → message_for x ≡ Some sent → sent_flight x ≡ Outward sent
+outward (a.Send t) sent e = cc
+outward a.Enq sent e = cc
+outward a.Over sent e = absurd (cc e)
+outward a.Quiet sent e = absurd (cc e)
+
+pub going : (b : Bid) (sent : Message) → message_for b.act ≡ Some sent → Holds b → InBid b.sender.phase b.queue b.receiver.parity b.receiver.last b.spool.records (Outward sent)
+going b sent e h =
+    busy b.sender.phase b.queue b.receiver.parity b.receiver.last b.spool.records sent
+    (subst (λ (f : Flight). Continues b.sender.phase b.queue b.receiver.parity b.receiver.last b.spool.records f) (outward b.act sent e) h.ends)
+
+pub turn_keeps : LawsBelow → (b : Bid) (t : Turn) → Holds b → IsFairTurn b t → Turned b t
+turn_keeps law b t h fair =
+    let i : InBid b.sender.phase b.queue b.receiver.parity b.receiver.last b.spool.records (Outward fair.sent) = going b fair.sent fair.goes_on h in
+    let r : ReceiverStep = receiver_in b t in
+    let k : Keeps b.sender.phase b.queue b.spool.records r = receiver_keeps law.records b.sender.phase b.queue b.receiver b.spool fair.sent t.heard t.urgent t.rooms i fair.there in
+    let j : InBid b.sender.phase b.queue r.receiver.parity r.receiver.last r.spool.records (back r.reply) = record { queue = i.queue; counts = i.counts; agree = k.0 } in
+    let l : Leaves b.queue r.receiver.parity r.receiver.last r.spool.records (sender_in b t) = sender_keeps law.next b.sender b.queue r.receiver.parity r.receiver.last r.spool.records r.reply t.answer j fair.back in
+    let u : Leaves b.queue r.receiver.parity r.receiver.last r.spool.records (unless_quiet (sender_in b t) (sender_in b t).act) = settled_keeps b.queue r.receiver.parity r.receiver.last r.spool.records (sender_in b t) (sender_in b t).act refl l in
+    record {
+      holds = record { ends = u.0; rests = rests_settled (sender_in b t) (sender_in b t).act (rests_heard b.sender b.queue r.reply t.answer) };
+      moves = record { between = channel b.queue r.spool.records; receiver = k.1; sender = u.1 };
+    }
+
+event_keeps : LawsBelow → (b : Bid) (e : Event) → Holds b → MayCome b e → Holds (after_event b e)
+event_keeps law b (Exchange t) h k = (turn_keeps law b t h k).holds
+event_keeps law b (Offering r) h k =
+    record { ends = continues_offered law.offers b.sender.phase b.queue r b.receiver.parity b.receiver.last b.spool.records (sent_flight b.act) k h.ends; rests = h.rests }
+
+events_keep : LawsBelow → (b : Bid) (es : List Event) (c : Bid) → Holds b → AreEvents b es c → Holds c
+events_keep law b [] c h k = subst Holds (sym k) h
+events_keep law b (e ∷ es) c h k = events_keep law (after_event b e) es c (event_keeps law b e h k.0) k.1
+
+begun_holds : LawsBelow → (b : Bid) → IsBegun b → Holds b
+begun_holds law b h =
+    let k = begin_keeps law.next h.sender b.queue b.spool.records h.queue h.sound h.waits in
+    let first : SenderStep = record { sender = b.sender; queue = b.queue; act = b.act } in
+    let there : Continues b.sender.phase b.queue Even Ack0 b.spool.records (sent_flight b.act) =
+    subst (λ (t : SenderStep). Continues t.sender.phase t.queue Even Ack0 b.spool.records (sent_flight t.act)) (sym h.first) k.0 in
+    record {
+      ends = subst (λ (r : ReceiverValue). Continues b.sender.phase b.queue r.parity r.last b.spool.records (sent_flight b.act)) (sym h.receiver) there;
+      rests = subst (λ (t : SenderStep). RestsBy t.act t.sender.phase) (sym h.first) (rests_begin h.sender b.queue);
+    }
+
+pub reached_holds : LawsBelow → (b : Bid) (es : List Event) (c : Bid) → Reaches b es c → Holds c
+reached_holds law b es c h = events_keep law b es c (begun_holds law b h.begun) h.events
+
+pub stays_sound : LawsBelow → StaysSound
+stays_sound law b es c h = sound_by c.sender.phase c.queue c.receiver.parity c.receiver.last c.spool.records (sent_flight c.act) (reached_holds law b es c h).ends
+
+pub only_moves : LawsBelow → OnlyMoves
+only_moves law b es c t h fair = (turn_keeps law c t (reached_holds law b es c h) fair).moves

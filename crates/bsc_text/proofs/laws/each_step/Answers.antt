@@ -1,0 +1,35 @@
+use Rattle.bsc_text.proofs.StepLemmas.{hearing_agrees, answering_agrees, silence_agrees, begin_agrees, offer_agrees, offer_keeps_rest, release_keeps_rest, agreement_is_sound}
+use Rattle.bsc_text.proofs.Turning.{LawsBelow}
+use Rattle.bsc_text.proofs.laws.each_step.Goals as goal
+
+-- what the calls of the laws below ensure
+below : goal.After-next_blocks → LawsBelow
+below c = record {
+  records = c.records_back.ensures;
+  next = record { none = λ q. (c.next_blocks.ensures.none q).0; some = c.next_blocks.ensures.some };
+  offers = c.next_blocks.ensures.offered;
+}
+
+pub returns-clause-hearing : goal.returns-clause-hearing
+returns-clause-hearing c = hearing_agrees (below c)
+
+pub returns-clause-answering : goal.returns-clause-answering
+returns-clause-answering c = answering_agrees (below c)
+
+pub returns-clause-silence : goal.returns-clause-silence
+returns-clause-silence c = silence_agrees
+
+pub returns-clause-begin : goal.returns-clause-begin
+returns-clause-begin c = begin_agrees (below c)
+
+pub returns-clause-offer : goal.returns-clause-offer
+returns-clause-offer c = offer_agrees (below c)
+
+pub returns-clause-offer_at_rest : goal.returns-clause-offer_at_rest
+returns-clause-offer_at_rest c = offer_keeps_rest (below c)
+
+pub returns-clause-release : goal.returns-clause-release
+returns-clause-release c = release_keeps_rest
+
+pub returns-clause-sound : goal.returns-clause-sound
+returns-clause-sound c = agreement_is_sound

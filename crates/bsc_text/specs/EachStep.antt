@@ -1,0 +1,86 @@
+-- What each single step of a bid keeps (own): the ends agree after it where they agreed before it.
+use Rattle.std.specs.Prelude.{◌≡◌, ◌≤◌, ℕ, Bool, List, length, Option, None, Some, Ok}
+use Rattle.bsc_frame.specs.declared.message.Message.{Message}
+use Rattle.bsc_frame.specs.declared.message.Heard.{Heard}
+use Rattle.bsc_spool.specs.Queue.{QueueValue, IsQueue, waiting}
+use Rattle.bsc_spool.specs.Spool.{SpoolValue}
+use Rattle.bsc_text.specs.declared.act.Act.{Act}
+use Rattle.bsc_text.specs.declared.act.Act.TheVariants as a
+use Rattle.bsc_text.specs.declared.parity.Parity.{Parity}
+use Rattle.bsc_text.specs.declared.parity.Parity.TheVariants.{Even}
+use Rattle.bsc_text.specs.declared.reply.Reply.{Reply}
+use Rattle.bsc_text.specs.declared.reply.Reply.TheVariants.{Ack0}
+use Rattle.bsc_text.specs.declared.phase.Phase.{Phase}
+use Rattle.bsc_text.specs.declared.phase.Phase.TheVariants.{Idle, InDoubt}
+use Rattle.bsc_text.specs.Sender.{SenderValue, SenderStep, ReleaseStep, begin_step, silence_step, release_step}
+use Rattle.bsc_text.specs.Receiver.{ReceiverValue, ReceiverStep, Rooms}
+use Rattle.bsc_text.specs.Ready.{IsAtRest}
+use Rattle.bsc_text.specs.Channel.{channel, IsSound}
+use Rattle.bsc_text.specs.Fair.{IsFair}
+use Rattle.bsc_text.specs.Bid.{received, answered, IsFairTo, message_back, offered_to}
+use Rattle.bsc_text.specs.OneBid.{MovesAtReceiver, MovesAtSender}
+use Rattle.bsc_text.specs.Agreement.{Flight, Still, Outward, InBid, IsResting, Continues, back, sent_flight}
+
+-- an act that ends the bid leaves the sender at rest
+abbrev pub IsEnded : Act → Phase → Type 0
+IsEnded a.Over phase = IsAtRest phase
+IsEnded _ phase = Unit {0}
+
+-- what a step of the receiver leaves: a bid with its reply on the way
+pub record ReceiverAgrees (phase : Phase) (q : QueueValue) (spooled : List (List ℕ)) (r : ReceiverStep) : Type 0 where
+  pub bid : InBid phase q r.receiver.parity r.receiver.last r.spool.records (back r.reply)
+  pub moves : MovesAtReceiver phase (channel q spooled) (channel q r.spool.records)
+
+-- what a step of the sender leaves: the bid goes on with what it sent on the way, or it is over
+pub record SenderAgrees (q : QueueValue) (parity : Parity) (last : Reply) (spooled : List (List ℕ)) (s : SenderStep) : Type 0 where
+  pub continues : Continues s.sender.phase s.queue parity last spooled (sent_flight s.act)
+  pub ended : IsEnded s.act s.sender.phase
+  pub moves : MovesAtSender (channel q spooled) (channel s.queue spooled)
+
+-- the receiver hears what the sender sent, or nothing
+abbrev pub HearingAgrees : Type 0
+HearingAgrees =
+    (phase : Phase) (q : QueueValue) (r : ReceiverValue) (s : SpoolValue) (sent : Message) (heard : Option Heard) (urgent : Bool) (rooms : Rooms) →
+    InBid phase q r.parity r.last s.records (Outward sent) → IsFair sent heard → ReceiverAgrees phase q s.records (received r s heard urgent rooms)
+
+-- the sender hears the reply, or nothing
+abbrev pub AnsweringAgrees : Type 0
+AnsweringAgrees =
+    (s : SenderValue) (q : QueueValue) (parity : Parity) (last : Reply) (spooled : List (List ℕ)) (reply : Option Reply) (heard : Option Heard) →
+    InBid s.phase q parity last spooled (back reply) → IsFairTo (message_back reply) heard → SenderAgrees q parity last spooled (answered s q reply heard)
+
+-- a silence comes to the sender, with nothing on the way
+abbrev pub SilenceAgrees : Type 0
+SilenceAgrees =
+    (s : SenderValue) (q : QueueValue) (parity : Parity) (last : Reply) (spooled : List (List ℕ)) →
+    Continues s.phase q parity last spooled Still → SenderAgrees q parity last spooled (silence_step s q)
+
+-- a bid begins, and the receiver begins with ACK 0
+abbrev pub BeginAgrees : Type 0
+BeginAgrees =
+    (s : SenderValue) (q : QueueValue) (spooled : List (List ℕ)) → IsResting Idle q spooled → 1 ≤ length (waiting q) → SenderAgrees q Even Ack0 spooled (begin_step s q)
+
+-- a record is offered
+abbrev pub OfferAgrees : Type 0
+OfferAgrees =
+    (phase : Phase) (q : QueueValue) (parity : Parity) (last : Reply) (spooled : List (List ℕ)) (f : Flight) (r : List ℕ) →
+    length r ≤ q.format.full → InBid phase q parity last spooled f → InBid phase (offered_to q r) parity last spooled f
+
+abbrev pub OfferKeepsRest : Type 0
+OfferKeepsRest =
+    (phase : Phase) (q : QueueValue) (spooled : List (List ℕ)) (r : List ℕ) → length r ≤ q.format.full → IsResting phase q spooled → IsResting phase (offered_to q r) spooled
+
+-- a doubt is released with the spooled count
+pub record ReleaseAgrees (s : ReleaseStep) (spooled : List (List ℕ)) : Type 0 where
+  pub answer : s.answer ≡ Ok tt
+  pub idle : s.sender.phase ≡ Idle
+  pub rest : IsResting Idle s.queue spooled
+
+abbrev pub ReleaseKeepsRest : Type 0
+ReleaseKeepsRest =
+    (s : SenderValue) (q : QueueValue) (k : ℕ) (spooled : List (List ℕ)) → s.phase ≡ InDoubt k → IsResting (InDoubt k) q spooled → ReleaseAgrees (release_step s q (length spooled)) spooled
+
+-- where the ends agree the channel is sound
+abbrev pub AgreementIsSound : Type 0
+AgreementIsSound =
+    (phase : Phase) (q : QueueValue) (parity : Parity) (last : Reply) (spooled : List (List ℕ)) (f : Flight) → Continues phase q parity last spooled f → IsSound phase (channel q spooled)
