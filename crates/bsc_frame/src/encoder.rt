@@ -1,7 +1,8 @@
 //! From messages to octets.
 ghost use Rattle.std.specs.Prelude.{◌≡◌, ◌≤◌, ◌<◌, ◌+◌, [], ◌∷◌, ◌++◌, length, take, drop, map, All, if◌then◌else◌};
 ghost use Rattle.bsc_octet.specs.Octet.{odd_octet};
-ghost use Rattle.bsc_frame.specs.Texts.{IsUnit};
+ghost use Rattle.bsc_frame.specs.Texts.{IsUnit, IsText};
+ghost use Rattle.bsc_frame.specs.Message.{IsMessage};
 ghost use Rattle.bsc_frame.specs.Units.{text_unit, end_code, ending, unit_wire, units_wire};
 ghost use Rattle.bsc_frame.specs.Wire.{wire as wire_of};
 
@@ -135,6 +136,7 @@ fn append_units(wire: &mut Wire, text: &Text)
     requires room { length wire.old.items ≤ 3 }
     ensures units { wire.new.items ≡ wire.old.items ++ units_wire text.now.units text.now.end }
     ensures short { length wire.new.items < 1100 }
+    ensures text { IsText text.now }
 {
     for place in 0..text.count() {
         append_unit(wire, text.unit(place), ending_at(text, place));
@@ -143,7 +145,8 @@ fn append_units(wire: &mut Wire, text: &Text)
 
 /// Puts the octets of the message into the wire, in place of what it had.
 pub fn encode(message: &Message, wire: &mut Wire)
-    ensures { wire.new.items ≡ wire_of message.now }
+    ensures wire { wire.new.items ≡ wire_of message.now }
+    ensures message { IsMessage message.now }
 {
     wire.clear();
     append(wire, &[0x16, 0x16]);
