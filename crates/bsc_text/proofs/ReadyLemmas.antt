@@ -1,13 +1,16 @@
 -- What a sender counts on in its queue stays true.
-use Rattle.std.proofs.Common.{◌≡◌, ℕ, ◌+◌, ◌<◌, ◌≤◌, length, drop, refl, arith, length-drop}
+use Rattle.std.proofs.Common.{◌≡◌, ℕ, ◌+◌, ◌<◌, ◌≤◌, List, [], ◌∷◌, length, drop, refl, sym, subst, arith, length-drop}
 use Rattle.bsc_frame.specs.declared.text.End.{End}
 use Rattle.bsc_frame.specs.declared.text.End.TheVariants.{Etb, Etx}
 use Rattle.bsc_spool.specs.declared.queue.Next.{Next}
-use Rattle.bsc_spool.specs.Queue.{QueueValue, IsQueue, IsNext, waiting}
+use Rattle.bsc_block.specs.Format.{FormatValue}
+use Rattle.bsc_spool.specs.Queue.{QueueValue, IsQueue, IsNext, waiting, next_after}
+use Rattle.bsc_text.specs.declared.parity.Parity.{Parity}
+use Rattle.bsc_text.specs.declared.parity.Parity.TheVariants.{Odd}
 use Rattle.bsc_text.specs.declared.phase.SentBlock.{SentBlock}
 use Rattle.bsc_text.specs.declared.phase.Phase.TheVariants.{Unanswered}
-use Rattle.bsc_text.specs.Ready.{AreWaiting, CountsOn}
-use Rattle.bsc_text.specs.Sender.{marked}
+use Rattle.bsc_text.specs.Ready.{AreWaiting, CountsOn, IsGoing}
+use Rattle.bsc_text.specs.Sender.{SenderValue, SenderStep, marked, sent_next, begin_step}
 
 waiting_by : (k n : ℕ) (e : End) → k ≤ n → (e ≡ Etb → k < n) → AreWaiting k e n
 waiting_by k n Etb there more = omega (arith, more refl)
@@ -36,3 +39,11 @@ wait_more q k j h = omega (arith, length-drop q.known q.offered, length-drop (q.
 pub still_waiting : (q : QueueValue) (k : ℕ) (e : End) → AreWaiting k e (length (waiting q)) → AreWaiting 0 e (length (waiting (marked q k)))
 still_waiting q k Etb h = wait_more q k 1 h
 still_waiting q k Etx h = omega arith
+
+going_next : (s : SenderValue) (q : QueueValue) (x : Parity) (f : FormatValue) (rs : List (List ℕ)) → 1 ≤ length rs → IsGoing (sent_next s q x (next_after f rs)).sender.phase
+going_next s q x f [] h = absurd (omega arith)
+going_next s q x f (r ∷ rs) h = tt
+
+-- where records wait, begin starts a bid
+pub going_begin : (s : SenderValue) (q : QueueValue) (t : SenderStep) → t ≡ begin_step s q → 1 ≤ length (waiting q) → IsGoing t.sender.phase
+going_begin s q t e h = subst (λ (u : SenderStep). IsGoing u.sender.phase) (sym e) (going_next s q Odd q.format (waiting q) h)

@@ -23,3 +23,6 @@ pub use sender::{ReleaseError, Sender};
 pub use setup::{SettingError, Setup};
 pub use station::{Station, transmit};
 pub use terminal::{Terminal, TerminalError};
+
+#[cfg(test)]
+mod tests;

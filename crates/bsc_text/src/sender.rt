@@ -69,10 +69,12 @@ impl Sender {
 
     /// Begins a bid: sends the first block of the waiting records. Condition: the sender is idle, without a
     /// doubt, and records wait. (GA27-3004, transmission of blocks.)
+    #[tactic(auto, using(crate::proofs::ReadyLemmas::going_begin))]
     pub fn begin<A: Allocator>(&mut self, queue: &Queue<A>) -> Act
         requires idle { self.old.phase ≡ Phase.Idle }
         requires some { 1 ≤ length (waiting queue.now) }
         ensures row { record { sender = self.new; queue = queue.now; act = result } ≡ begin_step self.old queue.now }
+        ensures going { IsGoing self.new.phase }
         ensures ready { IsReady self.old queue.now → IsReady self.new queue.now }
     {
         self.send_next(queue, Parity::Odd)

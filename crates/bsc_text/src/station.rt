@@ -15,7 +15,7 @@ pub trait Station {
     ghost hears: { Self → HeardValue → Self → Option MessageValue → Type 0 };
 
     /// Its table of silences: the station before, the station after, and the message that it sends.
-    ghost is_silent: { Self → Self → Option MessageValue → Type 0 };
+    ghost acts: { Self → Self → Option MessageValue → Type 0 };
 
     /// Whether it acts on a silence before the control station does.
     ghost holds: { Self → Bool };
@@ -36,7 +36,7 @@ pub trait Station {
     /// Nothing was heard for the time of a time-out. True: the wire holds the one message to send. False:
     /// the wire is empty.
     fn silence(&mut self, wire: &mut Wire) -> bool
-        ensures { (sent : Option MessageValue) × is_silent self.old self.new sent × IsSent sent result wire.new.items };
+        ensures { (sent : Option MessageValue) × acts self.old self.new sent × IsSent sent result wire.new.items };
 
     /// Whether it acts on a silence before the control station does.
     fn holds_line(&self) -> bool
