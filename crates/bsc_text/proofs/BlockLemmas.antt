@@ -21,9 +21,9 @@ use Rattle.bsc_text.specs.Channel.{channel, IsSpooled, IsSound}
 use Rattle.bsc_text.specs.Fair.{IsFair, IsFairlyHeard}
 use Rattle.bsc_text.specs.Bid.{Bid, Turn, Event, message_for, IsFairTurn, Reaches}
 use Rattle.bsc_text.specs.OneBid.{CarriesBlock, SendsItsBlocks, HearsItsBlocks, EndsKnowing, ReleaseEndsDoubt}
+use Rattle.bsc_text.specs.EachStep.{IsEnded}
 use Rattle.bsc_text.specs.Agreement.{Flight, Outward, InBid, IsResting, Continues, sent_flight}
 use Rattle.bsc_text.proofs.Hearing.{RecordsBack, block_records, senders, no_call}
-use Rattle.bsc_text.proofs.Resting.{RestsBy}
 use Rattle.bsc_text.proofs.Turning.{LawsBelow, Holds, going, reached_holds, stays_sound}
 
 -- a text on its way is the unanswered block
@@ -70,7 +70,7 @@ known_by (Held e x) q spooled r d s = absurd r
 pub ends_knowing : LawsBelow → EndsKnowing
 ends_knowing law b es c h over certain =
     let k : Holds c = reached_holds law b es c h in
-    known_by c.sender.phase c.queue c.spool.records (subst (λ (x : Act). RestsBy x c.sender.phase) over k.rests) certain (stays_sound law b es c h)
+    known_by c.sender.phase c.queue c.spool.records (subst (λ (x : Act). IsEnded x c.sender.phase) over k.rests) certain (stays_sound law b es c h)
 
 one_of : (n k j : ℕ) → (n ≡ k) ⊎ (n ≡ k + j) → ((n == k) || (n == (k + j))) ≡ true
 one_of n k j (inl e) = grind (arith, nat_tests)

@@ -1,10 +1,10 @@
 pub mod Answering
 pub mod BlockLemmas
 pub mod DoubtLemmas
+pub mod FitLemmas
 pub mod Hearing
 pub mod OfferLemmas
 pub mod ReadyLemmas
-pub mod Resting
 pub mod SelectLemmas
 pub mod StepLemmas
 pub mod TurnCount

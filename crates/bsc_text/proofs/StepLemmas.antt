@@ -18,18 +18,12 @@ use Rattle.bsc_text.specs.EachStep.{IsEnded, SenderAgrees, ReleaseAgrees, Hearin
 use Rattle.bsc_text.proofs.Hearing.{receiver_keeps}
 use Rattle.bsc_text.proofs.Answering.{Leaves, at_same, sender_keeps, silence_keeps, begin_keeps}
 use Rattle.bsc_text.proofs.OfferLemmas.{not_longer, bid_offered, resting_offered}
-use Rattle.bsc_text.proofs.Resting.{RestsBy, rests_heard, rests_silent, rests_begin}
-use Rattle.bsc_text.proofs.Turning.{LawsBelow, sound_by}
+use Rattle.bsc_text.proofs.FitLemmas.{Fits, fits_heard, fits_silence, fits_begin}
+use Rattle.bsc_text.proofs.Turning.{LawsBelow, ended, sound_by}
 use Rattle.bsc_text.proofs.BlockLemmas.{released_by}
 
-ended : (x : Act) (p : Phase) → RestsBy x p → IsEnded x p
-ended (a.Send t) p h = tt
-ended a.Enq p h = tt
-ended a.Over p h = h
-ended a.Quiet p h = tt
-
-agrees : (q : QueueValue) (parity : Parity) (last : Reply) (spooled : List (List ℕ)) (t : SenderStep) → Leaves q parity last spooled t → RestsBy t.act t.sender.phase → SenderAgrees q parity last spooled t
-agrees q parity last spooled t h r = record { continues = h.0; ended = ended t.act t.sender.phase r; moves = h.1 }
+agrees : (s : SenderValue) (q : QueueValue) (parity : Parity) (last : Reply) (spooled : List (List ℕ)) (t : SenderStep) → Leaves q parity last spooled t → Fits s t → SenderAgrees q parity last spooled t
+agrees s q parity last spooled t h k = record { continues = h.0; ended = ended s t k; moves = h.1 }
 
 pub hearing_agrees : LawsBelow → HearingAgrees
 hearing_agrees law phase q r s sent heard urgent rooms i fair =
@@ -38,15 +32,15 @@ hearing_agrees law phase q r s sent heard urgent rooms i fair =
 
 pub answering_agrees : LawsBelow → AnsweringAgrees
 answering_agrees law s q parity last spooled reply heard i fair =
-    agrees q parity last spooled (answered s q reply heard) (sender_keeps law.next s q parity last spooled reply heard i fair) (rests_heard s q reply heard)
+    agrees s q parity last spooled (answered s q reply heard) (sender_keeps law.next s q parity last spooled reply heard i fair) (fits_heard s q reply heard)
 
 pub silence_agrees : SilenceAgrees
 silence_agrees s q parity last spooled h =
-    agrees q parity last spooled (silent_in s q s.phase) (at_same q parity last spooled (silent_in s q s.phase) (silence_keeps s s.phase q parity last spooled refl h)) (rests_silent s q s.phase)
+    agrees s q parity last spooled (silent_in s q s.phase) (at_same q parity last spooled (silent_in s q s.phase) (silence_keeps s s.phase q parity last spooled refl h)) (fits_silence s q)
 
 pub begin_agrees : LawsBelow → BeginAgrees
 begin_agrees law s q spooled h some =
-    agrees q Even Ack0 spooled (begin_step s q) (at_same q Even Ack0 spooled (begin_step s q) (begin_keeps law.next s q spooled h.queue h.sound some)) (rests_begin s q)
+    agrees s q Even Ack0 spooled (begin_step s q) (at_same q Even Ack0 spooled (begin_step s q) (begin_keeps law.next s q spooled h.queue h.sound some)) (fits_begin s q)
 
 pub offer_agrees : LawsBelow → OfferAgrees
 offer_agrees law phase q parity last spooled f r short i = bid_offered law.offers phase q r parity last spooled f short i

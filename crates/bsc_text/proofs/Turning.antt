@@ -16,19 +16,20 @@ use Rattle.bsc_text.specs.declared.reply.Reply.TheVariants.{Ack0}
 use Rattle.bsc_text.specs.declared.phase.SentBlock.{SentBlock}
 use Rattle.bsc_text.specs.declared.phase.Phase.{Phase}
 use Rattle.bsc_text.specs.declared.phase.Phase.TheVariants.{Idle, Unanswered, Held, InDoubt}
-use Rattle.bsc_text.specs.Sender.{SenderStep, text_of, begin_step, is_in_doubt}
+use Rattle.bsc_text.specs.Sender.{SenderValue, SenderStep, text_of, begin_step, is_in_doubt}
 use Rattle.bsc_text.specs.Receiver.{ReceiverValue, ReceiverStep, begun}
-use Rattle.bsc_text.specs.Ready.{IsAtRest}
+use Rattle.bsc_text.specs.Ready.{CountsOn, IsReady, FitsAct}
+use Rattle.bsc_text.specs.EachStep.{IsEnded}
 use Rattle.bsc_text.specs.Channel.{channel, IsSound}
 use Rattle.bsc_text.specs.Fair.{IsFair, IsFairlyHeard}
 use Rattle.bsc_text.specs.Bid.{Bid, Turn, Event, Exchange, Offering, channel_of, message_for, receiver_in, sender_in, unless_quiet, after_turn, after_event, IsFairTurn, MayCome, AreEvents, IsBegun, Reaches}
-use Rattle.bsc_text.specs.OneBid.{MovesInTurn, OnlyMoves, StaysSound}
+use Rattle.bsc_text.specs.OneBid.{MovesInTurn, OnlyMoves, StaysReady, StaysSound}
 use Rattle.bsc_text.specs.Agreement.{Flight, Still, Outward, Back, Agree, InBid, IsResting, Continues, back, sent_flight}
 use Rattle.bsc_text.proofs.ReadyLemmas.{within_offered}
 use Rattle.bsc_text.proofs.Hearing.{RecordsBack, Keeps, fits, receiver_keeps}
 use Rattle.bsc_text.proofs.Answering.{NextLaw, Leaves, sender_keeps, settled_keeps, begin_keeps, busy}
 use Rattle.bsc_text.proofs.OfferLemmas.{OffersQueue, continues_offered}
-use Rattle.bsc_text.proofs.Resting.{RestsBy, rests_begin, rests_heard, rests_settled}
+use Rattle.bsc_text.proofs.FitLemmas.{Fits, fits_begin, fits_heard, fits_settled}
 
 -- the laws of the layers below that a bid rests on
 pub record LawsBelow : Type 0 where
@@ -39,7 +40,17 @@ pub record LawsBelow : Type 0 where
 -- the two ends agree, and a bid that is over left the sender at rest
 pub record Holds (b : Bid) : Type 0 where
   pub ends : Continues b.sender.phase b.queue b.receiver.parity b.receiver.last b.spool.records (sent_flight b.act)
-  pub rests : RestsBy b.act b.sender.phase
+  pub rests : IsEnded b.act b.sender.phase
+
+ended_by : (x : Act) (old new : Phase) → FitsAct x old new → IsEnded x new
+ended_by (a.Send t) old new h = tt
+ended_by a.Enq old new h = tt
+ended_by a.Over old new h = h
+ended_by a.Quiet old new h = tt
+
+-- a step that ends the bid leaves the sender at rest
+pub ended : (s : SenderValue) (t : SenderStep) → Fits s t → IsEnded t.act t.sender.phase
+ended s t h = ended_by t.act s.phase t.sender.phase h
 
 -- a channel is sound while the ends agree
 pub sound_by : (phase : Phase) (q : QueueValue) (parity : Parity) (last : Reply) (spooled : List (List ℕ)) (f : Flight) → Continues phase q parity last spooled f → IsSound phase (channel q spooled)
@@ -85,7 +96,7 @@ turn_keeps law b t h fair =
     let l : Leaves b.queue r.receiver.parity r.receiver.last r.spool.records (sender_in b t) = sender_keeps law.next b.sender b.queue r.receiver.parity r.receiver.last r.spool.records r.reply t.answer j fair.back in
     let u : Leaves b.queue r.receiver.parity r.receiver.last r.spool.records (unless_quiet (sender_in b t) (sender_in b t).act) = settled_keeps b.queue r.receiver.parity r.receiver.last r.spool.records (sender_in b t) (sender_in b t).act refl l in
     record {
-      holds = record { ends = u.0; rests = rests_settled (sender_in b t) (sender_in b t).act (rests_heard b.sender b.queue r.reply t.answer) };
+      holds = record { ends = u.0; rests = ended b.sender (unless_quiet (sender_in b t) (sender_in b t).act) (fits_settled b.sender (sender_in b t) (sender_in b t).act refl (fits_heard b.sender b.queue r.reply t.answer)) };
       moves = record { between = channel b.queue r.spool.records; receiver = k.1; sender = u.1 };
     }
 
@@ -106,11 +117,20 @@ begun_holds law b h =
     subst (λ (t : SenderStep). Continues t.sender.phase t.queue Even Ack0 b.spool.records (sent_flight t.act)) (sym h.first) k.0 in
     record {
       ends = subst (λ (r : ReceiverValue). Continues b.sender.phase b.queue r.parity r.last b.spool.records (sent_flight b.act)) (sym h.receiver) there;
-      rests = subst (λ (t : SenderStep). RestsBy t.act t.sender.phase) (sym h.first) (rests_begin h.sender b.queue);
+      rests = subst (λ (t : SenderStep). IsEnded t.act t.sender.phase) (sym h.first) (ended h.sender (begin_step h.sender b.queue) (fits_begin h.sender b.queue));
     }
 
 pub reached_holds : LawsBelow → (b : Bid) (es : List Event) (c : Bid) → Reaches b es c → Holds c
 reached_holds law b es c h = events_keep law b es c (begun_holds law b h.begun) h.events
+
+ready_by : (s : SenderValue) (phase : Phase) (q : QueueValue) (parity : Parity) (last : Reply) (spooled : List (List ℕ)) (f : Flight) → s.phase ≡ phase → Continues phase q parity last spooled f → IsReady s q
+ready_by s Idle q parity last spooled f e h = record { queue = h.0.queue; counts = subst (λ (p : Phase). CountsOn p (length (waiting q))) (sym e) h.0.counts }
+ready_by s (InDoubt k) q parity last spooled f e h = record { queue = h.0.queue; counts = subst (λ (p : Phase). CountsOn p (length (waiting q))) (sym e) h.0.counts }
+ready_by s (Held end x) q parity last spooled f e h = record { queue = h.queue; counts = subst (λ (p : Phase). CountsOn p (length (waiting q))) (sym e) h.counts }
+ready_by s (Unanswered b) q parity last spooled f e h = record { queue = h.queue; counts = subst (λ (p : Phase). CountsOn p (length (waiting q))) (sym e) h.counts }
+
+pub stays_ready : LawsBelow → StaysReady
+stays_ready law b es c h = ready_by c.sender c.sender.phase c.queue c.receiver.parity c.receiver.last c.spool.records (sent_flight c.act) refl (reached_holds law b es c h).ends
 
 pub stays_sound : LawsBelow → StaysSound
 stays_sound law b es c h = sound_by c.sender.phase c.queue c.receiver.parity c.receiver.last c.spool.records (sent_flight c.act) (reached_holds law b es c h).ends

@@ -13,6 +13,7 @@ use Rattle.bsc_text.specs.declared.phase.Phase.{Phase}
 use Rattle.bsc_text.specs.declared.phase.Phase.TheVariants.{Idle, Unanswered}
 use Rattle.bsc_text.specs.Setup.{SetupValue}
 use Rattle.bsc_text.specs.Sender.{SenderStep, ReleaseStep, text_of, with_phase, is_in_doubt, release_step}
+use Rattle.bsc_text.specs.Ready.{IsReady}
 use Rattle.bsc_text.specs.Channel.{Channel, Nothing, Offer, Land, Learn, Makes, IsSound}
 use Rattle.bsc_text.specs.Fair.{IsTextMessage}
 use Rattle.bsc_text.specs.Bid.{Bid, Turn, Event, Exchange, Offering, channel_of, message_for, sender_in, after_turn, after_event, IsFairTurn, Reaches}
@@ -58,6 +59,10 @@ OnlyMoves =
 
 abbrev pub OffersMove : Type 0
 OffersMove = (b : Bid) (r : List ℕ) → Makes (Offer r) (channel_of b) (channel_of (after_event b (Offering r)))
+
+-- at each moment the queue has what the sender counts on: the conditions of its calls are met
+abbrev pub StaysReady : Type 0
+StaysReady = (b : Bid) (es : List Event) (c : Bid) → Reaches b es c → IsReady c.sender c.queue
 
 -- at each moment the channel is sound
 abbrev pub StaysSound : Type 0

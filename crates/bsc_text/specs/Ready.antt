@@ -1,8 +1,10 @@
 -- What a sender counts on in its queue (own). It is true of the queue of `begin`, whatever is offered since.
-use Rattle.std.specs.Prelude.{ℕ, ◌+◌, ◌≤◌, length}
+use Rattle.std.specs.Prelude.{◌≡◌, ℕ, ◌+◌, ◌≤◌, length}
 use Rattle.bsc_frame.specs.declared.text.End.{End}
 use Rattle.bsc_frame.specs.declared.text.End.TheVariants.{Etb, Etx}
 use Rattle.bsc_spool.specs.Queue.{QueueValue, IsQueue, waiting}
+use Rattle.bsc_text.specs.declared.act.Act.{Act}
+use Rattle.bsc_text.specs.declared.act.Act.TheVariants as a
 use Rattle.bsc_text.specs.declared.phase.Phase.{Phase}
 use Rattle.bsc_text.specs.declared.phase.Phase.TheVariants.{Idle, Unanswered, Held, InDoubt}
 use Rattle.bsc_text.specs.Setup.{SetupValue}
@@ -44,3 +46,11 @@ IsAtRest Idle = Unit {0}
 IsAtRest (InDoubt k) = Unit {0}
 IsAtRest (Unanswered b) = ⊥
 IsAtRest (Held end parity) = ⊥
+
+-- the phase that an act leaves: a bid goes on where something is sent, none goes on where it is over, and
+-- nothing changes where the sender keeps quiet
+abbrev pub FitsAct : Act → Phase → Phase → Type 0
+FitsAct (a.Send t) old new = IsGoing new
+FitsAct a.Enq old new = IsGoing new
+FitsAct a.Over old new = IsAtRest new
+FitsAct a.Quiet old new = new ≡ old

@@ -1,6 +1,6 @@
 //! Laws over the definitions alone: what holds of every bid, whatever is lost or spoiled.
 
-ghost use Rattle.bsc_text.specs.OneBid.{SendsTextsAndEnq, SendsItsBlocks, HearsItsBlocks, OnlyMoves, OffersMove, StaysSound, EndsKnowing, DoubtsAtSilence, ReleaseEndsDoubt, EndsSoon};
+ghost use Rattle.bsc_text.specs.OneBid.{SendsTextsAndEnq, SendsItsBlocks, HearsItsBlocks, OnlyMoves, OffersMove, StaysReady, StaysSound, EndsKnowing, DoubtsAtSilence, ReleaseEndsDoubt, EndsSoon};
 ghost use Rattle.bsc_text.specs.EachStep.{HearingAgrees, AnsweringAgrees, SilenceAgrees, BeginAgrees, OfferAgrees, OfferKeepsRest, ReleaseKeepsRest, AgreementIsSound};
 
 use bsc_block::laws::records_back;
@@ -11,6 +11,7 @@ use bsc_spool::laws::next_blocks;
 ///
 /// - the sender sends texts and ENQ alone, and each text, sent or heard, has exactly the records of its block;
 /// - a block lands at most once, and is learnt only after it landed; an offer adds its record alone;
+/// - at each moment the conditions of the sender's calls are met;
 /// - at each moment the channel is sound, and a bid that ended without doubt knows of all that was spooled;
 /// - doubt begins exactly where the sender gives up on a silence with a block unanswered, and a release of
 ///   the spooled count ends it;
@@ -21,6 +22,7 @@ pub fn one_bid()
     ensures hears_blocks { HearsItsBlocks }
     ensures moves { OnlyMoves }
     ensures offers { OffersMove }
+    ensures ready { StaysReady }
     ensures sound { StaysSound }
     ensures known { EndsKnowing }
     ensures doubt { DoubtsAtSilence }

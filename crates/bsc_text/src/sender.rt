@@ -2,7 +2,7 @@
 
 ghost use Rattle.std.specs.Prelude.{◌≡◌, ◌+◌, ◌<◌, ◌≤◌, true, false, nat_lt, length};
 ghost use Rattle.bsc_spool.specs.Queue.{QueueValue, IsQueue, waiting, next_block};
-ghost use Rattle.bsc_text.specs.Ready.{AreWaiting, CountsOn, IsReady, IsGoing, IsAtRest};
+ghost use Rattle.bsc_text.specs.Ready.{AreWaiting, CountsOn, IsReady, IsGoing, IsAtRest, FitsAct};
 ghost use Rattle.bsc_text.specs.Reply.{reply_heard};
 ghost use Rattle.bsc_text.specs.Sender.{with_phase, with_counts, begin_step, sent_next, accepted, delayed, unanswered_step, held_step, reply_step, silence_step, cut_phase, is_in_doubt, release_step};
 
@@ -87,6 +87,7 @@ impl Sender {
         requires { CountsOn self.old.phase (length (waiting queue.old)) }
         ensures row { record { sender = self.new; queue = queue.new; act = result } ≡ reply_step self.old queue.old (reply_heard heard.now) }
         ensures ready { IsReady self.old queue.old → IsReady self.new queue.new }
+        ensures fits { FitsAct result self.old.phase self.new.phase }
     {
         let Some(reply) = Reply::heard(heard) else {
             return Act::Quiet;
@@ -107,6 +108,7 @@ impl Sender {
     pub fn silence(&mut self) -> Act
         ensures row { (q : QueueValue) → record { sender = self.new; queue = q; act = result } ≡ silence_step self.old q }
         ensures ready { (q : QueueValue) → IsReady self.old q → IsReady self.new q }
+        ensures fits { FitsAct result self.old.phase self.new.phase }
     {
         match self.phase {
             Phase::Idle | Phase::InDoubt { .. } => Act::Quiet,

@@ -1,7 +1,7 @@
 use Rattle.bsc_text.proofs.BlockLemmas.{sends_its_blocks, hears_its_blocks, ends_knowing, release_ends_doubt}
 use Rattle.bsc_text.proofs.DoubtLemmas.{doubts_at_silence}
 use Rattle.bsc_text.proofs.TurnCount.{ends_soon}
-use Rattle.bsc_text.proofs.Turning.{LawsBelow, stays_sound, only_moves}
+use Rattle.bsc_text.proofs.Turning.{LawsBelow, stays_ready, stays_sound, only_moves}
 use Rattle.bsc_text.proofs.laws.one_bid.Goals as goal
 
 -- what the calls of the laws below ensure
@@ -11,6 +11,9 @@ below c = record {
   next = record { none = λ q. (c.next_blocks.ensures.none q).0; some = c.next_blocks.ensures.some };
   offers = c.next_blocks.ensures.offered;
 }
+
+pub returns-clause-ready : goal.returns-clause-ready
+returns-clause-ready c = stays_ready (below c)
 
 pub returns-clause-sound : goal.returns-clause-sound
 returns-clause-sound c = stays_sound (below c)
