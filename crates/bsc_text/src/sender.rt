@@ -1,6 +1,6 @@
 //! The sender of one bid.
 
-ghost use Rattle.std.specs.Prelude.{◌≡◌, ◌+◌, ◌<◌, ◌≤◌, true, false, nat_lt, length};
+ghost use Rattle.std.specs.Prelude.{◌≡◌, ◌+◌, ◌<◌, ◌≤◌, true, false, nat_lt, length, OnOk, OnErr};
 ghost use Rattle.bsc_spool.specs.Queue.{QueueValue, IsQueue, waiting, next_block};
 ghost use Rattle.bsc_text.specs.Ready.{AreWaiting, CountsOn, IsReady, IsGoing, IsAtRest, FitsAct};
 ghost use Rattle.bsc_text.specs.Reply.{reply_heard};
@@ -130,6 +130,7 @@ impl Sender {
     /// is idle. (Own.)
     pub fn cut_off(&mut self)
         ensures state { self.new ≡ with_phase self.old (cut_phase self.old.phase) }
+        ensures rests { IsAtRest self.new.phase }
         ensures ready { (q : QueueValue) → IsReady self.old q → IsReady self.new q }
     {
         match self.phase {
@@ -156,6 +157,8 @@ impl Sender {
     ) -> Result<(), ReleaseError>
         requires { CountsOn self.old.phase (length (waiting queue.old)) }
         ensures row { record { sender = self.new; queue = queue.new; answer = result } ≡ release_step self.old queue.old count }
+        ensures ok { OnOk result (self.new ≡ with_phase self.old Phase.Idle) }
+        ensures err { OnErr result ((self.new ≡ self.old) × (queue.new ≡ queue.old)) }
         ensures ready { IsReady self.old queue.old → IsReady self.new queue.new }
     {
         let Phase::InDoubt { count: doubtful } = self.phase else {

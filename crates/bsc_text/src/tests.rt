@@ -1,50 +1,302 @@
 //! What no clause says: worked cases by hand, and that each call can succeed.
 
-ghost use Rattle.std.specs.Prelude.{◌≡◌, Some, None, false};
-ghost use Rattle.bsc_frame.specs.declared.message.Message.TheVariants as m;
+mod bidder;
+mod stations;
 
-use crate::{Station, transmit};
-use bsc_frame::{Heard, Message, Wire};
+use crate::tests::bidder::Bidder;
+use crate::{Act, Receiver, ReleaseError, Reply, SettingError, Setup};
+use bsc_frame::{End, Heard, Message, decode};
+use bsc_spool::Spool;
+use refusing_alloc::Refusing;
+use std::alloc::Allocator;
 use std::test::Fail;
 
-/// A station that answers nothing, and asks for the last reply at every silence.
-#[derive(Drop)]
-struct Asking {
-    silences: u8,
+/// The octets of a text of one empty record.
+const EMPTY: [u8; 7] = [0x16, 0x16, 0x02, 0x19, 0x83, 0x1a, 0xff];
+
+/// The octets of a text of seven empty records.
+const SEVEN: [u8; 25] = [
+    0x16, 0x16, 0x02, 0x19, 0x1f, 0x86, 0x19, 0x1f, 0x86, 0x19, 0x1f, 0x86, 0x19, 0x1f, 0x86, 0x19,
+    0x1f, 0x86, 0x19, 0x1f, 0x86, 0x19, 0x83, 0x1a, 0xff,
+];
+
+/// Settings with these limits.
+fn setup(tries: u8, waits: u8) -> Result<Setup, SettingError> {
+    Setup::new(80, 400, tries, waits)
 }
 
-impl Station for Asking {
-    ghost hears = { λ old heard new sent. (new ≡ old) × (sent ≡ None) };
-
-    ghost acts = { λ old new sent. sent ≡ Some m.Enq };
-
-    ghost holds = { λ station. false };
-
-    fn hear_message(&mut self, _heard: &Heard, wire: &mut Wire) -> bool {
-        transmit(None, wire)
+/// Whether a sender sends a text of so many units with this end.
+fn sends(act: &Act, count: usize, end: End) -> bool {
+    match act {
+        Act::Send(text) => text.count() == count && text.end() == end,
+        _ => false,
     }
+}
 
-    fn silence(&mut self, wire: &mut Wire) -> bool {
-        self.silences = self.silences.saturating_add(1);
-        transmit(Some(Message::Enq), wire)
+/// What is heard of an act where nothing is spoiled; noise where nothing was sent.
+fn carried(act: Act) -> Heard {
+    match act {
+        Act::Send(text) => Heard::Whole(Message::Text(text)),
+        Act::Enq => Heard::Whole(Message::Enq),
+        Act::Over | Act::Quiet => Heard::Noise,
     }
+}
 
-    fn holds_line(&self) -> bool {
-        false
-    }
+/// The reply to an act that is carried, without the urgent flag.
+fn reply_to<A: Allocator>(
+    receiver: &mut Receiver,
+    spool: &mut Spool<A>,
+    act: Act,
+) -> Option<Reply> {
+    receiver.heard(&carried(act), false, spool)
+}
 
-    ghost ignores_noise = { λ old new sent row. row };
+/// A reply that is carried.
+fn whole(reply: Reply) -> Heard {
+    Heard::Whole(reply.message())
 }
 
 #[test]
-fn a_station_leaves_its_message_or_nothing_in_the_wire(rt: HostRuntime) -> Result<(), Fail> {
-    let mut station = Asking { silences: 0 };
-    let mut wire = Wire::new();
-    assert!(rt; station.silence(&mut wire));
-    assert_eq!(rt; wire.as_slice(), [0x16, 0x16, 0x85, 0xff].as_slice());
-    assert!(rt; !station.hear(&[0x16, 0x04], &mut wire));
-    assert_eq!(rt; wire.len(), 0);
-    assert_eq!(rt; station.silences, 1);
-    assert!(rt; !station.holds_line());
+fn settings_are_refused_in_order(rt: HostRuntime) {
+    for (full, block_chars, tries, waits, error) in [
+        (0, 145, 0, 0, SettingError::Full),
+        (145, 400, 3, 10, SettingError::Full),
+        (144, 145, 3, 10, SettingError::BlockChars),
+        (144, 146, 16, 1, SettingError::Tries),
+        (144, 146, 15, 0, SettingError::Waits),
+    ] {
+        assert_eq!(rt; Setup::new(full, block_chars, tries, waits), Err(error));
+    }
+}
+
+#[test]
+fn settings_are_given_back(rt: HostRuntime) -> Result<(), Fail> {
+    let least = Setup::new(1, 400, 1, 255)?;
+    assert_eq!(rt;
+        (least.format().full(), least.tries(), least.waits()),
+        (1, 1, 255)
+    );
     Ok(())
+}
+
+#[test]
+fn a_text_cut_off_by_enq_is_refused(rt: HostRuntime) -> Result<(), Fail> {
+    let heard = decode(&[0x16, 0x16, 0x02, 0x85, 0xff]);
+    assert!(rt; matches!(&heard, Heard::Failed));
+    let mut spool = Spool::new(rt.alloc());
+    assert_eq!(rt;
+        Receiver::new().heard(&heard, false, &mut spool),
+        Some(Reply::Nak)
+    );
+    assert!(rt; spool.records().is_empty());
+    Ok(())
+}
+
+#[test]
+fn a_lost_acknowledgement_is_asked_for_again(rt: HostRuntime) -> Result<(), Fail> {
+    let mut bidder = Bidder::new(rt.alloc(), setup(3, 10)?);
+    let mut receiver = Receiver::new();
+    let mut spool = Spool::new(rt.alloc());
+    bidder.offer_empty(8)?;
+    let first = bidder.begin()?;
+    assert!(rt; sends(&first, 7, End::Etb));
+    assert_eq!(rt; receiver.begin(true), Reply::Ack0);
+    assert_eq!(rt;
+        reply_to(&mut receiver, &mut spool, first),
+        Some(Reply::Ack1)
+    );
+    let last = bidder.reply(&whole(Reply::Ack1));
+    assert!(rt; sends(&last, 1, End::Etx));
+    assert_eq!(rt; bidder.known(), 7);
+    assert_eq!(rt;
+        reply_to(&mut receiver, &mut spool, last),
+        Some(Reply::Ack0)
+    );
+
+    // That reply is lost.
+    let again = bidder.silence();
+    assert!(rt; matches!(&again, Act::Enq));
+    assert_eq!(rt;
+        reply_to(&mut receiver, &mut spool, again),
+        Some(Reply::Ack0)
+    );
+    assert!(rt; matches!(&bidder.reply(&whole(Reply::Ack0)), Act::Over));
+    assert_eq!(rt; (bidder.known(), spool.records().len()), (8, 8));
+    Ok(())
+}
+
+#[test]
+fn a_lost_text_is_sent_again(rt: HostRuntime) -> Result<(), Fail> {
+    let mut bidder = Bidder::new(rt.alloc(), setup(3, 10)?);
+    let mut receiver = Receiver::new();
+    let mut spool = Spool::new(rt.alloc());
+    bidder.offer_empty(7)?;
+    assert!(rt; sends(&bidder.begin()?, 7, End::Etx));
+
+    // It is lost, and another record is offered.
+    bidder.offer_empty(1)?;
+    let again = bidder.silence();
+    assert!(rt; matches!(&again, Act::Enq));
+    assert_eq!(rt;
+        reply_to(&mut receiver, &mut spool, again),
+        Some(Reply::Ack0)
+    );
+    assert!(rt; sends(&bidder.reply(&whole(Reply::Ack0)), 7, End::Etx));
+    assert_eq!(rt; (bidder.known(), spool.records().len()), (0, 0));
+    Ok(())
+}
+
+#[test]
+fn a_doubt_is_released_by_the_count_of_the_other_end(rt: HostRuntime) -> Result<(), Fail> {
+    let mut bidder = Bidder::new(rt.alloc(), setup(1, 10)?);
+    bidder.offer_empty(1)?;
+    bidder.begin()?;
+    assert!(rt; matches!(&bidder.silence(), Act::Enq));
+    assert!(rt; !bidder.in_doubt());
+    assert!(rt; matches!(&bidder.silence(), Act::Over));
+    assert!(rt; bidder.in_doubt());
+    assert_eq!(rt; bidder.release(2), Err(ReleaseError::CountMismatch));
+    assert_eq!(rt; bidder.release(1), Ok(()));
+    assert_eq!(rt; bidder.known(), 1);
+    assert_eq!(rt; bidder.release(1), Err(ReleaseError::NotInDoubt));
+    Ok(())
+}
+
+#[test]
+fn a_block_that_is_cut_off_is_in_doubt(rt: HostRuntime) -> Result<(), Fail> {
+    let mut bidder = Bidder::new(rt.alloc(), setup(3, 10)?);
+    bidder.offer_empty(1)?;
+    bidder.begin()?;
+    bidder.cut_off();
+    assert!(rt; bidder.in_doubt());
+    Ok(())
+}
+
+#[test]
+fn waits_are_limited(rt: HostRuntime) -> Result<(), Fail> {
+    for waits in [1, 255] {
+        let mut bidder = Bidder::new(rt.alloc(), setup(3, waits)?);
+        bidder.offer_empty(1)?;
+        bidder.begin()?;
+        for _ in 0..waits {
+            assert!(rt; matches!(&bidder.reply(&whole(Reply::Wack)), Act::Enq));
+            assert_eq!(rt; bidder.known(), 1);
+        }
+        assert!(rt; matches!(&bidder.reply(&whole(Reply::Wack)), Act::Over));
+        assert!(rt; !bidder.in_doubt());
+    }
+    Ok(())
+}
+
+#[test]
+fn a_held_sender_gives_up_without_doubt(rt: HostRuntime) -> Result<(), Fail> {
+    let mut bidder = Bidder::new(rt.alloc(), setup(1, 1)?);
+    bidder.offer_empty(1)?;
+    bidder.begin()?;
+    assert!(rt; matches!(&bidder.silence(), Act::Enq));
+    assert!(rt; matches!(&bidder.reply(&whole(Reply::Wack)), Act::Enq));
+    assert!(rt; matches!(&bidder.silence(), Act::Enq));
+    assert!(rt; matches!(&bidder.silence(), Act::Over));
+    assert!(rt; !bidder.in_doubt());
+    assert_eq!(rt; bidder.known(), 1);
+    Ok(())
+}
+
+#[test]
+fn an_interrupt_ends_the_bid(rt: HostRuntime) -> Result<(), Fail> {
+    let mut bidder = Bidder::new(rt.alloc(), setup(3, 10)?);
+    bidder.offer_empty(8)?;
+    assert!(rt; sends(&bidder.begin()?, 7, End::Etb));
+    assert!(rt; matches!(&bidder.reply(&whole(Reply::Rvi)), Act::Over));
+    assert_eq!(rt; bidder.known(), 7);
+    assert!(rt; sends(&bidder.begin()?, 1, End::Etx));
+    Ok(())
+}
+
+#[test]
+fn an_urgent_receiver_interrupts_once_in_a_row(rt: HostRuntime) {
+    let mut receiver = Receiver::new();
+    let mut spool = Spool::new(rt.alloc());
+    assert_eq!(rt; receiver.begin(true), Reply::Ack0);
+    for reply in [Reply::Rvi, Reply::Ack0, Reply::Rvi] {
+        assert_eq!(rt;
+            receiver.heard(&decode(&EMPTY), true, &mut spool),
+            Some(reply)
+        );
+    }
+    assert_eq!(rt; spool.records().len(), 3);
+}
+
+#[test]
+fn a_receiver_without_room_asks_to_wait(rt: HostRuntime) {
+    let alloc = Refusing::new(rt.alloc());
+    let mut receiver = Receiver::new();
+    let mut spool = Spool::new(&alloc);
+
+    // The growth before the storing is granted, and the one after it is refused.
+    alloc.refuse_from(2);
+    assert_eq!(rt; receiver.begin(spool.make_room()), Reply::Ack0);
+    assert_eq!(rt;
+        receiver.heard(&decode(&SEVEN), false, &mut spool),
+        Some(Reply::Wack)
+    );
+    assert_eq!(rt; spool.records().len(), 7);
+    let enq = Heard::Whole(Message::Enq);
+    assert_eq!(rt; receiver.heard(&enq, false, &mut spool), Some(Reply::Wack));
+    alloc.refuse_none();
+    assert_eq!(rt; receiver.heard(&enq, false, &mut spool), Some(Reply::Ack1));
+    assert_eq!(rt; spool.records().len(), 7);
+
+    // No growth at all is granted.
+    alloc.refuse_from(1);
+    let mut other = Spool::new(&alloc);
+    assert_eq!(rt; receiver.begin(other.make_room()), Reply::Wack);
+    assert_eq!(rt;
+        receiver.heard(&decode(&SEVEN), false, &mut other),
+        Some(Reply::Nak)
+    );
+    assert!(rt; other.records().is_empty());
+}
+
+/// Has so many texts taken, asking again where a growth is refused, and counts the refusals by NAK and by
+/// WACK.
+fn take_texts<A: Allocator>(alloc: A, texts: usize) -> Result<(usize, usize), Fail> {
+    let mut receiver = Receiver::new();
+    let mut spool = Spool::new(alloc);
+    let (mut naks, mut wacks) = (0usize, 0usize);
+    for taken in 0..texts {
+        let mut reply = receiver.heard(&decode(&EMPTY), false, &mut spool);
+        if reply == Some(Reply::Nak) {
+            naks = naks.saturating_add(1);
+            reply = receiver.heard(&decode(&EMPTY), false, &mut spool);
+        }
+        if reply == Some(Reply::Wack) {
+            wacks = wacks.saturating_add(1);
+            reply = receiver.heard(&Heard::Whole(Message::Enq), false, &mut spool);
+        }
+        let expected = if taken % 2 == 0 {
+            Reply::Ack1
+        } else {
+            Reply::Ack0
+        };
+        if reply != Some(expected) || spool.records().len() != taken + 1 {
+            return Err("a record is lost, or a reply is wrong")?;
+        }
+    }
+    Ok((naks, wacks))
+}
+
+#[test]
+fn each_refused_growth_delays_and_loses_nothing(rt: HostRuntime) -> Result<(), Fail> {
+    let alloc = Refusing::new(rt.alloc());
+    for request in 1..100 {
+        alloc.refuse_nth(request);
+        let (naks, wacks) = take_texts(&alloc, 300)?;
+        assert_eq!(rt; naks.saturating_add(wacks), alloc.refused());
+        assert_eq!(rt; naks == 1, request == 1);
+        if alloc.refused() == 0 {
+            return Ok(());
+        }
+    }
+    Err("no end of growths")?
 }
