@@ -1,5 +1,5 @@
 -- What the sender does keeps that both ends agree, and at most learns of what was spooled.
-use Rattle.std.proofs.Common.{◌≡◌, ◌⊎◌, inl, inr, ℕ, ◌+◌, ◌≤◌, Bool, true, false, nat_lt, List, [], length, take, Option, None, Some, refl, sym, ◌∙◌, ap, subst, arith, length-drop, if◌then◌else◌}
+use Rattle.std.proofs.Common.{◌≡◌, ◌⊎◌, inl, inr, ℕ, ◌+◌, ◌≤◌, Bool, true, false, List, [], length, take, Option, None, Some, refl, sym, ◌∙◌, ap, subst, arith, if◌then◌else◌}
 use Rattle.std.proofs.lemmas.List.{length-take-le}
 use Rattle.bsc_frame.specs.declared.message.Message.{Message}
 use Rattle.bsc_frame.specs.declared.message.Message.TheVariants as m
@@ -19,13 +19,13 @@ use Rattle.bsc_text.specs.declared.phase.SentBlock.{SentBlock}
 use Rattle.bsc_text.specs.declared.phase.Phase.{Phase}
 use Rattle.bsc_text.specs.declared.phase.Phase.TheVariants.{Idle, Unanswered, Held, InDoubt}
 use Rattle.bsc_text.specs.Reply.{other, answer_of, message_of, reply_in, reply_heard}
-use Rattle.bsc_text.specs.Sender.{SenderValue, SenderStep, with_phase, with_counts, marked, quiet, over, text_of, sent_next, begin_step, accepted, failed, delayed, unanswered_step, held_step, answered_step, reply_step, silent_in}
-use Rattle.bsc_text.specs.Ready.{AreWaiting, CountsOn}
-use Rattle.bsc_text.specs.Channel.{channel, Learn, Makes, IsSound}
+use Rattle.bsc_text.specs.Sender.{SenderValue, SenderStep, marked, quiet, over, text_of, sent_next, begin_step, accepted, failed, delayed, unanswered_step, held_step, answered_step, reply_step, silent_in}
+use Rattle.bsc_text.specs.Ready.{AreWaiting}
+use Rattle.bsc_text.specs.Channel.{channel, IsSound}
 use Rattle.bsc_text.specs.Fair.{IsTextMessage, IsCallCutShort, IsFairlyHeard}
 use Rattle.bsc_text.specs.Bid.{IsFairTo, message_back, answered, unless_quiet}
 use Rattle.bsc_text.specs.OneBid.{MovesAtSender}
-use Rattle.bsc_text.specs.Agreement.{Flight, Still, Outward, Back, IsReplyBefore, NotLanded, HasLanded, IsHeld, Agree, InBid, IsResting, Continues, back, sent_flight}
+use Rattle.bsc_text.specs.Agreement.{Flight, Still, Outward, Back, IsReplyBefore, NotLanded, HasLanded, Agree, InBid, IsResting, Continues, back, sent_flight}
 use Rattle.bsc_text.proofs.ReadyLemmas.{counts_next, within_offered, is_queue_marked, still_waiting}
 use Rattle.bsc_text.proofs.Hearing.{fits, agree_still}
 

@@ -1,5 +1,5 @@
 -- Each text of a bid is the unanswered block, and a bid that ended knows of all that was spooled.
-use Rattle.std.proofs.Common.{◌≡◌, ◌⊎◌, inl, inr, ℕ, ◌+◌, Bool, true, false, ◌||◌, ◌==◌, List, length, take, Option, None, Some, Ok, refl, sym, ◌∙◌, ap, subst, arith, if◌then◌else◌}
+use Rattle.std.proofs.Common.{◌≡◌, ◌⊎◌, inl, inr, ℕ, ◌+◌, Bool, true, false, ◌||◌, ◌==◌, List, length, take, Option, Ok, refl, sym, ◌∙◌, ap, subst, arith, if◌then◌else◌}
 use Rattle.std.proofs.lemmas.Bool.Decides.{nat_tests}
 use Rattle.bsc_frame.specs.declared.message.Message.{Message}
 use Rattle.bsc_frame.specs.declared.message.Message.TheVariants as m
@@ -9,7 +9,6 @@ use Rattle.bsc_frame.specs.Texts.{TextValue}
 use Rattle.bsc_block.specs.Blocks.{records_in}
 use Rattle.bsc_spool.specs.Queue.{QueueValue, waiting}
 use Rattle.bsc_text.specs.declared.act.Act.{Act}
-use Rattle.bsc_text.specs.declared.act.Act.TheVariants as a
 use Rattle.bsc_text.specs.declared.parity.Parity.{Parity}
 use Rattle.bsc_text.specs.declared.reply.Reply.{Reply}
 use Rattle.bsc_text.specs.declared.phase.SentBlock.{SentBlock}
@@ -19,10 +18,10 @@ use Rattle.bsc_text.specs.Sender.{SenderValue, ReleaseStep, with_phase, text_of,
 use Rattle.bsc_text.specs.Ready.{IsAtRest}
 use Rattle.bsc_text.specs.Channel.{channel, IsSpooled, IsSound}
 use Rattle.bsc_text.specs.Fair.{IsFair, IsFairlyHeard}
-use Rattle.bsc_text.specs.Bid.{Bid, Turn, Event, message_for, IsFairTurn, Reaches}
+use Rattle.bsc_text.specs.Bid.{Bid, message_for}
 use Rattle.bsc_text.specs.OneBid.{CarriesBlock, SendsItsBlocks, HearsItsBlocks, EndsKnowing, ReleaseEndsDoubt}
 use Rattle.bsc_text.specs.EachStep.{IsEnded}
-use Rattle.bsc_text.specs.Agreement.{Flight, Outward, InBid, IsResting, Continues, sent_flight}
+use Rattle.bsc_text.specs.Agreement.{Outward, InBid}
 use Rattle.bsc_text.proofs.Hearing.{RecordsBack, block_records, senders, no_call}
 use Rattle.bsc_text.proofs.Turning.{LawsBelow, Holds, going, reached_holds, stays_sound}
 

@@ -1,7 +1,6 @@
 -- Doubt begins exactly where the sender gives up on a silence with a block unanswered.
-use Rattle.std.proofs.Common.{◌≡◌, ◌↔◌, ℕ, ◌+◌, ◌<◌, Bool, true, false, nat_lt, List, Option, None, Some, refl, sym, ◌∙◌, ap, subst, arith, if◌then◌else◌}
+use Rattle.std.proofs.Common.{◌≡◌, ℕ, ◌+◌, ◌<◌, Bool, true, false, nat_lt, List, Option, None, Some, refl, sym, subst, arith, if◌then◌else◌}
 use Rattle.std.proofs.lemmas.Bool.Decides.{nat_tests}
-use Rattle.bsc_frame.specs.declared.message.Message.{Message}
 use Rattle.bsc_frame.specs.declared.message.Heard.{Heard}
 use Rattle.bsc_frame.specs.declared.text.End.{End}
 use Rattle.bsc_frame.specs.declared.text.End.TheVariants.{Etb, Etx}
@@ -17,8 +16,8 @@ use Rattle.bsc_text.specs.declared.phase.SentBlock.{SentBlock}
 use Rattle.bsc_text.specs.declared.phase.Phase.{Phase}
 use Rattle.bsc_text.specs.declared.phase.Phase.TheVariants.{Idle, Unanswered, Held, InDoubt}
 use Rattle.bsc_text.specs.Reply.{other, answer_of, reply_heard}
-use Rattle.bsc_text.specs.Sender.{SenderValue, SenderStep, marked, text_of, sent_next, accepted, failed, delayed, unanswered_step, held_step, answered_step, reply_step, silent_in, is_in_doubt}
-use Rattle.bsc_text.specs.Bid.{Bid, Turn, Event, answered, unless_quiet, receiver_in, sender_in, after_turn, IsFairTurn, Reaches}
+use Rattle.bsc_text.specs.Sender.{SenderValue, SenderStep, marked, sent_next, accepted, delayed, unanswered_step, held_step, answered_step, reply_step, silent_in, is_in_doubt}
+use Rattle.bsc_text.specs.Bid.{answered, unless_quiet, receiver_in, sender_in}
 use Rattle.bsc_text.specs.OneBid.{GivesUpUnanswered, DoubtsAtSilence}
 use Rattle.bsc_text.specs.Agreement.{Flight, InBid}
 use Rattle.bsc_text.proofs.Answering.{choose}

@@ -1,5 +1,5 @@
 -- What the receiver hears keeps that both ends agree, and at most lands the unanswered block.
-use Rattle.std.proofs.Common.{◌≡◌, ◌⊎◌, inl, inr, ℕ, ◌+◌, ◌≤◌, Bool, true, false, List, ◌++◌, length, take, drop, map, Option, None, Some, refl, sym, ◌∙◌, ap, subst, arith, length-drop}
+use Rattle.std.proofs.Common.{◌≡◌, inl, inr, ℕ, ◌+◌, ◌≤◌, Bool, true, false, List, ◌++◌, length, take, drop, map, Option, None, Some, refl, sym, ◌∙◌, ap, subst, arith, length-drop}
 use Rattle.std.proofs.Math.Seq.{take-add}
 use Rattle.std.proofs.lemmas.List.{length-take-le}
 use Rattle.bsc_frame.specs.declared.message.Message.{Message}
@@ -21,12 +21,12 @@ use Rattle.bsc_text.specs.Reply.{other, ack}
 use Rattle.bsc_text.specs.Sender.{text_of}
 use Rattle.bsc_text.specs.Receiver.{ReceiverValue, ReceiverStep, Rooms, text_step, enq_step, heard_step}
 use Rattle.bsc_text.specs.Ready.{CountsOn}
-use Rattle.bsc_text.specs.Channel.{channel, Lands}
+use Rattle.bsc_text.specs.Channel.{channel}
 use Rattle.bsc_text.specs.Fair.{IsTextMessage, IsCallCutShort, IsFairlyHeard, IsFair}
 use Rattle.bsc_text.specs.Bid.{received}
 use Rattle.bsc_text.specs.OneBid.{MovesAtReceiver}
 use Rattle.bsc_text.specs.Agreement.{Flight, Still, Outward, Back, IsReplyAfter, IsReplyHeld, IsFlightBefore, IsFlightAfter, NotLanded, HasLanded, IsHeld, Agree, InBid, back}
-use Rattle.bsc_text.proofs.ReadyLemmas.{all_waiting, within_offered}
+use Rattle.bsc_text.proofs.ReadyLemmas.{all_waiting}
 
 -- the units that are built for records hold these records
 abbrev pub RecordsBack : Type 0

@@ -1,11 +1,9 @@
 -- An offer keeps all that a bid counts on.
-use Rattle.std.proofs.Common.{◌≡◌, ◌⊎◌, inl, inr, ℕ, ◌+◌, ◌≤◌, List, [], ◌∷◌, ◌++◌, length, take, drop, map, min, refl, sym, ◌∙◌, ap, subst, arith, length-drop, length-append}
+use Rattle.std.proofs.Common.{◌≡◌, inl, inr, ℕ, ◌+◌, ◌≤◌, List, [], ◌∷◌, ◌++◌, length, take, drop, map, min, sym, ◌∙◌, ap, arith, length-drop, length-append}
 use Rattle.std.proofs.lemmas.List.{take-append-le, drop-append-le, length-take}
-use Rattle.bsc_frame.specs.declared.message.Message.{Message}
 use Rattle.bsc_frame.specs.declared.message.Message.TheVariants as m
 use Rattle.bsc_frame.specs.declared.text.End.{End}
 use Rattle.bsc_frame.specs.declared.text.End.TheVariants.{Etb, Etx}
-use Rattle.bsc_frame.specs.Texts.{TextValue}
 use Rattle.bsc_block.specs.Blocks.{unit_of}
 use Rattle.bsc_spool.specs.Queue.{QueueValue, IsQueue, waiting}
 use Rattle.bsc_text.specs.declared.parity.Parity.{Parity}
@@ -15,9 +13,9 @@ use Rattle.bsc_text.specs.declared.phase.Phase.{Phase}
 use Rattle.bsc_text.specs.declared.phase.Phase.TheVariants.{Idle, Unanswered, Held, InDoubt}
 use Rattle.bsc_text.specs.Sender.{text_of}
 use Rattle.bsc_text.specs.Ready.{AreWaiting, CountsOn}
-use Rattle.bsc_text.specs.Channel.{channel, IsSpooled, IsSound}
+use Rattle.bsc_text.specs.Channel.{channel, IsSound}
 use Rattle.bsc_text.specs.Bid.{offered_to}
-use Rattle.bsc_text.specs.Agreement.{Flight, Still, Outward, Back, IsFlightBefore, NotLanded, HasLanded, IsHeld, Agree, InBid, IsResting, Continues}
+use Rattle.bsc_text.specs.Agreement.{Flight, Still, Outward, Back, IsFlightBefore, Agree, InBid, IsResting, Continues}
 use Rattle.bsc_text.proofs.ReadyLemmas.{within_offered}
 use Rattle.bsc_text.proofs.Hearing.{fits}
 

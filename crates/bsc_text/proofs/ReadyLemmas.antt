@@ -1,5 +1,5 @@
 -- What a sender counts on in its queue stays true.
-use Rattle.std.proofs.Common.{◌≡◌, ℕ, ◌+◌, ◌<◌, ◌≤◌, List, [], ◌∷◌, length, drop, refl, sym, subst, arith, length-drop}
+use Rattle.std.proofs.Common.{◌≡◌, ℕ, ◌+◌, ◌<◌, ◌≤◌, List, [], ◌∷◌, length, refl, sym, subst, arith, length-drop}
 use Rattle.bsc_frame.specs.declared.text.End.{End}
 use Rattle.bsc_frame.specs.declared.text.End.TheVariants.{Etb, Etx}
 use Rattle.bsc_spool.specs.declared.queue.Next.{Next}
@@ -7,9 +7,7 @@ use Rattle.bsc_block.specs.Format.{FormatValue}
 use Rattle.bsc_spool.specs.Queue.{QueueValue, IsQueue, IsNext, waiting, next_after}
 use Rattle.bsc_text.specs.declared.parity.Parity.{Parity}
 use Rattle.bsc_text.specs.declared.parity.Parity.TheVariants.{Odd}
-use Rattle.bsc_text.specs.declared.phase.SentBlock.{SentBlock}
-use Rattle.bsc_text.specs.declared.phase.Phase.TheVariants.{Unanswered}
-use Rattle.bsc_text.specs.Ready.{AreWaiting, CountsOn, IsGoing}
+use Rattle.bsc_text.specs.Ready.{AreWaiting, IsGoing}
 use Rattle.bsc_text.specs.Sender.{SenderValue, SenderStep, marked, sent_next, begin_step}
 
 waiting_by : (k n : ℕ) (e : End) → k ≤ n → (e ≡ Etb → k < n) → AreWaiting k e n

@@ -1,8 +1,6 @@
 -- Each single step of a bid keeps that its ends agree.
-use Rattle.std.proofs.Common.{◌≡◌, ℕ, ◌+◌, ◌≤◌, List, length, take, Option, Ok, refl, sym, ◌∙◌, ap, subst, arith}
-use Rattle.bsc_spool.specs.Queue.{QueueValue, IsQueue, waiting}
-use Rattle.bsc_text.specs.declared.act.Act.{Act}
-use Rattle.bsc_text.specs.declared.act.Act.TheVariants as a
+use Rattle.std.proofs.Common.{◌≡◌, ℕ, ◌≤◌, List, length, take, Ok, refl, sym, subst, arith}
+use Rattle.bsc_spool.specs.Queue.{QueueValue, IsQueue}
 use Rattle.bsc_text.specs.declared.parity.Parity.{Parity}
 use Rattle.bsc_text.specs.declared.parity.Parity.TheVariants.{Even}
 use Rattle.bsc_text.specs.declared.reply.Reply.{Reply}
@@ -10,11 +8,9 @@ use Rattle.bsc_text.specs.declared.reply.Reply.TheVariants.{Ack0}
 use Rattle.bsc_text.specs.declared.phase.Phase.{Phase}
 use Rattle.bsc_text.specs.declared.phase.Phase.TheVariants.{Idle, InDoubt}
 use Rattle.bsc_text.specs.Sender.{SenderValue, SenderStep, ReleaseStep, with_phase, begin_step, silent_in, released_in}
-use Rattle.bsc_text.specs.Ready.{CountsOn}
-use Rattle.bsc_text.specs.Channel.{channel, IsSound}
 use Rattle.bsc_text.specs.Bid.{answered}
-use Rattle.bsc_text.specs.Agreement.{Still, IsResting, Continues}
-use Rattle.bsc_text.specs.EachStep.{IsEnded, SenderAgrees, ReleaseAgrees, HearingAgrees, AnsweringAgrees, SilenceAgrees, BeginAgrees, OfferAgrees, OfferKeepsRest, ReleaseKeepsRest, AgreementIsSound}
+use Rattle.bsc_text.specs.Agreement.{IsResting}
+use Rattle.bsc_text.specs.EachStep.{SenderAgrees, ReleaseAgrees, HearingAgrees, AnsweringAgrees, SilenceAgrees, BeginAgrees, OfferAgrees, OfferKeepsRest, ReleaseKeepsRest, AgreementIsSound}
 use Rattle.bsc_text.proofs.Hearing.{receiver_keeps}
 use Rattle.bsc_text.proofs.Answering.{Leaves, at_same, sender_keeps, silence_keeps, begin_keeps}
 use Rattle.bsc_text.proofs.OfferLemmas.{not_longer, bid_offered, resting_offered}

@@ -1,8 +1,7 @@
 -- Each turn of a bid begins a block, ends the bid, or comes nearer to the limits of the block.
-use Rattle.std.proofs.Common.{◌≡◌, ◌⊎◌, inl, inr, ℕ, ◌+◌, ◌*◌, ◌≤◌, Bool, true, false, nat_lt, nat_eq, List, [], ◌∷◌, length, Option, None, Some, refl, sym, ◌∙◌, ap, subst, arith, if◌then◌else◌}
+use Rattle.std.proofs.Common.{◌≡◌, ◌⊎◌, inl, inr, ℕ, ◌+◌, ◌*◌, ◌≤◌, Bool, true, false, nat_lt, List, [], ◌∷◌, length, Option, None, Some, refl, sym, ◌∙◌, ap, subst, arith, if◌then◌else◌}
 use Rattle.std.proofs.Math.Nat.{mul-le-mul_right}
 use Rattle.std.proofs.lemmas.Bool.Decides.{nat_tests}
-use Rattle.bsc_frame.specs.declared.message.Message.{Message}
 use Rattle.bsc_frame.specs.declared.message.Heard.{Heard}
 use Rattle.bsc_frame.specs.declared.text.End.{End}
 use Rattle.bsc_frame.specs.declared.text.End.TheVariants.{Etb, Etx}
@@ -12,7 +11,6 @@ use Rattle.bsc_spool.specs.Queue.{QueueValue, IsQueue, waiting, next_block}
 use Rattle.bsc_text.specs.declared.act.Act.{Act}
 use Rattle.bsc_text.specs.declared.act.Act.TheVariants as a
 use Rattle.bsc_text.specs.declared.parity.Parity.{Parity}
-use Rattle.bsc_text.specs.declared.parity.Parity.TheVariants.{Odd}
 use Rattle.bsc_text.specs.declared.reply.Reply.{Reply}
 use Rattle.bsc_text.specs.declared.reply.Answer.{Answer}
 use Rattle.bsc_text.specs.declared.reply.Answer.TheVariants.{Accepted, Refused, Delayed, Interrupted}
@@ -22,9 +20,9 @@ use Rattle.bsc_text.specs.declared.phase.Phase.TheVariants.{Idle, Unanswered, He
 use Rattle.bsc_text.specs.Setup.{SetupValue}
 use Rattle.bsc_text.specs.Reply.{other, answer_of, reply_heard}
 use Rattle.bsc_text.specs.Sender.{SenderValue, SenderStep, marked, text_of, sent_next, begin_step, accepted, failed, delayed, unanswered_step, held_step, answered_step, reply_step, silent_in}
-use Rattle.bsc_text.specs.Bid.{Bid, Turn, Event, Exchange, Offering, message_for, answered, unless_quiet, receiver_in, sender_in, after_turn, after_event, IsFairTurn, AreEvents, Reaches}
+use Rattle.bsc_text.specs.Bid.{Bid, Turn, Event, Exchange, Offering, message_for, answered, unless_quiet, receiver_in, sender_in, after_turn, after_event, IsFairTurn, AreEvents}
 use Rattle.bsc_text.specs.OneBid.{turn_count, is_begun, begun_in, most_turns, EndsSoon}
-use Rattle.bsc_text.proofs.Answering.{HasNext, has_next}
+use Rattle.bsc_text.proofs.Answering.{has_next}
 use Rattle.bsc_text.proofs.Turning.{LawsBelow}
 
 -- no counter is over its limit

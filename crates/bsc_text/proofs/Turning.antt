@@ -1,30 +1,24 @@
 -- Every event of a bid keeps that its two ends agree.
-use Rattle.std.proofs.Common.{◌≡◌, ◌⊎◌, inl, inr, ℕ, ◌+◌, ◌≤◌, Bool, true, false, List, [], ◌∷◌, length, take, map, Option, None, Some, refl, sym, ◌∙◌, ap, subst, arith}
+use Rattle.std.proofs.Common.{◌≡◌, inl, inr, ℕ, ◌+◌, ◌≤◌, List, [], ◌∷◌, length, Some, refl, sym, ◌∙◌, ap, subst, arith}
 use Rattle.std.proofs.lemmas.List.{length-take-le}
 use Rattle.bsc_frame.specs.declared.message.Message.{Message}
-use Rattle.bsc_frame.specs.declared.message.Message.TheVariants as m
-use Rattle.bsc_frame.specs.declared.message.Heard.{Heard}
-use Rattle.bsc_frame.specs.declared.message.Heard.TheVariants.{Whole}
-use Rattle.bsc_frame.specs.Texts.{TextValue}
-use Rattle.bsc_spool.specs.Queue.{QueueValue, IsQueue, waiting}
+use Rattle.bsc_spool.specs.Queue.{QueueValue, waiting}
 use Rattle.bsc_text.specs.declared.act.Act.{Act}
 use Rattle.bsc_text.specs.declared.act.Act.TheVariants as a
 use Rattle.bsc_text.specs.declared.parity.Parity.{Parity}
 use Rattle.bsc_text.specs.declared.parity.Parity.TheVariants.{Even}
 use Rattle.bsc_text.specs.declared.reply.Reply.{Reply}
 use Rattle.bsc_text.specs.declared.reply.Reply.TheVariants.{Ack0}
-use Rattle.bsc_text.specs.declared.phase.SentBlock.{SentBlock}
 use Rattle.bsc_text.specs.declared.phase.Phase.{Phase}
 use Rattle.bsc_text.specs.declared.phase.Phase.TheVariants.{Idle, Unanswered, Held, InDoubt}
-use Rattle.bsc_text.specs.Sender.{SenderValue, SenderStep, text_of, begin_step, is_in_doubt}
-use Rattle.bsc_text.specs.Receiver.{ReceiverValue, ReceiverStep, begun}
+use Rattle.bsc_text.specs.Sender.{SenderValue, SenderStep, begin_step}
+use Rattle.bsc_text.specs.Receiver.{ReceiverValue, ReceiverStep}
 use Rattle.bsc_text.specs.Ready.{CountsOn, IsReady, FitsAct}
 use Rattle.bsc_text.specs.EachStep.{IsEnded}
 use Rattle.bsc_text.specs.Channel.{channel, IsSound}
-use Rattle.bsc_text.specs.Fair.{IsFair, IsFairlyHeard}
 use Rattle.bsc_text.specs.Bid.{Bid, Turn, Event, Exchange, Offering, channel_of, message_for, receiver_in, sender_in, unless_quiet, after_turn, after_event, IsFairTurn, MayCome, AreEvents, IsBegun, Reaches}
 use Rattle.bsc_text.specs.OneBid.{MovesInTurn, OnlyMoves, StaysReady, StaysSound}
-use Rattle.bsc_text.specs.Agreement.{Flight, Still, Outward, Back, Agree, InBid, IsResting, Continues, back, sent_flight}
+use Rattle.bsc_text.specs.Agreement.{Flight, Outward, InBid, Continues, back, sent_flight}
 use Rattle.bsc_text.proofs.ReadyLemmas.{within_offered}
 use Rattle.bsc_text.proofs.Hearing.{RecordsBack, Keeps, fits, receiver_keeps}
 use Rattle.bsc_text.proofs.Answering.{NextLaw, Leaves, sender_keeps, settled_keeps, begin_keeps, busy}

@@ -1,8 +1,8 @@
 -- What each single step of a bid keeps (own): the ends agree after it where they agreed before it.
-use Rattle.std.specs.Prelude.{◌≡◌, ◌≤◌, ℕ, Bool, List, length, Option, None, Some, Ok}
+use Rattle.std.specs.Prelude.{◌≡◌, ◌≤◌, ℕ, Bool, List, length, Option, Ok}
 use Rattle.bsc_frame.specs.declared.message.Message.{Message}
 use Rattle.bsc_frame.specs.declared.message.Heard.{Heard}
-use Rattle.bsc_spool.specs.Queue.{QueueValue, IsQueue, waiting}
+use Rattle.bsc_spool.specs.Queue.{QueueValue, waiting}
 use Rattle.bsc_spool.specs.Spool.{SpoolValue}
 use Rattle.bsc_text.specs.declared.act.Act.{Act}
 use Rattle.bsc_text.specs.declared.act.Act.TheVariants as a

@@ -1,18 +1,18 @@
 -- The law of one bid: what holds of a sender and a receiver over every list of fair turns (own).
-use Rattle.std.specs.Prelude.{◌≡◌, ◌⊎◌, ◌↔◌, ◌≤◌, ◌<◌, ◌+◌, ◌*◌, ℕ, Bool, true, false, nat_eq, List, [], ◌∷◌, length, take, Option, None, Some, Ok, if◌then◌else◌}
+use Rattle.std.specs.Prelude.{◌≡◌, ◌⊎◌, ◌↔◌, ◌≤◌, ◌<◌, ◌+◌, ◌*◌, ℕ, Bool, true, false, nat_eq, List, [], ◌∷◌, length, take, Some, Ok, if◌then◌else◌}
 use Rattle.bsc_frame.specs.declared.message.Message.{Message}
 use Rattle.bsc_frame.specs.declared.message.Message.TheVariants as m
 use Rattle.bsc_frame.specs.declared.message.Heard.TheVariants.{Whole}
 use Rattle.bsc_frame.specs.Texts.{TextValue}
 use Rattle.bsc_block.specs.Blocks.{records_in}
-use Rattle.bsc_spool.specs.Queue.{QueueValue, waiting}
+use Rattle.bsc_spool.specs.Queue.{waiting}
 use Rattle.bsc_text.specs.declared.act.Act.{Act}
 use Rattle.bsc_text.specs.declared.act.Act.TheVariants as a
 use Rattle.bsc_text.specs.declared.phase.SentBlock.{SentBlock}
 use Rattle.bsc_text.specs.declared.phase.Phase.{Phase}
 use Rattle.bsc_text.specs.declared.phase.Phase.TheVariants.{Idle, Unanswered}
 use Rattle.bsc_text.specs.Setup.{SetupValue}
-use Rattle.bsc_text.specs.Sender.{SenderStep, ReleaseStep, text_of, with_phase, is_in_doubt, release_step}
+use Rattle.bsc_text.specs.Sender.{ReleaseStep, text_of, with_phase, is_in_doubt, release_step}
 use Rattle.bsc_text.specs.Ready.{IsReady}
 use Rattle.bsc_text.specs.Channel.{Channel, Nothing, Offer, Land, Learn, Makes, IsSound}
 use Rattle.bsc_text.specs.Fair.{IsTextMessage}

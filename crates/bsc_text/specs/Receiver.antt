@@ -1,16 +1,15 @@
 -- The receiver's table (GA27-3004: ACK 0 and ACK 1, NAK, ENQ, WACK and RVI; that RVI comes by a flag is own).
 use Rattle.std.specs.Prelude.{◌≡◌, ℕ, Bool, true, false, not, List, ◌++◌, Option, None, Some, if◌then◌else◌}
-use Rattle.bsc_frame.specs.declared.message.Message.{Message}
 use Rattle.bsc_frame.specs.declared.message.Message.TheVariants as m
 use Rattle.bsc_frame.specs.declared.message.Heard.{Heard}
-use Rattle.bsc_frame.specs.declared.message.Heard.TheVariants.{Whole, Failed, Noise}
+use Rattle.bsc_frame.specs.declared.message.Heard.TheVariants.{Whole, Failed}
 use Rattle.bsc_frame.specs.Texts.{TextValue}
 use Rattle.bsc_block.specs.Blocks.{records_in}
 use Rattle.bsc_spool.specs.Spool.{SpoolValue, with_delay}
 use Rattle.bsc_text.specs.declared.parity.Parity.{Parity}
-use Rattle.bsc_text.specs.declared.parity.Parity.TheVariants.{Even, Odd}
+use Rattle.bsc_text.specs.declared.parity.Parity.TheVariants.{Even}
 use Rattle.bsc_text.specs.declared.reply.Reply.{Reply}
-use Rattle.bsc_text.specs.declared.reply.Reply.TheVariants.{Ack0, Ack1, Nak, Wack, Rvi}
+use Rattle.bsc_text.specs.declared.reply.Reply.TheVariants.{Ack0, Nak, Wack, Rvi}
 use Rattle.bsc_text.specs.Reply.{other, ack}
 
 -- a receiver: the parity of the number of blocks taken in this bid, and the last reply

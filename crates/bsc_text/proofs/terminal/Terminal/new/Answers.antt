@@ -1,4 +1,4 @@
-use Rattle.std.proofs.Common.{arith, length}
+use Rattle.std.proofs.Common.{arith}
 use Rattle.bsc_text.proofs.SelectLemmas.{holds_selects}
 use Rattle.bsc_text.proofs.terminal.Terminal.new.Goals as goal
 
