@@ -4,7 +4,7 @@ ghost use Rattle.std.specs.Prelude.{◌≡◌, ◌+◌, ◌<◌, ◌≤◌, true
 ghost use Rattle.bsc_spool.specs.Queue.{QueueValue, IsQueue, waiting, next_block};
 ghost use Rattle.bsc_text.specs.Ready.{AreWaiting, CountsOn, IsReady, IsGoing, IsAtRest, FitsAct};
 ghost use Rattle.bsc_text.specs.Reply.{reply_heard};
-ghost use Rattle.bsc_text.specs.Sender.{with_phase, with_counts, begin_step, sent_next, accepted, delayed, unanswered_step, held_step, reply_step, silence_step, cut_phase, is_in_doubt, release_step};
+ghost use Rattle.bsc_text.specs.Sender.{with_phase, with_counts, begin_step, sent_next, accepted, failed, delayed, unanswered_step, held_step, reply_step, silence_step, cut_phase, is_in_doubt, release_step};
 
 use crate::act::Act;
 use crate::parity::Parity;
@@ -105,6 +105,7 @@ impl Sender {
 
     /// Nothing was heard for the time of a time-out. (GA27-3004, time-outs; the limit and the doubt are
     /// own.)
+    #[tactic(auto, using(crate::proofs::ReadyLemmas::all_waiting))]
     pub fn silence(&mut self) -> Act
         ensures row { (q : QueueValue) → record { sender = self.new; queue = q; act = result } ≡ silence_step self.old q }
         ensures ready { (q : QueueValue) → IsReady self.old q → IsReady self.new q }
@@ -112,17 +113,8 @@ impl Sender {
     {
         match self.phase {
             Phase::Idle | Phase::InDoubt { .. } => Act::Quiet,
-            Phase::Unanswered { block } => {
-                let left = Phase::InDoubt { count: block.count };
-                if self.fail(left) { Act::Over } else { Act::Enq }
-            }
-            Phase::Held { .. } => {
-                if self.fail(Phase::Idle) {
-                    Act::Over
-                } else {
-                    Act::Enq
-                }
-            }
+            Phase::Unanswered { block } => self.ask_again(Phase::InDoubt { count: block.count }),
+            Phase::Held { .. } => self.ask_again(Phase::Idle),
         }
     }
 
@@ -213,8 +205,7 @@ impl Sender {
             End::Etx => {
                 self.tries = 0;
                 self.waits = 0;
-                self.phase = Phase::Idle;
-                Act::Over
+                self.end()
             }
             End::Etb => self.send_next(queue, parity.other()),
         }
@@ -235,6 +226,17 @@ impl Sender {
             return true;
         }
         false
+    }
+
+    /// One more failure in a row, on which the last reply is asked for again, unless the bid is over.
+    fn ask_again(&mut self, left: Phase) -> Act
+        requires going { IsGoing self.old.phase }
+        requires left { IsAtRest left }
+        ensures row { (q : QueueValue) → record { sender = self.new; queue = q; act = result } ≡ failed self.old q left Act.Enq }
+        ensures ready { (q : QueueValue) → IsReady self.old q → CountsOn left (length (waiting q)) → IsReady self.new q }
+        ensures fits { FitsAct result self.old.phase self.new.phase }
+    {
+        if self.fail(left) { Act::Over } else { Act::Enq }
     }
 
     /// One more WACK, to a block with this end.
@@ -303,13 +305,7 @@ impl Sender {
     {
         match answer {
             Answer::Accepted => self.accept(queue, end, parity),
-            Answer::Refused => {
-                if self.fail(Phase::Idle) {
-                    Act::Over
-                } else {
-                    Act::Enq
-                }
-            }
+            Answer::Refused => self.ask_again(Phase::Idle),
             Answer::Delayed => self.delay(end, parity),
             Answer::Interrupted => self.end(),
         }
