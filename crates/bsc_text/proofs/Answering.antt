@@ -8,7 +8,7 @@ use Rattle.bsc_frame.specs.declared.message.Heard.TheVariants.{Whole, Failed, No
 use Rattle.bsc_frame.specs.declared.text.End.{End}
 use Rattle.bsc_frame.specs.declared.text.End.TheVariants.{Etb, Etx}
 use Rattle.bsc_spool.specs.declared.queue.Next.{Next}
-use Rattle.bsc_spool.specs.Queue.{QueueValue, IsQueue, IsNext, waiting, next_block}
+use Rattle.bsc_spool.specs.Queue.{QueueValue, with_known, IsQueue, IsNext, waiting, next_block}
 use Rattle.bsc_text.specs.declared.act.Act.{Act}
 use Rattle.bsc_text.specs.declared.act.Act.TheVariants as a
 use Rattle.bsc_text.specs.declared.parity.Parity.{Parity}
@@ -19,7 +19,7 @@ use Rattle.bsc_text.specs.declared.phase.SentBlock.{SentBlock}
 use Rattle.bsc_text.specs.declared.phase.Phase.{Phase}
 use Rattle.bsc_text.specs.declared.phase.Phase.TheVariants.{Idle, Unanswered, Held, InDoubt}
 use Rattle.bsc_text.specs.Reply.{other, answer_of, message_of, reply_in, reply_heard}
-use Rattle.bsc_text.specs.Sender.{SenderValue, SenderStep, marked, quiet, over, text_of, sent_next, begin_step, accepted, failed, delayed, unanswered_step, held_step, answered_step, reply_step, silent_in}
+use Rattle.bsc_text.specs.Sender.{SenderValue, SenderStep, quiet, over, text_of, sent_next, begin_step, accepted, failed, delayed, unanswered_step, held_step, answered_step, reply_step, silent_in}
 use Rattle.bsc_text.specs.Ready.{AreWaiting}
 use Rattle.bsc_text.specs.Channel.{channel, IsSound}
 use Rattle.bsc_text.specs.Fair.{IsTextMessage, IsCallCutShort, IsFairlyHeard}
@@ -75,7 +75,7 @@ next_keeps law s q expected parity last spooled h front some counted reply =
     rw n.is (record { queue = h; counts = counts_next q n.next n.fit; agree = inl (record { front = front; counted = counted; reply = reply; flight = refl }) }, refl)
 
 -- what was spooled is learnt
-learns : (q : QueueValue) (k : ℕ) (spooled : List (List ℕ)) → q.known + k ≤ length q.offered → spooled ≡ take (q.known + k) q.offered → MovesAtSender (channel q spooled) (channel (marked q k) spooled)
+learns : (q : QueueValue) (k : ℕ) (spooled : List (List ℕ)) → q.known + k ≤ length q.offered → spooled ≡ take (q.known + k) q.offered → MovesAtSender (channel q spooled) (channel (with_known q k) spooled)
 learns q k spooled within e =
     let long : length spooled ≡ q.known + k = ap length e ∙ length-take-le (q.known + k) q.offered within in
     inr (ap (λ n. channel (record { format = q.format; offered = q.offered; known = n }) spooled) (sym long))
@@ -85,7 +85,7 @@ pub at_same : (q : QueueValue) (parity : Parity) (last : Reply) (spooled : List 
 at_same q parity last spooled t h = (h.0, inl (ap (λ (u : QueueValue). channel u spooled) h.1))
 
 at_learnt : (q : QueueValue) (k : ℕ) (parity : Parity) (last : Reply) (spooled : List (List ℕ)) (t : SenderStep) → q.known + k ≤ length q.offered → spooled ≡ take (q.known + k) q.offered →
-    LeavesQueue (marked q k) parity last spooled t → Leaves q parity last spooled t
+    LeavesQueue (with_known q k) parity last spooled t → Leaves q parity last spooled t
 at_learnt q k parity last spooled t within front h =
     (h.0, subst (λ (u : QueueValue). MovesAtSender (channel q spooled) (channel u spooled)) (sym h.1) (learns q k spooled within front))
 
@@ -114,25 +114,25 @@ landed_keeps : NextLaw → (s : SenderValue) (k : ℕ) (e : End) (expected : Par
 landed_keeps law s k e Odd q parity Ack1 spooled i h =
     let there : k ≤ length (waiting q) = fits (record { count = k; end = e; parity = Odd }) _ i.counts in
     let within : q.known + k ≤ length q.offered = within_offered q k i.queue there in
-    at_learnt q k parity Ack1 spooled (accepted s (marked q k) e Odd) within h.front (accepted_keeps law s (marked q k) e Odd parity Ack1 spooled (is_queue_marked q k i.queue there) h.front (still_waiting q k e i.counts.2) (other_twice parity Odd h.counted) tt)
+    at_learnt q k parity Ack1 spooled (accepted s (with_known q k) e Odd) within h.front (accepted_keeps law s (with_known q k) e Odd parity Ack1 spooled (is_queue_marked q k i.queue there) h.front (still_waiting q k e i.counts.2) (other_twice parity Odd h.counted) tt)
 landed_keeps law s k e Even q parity Ack0 spooled i h =
     let there : k ≤ length (waiting q) = fits (record { count = k; end = e; parity = Even }) _ i.counts in
     let within : q.known + k ≤ length q.offered = within_offered q k i.queue there in
-    at_learnt q k parity Ack0 spooled (accepted s (marked q k) e Even) within h.front (accepted_keeps law s (marked q k) e Even parity Ack0 spooled (is_queue_marked q k i.queue there) h.front (still_waiting q k e i.counts.2) (other_twice parity Even h.counted) tt)
+    at_learnt q k parity Ack0 spooled (accepted s (with_known q k) e Even) within h.front (accepted_keeps law s (with_known q k) e Even parity Ack0 spooled (is_queue_marked q k i.queue there) h.front (still_waiting q k e i.counts.2) (other_twice parity Even h.counted) tt)
 landed_keeps law s k e Odd q parity Wack spooled i h =
     let there : k ≤ length (waiting q) = fits (record { count = k; end = e; parity = Odd }) _ i.counts in
     let within : q.known + k ≤ length q.offered = within_offered q k i.queue there in
-    at_learnt q k parity Wack spooled (delayed s (marked q k) e Odd) within h.front (delayed_keeps s (marked q k) e Odd parity spooled (is_queue_marked q k i.queue there) h.front (still_waiting q k e i.counts.2) h.counted)
+    at_learnt q k parity Wack spooled (delayed s (with_known q k) e Odd) within h.front (delayed_keeps s (with_known q k) e Odd parity spooled (is_queue_marked q k i.queue there) h.front (still_waiting q k e i.counts.2) h.counted)
 landed_keeps law s k e Even q parity Wack spooled i h =
     let there : k ≤ length (waiting q) = fits (record { count = k; end = e; parity = Even }) _ i.counts in
     let within : q.known + k ≤ length q.offered = within_offered q k i.queue there in
-    at_learnt q k parity Wack spooled (delayed s (marked q k) e Even) within h.front (delayed_keeps s (marked q k) e Even parity spooled (is_queue_marked q k i.queue there) h.front (still_waiting q k e i.counts.2) h.counted)
+    at_learnt q k parity Wack spooled (delayed s (with_known q k) e Even) within h.front (delayed_keeps s (with_known q k) e Even parity spooled (is_queue_marked q k i.queue there) h.front (still_waiting q k e i.counts.2) h.counted)
 landed_keeps law s k e Odd q parity Rvi spooled i h =
     let there : k ≤ length (waiting q) = fits (record { count = k; end = e; parity = Odd }) _ i.counts in
-    at_learnt q k parity Rvi spooled (over s (marked q k) Idle) (within_offered q k i.queue there) h.front (at_rest (marked q k) spooled (is_queue_marked q k i.queue there) h.front, refl)
+    at_learnt q k parity Rvi spooled (over s (with_known q k) Idle) (within_offered q k i.queue there) h.front (at_rest (with_known q k) spooled (is_queue_marked q k i.queue there) h.front, refl)
 landed_keeps law s k e Even q parity Rvi spooled i h =
     let there : k ≤ length (waiting q) = fits (record { count = k; end = e; parity = Even }) _ i.counts in
-    at_learnt q k parity Rvi spooled (over s (marked q k) Idle) (within_offered q k i.queue there) h.front (at_rest (marked q k) spooled (is_queue_marked q k i.queue there) h.front, refl)
+    at_learnt q k parity Rvi spooled (over s (with_known q k) Idle) (within_offered q k i.queue there) h.front (at_rest (with_known q k) spooled (is_queue_marked q k i.queue there) h.front, refl)
 landed_keeps law s k e Odd q parity Ack0 spooled i h = absurd h.reply
 landed_keeps law s k e Odd q parity Nak spooled i h = absurd h.reply
 landed_keeps law s k e Even q parity Ack1 spooled i h = absurd h.reply

@@ -5,7 +5,7 @@ use Rattle.bsc_frame.specs.declared.message.Heard.{Heard}
 use Rattle.bsc_frame.specs.declared.text.End.{End}
 use Rattle.bsc_frame.specs.declared.text.End.TheVariants.{Etb, Etx}
 use Rattle.bsc_spool.specs.declared.queue.Next.{Next}
-use Rattle.bsc_spool.specs.Queue.{QueueValue, next_block}
+use Rattle.bsc_spool.specs.Queue.{QueueValue, with_known, next_block}
 use Rattle.bsc_text.specs.declared.act.Act.{Act}
 use Rattle.bsc_text.specs.declared.act.Act.TheVariants as a
 use Rattle.bsc_text.specs.declared.parity.Parity.{Parity}
@@ -16,7 +16,7 @@ use Rattle.bsc_text.specs.declared.phase.SentBlock.{SentBlock}
 use Rattle.bsc_text.specs.declared.phase.Phase.{Phase}
 use Rattle.bsc_text.specs.declared.phase.Phase.TheVariants.{Idle, Unanswered, Held, InDoubt}
 use Rattle.bsc_text.specs.Reply.{other, answer_of, reply_heard}
-use Rattle.bsc_text.specs.Sender.{SenderValue, SenderStep, marked, sent_next, accepted, delayed, unanswered_step, held_step, answered_step, reply_step, silent_in, is_in_doubt}
+use Rattle.bsc_text.specs.Sender.{SenderValue, SenderStep, sent_next, accepted, delayed, unanswered_step, held_step, answered_step, reply_step, silent_in, is_in_doubt}
 use Rattle.bsc_text.specs.Bid.{answered, unless_quiet, receiver_in, sender_in}
 use Rattle.bsc_text.specs.OneBid.{GivesUpUnanswered, DoubtsAtSilence}
 use Rattle.bsc_text.specs.Agreement.{Flight, InBid}
@@ -43,9 +43,9 @@ certain_delayed : (s : SenderValue) (q : QueueValue) (e : End) (x : Parity) → 
 certain_delayed s q e x = choose (IsCertain s) (nat_lt s.setup.waits (s.waits + 1)) _ _ refl refl
 
 certain_unanswered : (s : SenderValue) (q : QueueValue) (b : SentBlock) (x : Answer) → is_in_doubt s.phase ≡ false → IsCertain s (unanswered_step s q b x)
-certain_unanswered s q b Accepted d = certain_accepted s (marked q b.count) b.end b.parity
+certain_unanswered s q b Accepted d = certain_accepted s (with_known q b.count) b.end b.parity
 certain_unanswered s q b Refused d = choose (IsCertain s) (nat_lt s.setup.tries (s.tries + 1)) _ _ refl d
-certain_unanswered s q b Delayed d = certain_delayed s (marked q b.count) b.end b.parity
+certain_unanswered s q b Delayed d = certain_delayed s (with_known q b.count) b.end b.parity
 certain_unanswered s q b Interrupted d = refl
 
 certain_held : (s : SenderValue) (q : QueueValue) (e : End) (y : Parity) (x : Answer) → is_in_doubt s.phase ≡ false → IsCertain s (held_step s q e y x)

@@ -4,7 +4,7 @@ use Rattle.bsc_frame.specs.declared.message.Heard.{Heard}
 use Rattle.bsc_frame.specs.declared.text.End.{End}
 use Rattle.bsc_frame.specs.declared.text.End.TheVariants.{Etb, Etx}
 use Rattle.bsc_spool.specs.declared.queue.Next.{Next}
-use Rattle.bsc_spool.specs.Queue.{QueueValue, next_block}
+use Rattle.bsc_spool.specs.Queue.{QueueValue, with_known, next_block}
 use Rattle.bsc_text.specs.declared.act.Act.{Act}
 use Rattle.bsc_text.specs.declared.act.Act.TheVariants as a
 use Rattle.bsc_text.specs.declared.parity.Parity.{Parity}
@@ -15,7 +15,7 @@ use Rattle.bsc_text.specs.declared.phase.SentBlock.{SentBlock}
 use Rattle.bsc_text.specs.declared.phase.Phase.{Phase}
 use Rattle.bsc_text.specs.declared.phase.Phase.TheVariants.{Idle, Unanswered, Held, InDoubt}
 use Rattle.bsc_text.specs.Reply.{other, answer_of, reply_heard}
-use Rattle.bsc_text.specs.Sender.{SenderValue, SenderStep, marked, text_of, sent_next, accepted, failed, delayed, unanswered_step, held_step, answered_step, reply_step, silent_in, silence_step, begin_step}
+use Rattle.bsc_text.specs.Sender.{SenderValue, SenderStep, text_of, sent_next, accepted, failed, delayed, unanswered_step, held_step, answered_step, reply_step, silent_in, silence_step, begin_step}
 use Rattle.bsc_text.specs.Ready.{IsGoing, IsAtRest, FitsAct}
 use Rattle.bsc_text.specs.Bid.{answered, unless_quiet}
 use Rattle.bsc_text.proofs.Answering.{choose}
@@ -41,9 +41,9 @@ fits_delayed : (s : SenderValue) (q : QueueValue) (e : End) (x : Parity) → Fit
 fits_delayed s q e x = choose (Fits s) (nat_lt s.setup.waits (s.waits + 1)) _ _ tt tt
 
 fits_unanswered : (s : SenderValue) (q : QueueValue) (b : SentBlock) (x : Answer) → IsGoing s.phase → Fits s (unanswered_step s q b x)
-fits_unanswered s q b Accepted h = fits_accepted s (marked q b.count) b.end b.parity
+fits_unanswered s q b Accepted h = fits_accepted s (with_known q b.count) b.end b.parity
 fits_unanswered s q b Refused h = fits_failed s q Idle (a.Send (text_of q b)) tt h
-fits_unanswered s q b Delayed h = fits_delayed s (marked q b.count) b.end b.parity
+fits_unanswered s q b Delayed h = fits_delayed s (with_known q b.count) b.end b.parity
 fits_unanswered s q b Interrupted h = tt
 
 fits_held : (s : SenderValue) (q : QueueValue) (e : End) (y : Parity) (x : Answer) → IsGoing s.phase → Fits s (held_step s q e y x)

@@ -4,11 +4,11 @@ use Rattle.bsc_frame.specs.declared.text.End.{End}
 use Rattle.bsc_frame.specs.declared.text.End.TheVariants.{Etb, Etx}
 use Rattle.bsc_spool.specs.declared.queue.Next.{Next}
 use Rattle.bsc_block.specs.Format.{FormatValue}
-use Rattle.bsc_spool.specs.Queue.{QueueValue, IsQueue, IsNext, waiting, next_after}
+use Rattle.bsc_spool.specs.Queue.{QueueValue, with_known, IsQueue, IsNext, waiting, next_after}
 use Rattle.bsc_text.specs.declared.parity.Parity.{Parity}
 use Rattle.bsc_text.specs.declared.parity.Parity.TheVariants.{Odd}
 use Rattle.bsc_text.specs.Ready.{AreWaiting, IsGoing}
-use Rattle.bsc_text.specs.Sender.{SenderValue, SenderStep, marked, sent_next, begin_step}
+use Rattle.bsc_text.specs.Sender.{SenderValue, SenderStep, sent_next, begin_step}
 
 waiting_by : (k n : ℕ) (e : End) → k ≤ n → (e ≡ Etb → k < n) → AreWaiting k e n
 waiting_by k n Etb there more = omega (arith, more refl)
@@ -27,14 +27,14 @@ pub within_offered : (q : QueueValue) (k : ℕ) → IsQueue q → k ≤ length (
 within_offered q k h there = let known : q.known ≤ length q.offered = h.known in omega (arith, length-drop q.known q.offered)
 
 -- a queue in which waiting records are marked is a queue
-pub is_queue_marked : (q : QueueValue) (k : ℕ) → IsQueue q → k ≤ length (waiting q) → IsQueue (marked q k)
+pub is_queue_marked : (q : QueueValue) (k : ℕ) → IsQueue q → k ≤ length (waiting q) → IsQueue (with_known q k)
 is_queue_marked q k h there = record { format = h.format; known = within_offered q k h there; short = h.short }
 
-wait_more : (q : QueueValue) (k j : ℕ) → k + j ≤ length (waiting q) → j ≤ length (waiting (marked q k))
+wait_more : (q : QueueValue) (k j : ℕ) → k + j ≤ length (waiting q) → j ≤ length (waiting (with_known q k))
 wait_more q k j h = omega (arith, length-drop q.known q.offered, length-drop (q.known + k) q.offered)
 
 -- behind ETB a record still waits once the block is marked
-pub still_waiting : (q : QueueValue) (k : ℕ) (e : End) → AreWaiting k e (length (waiting q)) → AreWaiting 0 e (length (waiting (marked q k)))
+pub still_waiting : (q : QueueValue) (k : ℕ) (e : End) → AreWaiting k e (length (waiting q)) → AreWaiting 0 e (length (waiting (with_known q k)))
 still_waiting q k Etb h = wait_more q k 1 h
 still_waiting q k Etx h = omega arith
 

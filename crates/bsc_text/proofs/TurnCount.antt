@@ -7,7 +7,7 @@ use Rattle.bsc_frame.specs.declared.text.End.{End}
 use Rattle.bsc_frame.specs.declared.text.End.TheVariants.{Etb, Etx}
 use Rattle.bsc_frame.specs.Texts.{TextValue}
 use Rattle.bsc_spool.specs.declared.queue.Next.{Next}
-use Rattle.bsc_spool.specs.Queue.{QueueValue, IsQueue, waiting, next_block}
+use Rattle.bsc_spool.specs.Queue.{QueueValue, with_known, IsQueue, waiting, next_block}
 use Rattle.bsc_text.specs.declared.act.Act.{Act}
 use Rattle.bsc_text.specs.declared.act.Act.TheVariants as a
 use Rattle.bsc_text.specs.declared.parity.Parity.{Parity}
@@ -19,7 +19,7 @@ use Rattle.bsc_text.specs.declared.phase.Phase.{Phase}
 use Rattle.bsc_text.specs.declared.phase.Phase.TheVariants.{Idle, Unanswered, Held, InDoubt}
 use Rattle.bsc_text.specs.Setup.{SetupValue}
 use Rattle.bsc_text.specs.Reply.{other, answer_of, reply_heard}
-use Rattle.bsc_text.specs.Sender.{SenderValue, SenderStep, marked, text_of, sent_next, begin_step, accepted, failed, delayed, unanswered_step, held_step, answered_step, reply_step, silent_in}
+use Rattle.bsc_text.specs.Sender.{SenderValue, SenderStep, text_of, sent_next, begin_step, accepted, failed, delayed, unanswered_step, held_step, answered_step, reply_step, silent_in}
 use Rattle.bsc_text.specs.Bid.{Bid, Turn, Event, Exchange, Offering, message_for, answered, unless_quiet, receiver_in, sender_in, after_turn, after_event, IsFairTurn, AreEvents}
 use Rattle.bsc_text.specs.OneBid.{turn_count, is_begun, begun_in, most_turns, EndsSoon}
 use Rattle.bsc_text.proofs.Answering.{has_next}
@@ -79,9 +79,9 @@ failed_comes s q left act h f =
     (λ _. (refl, tt)) (λ n. (refl, f _ (record { within = record { tries = grind (arith, nat_tests); waits = h.waits }; nearer = omega arith })))
 
 unanswered_comes : (s : SenderValue) (q : QueueValue) (b : SentBlock) (x : Answer) → IsWithin s → Comes s (unanswered_step s q b x)
-unanswered_comes s q b Accepted h = accepted_comes s (marked q b.count) b.end b.parity
+unanswered_comes s q b Accepted h = accepted_comes s (with_known q b.count) b.end b.parity
 unanswered_comes s q b Refused h = failed_comes s q Idle (a.Send (text_of q b)) h (λ u n. inr n)
-unanswered_comes s q b Delayed h = delayed_comes s (marked q b.count) b.end b.parity h
+unanswered_comes s q b Delayed h = delayed_comes s (with_known q b.count) b.end b.parity h
 unanswered_comes s q b Interrupted h = (refl, tt)
 
 held_comes : (s : SenderValue) (q : QueueValue) (e : End) (y : Parity) (x : Answer) → IsWithin s → Comes s (held_step s q e y x)

@@ -3,7 +3,7 @@ use Rattle.std.specs.Prelude.{◌≡◌, ◌≤◌, ℕ, Bool, List, [], ◌∷�
 use Rattle.bsc_frame.specs.declared.message.Message.{Message}
 use Rattle.bsc_frame.specs.declared.message.Message.TheVariants as m
 use Rattle.bsc_frame.specs.declared.message.Heard.{Heard}
-use Rattle.bsc_spool.specs.Queue.{QueueValue, IsQueue, waiting}
+use Rattle.bsc_spool.specs.Queue.{QueueValue, with_offered, IsQueue, waiting}
 use Rattle.bsc_spool.specs.Spool.{SpoolValue}
 use Rattle.bsc_text.specs.declared.act.Act.{Act}
 use Rattle.bsc_text.specs.declared.act.Act.TheVariants as a
@@ -93,12 +93,9 @@ pub data Event : Type 0 where
   Exchange : (turn : Turn) → Event
   Offering : (offered_record : List ℕ) → Event
 
-abbrev pub offered_to : QueueValue → List ℕ → QueueValue
-offered_to q r = record { format = q.format; offered = q.offered ++ r ∷ []; known = q.known }
-
 abbrev pub after_event : Bid → Event → Bid
 after_event b (Exchange t) = after_turn b t
-after_event b (Offering r) = record { sender = b.sender; queue = offered_to b.queue r; receiver = b.receiver; spool = b.spool; act = b.act }
+after_event b (Offering r) = record { sender = b.sender; queue = with_offered b.queue r; receiver = b.receiver; spool = b.spool; act = b.act }
 
 abbrev pub MayCome : Bid → Event → Type 0
 MayCome b (Exchange t) = IsFairTurn b t

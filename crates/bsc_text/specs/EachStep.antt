@@ -2,7 +2,7 @@
 use Rattle.std.specs.Prelude.{◌≡◌, ◌≤◌, ℕ, Bool, List, length, Option, Ok}
 use Rattle.bsc_frame.specs.declared.message.Message.{Message}
 use Rattle.bsc_frame.specs.declared.message.Heard.{Heard}
-use Rattle.bsc_spool.specs.Queue.{QueueValue, waiting}
+use Rattle.bsc_spool.specs.Queue.{QueueValue, with_offered, waiting}
 use Rattle.bsc_spool.specs.Spool.{SpoolValue}
 use Rattle.bsc_text.specs.declared.act.Act.{Act}
 use Rattle.bsc_text.specs.declared.act.Act.TheVariants as a
@@ -17,7 +17,7 @@ use Rattle.bsc_text.specs.Receiver.{ReceiverValue, ReceiverStep, Rooms}
 use Rattle.bsc_text.specs.Ready.{IsAtRest}
 use Rattle.bsc_text.specs.Channel.{channel, IsSound}
 use Rattle.bsc_text.specs.Fair.{IsFair}
-use Rattle.bsc_text.specs.Bid.{received, answered, IsFairTo, message_back, offered_to}
+use Rattle.bsc_text.specs.Bid.{received, answered, IsFairTo, message_back}
 use Rattle.bsc_text.specs.OneBid.{MovesAtReceiver, MovesAtSender}
 use Rattle.bsc_text.specs.Agreement.{Flight, Still, Outward, InBid, IsResting, Continues, back, sent_flight}
 
@@ -64,11 +64,11 @@ BeginAgrees =
 abbrev pub OfferAgrees : Type 0
 OfferAgrees =
     (phase : Phase) (q : QueueValue) (parity : Parity) (last : Reply) (spooled : List (List ℕ)) (f : Flight) (r : List ℕ) →
-    length r ≤ q.format.full → InBid phase q parity last spooled f → InBid phase (offered_to q r) parity last spooled f
+    length r ≤ q.format.full → InBid phase q parity last spooled f → InBid phase (with_offered q r) parity last spooled f
 
 abbrev pub OfferKeepsRest : Type 0
 OfferKeepsRest =
-    (phase : Phase) (q : QueueValue) (spooled : List (List ℕ)) (r : List ℕ) → length r ≤ q.format.full → IsResting phase q spooled → IsResting phase (offered_to q r) spooled
+    (phase : Phase) (q : QueueValue) (spooled : List (List ℕ)) (r : List ℕ) → length r ≤ q.format.full → IsResting phase q spooled → IsResting phase (with_offered q r) spooled
 
 -- a doubt is released with the spooled count
 pub record ReleaseAgrees (s : ReleaseStep) (spooled : List (List ℕ)) : Type 0 where

@@ -5,7 +5,7 @@ use Rattle.bsc_frame.specs.declared.message.Message.TheVariants as m
 use Rattle.bsc_frame.specs.declared.message.Heard.TheVariants.{Whole}
 use Rattle.bsc_frame.specs.Texts.{TextValue}
 use Rattle.bsc_block.specs.Blocks.{records_in}
-use Rattle.bsc_spool.specs.Queue.{waiting}
+use Rattle.bsc_spool.specs.Queue.{queue_of, waiting}
 use Rattle.bsc_text.specs.declared.act.Act.{Act}
 use Rattle.bsc_text.specs.declared.act.Act.TheVariants as a
 use Rattle.bsc_text.specs.declared.phase.SentBlock.{SentBlock}
@@ -90,7 +90,7 @@ DoubtsAtSilence =
 -- a release of the spooled count succeeds, makes it the known one, and ends the doubt
 abbrev pub released : Bid → ReleaseStep
 released c =
-    record { sender = with_phase c.sender Idle; queue = record { format = c.queue.format; offered = c.queue.offered; known = length c.spool.records }; answer = Ok tt }
+    record { sender = with_phase c.sender Idle; queue = queue_of c.queue.format c.queue.offered (length c.spool.records); answer = Ok tt }
 
 abbrev pub ReleaseEndsDoubt : Type 0
 ReleaseEndsDoubt =

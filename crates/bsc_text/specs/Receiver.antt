@@ -5,7 +5,7 @@ use Rattle.bsc_frame.specs.declared.message.Heard.{Heard}
 use Rattle.bsc_frame.specs.declared.message.Heard.TheVariants.{Whole, Failed}
 use Rattle.bsc_frame.specs.Texts.{TextValue}
 use Rattle.bsc_block.specs.Blocks.{records_in}
-use Rattle.bsc_spool.specs.Spool.{SpoolValue, with_delay}
+use Rattle.bsc_spool.specs.Spool.{SpoolValue, room_asked}
 use Rattle.bsc_text.specs.declared.parity.Parity.{Parity}
 use Rattle.bsc_text.specs.declared.parity.Parity.TheVariants.{Even}
 use Rattle.bsc_text.specs.declared.reply.Reply.{Reply}
@@ -37,7 +37,7 @@ begun room = record { parity = Even; last = first_reply room }
 
 -- a spool after a try for room
 abbrev pub tried : SpoolValue → Bool → SpoolValue
-tried s room = record { records = s.records; room = room; delays = if room then s.delays else with_delay s.delays }
+tried = room_asked
 
 -- a spool after these records were stored, with room left or without
 abbrev pub stored : SpoolValue → List (List ℕ) → Bool → SpoolValue

@@ -4,9 +4,9 @@ use Rattle.std.specs.Prelude.{ℕ, ◌+◌, nat_lt, Bool, true, false, ◌==◌,
 use Rattle.bsc_frame.specs.declared.text.End.{End}
 use Rattle.bsc_frame.specs.declared.text.End.TheVariants.{Etb, Etx}
 use Rattle.bsc_frame.specs.Texts.{TextValue}
-use Rattle.bsc_block.specs.Blocks.{unit_of}
+use Rattle.bsc_block.specs.Blocks.{block_text}
 use Rattle.bsc_spool.specs.declared.Next.{Next}
-use Rattle.bsc_spool.specs.Queue.{QueueValue, waiting, next_block}
+use Rattle.bsc_spool.specs.Queue.{QueueValue, queue_of, with_known, waiting, next_block}
 use Rattle.bsc_text.specs.declared.act.Act.{Act}
 use Rattle.bsc_text.specs.declared.act.Act.TheVariants as a
 use Rattle.bsc_text.specs.declared.parity.Parity.{Parity}
@@ -43,10 +43,6 @@ with_phase s phase = record { setup = s.setup; phase = phase; tries = s.tries; w
 abbrev pub with_counts : SenderValue → ℕ → ℕ → SenderValue
 with_counts s tries waits = record { setup = s.setup; phase = s.phase; tries = tries; waits = waits }
 
--- k more records are known to have arrived
-abbrev pub marked : QueueValue → ℕ → QueueValue
-marked q k = record { format = q.format; offered = q.offered; known = q.known + k }
-
 -- nothing changes, and nothing is sent
 abbrev pub quiet : SenderValue → QueueValue → SenderStep
 quiet s q = record { sender = s; queue = q; act = a.Quiet }
@@ -57,7 +53,7 @@ over s q left = record { sender = with_phase s left; queue = q; act = a.Over }
 
 -- the text of a block: the records that wait first
 abbrev pub text_of : QueueValue → SentBlock → TextValue
-text_of q b = record { units = map (unit_of q.format.full) (take b.count (waiting q)); end = b.end }
+text_of q b = block_text q.format (take b.count (waiting q)) b.end
 
 -- The next block is sent, with the counters at 0. (Where no record waits the bid is over; the conditions of
 -- the calls exclude it.)
@@ -92,10 +88,10 @@ delayed s q end parity =
 
 -- a reply while a block is unanswered
 abbrev pub unanswered_step : SenderValue → QueueValue → SentBlock → Answer → SenderStep
-unanswered_step s q b Accepted = accepted s (marked q b.count) b.end b.parity
+unanswered_step s q b Accepted = accepted s (with_known q b.count) b.end b.parity
 unanswered_step s q b Refused = failed s q Idle (a.Send (text_of q b))
-unanswered_step s q b Delayed = delayed s (marked q b.count) b.end b.parity
-unanswered_step s q b Interrupted = over s (marked q b.count) Idle
+unanswered_step s q b Delayed = delayed s (with_known q b.count) b.end b.parity
+unanswered_step s q b Interrupted = over s (with_known q b.count) Idle
 
 -- a reply while the sender is held
 abbrev pub held_step : SenderValue → QueueValue → End → Parity → Answer → SenderStep
@@ -146,7 +142,7 @@ pub record ReleaseStep : Type 0 where
 abbrev pub released_in : SenderValue → QueueValue → Phase → ℕ → ReleaseStep
 released_in s q (InDoubt k) count =
     if (count == q.known) || (count == (q.known + k))
-    then record { sender = with_phase s Idle; queue = record { format = q.format; offered = q.offered; known = count }; answer = Ok tt }
+    then record { sender = with_phase s Idle; queue = queue_of q.format q.offered count; answer = Ok tt }
     else record { sender = s; queue = q; answer = Err CountMismatch }
 released_in s q _ count = record { sender = s; queue = q; answer = Err NotInDoubt }
 
