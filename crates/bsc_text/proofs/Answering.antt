@@ -256,7 +256,8 @@ goes_on (Unanswered b) q parity last spooled i = i
 quiet_keeps : (s : SenderValue) (q : QueueValue) (parity : Parity) (last : Reply) (spooled : List (List ℕ)) → InBid s.phase q parity last spooled Still → Leaves q parity last spooled (quiet s q)
 quiet_keeps s q parity last spooled i = (goes_on s.phase q parity last spooled i, inl refl)
 
-still_on : (phase : Phase) (q : QueueValue) (parity : Parity) (last : Reply) (spooled : List (List ℕ)) (f : Flight) → InBid phase q parity last spooled f → InBid phase q parity last spooled Still
+-- what was on its way is lost
+pub still_on : (phase : Phase) (q : QueueValue) (parity : Parity) (last : Reply) (spooled : List (List ℕ)) (f : Flight) → InBid phase q parity last spooled f → InBid phase q parity last spooled Still
 still_on phase q parity last spooled f i = record { queue = i.queue; counts = i.counts; agree = agree_still phase q parity last spooled f i.agree }
 
 -- the reply is heard, or not

@@ -1,5 +1,7 @@
 -- Each single step of a bid keeps that its ends agree.
-use Rattle.std.proofs.Common.{◌≡◌, ℕ, ◌≤◌, List, length, take, Ok, refl, sym, subst, arith}
+use Rattle.std.proofs.Common.{◌≡◌, ◌⊎◌, inl, inr, ℕ, ◌≤◌, List, length, take, Ok, refl, sym, subst, arith}
+use Rattle.bsc_frame.specs.declared.message.Message.{Message}
+use Rattle.bsc_frame.specs.declared.message.Message.TheVariants as m
 use Rattle.bsc_spool.specs.Queue.{QueueValue, IsQueue}
 use Rattle.bsc_text.specs.declared.parity.Parity.{Parity}
 use Rattle.bsc_text.specs.declared.parity.Parity.TheVariants.{Even}
@@ -8,11 +10,12 @@ use Rattle.bsc_text.specs.declared.reply.Reply.TheVariants.{Ack0}
 use Rattle.bsc_text.specs.declared.phase.Phase.{Phase}
 use Rattle.bsc_text.specs.declared.phase.Phase.TheVariants.{Idle, InDoubt}
 use Rattle.bsc_text.specs.Sender.{SenderValue, SenderStep, ReleaseStep, with_phase, begin_step, silent_in, released_in}
+use Rattle.bsc_text.specs.Fair.{IsTextMessage}
 use Rattle.bsc_text.specs.Bid.{answered}
 use Rattle.bsc_text.specs.Agreement.{IsResting}
-use Rattle.bsc_text.specs.EachStep.{SenderAgrees, ReleaseAgrees, HearingAgrees, AnsweringAgrees, SilenceAgrees, BeginAgrees, OfferAgrees, OfferKeepsRest, ReleaseKeepsRest, AgreementIsSound}
-use Rattle.bsc_text.proofs.Hearing.{receiver_keeps}
-use Rattle.bsc_text.proofs.Answering.{Leaves, at_same, sender_keeps, silence_keeps, begin_keeps}
+use Rattle.bsc_text.specs.EachStep.{SenderAgrees, ReleaseAgrees, HearingAgrees, AnsweringAgrees, SilenceAgrees, BeginAgrees, OfferAgrees, OfferKeepsRest, ReleaseKeepsRest, AgreementIsSound, LossAgrees, OutwardIsTextOrEnq, BackIsLast}
+use Rattle.bsc_text.proofs.Hearing.{IsSenders, senders, receiver_keeps}
+use Rattle.bsc_text.proofs.Answering.{Leaves, at_same, still_on, back_last, sender_keeps, silence_keeps, begin_keeps}
 use Rattle.bsc_text.proofs.OfferLemmas.{not_longer, bid_offered, resting_offered}
 use Rattle.bsc_text.proofs.FitLemmas.{Fits, fits_heard, fits_silence, fits_begin}
 use Rattle.bsc_text.proofs.Turning.{LawsBelow, ended, sound_by}
@@ -62,3 +65,17 @@ release_keeps_rest s q k spooled e h = release_by s q k spooled s.phase e h (not
 
 pub agreement_is_sound : AgreementIsSound
 agreement_is_sound phase q parity last spooled f h = sound_by phase q parity last spooled f h
+
+pub loss_agrees : LossAgrees
+loss_agrees phase q parity last spooled f i = still_on phase q parity last spooled f i
+
+text_or_enq : (w : Message) → IsSenders w → IsTextMessage w ⊎ (w ≡ m.Enq)
+text_or_enq (m.Text t) h = inl tt
+text_or_enq m.Enq h = inr refl
+text_or_enq _ h = absurd h
+
+pub outward_is_text_or_enq : OutwardIsTextOrEnq
+outward_is_text_or_enq phase q parity last spooled sent i = text_or_enq sent (senders phase q parity last spooled sent i.agree)
+
+pub back_is_last : BackIsLast
+back_is_last phase q parity last reply spooled i = back_last phase q parity last reply spooled i.agree

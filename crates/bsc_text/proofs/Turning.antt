@@ -17,7 +17,7 @@ use Rattle.bsc_text.specs.Ready.{CountsOn, IsReady, FitsAct}
 use Rattle.bsc_text.specs.EachStep.{IsEnded}
 use Rattle.bsc_text.specs.Channel.{channel, IsSound}
 use Rattle.bsc_text.specs.Bid.{Bid, Turn, Event, Exchange, Offering, channel_of, message_for, receiver_in, sender_in, unless_quiet, after_turn, after_event, IsFairTurn, MayCome, AreEvents, IsBegun, Reaches}
-use Rattle.bsc_text.specs.OneBid.{MovesInTurn, OnlyMoves, StaysReady, StaysSound}
+use Rattle.bsc_text.specs.OneBid.{channel_within, MovesInTurn, OnlyMoves, StaysReady, StaysSound, SoundWithinTurns}
 use Rattle.bsc_text.specs.Agreement.{Flight, Outward, InBid, Continues, back, sent_flight}
 use Rattle.bsc_text.proofs.ReadyLemmas.{within_offered}
 use Rattle.bsc_text.proofs.Hearing.{RecordsBack, Keeps, fits, receiver_keeps}
@@ -67,7 +67,15 @@ sound_by (Unanswered b) q parity last spooled f h =
 
 pub record Turned (b : Bid) (t : Turn) : Type 0 where
   pub holds : Holds (after_turn b t)
-  pub moves : MovesInTurn b.sender.phase (channel_of b) (channel_of (after_turn b t))
+  pub sound : IsSound b.sender.phase (channel_within b t)
+  pub moves : MovesInTurn b t
+
+-- a bid that goes on continues
+pub bid_continues : (phase : Phase) (q : QueueValue) (parity : Parity) (last : Reply) (spooled : List (List ℕ)) (f : Flight) → InBid phase q parity last spooled f → Continues phase q parity last spooled f
+bid_continues Idle q parity last spooled f i = absurd i.agree
+bid_continues (InDoubt k) q parity last spooled f i = absurd i.agree
+bid_continues (Held e x) q parity last spooled f i = i
+bid_continues (Unanswered b) q parity last spooled f i = i
 
 -- what goes out while a bid goes on
 outward : (x : Act) (sent : Message) → message_for x ≡ Some sent → sent_flight x ≡ Outward sent
@@ -91,7 +99,8 @@ turn_keeps law b t h fair =
     let u : Leaves b.queue r.receiver.parity r.receiver.last r.spool.records (unless_quiet (sender_in b t) (sender_in b t).act) = settled_keeps b.queue r.receiver.parity r.receiver.last r.spool.records (sender_in b t) (sender_in b t).act refl l in
     record {
       holds = record { ends = u.0; rests = ended b.sender (unless_quiet (sender_in b t) (sender_in b t).act) (fits_settled b.sender (sender_in b t) (sender_in b t).act refl (fits_heard b.sender b.queue r.reply t.answer)) };
-      moves = record { between = channel b.queue r.spool.records; receiver = k.1; sender = u.1 };
+      sound = sound_by b.sender.phase b.queue r.receiver.parity r.receiver.last r.spool.records (back r.reply) (bid_continues b.sender.phase b.queue r.receiver.parity r.receiver.last r.spool.records (back r.reply) j);
+      moves = record { receiver = k.1; sender = u.1 };
     }
 
 event_keeps : LawsBelow → (b : Bid) (e : Event) → Holds b → MayCome b e → Holds (after_event b e)
@@ -128,6 +137,9 @@ stays_ready law b es c h = ready_by c.sender c.sender.phase c.queue c.receiver.p
 
 pub stays_sound : LawsBelow → StaysSound
 stays_sound law b es c h = sound_by c.sender.phase c.queue c.receiver.parity c.receiver.last c.spool.records (sent_flight c.act) (reached_holds law b es c h).ends
+
+pub sound_within_turns : LawsBelow → SoundWithinTurns
+sound_within_turns law b es c t h fair = (turn_keeps law c t (reached_holds law b es c h) fair).sound
 
 pub only_moves : LawsBelow → OnlyMoves
 only_moves law b es c t h fair = (turn_keeps law c t (reached_holds law b es c h) fair).moves

@@ -1,6 +1,7 @@
 -- What each single step of a bid keeps (own): the ends agree after it where they agreed before it.
-use Rattle.std.specs.Prelude.{◌≡◌, ◌≤◌, ℕ, Bool, List, length, Option, Ok}
+use Rattle.std.specs.Prelude.{◌≡◌, ◌⊎◌, ◌≤◌, ℕ, Bool, List, length, Option, Ok}
 use Rattle.bsc_frame.specs.declared.message.Message.{Message}
+use Rattle.bsc_frame.specs.declared.message.Message.TheVariants as m
 use Rattle.bsc_frame.specs.declared.message.Heard.{Heard}
 use Rattle.bsc_spool.specs.Queue.{QueueValue, with_offered, waiting}
 use Rattle.bsc_spool.specs.Spool.{SpoolValue}
@@ -16,10 +17,10 @@ use Rattle.bsc_text.specs.Sender.{SenderValue, SenderStep, ReleaseStep, begin_st
 use Rattle.bsc_text.specs.Receiver.{ReceiverValue, ReceiverStep, Rooms}
 use Rattle.bsc_text.specs.Ready.{IsAtRest}
 use Rattle.bsc_text.specs.Channel.{channel, IsSound}
-use Rattle.bsc_text.specs.Fair.{IsFair}
+use Rattle.bsc_text.specs.Fair.{IsTextMessage, IsFair}
 use Rattle.bsc_text.specs.Bid.{received, answered, IsFairTo, message_back}
 use Rattle.bsc_text.specs.OneBid.{MovesAtReceiver, MovesAtSender}
-use Rattle.bsc_text.specs.Agreement.{Flight, Still, Outward, InBid, IsResting, Continues, back, sent_flight}
+use Rattle.bsc_text.specs.Agreement.{Flight, Still, Outward, Back, InBid, IsResting, Continues, back, sent_flight}
 
 -- an act that ends the bid leaves the sender at rest
 abbrev pub IsEnded : Act → Phase → Type 0
@@ -84,3 +85,26 @@ ReleaseKeepsRest =
 abbrev pub AgreementIsSound : Type 0
 AgreementIsSound =
     (phase : Phase) (q : QueueValue) (parity : Parity) (last : Reply) (spooled : List (List ℕ)) (f : Flight) → Continues phase q parity last spooled f → IsSound phase (channel q spooled)
+
+-- what was on its way is lost
+abbrev pub LossAgrees : Type 0
+LossAgrees =
+    (phase : Phase) (q : QueueValue) (parity : Parity) (last : Reply) (spooled : List (List ℕ)) (f : Flight) → InBid phase q parity last spooled f → InBid phase q parity last spooled Still
+
+-- a bid that goes on continues, and one with something of the sender on the way goes on
+abbrev pub BidContinues : Type 0
+BidContinues =
+    (phase : Phase) (q : QueueValue) (parity : Parity) (last : Reply) (spooled : List (List ℕ)) (f : Flight) → InBid phase q parity last spooled f → Continues phase q parity last spooled f
+
+abbrev pub SendingGoesOn : Type 0
+SendingGoesOn =
+    (phase : Phase) (q : QueueValue) (parity : Parity) (last : Reply) (spooled : List (List ℕ)) (sent : Message) → Continues phase q parity last spooled (Outward sent) → InBid phase q parity last spooled (Outward sent)
+
+-- what the sender has on the way is a text or ENQ, and a reply on the way is the receiver's last one
+abbrev pub OutwardIsTextOrEnq : Type 0
+OutwardIsTextOrEnq =
+    (phase : Phase) (q : QueueValue) (parity : Parity) (last : Reply) (spooled : List (List ℕ)) (sent : Message) → InBid phase q parity last spooled (Outward sent) → IsTextMessage sent ⊎ (sent ≡ m.Enq)
+
+abbrev pub BackIsLast : Type 0
+BackIsLast =
+    (phase : Phase) (q : QueueValue) (parity : Parity) (last reply : Reply) (spooled : List (List ℕ)) → InBid phase q parity last spooled (Back reply) → reply ≡ last

@@ -14,9 +14,9 @@ use Rattle.bsc_text.specs.declared.phase.Phase.TheVariants.{Idle, Unanswered}
 use Rattle.bsc_text.specs.Setup.{SetupValue}
 use Rattle.bsc_text.specs.Sender.{ReleaseStep, text_of, with_phase, is_in_doubt, release_step}
 use Rattle.bsc_text.specs.Ready.{IsReady}
-use Rattle.bsc_text.specs.Channel.{Channel, Nothing, Offer, Land, Learn, Makes, IsSound}
+use Rattle.bsc_text.specs.Channel.{Channel, channel, Nothing, Offer, Land, Learn, Makes, IsSound}
 use Rattle.bsc_text.specs.Fair.{IsTextMessage}
-use Rattle.bsc_text.specs.Bid.{Bid, Turn, Event, Exchange, Offering, channel_of, message_for, sender_in, after_turn, after_event, IsFairTurn, Reaches}
+use Rattle.bsc_text.specs.Bid.{Bid, Turn, Event, Exchange, Offering, channel_of, message_for, receiver_in, sender_in, after_turn, after_event, IsFairTurn, Reaches}
 
 -- the sender sends texts and ENQ alone
 abbrev pub SendsTextsAndEnq : Type 0
@@ -45,17 +45,20 @@ MovesAtReceiver phase old new = Makes Nothing old new ⊎ ((block : SentBlock) �
 abbrev pub MovesAtSender : Channel → Channel → Type 0
 MovesAtSender old new = Makes Nothing old new ⊎ Makes Learn old new
 
+-- the channel within a turn: the receiver has heard, and the sender has not
+abbrev pub channel_within : Bid → Turn → Channel
+channel_within b t = channel b.queue (receiver_in b t).spool.records
+
 -- a turn moves the channel at the receiver, and then at the sender
-pub record MovesInTurn (phase : Phase) (old new : Channel) : Type 0 where
-  pub between : Channel
-  pub receiver : MovesAtReceiver phase old between
-  pub sender : MovesAtSender between new
+pub record MovesInTurn (b : Bid) (t : Turn) : Type 0 where
+  pub receiver : MovesAtReceiver b.sender.phase (channel_of b) (channel_within b t)
+  pub sender : MovesAtSender (channel_within b t) (channel_of (after_turn b t))
 
 -- Each block lands at most once, since it lands only where all that was spooled is known; it is learnt only
 -- after it landed, since what is learnt is what was spooled.
 abbrev pub OnlyMoves : Type 0
 OnlyMoves =
-    (b : Bid) (es : List Event) (c : Bid) (t : Turn) → Reaches b es c → IsFairTurn c t → MovesInTurn c.sender.phase (channel_of c) (channel_of (after_turn c t))
+    (b : Bid) (es : List Event) (c : Bid) (t : Turn) → Reaches b es c → IsFairTurn c t → MovesInTurn c t
 
 abbrev pub OffersMove : Type 0
 OffersMove = (b : Bid) (r : List ℕ) → Makes (Offer r) (channel_of b) (channel_of (after_event b (Offering r)))
@@ -64,9 +67,13 @@ OffersMove = (b : Bid) (r : List ℕ) → Makes (Offer r) (channel_of b) (channe
 abbrev pub StaysReady : Type 0
 StaysReady = (b : Bid) (es : List Event) (c : Bid) → Reaches b es c → IsReady c.sender c.queue
 
--- at each moment the channel is sound
+-- at each moment the channel is sound: before and after each event, and within each turn
 abbrev pub StaysSound : Type 0
 StaysSound = (b : Bid) (es : List Event) (c : Bid) → Reaches b es c → IsSound c.sender.phase (channel_of c)
+
+abbrev pub SoundWithinTurns : Type 0
+SoundWithinTurns =
+    (b : Bid) (es : List Event) (c : Bid) (t : Turn) → Reaches b es c → IsFairTurn c t → IsSound c.sender.phase (channel_within c t)
 
 -- a bid that ended without doubt knows of all that was spooled
 abbrev pub EndsKnowing : Type 0

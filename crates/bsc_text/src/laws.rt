@@ -1,7 +1,7 @@
 //! Laws over the definitions alone: what holds of every bid, whatever is lost or spoiled.
 
-ghost use Rattle.bsc_text.specs.OneBid.{SendsTextsAndEnq, SendsItsBlocks, HearsItsBlocks, OnlyMoves, OffersMove, StaysReady, StaysSound, EndsKnowing, DoubtsAtSilence, ReleaseEndsDoubt, EndsSoon};
-ghost use Rattle.bsc_text.specs.EachStep.{HearingAgrees, AnsweringAgrees, SilenceAgrees, BeginAgrees, OfferAgrees, OfferKeepsRest, ReleaseKeepsRest, AgreementIsSound};
+ghost use Rattle.bsc_text.specs.OneBid.{SendsTextsAndEnq, SendsItsBlocks, HearsItsBlocks, OnlyMoves, OffersMove, StaysReady, StaysSound, SoundWithinTurns, EndsKnowing, DoubtsAtSilence, ReleaseEndsDoubt, EndsSoon};
+ghost use Rattle.bsc_text.specs.EachStep.{HearingAgrees, AnsweringAgrees, SilenceAgrees, BeginAgrees, OfferAgrees, OfferKeepsRest, ReleaseKeepsRest, AgreementIsSound, LossAgrees, BidContinues, SendingGoesOn, OutwardIsTextOrEnq, BackIsLast};
 
 use bsc_block::laws::records_back;
 use bsc_spool::laws::next_blocks;
@@ -24,6 +24,7 @@ pub fn one_bid()
     ensures offers { OffersMove }
     ensures ready { StaysReady }
     ensures sound { StaysSound }
+    ensures sound_within { SoundWithinTurns }
     ensures known { EndsKnowing }
     ensures doubt { DoubtsAtSilence }
     ensures release { ReleaseEndsDoubt }
@@ -38,7 +39,8 @@ pub fn one_bid()
 ///
 /// - the receiver hears what the sender sent, or nothing; the sender hears the reply, or nothing;
 /// - a silence comes to the sender, a bid begins, or a record is offered;
-/// - a sender whose bid is over is at rest, and its channel is sound.
+/// - what was on its way is lost;
+/// - a sender whose bid is over is at rest, and while the ends agree the channel is sound.
 pub fn each_step()
     ensures hearing { HearingAgrees }
     ensures answering { AnsweringAgrees }
@@ -48,6 +50,11 @@ pub fn each_step()
     ensures offer_at_rest { OfferKeepsRest }
     ensures release { ReleaseKeepsRest }
     ensures sound { AgreementIsSound }
+    ensures loss { LossAgrees }
+    ensures continues { BidContinues }
+    ensures goes_on { SendingGoesOn }
+    ensures outward { OutwardIsTextOrEnq }
+    ensures back { BackIsLast }
 {
     records_back();
     next_blocks();

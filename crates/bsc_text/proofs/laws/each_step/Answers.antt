@@ -1,5 +1,6 @@
-use Rattle.bsc_text.proofs.StepLemmas.{hearing_agrees, answering_agrees, silence_agrees, begin_agrees, offer_agrees, offer_keeps_rest, release_keeps_rest, agreement_is_sound}
-use Rattle.bsc_text.proofs.Turning.{LawsBelow}
+use Rattle.bsc_text.proofs.StepLemmas.{hearing_agrees, answering_agrees, silence_agrees, begin_agrees, offer_agrees, offer_keeps_rest, release_keeps_rest, agreement_is_sound, loss_agrees, outward_is_text_or_enq, back_is_last}
+use Rattle.bsc_text.proofs.Answering.{busy}
+use Rattle.bsc_text.proofs.Turning.{LawsBelow, bid_continues}
 use Rattle.bsc_text.proofs.laws.each_step.Goals as goal
 
 -- what the calls of the laws below ensure
@@ -33,3 +34,18 @@ returns-clause-release c = release_keeps_rest
 
 pub returns-clause-sound : goal.returns-clause-sound
 returns-clause-sound c = agreement_is_sound
+
+pub returns-clause-loss : goal.returns-clause-loss
+returns-clause-loss c = loss_agrees
+
+pub returns-clause-continues : goal.returns-clause-continues
+returns-clause-continues c = bid_continues
+
+pub returns-clause-goes_on : goal.returns-clause-goes_on
+returns-clause-goes_on c = busy
+
+pub returns-clause-outward : goal.returns-clause-outward
+returns-clause-outward c = outward_is_text_or_enq
+
+pub returns-clause-back : goal.returns-clause-back
+returns-clause-back c = back_is_last

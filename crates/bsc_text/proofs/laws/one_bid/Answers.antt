@@ -1,7 +1,7 @@
 use Rattle.bsc_text.proofs.BlockLemmas.{sends_its_blocks, hears_its_blocks, ends_knowing, release_ends_doubt}
 use Rattle.bsc_text.proofs.DoubtLemmas.{doubts_at_silence}
 use Rattle.bsc_text.proofs.TurnCount.{ends_soon}
-use Rattle.bsc_text.proofs.Turning.{LawsBelow, stays_ready, stays_sound, only_moves}
+use Rattle.bsc_text.proofs.Turning.{LawsBelow, stays_ready, stays_sound, sound_within_turns, only_moves}
 use Rattle.bsc_text.proofs.laws.one_bid.Goals as goal
 
 -- what the calls of the laws below ensure
@@ -17,6 +17,9 @@ returns-clause-ready c = stays_ready (below c)
 
 pub returns-clause-sound : goal.returns-clause-sound
 returns-clause-sound c = stays_sound (below c)
+
+pub returns-clause-sound_within : goal.returns-clause-sound_within
+returns-clause-sound_within c = sound_within_turns (below c)
 
 pub returns-clause-moves : goal.returns-clause-moves
 returns-clause-moves c = only_moves (below c)
