@@ -39,7 +39,8 @@ pub record HasNext (q : QueueValue) : Type 0 where
   pub is : next_block q ≡ Some next
   pub fit : IsNext q next
 
-next_by : NextLaw → (q : QueueValue) → IsQueue q → 1 ≤ length (waiting q) → (o : Option Next) → next_block q ≡ o → HasNext q
+next_by : NextLaw → (q : QueueValue) → IsQueue q → 1 ≤ length (waiting q) → (o : Option Next)
+    → next_block q ≡ o → HasNext q
 next_by law q h some None e = absurd (omega (arith, ap length (law.none q e)))
 next_by law q h some (Some n) e = record { next = n; is = e; fit = law.some q n h e }
 
@@ -47,7 +48,8 @@ next_by law q h some (Some n) e = record { next = n; is = e; fit = law.some q n 
 pub has_next : NextLaw → (q : QueueValue) → IsQueue q → 1 ≤ length (waiting q) → HasNext q
 has_next law q h some = next_by law q h some (next_block q) refl
 
-pub choose : (P : SenderStep → Type 0) (v : Bool) (x y : SenderStep) → P x → P y → P (if v then x else y)
+pub choose : (P : SenderStep → Type 0) (v : Bool) (x y : SenderStep) → P x → P y
+    → P (if v then x else y)
 choose P true x y p r = p
 choose P false x y p r = r
 
@@ -61,42 +63,54 @@ abbrev pub LeavesQueue : QueueValue → Parity → Reply → List (List ℕ) →
 LeavesQueue q parity last spooled t = Continues t.sender.phase t.queue parity last spooled (sent_flight t.act) × (t.queue ≡ q)
 
 -- all is known, and the bid is over
-at_rest : (q : QueueValue) (spooled : List (List ℕ)) → IsQueue q → spooled ≡ take q.known q.offered → IsResting Idle q spooled × (Still ≡ Still)
+at_rest : (q : QueueValue) (spooled : List (List ℕ)) → IsQueue q
+    → spooled ≡ take q.known q.offered → IsResting Idle q spooled × (Still ≡ Still)
 at_rest q spooled h e =
     let known : q.known ≤ length q.offered = h.known in
     let long : length spooled ≡ q.known = ap length e ∙ length-take-le q.known q.offered known in
     (record { queue = h; counts = tt; sound = record { front = rw long e; known = omega arith; spooled = long } }, refl)
 
 -- the next block is sent
-next_keeps : NextLaw → (s : SenderValue) (q : QueueValue) (expected parity : Parity) (last : Reply) (spooled : List (List ℕ)) → IsQueue q → spooled ≡ take q.known q.offered → 1 ≤ length (waiting q) → parity ≡ other expected → IsReplyBefore last expected →
+next_keeps : NextLaw → (s : SenderValue) (q : QueueValue) (expected parity : Parity)
+    (last : Reply) (spooled : List (List ℕ)) → IsQueue q → spooled ≡ take q.known q.offered
+    → 1 ≤ length (waiting q) → parity ≡ other expected → IsReplyBefore last expected →
     LeavesQueue q parity last spooled (sent_next s q expected (next_block q))
 next_keeps law s q expected parity last spooled h front some counted reply =
     let n = has_next law q h some in
     rw n.is (record { queue = h; counts = counts_next q n.next n.fit; agree = inl (record { front = front; counted = counted; reply = reply; flight = refl }) }, refl)
 
 -- what was spooled is learnt
-learns : (q : QueueValue) (k : ℕ) (spooled : List (List ℕ)) → q.known + k ≤ length q.offered → spooled ≡ take (q.known + k) q.offered → MovesAtSender (channel q spooled) (channel (with_known q k) spooled)
+learns : (q : QueueValue) (k : ℕ) (spooled : List (List ℕ)) → q.known + k ≤ length q.offered
+    → spooled ≡ take (q.known + k) q.offered
+    → MovesAtSender (channel q spooled) (channel (with_known q k) spooled)
 learns q k spooled within e =
     let long : length spooled ≡ q.known + k = ap length e ∙ length-take-le (q.known + k) q.offered within in
     inr (ap (λ n. channel (record { format = q.format; offered = q.offered; known = n }) spooled) (sym long))
 
 -- the queue stays
-pub at_same : (q : QueueValue) (parity : Parity) (last : Reply) (spooled : List (List ℕ)) (t : SenderStep) → LeavesQueue q parity last spooled t → Leaves q parity last spooled t
+pub at_same : (q : QueueValue) (parity : Parity) (last : Reply) (spooled : List (List ℕ))
+    (t : SenderStep) → LeavesQueue q parity last spooled t → Leaves q parity last spooled t
 at_same q parity last spooled t h = (h.0, inl (ap (λ (u : QueueValue). channel u spooled) h.1))
 
-at_learnt : (q : QueueValue) (k : ℕ) (parity : Parity) (last : Reply) (spooled : List (List ℕ)) (t : SenderStep) → q.known + k ≤ length q.offered → spooled ≡ take (q.known + k) q.offered →
+at_learnt : (q : QueueValue) (k : ℕ) (parity : Parity) (last : Reply) (spooled : List (List ℕ))
+    (t : SenderStep) → q.known + k ≤ length q.offered → spooled ≡ take (q.known + k) q.offered →
     LeavesQueue (with_known q k) parity last spooled t → Leaves q parity last spooled t
 at_learnt q k parity last spooled t within front h =
     (h.0, subst (λ (u : QueueValue). MovesAtSender (channel q spooled) (channel u spooled)) (sym h.1) (learns q k spooled within front))
 
 -- the expected acknowledgement came, at a queue that counts the block
-accepted_keeps : NextLaw → (s : SenderValue) (q : QueueValue) (e : End) (expected parity : Parity) (last : Reply) (spooled : List (List ℕ)) → IsQueue q → spooled ≡ take q.known q.offered → AreWaiting 0 e (length (waiting q)) → parity ≡ other (other expected) → IsReplyBefore last (other expected) →
+accepted_keeps : NextLaw → (s : SenderValue) (q : QueueValue) (e : End)
+    (expected parity : Parity) (last : Reply) (spooled : List (List ℕ)) → IsQueue q
+    → spooled ≡ take q.known q.offered → AreWaiting 0 e (length (waiting q))
+    → parity ≡ other (other expected) → IsReplyBefore last (other expected) →
     LeavesQueue q parity last spooled (accepted s q e expected)
 accepted_keeps law s q Etx expected parity last spooled h front more counted reply = (at_rest q spooled h front, refl)
 accepted_keeps law s q Etb expected parity last spooled h front more counted reply = next_keeps law (s) q (other expected) parity last spooled h front (omega arith) counted reply
 
 -- WACK came
-delayed_keeps : (s : SenderValue) (q : QueueValue) (e : End) (expected parity : Parity) (spooled : List (List ℕ)) → IsQueue q → spooled ≡ take q.known q.offered → AreWaiting 0 e (length (waiting q)) → parity ≡ expected →
+delayed_keeps : (s : SenderValue) (q : QueueValue) (e : End) (expected parity : Parity)
+    (spooled : List (List ℕ)) → IsQueue q → spooled ≡ take q.known q.offered
+    → AreWaiting 0 e (length (waiting q)) → parity ≡ expected →
     LeavesQueue q parity Wack spooled (delayed s q e expected)
 delayed_keeps s q e expected parity spooled h front more counted =
     choose (LeavesQueue q parity Wack spooled) _ _ _
@@ -108,7 +122,9 @@ other_twice x Odd e = e
 other_twice x Even e = e
 
 -- a reply to a block that has landed
-landed_keeps : NextLaw → (s : SenderValue) (k : ℕ) (e : End) (expected : Parity) (q : QueueValue) (parity : Parity) (last : Reply) (spooled : List (List ℕ)) → let b : SentBlock = record { count = k; end = e; parity = expected } in
+landed_keeps : NextLaw → (s : SenderValue) (k : ℕ) (e : End) (expected : Parity) (q : QueueValue)
+    (parity : Parity) (last : Reply) (spooled : List (List ℕ))
+    → let b : SentBlock = record { count = k; end = e; parity = expected } in
     InBid (Unanswered b) q parity last spooled (Back last) → HasLanded b q parity last spooled (Back last) →
     Leaves q parity last spooled (unanswered_step s q b (answer_of expected last))
 landed_keeps law s k e Odd q parity Ack1 spooled i h =
@@ -139,13 +155,18 @@ landed_keeps law s k e Even q parity Ack1 spooled i h = absurd h.reply
 landed_keeps law s k e Even q parity Nak spooled i h = absurd h.reply
 
 -- a reply to a block that has not landed: it is sent again
-refused_keeps : (s : SenderValue) (b : SentBlock) (q : QueueValue) (parity : Parity) (last : Reply) (spooled : List (List ℕ)) → s.phase ≡ Unanswered b → InBid (Unanswered b) q parity last spooled (Back last) → NotLanded b q parity last spooled (Back last) →
+refused_keeps : (s : SenderValue) (b : SentBlock) (q : QueueValue) (parity : Parity)
+    (last : Reply) (spooled : List (List ℕ)) → s.phase ≡ Unanswered b
+    → InBid (Unanswered b) q parity last spooled (Back last)
+    → NotLanded b q parity last spooled (Back last) →
     Leaves q parity last spooled (failed s q Idle (a.Send (text_of q b)))
 refused_keeps s b q parity last spooled e i h =
     choose (Leaves q parity last spooled) _ _ _ (at_rest q spooled i.queue h.front, inl refl)
     (rw e (record { queue = i.queue; counts = i.counts; agree = inl (record { front = h.front; counted = h.counted; reply = h.reply; flight = refl }) }), inl refl)
 
-before_keeps : (s : SenderValue) (b : SentBlock) (q : QueueValue) (parity expected : Parity) (last : Reply) (spooled : List (List ℕ)) → s.phase ≡ Unanswered b → IsReplyBefore last expected →
+before_keeps : (s : SenderValue) (b : SentBlock) (q : QueueValue) (parity expected : Parity)
+    (last : Reply) (spooled : List (List ℕ)) → s.phase ≡ Unanswered b
+    → IsReplyBefore last expected →
     InBid (Unanswered b) q parity last spooled (Back last) → NotLanded b q parity last spooled (Back last) →
     Leaves q parity last spooled (unanswered_step s q b (answer_of expected last))
 before_keeps s b q parity Odd Ack0 spooled e r i h = refused_keeps s b q parity Ack0 spooled e i h
@@ -160,7 +181,9 @@ before_keeps s b q parity Even Wack spooled e r i h = absurd r
 before_keeps s b q parity Even Rvi spooled e r i h = absurd r
 
 -- a reply while the sender is held
-held_keeps : NextLaw → (s : SenderValue) (e : End) (expected : Parity) (q : QueueValue) (parity : Parity) (last : Reply) (spooled : List (List ℕ)) → InBid (Held e expected) q parity last spooled (Back last) →
+held_keeps : NextLaw → (s : SenderValue) (e : End) (expected : Parity) (q : QueueValue)
+    (parity : Parity) (last : Reply) (spooled : List (List ℕ))
+    → InBid (Held e expected) q parity last spooled (Back last) →
     Leaves q parity last spooled (held_step s q e expected (answer_of expected last))
 held_keeps law s e Odd q parity Ack1 spooled i = at_same q parity Ack1 spooled (accepted s q e Odd) (accepted_keeps law s q e Odd parity Ack1 spooled i.queue i.agree.front i.counts (other_twice parity Odd i.agree.counted) tt)
 held_keeps law s e Even q parity Ack0 spooled i = at_same q parity Ack0 spooled (accepted s q e Even) (accepted_keeps law s q e Even parity Ack0 spooled i.queue i.agree.front i.counts (other_twice parity Even i.agree.counted) tt)
@@ -174,7 +197,8 @@ held_keeps law s e Even q parity Nak spooled i = absurd i.agree.reply
 held_keeps law s e Even q parity Rvi spooled i = absurd i.agree.reply
 
 -- the reply that is on its way is the last one
-pub back_last : (phase : Phase) (q : QueueValue) (parity : Parity) (last r : Reply) (spooled : List (List ℕ)) → Agree phase q parity last spooled (Back r) → r ≡ last
+pub back_last : (phase : Phase) (q : QueueValue) (parity : Parity) (last r : Reply)
+    (spooled : List (List ℕ)) → Agree phase q parity last spooled (Back r) → r ≡ last
 back_last Idle q parity last r spooled h = absurd h
 back_last (InDoubt k) q parity last r spooled h = absurd h
 back_last (Held e x) q parity last r spooled h = h.flight
@@ -182,7 +206,9 @@ back_last (Unanswered b) q parity last r spooled (inl h) = h.flight
 back_last (Unanswered b) q parity last r spooled (inr h) = h.flight
 
 -- a reply comes
-answered_keeps : NextLaw → (s : SenderValue) (phase : Phase) (q : QueueValue) (parity : Parity) (last : Reply) (spooled : List (List ℕ)) → s.phase ≡ phase → InBid phase q parity last spooled (Back last) →
+answered_keeps : NextLaw → (s : SenderValue) (phase : Phase) (q : QueueValue) (parity : Parity)
+    (last : Reply) (spooled : List (List ℕ)) → s.phase ≡ phase
+    → InBid phase q parity last spooled (Back last) →
     Leaves q parity last spooled (answered_step s q phase last)
 answered_keeps law s Idle q parity last spooled e i = absurd i.agree
 answered_keeps law s (InDoubt k) q parity last spooled e i = absurd i.agree
@@ -191,7 +217,9 @@ answered_keeps law s (Unanswered b) q parity last spooled e i =
     elim i.agree [ inl h ↦ before_keeps s b q parity b.parity last spooled e h.reply i h | inr h ↦ landed_keeps law s b.count b.end b.parity q parity last spooled i h ]
 
 -- a silence comes, and nothing is on its way
-in_doubt : (b : SentBlock) (q : QueueValue) (parity : Parity) (last : Reply) (spooled : List (List ℕ)) → InBid (Unanswered b) q parity last spooled Still → IsResting (InDoubt b.count) q spooled × (Still ≡ Still)
+in_doubt : (b : SentBlock) (q : QueueValue) (parity : Parity) (last : Reply)
+    (spooled : List (List ℕ)) → InBid (Unanswered b) q parity last spooled Still
+    → IsResting (InDoubt b.count) q spooled × (Still ≡ Still)
 in_doubt b q parity last spooled i =
     let short : b.count ≤ length (waiting q) = fits b _ i.counts in
     let known : q.known ≤ length q.offered = i.queue.known in
@@ -204,11 +232,15 @@ in_doubt b q parity last spooled i =
           (record { queue = i.queue; counts = short; sound = record { front = rw long h.front; known = omega arith; spooled = inr long } }, refl))
     ]
 
-enq_sent : (b : SentBlock) (q : QueueValue) (parity : Parity) (last : Reply) (spooled : List (List ℕ)) → Agree (Unanswered b) q parity last spooled Still → Agree (Unanswered b) q parity last spooled (Outward m.Enq)
+enq_sent : (b : SentBlock) (q : QueueValue) (parity : Parity) (last : Reply)
+    (spooled : List (List ℕ)) → Agree (Unanswered b) q parity last spooled Still
+    → Agree (Unanswered b) q parity last spooled (Outward m.Enq)
 enq_sent b q parity last spooled (inl h) = inl (record { front = h.front; counted = h.counted; reply = h.reply; flight = tt })
 enq_sent b q parity last spooled (inr h) = inr (record { front = h.front; counted = h.counted; reply = h.reply; flight = tt })
 
-silent_keeps : (s : SenderValue) (phase : Phase) (q : QueueValue) (parity : Parity) (last : Reply) (spooled : List (List ℕ)) → s.phase ≡ phase → InBid phase q parity last spooled Still →
+silent_keeps : (s : SenderValue) (phase : Phase) (q : QueueValue) (parity : Parity)
+    (last : Reply) (spooled : List (List ℕ)) → s.phase ≡ phase
+    → InBid phase q parity last spooled Still →
     LeavesQueue q parity last spooled (silent_in s q phase)
 silent_keeps s Idle q parity last spooled e i = absurd i.agree
 silent_keeps s (InDoubt k) q parity last spooled e i = absurd i.agree
@@ -241,27 +273,37 @@ reply_again Wack = refl
 reply_again Rvi = refl
 
 -- a reply is heard as itself or not at all
-pub fair_reply : (r : Reply) (h : Heard) → IsFairlyHeard (message_of r) h → (reply_heard h ≡ Some r) ⊎ (reply_heard h ≡ None)
+pub fair_reply : (r : Reply) (h : Heard) → IsFairlyHeard (message_of r) h
+    → (reply_heard h ≡ Some r) ⊎ (reply_heard h ≡ None)
 fair_reply r Noise f = inr refl
 fair_reply r Failed f = absurd (no_text r f)
 fair_reply r (Whole v) (inl e) = inl (ap reply_in e ∙ reply_again r)
 fair_reply r (Whole v) (inr e) = absurd (no_call r v e)
 
-goes_on : (phase : Phase) (q : QueueValue) (parity : Parity) (last : Reply) (spooled : List (List ℕ)) → InBid phase q parity last spooled Still → Continues phase q parity last spooled Still
+goes_on : (phase : Phase) (q : QueueValue) (parity : Parity) (last : Reply)
+    (spooled : List (List ℕ)) → InBid phase q parity last spooled Still
+    → Continues phase q parity last spooled Still
 goes_on Idle q parity last spooled i = absurd i.agree
 goes_on (InDoubt k) q parity last spooled i = absurd i.agree
 goes_on (Held e x) q parity last spooled i = i
 goes_on (Unanswered b) q parity last spooled i = i
 
-quiet_keeps : (s : SenderValue) (q : QueueValue) (parity : Parity) (last : Reply) (spooled : List (List ℕ)) → InBid s.phase q parity last spooled Still → Leaves q parity last spooled (quiet s q)
+quiet_keeps : (s : SenderValue) (q : QueueValue) (parity : Parity) (last : Reply)
+    (spooled : List (List ℕ)) → InBid s.phase q parity last spooled Still
+    → Leaves q parity last spooled (quiet s q)
 quiet_keeps s q parity last spooled i = (goes_on s.phase q parity last spooled i, inl refl)
 
 -- what was on its way is lost
-pub still_on : (phase : Phase) (q : QueueValue) (parity : Parity) (last : Reply) (spooled : List (List ℕ)) (f : Flight) → InBid phase q parity last spooled f → InBid phase q parity last spooled Still
+pub still_on : (phase : Phase) (q : QueueValue) (parity : Parity) (last : Reply)
+    (spooled : List (List ℕ)) (f : Flight) → InBid phase q parity last spooled f
+    → InBid phase q parity last spooled Still
 still_on phase q parity last spooled f i = record { queue = i.queue; counts = i.counts; agree = agree_still phase q parity last spooled f i.agree }
 
 -- the reply is heard, or not
-pub sender_keeps : NextLaw → (s : SenderValue) (q : QueueValue) (parity : Parity) (last : Reply) (spooled : List (List ℕ)) (r : Option Reply) (h : Option Heard) → InBid s.phase q parity last spooled (back r) → IsFairTo (message_back r) h →
+pub sender_keeps : NextLaw
+    → (s : SenderValue) (q : QueueValue) (parity : Parity) (last : Reply)
+    (spooled : List (List ℕ)) (r : Option Reply) (h : Option Heard)
+    → InBid s.phase q parity last spooled (back r) → IsFairTo (message_back r) h →
     Leaves q parity last spooled (answered s q r h)
 sender_keeps law s q parity last spooled None None i f = quiet_keeps s q parity last spooled i
 sender_keeps law s q parity last spooled None (Some h) i f = absurd f
@@ -275,14 +317,18 @@ sender_keeps law s q parity last spooled (Some r) (Some h) i f =
     ]
 
 -- a bid with something on its way goes on
-pub busy : (phase : Phase) (q : QueueValue) (parity : Parity) (last : Reply) (spooled : List (List ℕ)) (w : Message) → Continues phase q parity last spooled (Outward w) → InBid phase q parity last spooled (Outward w)
+pub busy : (phase : Phase) (q : QueueValue) (parity : Parity) (last : Reply)
+    (spooled : List (List ℕ)) (w : Message) → Continues phase q parity last spooled (Outward w)
+    → InBid phase q parity last spooled (Outward w)
 busy Idle q parity last spooled w h = absurd (cc h.1)
 busy (InDoubt k) q parity last spooled w h = absurd (cc h.1)
 busy (Held e x) q parity last spooled w h = h
 busy (Unanswered b) q parity last spooled w h = h
 
 -- a silence, whether a bid goes on or not
-pub silence_keeps : (s : SenderValue) (phase : Phase) (q : QueueValue) (parity : Parity) (last : Reply) (spooled : List (List ℕ)) → s.phase ≡ phase → Continues phase q parity last spooled Still →
+pub silence_keeps : (s : SenderValue) (phase : Phase) (q : QueueValue) (parity : Parity)
+    (last : Reply) (spooled : List (List ℕ)) → s.phase ≡ phase
+    → Continues phase q parity last spooled Still →
     LeavesQueue q parity last spooled (silent_in s q phase)
 silence_keeps s Idle q parity last spooled e h = (rw e h, refl)
 silence_keeps s (InDoubt k) q parity last spooled e h = (rw e h, refl)
@@ -290,7 +336,9 @@ silence_keeps s (Held end x) q parity last spooled e h = silent_keeps s (Held en
 silence_keeps s (Unanswered b) q parity last spooled e h = silent_keeps s (Unanswered b) q parity last spooled e h
 
 -- where nothing was sent a silence comes
-pub settled_keeps : (q : QueueValue) (parity : Parity) (last : Reply) (spooled : List (List ℕ)) (t : SenderStep) (x : Act) → t.act ≡ x → Leaves q parity last spooled t → Leaves q parity last spooled (unless_quiet t x)
+pub settled_keeps : (q : QueueValue) (parity : Parity) (last : Reply) (spooled : List (List ℕ))
+    (t : SenderStep) (x : Act) → t.act ≡ x → Leaves q parity last spooled t
+    → Leaves q parity last spooled (unless_quiet t x)
 settled_keeps q parity last spooled t (a.Send b) e h = h
 settled_keeps q parity last spooled t a.Enq e h = h
 settled_keeps q parity last spooled t a.Over e h = h
@@ -300,7 +348,8 @@ settled_keeps q parity last spooled t a.Quiet e h =
     (k.0, subst (λ (u : QueueValue). MovesAtSender (channel q spooled) (channel u spooled)) (sym k.1) h.1)
 
 -- a bid begins
-pub begin_keeps : NextLaw → (s : SenderValue) (q : QueueValue) (spooled : List (List ℕ)) → IsQueue q → IsSound Idle (channel q spooled) → 1 ≤ length (waiting q) →
+pub begin_keeps : NextLaw → (s : SenderValue) (q : QueueValue) (spooled : List (List ℕ))
+    → IsQueue q → IsSound Idle (channel q spooled) → 1 ≤ length (waiting q) →
     LeavesQueue q Even Ack0 spooled (begin_step s q)
 begin_keeps law s q spooled h sound some =
     let front : spooled ≡ take q.known q.offered = rw (← sound.spooled) sound.front in

@@ -1,5 +1,5 @@
 -- Each text of a bid is the unanswered block, and a bid that ended knows of all that was spooled.
-use Rattle.std.proofs.Common.{◌≡◌, ◌⊎◌, inl, inr, ℕ, ◌+◌, Bool, true, false, ◌||◌, ◌==◌, List, length, take, Option, Ok, refl, sym, ◌∙◌, ap, subst, arith, if◌then◌else◌}
+use Rattle.std.proofs.Common.{◌≡◌, ◌⊎◌, inl, inr, ℕ, ◌+◌, Bool, true, false, ◌||◌, ◌==◌, List, length, take, Option, refl, sym, ◌∙◌, ap, subst, arith, if◌then◌else◌}
 use Rattle.std.proofs.lemmas.Bool.Decides.{nat_tests}
 use Rattle.bsc_frame.specs.declared.message.Message.{Message}
 use Rattle.bsc_frame.specs.declared.message.Message.TheVariants as m
@@ -14,7 +14,7 @@ use Rattle.bsc_text.specs.declared.reply.Reply.{Reply}
 use Rattle.bsc_text.specs.declared.phase.SentBlock.{SentBlock}
 use Rattle.bsc_text.specs.declared.phase.Phase.{Phase}
 use Rattle.bsc_text.specs.declared.phase.Phase.TheVariants.{Idle, Unanswered, Held, InDoubt}
-use Rattle.bsc_text.specs.Sender.{SenderValue, ReleaseStep, with_phase, text_of, is_in_doubt, released_in}
+use Rattle.bsc_text.specs.Sender.{SenderValue, ReleaseStep, text_of, is_in_doubt, released, release_in}
 use Rattle.bsc_text.specs.Ready.{IsAtRest}
 use Rattle.bsc_text.specs.Channel.{channel, IsSpooled, IsSound}
 use Rattle.bsc_text.specs.Fair.{IsFair, IsFairlyHeard}
@@ -32,7 +32,9 @@ record IsBlock (p : Phase) (q : QueueValue) (t : TextValue) : Type 0 where
   pub text : t ≡ text_of q block
   pub records : records_in t.units ≡ take block.count (waiting q)
 
-is_block : RecordsBack → (p : Phase) (q : QueueValue) (parity : Parity) (last : Reply) (spooled : List (List ℕ)) (t : TextValue) → InBid p q parity last spooled (Outward (m.Text t)) → IsBlock p q t
+is_block : RecordsBack → (p : Phase) (q : QueueValue) (parity : Parity) (last : Reply)
+    (spooled : List (List ℕ)) (t : TextValue)
+    → InBid p q parity last spooled (Outward (m.Text t)) → IsBlock p q t
 is_block law Idle q parity last spooled t i = absurd i.agree
 is_block law (InDoubt k) q parity last spooled t i = absurd i.agree
 is_block law (Held e x) q parity last spooled t i = absurd i.agree.flight
@@ -42,7 +44,8 @@ is_block law (Unanswered b) q parity last spooled t i =
       | inr h ↦ absurd h.flight
     ]
 
-carries : LawsBelow → (c : Bid) (t : TextValue) → InBid c.sender.phase c.queue c.receiver.parity c.receiver.last c.spool.records (Outward (m.Text t)) → CarriesBlock c t
+carries : LawsBelow → (c : Bid) (t : TextValue)
+    → InBid c.sender.phase c.queue c.receiver.parity c.receiver.last c.spool.records (Outward (m.Text t)) → CarriesBlock c t
 carries law c t i =
     let b : IsBlock c.sender.phase c.queue t = is_block law.records c.sender.phase c.queue c.receiver.parity c.receiver.last c.spool.records t i in
     record { block = b.block; unanswered = b.unanswered; text = b.text; records = b.records }
@@ -60,7 +63,9 @@ hears_its_blocks law b es c turn t h fair e =
     ]
 
 -- a sender at rest without doubt is idle, and all that was spooled is known
-known_by : (p : Phase) (q : QueueValue) (spooled : List (List ℕ)) → IsAtRest p → is_in_doubt p ≡ false → IsSound p (channel q spooled) → (p ≡ Idle) × (q.known ≡ length spooled)
+known_by : (p : Phase) (q : QueueValue) (spooled : List (List ℕ)) → IsAtRest p
+    → is_in_doubt p ≡ false → IsSound p (channel q spooled)
+    → (p ≡ Idle) × (q.known ≡ length spooled)
 known_by Idle q spooled r d s = (refl, sym s.spooled)
 known_by (InDoubt k) q spooled r d s = absurd (cc d)
 known_by (Unanswered b) q spooled r d s = absurd r
@@ -80,8 +85,9 @@ pick true x y e = refl
 pick false x y e = absurd (cc e)
 
 -- a release of the spooled count
-pub released_by : (s : SenderValue) (q : QueueValue) (p : Phase) (n : ℕ) → is_in_doubt p ≡ true → IsSpooled p q.known n →
-    released_in s q p n ≡ record { sender = with_phase s Idle; queue = record { format = q.format; offered = q.offered; known = n }; answer = Ok tt }
+pub released_by : (s : SenderValue) (q : QueueValue) (p : Phase) (n : ℕ) → is_in_doubt p ≡ true
+    → IsSpooled p q.known n →
+    release_in s q p n ≡ released s q n
 released_by s q Idle n d h = absurd (cc d)
 released_by s q (Unanswered b) n d h = absurd (cc d)
 released_by s q (Held e x) n d h = absurd (cc d)

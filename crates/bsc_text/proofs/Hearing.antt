@@ -38,7 +38,8 @@ Keeps phase q spooled out =
     Agree phase q out.receiver.parity out.receiver.last out.spool.records (back out.reply) × MovesAtReceiver phase (channel q spooled) (channel q out.spool.records)
 
 -- the records of a block that is sent
-pub block_records : RecordsBack → (q : QueueValue) (b : SentBlock) → IsQueue q → records_in (text_of q b).units ≡ take b.count (waiting q)
+pub block_records : RecordsBack → (q : QueueValue) (b : SentBlock) → IsQueue q
+    → records_in (text_of q b).units ≡ take b.count (waiting q)
 block_records law q b h = law q.format.full (take b.count (waiting q)) h.format.full_from
 
 pub fits : (b : SentBlock) (n : ℕ) → CountsOn (Unanswered b) n → b.count ≤ n
@@ -57,7 +58,10 @@ other_other Even Odd e = refl
 other_other Even Even e = absurd (cc)
 
 -- the block lands
-landed : RecordsBack → (b : SentBlock) (q : QueueValue) (parity : Parity) (last x : Reply) (spooled : List (List ℕ)) (t : TextValue) → IsQueue q → CountsOn (Unanswered b) (length (waiting q)) → NotLanded b q parity last spooled (Outward (m.Text t)) → IsReplyAfter x b.parity →
+landed : RecordsBack → (b : SentBlock) (q : QueueValue) (parity : Parity) (last x : Reply)
+    (spooled : List (List ℕ)) (t : TextValue) → IsQueue q
+    → CountsOn (Unanswered b) (length (waiting q))
+    → NotLanded b q parity last spooled (Outward (m.Text t)) → IsReplyAfter x b.parity →
     (Agree (Unanswered b) q (other parity) x (spooled ++ records_in t.units) (Back x)) × MovesAtReceiver (Unanswered b) (channel q spooled) (channel q (spooled ++ records_in t.units))
 landed law b q parity last x spooled t queue counts h a =
     let known : q.known ≤ length q.offered = queue.known in
@@ -70,7 +74,10 @@ landed law b q parity last x spooled t queue counts h a =
     )
 
 -- a text is heard
-text_keeps : RecordsBack → (b : SentBlock) (q : QueueValue) (parity : Parity) (last : Reply) (s : SpoolValue) (t : TextValue) (urgent first after : Bool) → IsQueue q → CountsOn (Unanswered b) (length (waiting q)) → NotLanded b q parity last s.records (Outward (m.Text t)) →
+text_keeps : RecordsBack → (b : SentBlock) (q : QueueValue) (parity : Parity) (last : Reply)
+    (s : SpoolValue) (t : TextValue) (urgent first after : Bool) → IsQueue q
+    → CountsOn (Unanswered b) (length (waiting q))
+    → NotLanded b q parity last s.records (Outward (m.Text t)) →
     Keeps (Unanswered b) q s.records (text_step (record { parity = parity; last = last }) s t urgent (record { first = first; after = after }))
 text_keeps law b q parity last s t urgent false after queue counts h =
     (inl (record { front = h.front; counted = h.counted; reply = tt; flight = refl }), inl refl)
@@ -85,7 +92,8 @@ text_keeps law b q parity Ack1 s t true true after queue counts h = landed law b
 text_keeps law b q parity Nak s t true true after queue counts h = landed law b q parity Nak Rvi s.records t queue counts h tt
 
 -- ENQ is heard before the block landed
-enq_before : (b : SentBlock) (q : QueueValue) (parity : Parity) (last : Reply) (s : SpoolValue) (rooms : Rooms) → NotLanded b q parity last s.records (Outward m.Enq) →
+enq_before : (b : SentBlock) (q : QueueValue) (parity : Parity) (last : Reply) (s : SpoolValue)
+    (rooms : Rooms) → NotLanded b q parity last s.records (Outward m.Enq) →
     Keeps (Unanswered b) q s.records (enq_step (record { parity = parity; last = last }) s rooms)
 enq_before b q parity Ack0 s rooms h = (inl (record { front = h.front; counted = h.counted; reply = h.reply; flight = refl }), inl refl)
 enq_before b q parity Ack1 s rooms h = (inl (record { front = h.front; counted = h.counted; reply = h.reply; flight = refl }), inl refl)
@@ -100,7 +108,8 @@ ack_after Even Odd e = absurd (cc)
 ack_after Even Even e = tt
 
 -- and after it landed
-enq_after : (b : SentBlock) (q : QueueValue) (parity : Parity) (last : Reply) (s : SpoolValue) (first after : Bool) → HasLanded b q parity last s.records (Outward m.Enq) →
+enq_after : (b : SentBlock) (q : QueueValue) (parity : Parity) (last : Reply) (s : SpoolValue)
+    (first after : Bool) → HasLanded b q parity last s.records (Outward m.Enq) →
     Keeps (Unanswered b) q s.records (enq_step (record { parity = parity; last = last }) s (record { first = first; after = after }))
 enq_after b q parity Ack0 s first after h = (inr (record { front = h.front; counted = h.counted; reply = h.reply; flight = refl }), inl refl)
 enq_after b q parity Ack1 s first after h = (inr (record { front = h.front; counted = h.counted; reply = h.reply; flight = refl }), inl refl)
@@ -116,7 +125,9 @@ ack_held Even Odd e = absurd (cc)
 ack_held Even Even e = tt
 
 -- and while the sender is held
-enq_held : (end_phase : Phase) (expected : Parity) (q : QueueValue) (parity : Parity) (last : Reply) (s : SpoolValue) (first after : Bool) → IsHeld expected q parity last s.records (Outward m.Enq) →
+enq_held : (end_phase : Phase) (expected : Parity) (q : QueueValue) (parity : Parity)
+    (last : Reply) (s : SpoolValue) (first after : Bool)
+    → IsHeld expected q parity last s.records (Outward m.Enq) →
     let out = enq_step (record { parity = parity; last = last }) s (record { first = first; after = after }) in
     IsHeld expected q out.receiver.parity out.receiver.last out.spool.records (back out.reply) × MovesAtReceiver end_phase (channel q s.records) (channel q out.spool.records)
 enq_held p expected q parity Ack0 s first after h = (record { front = h.front; counted = h.counted; reply = h.reply; flight = refl }, inl refl)
@@ -127,7 +138,9 @@ enq_held p expected q parity Wack s true after h = (record { front = h.front; co
 enq_held p expected q parity Wack s false after h = (record { front = h.front; counted = h.counted; reply = tt; flight = refl }, inl refl)
 
 -- what was on its way is lost
-pub agree_still : (phase : Phase) (q : QueueValue) (parity : Parity) (last : Reply) (spooled : List (List ℕ)) (f : Flight) → Agree phase q parity last spooled f → Agree phase q parity last spooled Still
+pub agree_still : (phase : Phase) (q : QueueValue) (parity : Parity) (last : Reply)
+    (spooled : List (List ℕ)) (f : Flight) → Agree phase q parity last spooled f
+    → Agree phase q parity last spooled Still
 agree_still Idle q parity last spooled f h = absurd h
 agree_still (InDoubt k) q parity last spooled f h = absurd h
 agree_still (Held e x) q parity last spooled f h = record { front = h.front; counted = h.counted; reply = h.reply; flight = tt }
@@ -140,7 +153,8 @@ IsSenders (m.Text t) = Unit {0}
 IsSenders m.Enq = Unit {0}
 IsSenders _ = ⊥
 
-flight_before : (q : QueueValue) (b : SentBlock) (last : Reply) (w : Message) → IsFlightBefore q b last (Outward w) → IsSenders w
+flight_before : (q : QueueValue) (b : SentBlock) (last : Reply) (w : Message)
+    → IsFlightBefore q b last (Outward w) → IsSenders w
 flight_before q b last (m.Text t) h = tt
 flight_before q b last m.Enq h = tt
 flight_before q b last _ h = absurd h
@@ -151,7 +165,9 @@ flight_after last m.Enq h = tt
 flight_after last _ h = absurd h
 
 -- in a bid nothing but a text or ENQ goes out
-pub senders : (phase : Phase) (q : QueueValue) (parity : Parity) (last : Reply) (spooled : List (List ℕ)) (w : Message) → Agree phase q parity last spooled (Outward w) → IsSenders w
+pub senders : (phase : Phase) (q : QueueValue) (parity : Parity) (last : Reply)
+    (spooled : List (List ℕ)) (w : Message) → Agree phase q parity last spooled (Outward w)
+    → IsSenders w
 senders Idle q parity last spooled w h = absurd h
 senders (InDoubt k) q parity last spooled w h = absurd h
 senders (Held e x) q parity last spooled w h = flight_after last w h.flight
@@ -165,7 +181,10 @@ no_call m.Enq v s e = e
 no_call _ v s e = s
 
 -- a whole transmission is heard
-whole_keeps : RecordsBack → (phase : Phase) (q : QueueValue) (parity : Parity) (last : Reply) (s : SpoolValue) (w : Message) (urgent first after : Bool) → IsQueue q → CountsOn phase (length (waiting q)) → Agree phase q parity last s.records (Outward w) →
+whole_keeps : RecordsBack
+    → (phase : Phase) (q : QueueValue) (parity : Parity) (last : Reply) (s : SpoolValue)
+    (w : Message) (urgent first after : Bool) → IsQueue q → CountsOn phase (length (waiting q))
+    → Agree phase q parity last s.records (Outward w) →
     Keeps phase q s.records (heard_step (record { parity = parity; last = last }) s (Whole w) urgent (record { first = first; after = after }))
 whole_keeps law Idle q parity last s w urgent first after queue counts h = absurd h
 whole_keeps law (InDoubt k) q parity last s w urgent first after queue counts h = absurd h
@@ -179,7 +198,9 @@ whole_keeps law (Unanswered b) q parity last s w urgent first after queue counts
 whole_keeps law (Held e x) q parity last s w urgent first after queue counts h = absurd (senders (Held e x) q parity last s.records w h)
 
 -- a spoiled text is heard
-spoiled_keeps : (phase : Phase) (q : QueueValue) (parity : Parity) (last : Reply) (s : SpoolValue) (w : Message) → IsTextMessage w → Agree phase q parity last s.records (Outward w) →
+spoiled_keeps : (phase : Phase) (q : QueueValue) (parity : Parity) (last : Reply)
+    (s : SpoolValue) (w : Message) → IsTextMessage w
+    → Agree phase q parity last s.records (Outward w) →
     Agree phase q parity Nak s.records (Back Nak)
 spoiled_keeps Idle q parity last s w f h = absurd h
 spoiled_keeps (InDoubt k) q parity last s w f h = absurd h
@@ -189,7 +210,10 @@ spoiled_keeps (Unanswered b) q parity last s (m.Text t) f (inr h) = absurd h.fli
 spoiled_keeps (Held e x) q parity last s w f h = absurd f
 spoiled_keeps (Unanswered b) q parity last s w f h = absurd f
 
-heard_keeps : RecordsBack → (phase : Phase) (q : QueueValue) (parity : Parity) (last : Reply) (s : SpoolValue) (w : Message) (h : Heard) (urgent first after : Bool) → InBid phase q parity last s.records (Outward w) → IsFairlyHeard w h →
+heard_keeps : RecordsBack
+    → (phase : Phase) (q : QueueValue) (parity : Parity) (last : Reply) (s : SpoolValue)
+    (w : Message) (h : Heard) (urgent first after : Bool)
+    → InBid phase q parity last s.records (Outward w) → IsFairlyHeard w h →
     Keeps phase q s.records (heard_step (record { parity = parity; last = last }) s h urgent (record { first = first; after = after }))
 heard_keeps law phase q parity last s w Noise urgent first after b f = (agree_still phase q parity last s.records (Outward w) b.agree, inl refl)
 heard_keeps law phase q parity last s w Failed urgent first after b f = (spoiled_keeps phase q parity last s w f b.agree, inl refl)
@@ -198,6 +222,10 @@ heard_keeps law phase q parity last s w (Whole v) urgent first after b (inl e) =
 heard_keeps law phase q parity last s w (Whole v) urgent first after b (inr e) = absurd (no_call w v (senders phase q parity last s.records w b.agree) e)
 
 -- the sender's transmission is heard at the receiver, or not
-pub receiver_keeps : RecordsBack → (phase : Phase) (q : QueueValue) (r : ReceiverValue) (s : SpoolValue) (w : Message) (h : Option Heard) (urgent : Bool) (rooms : Rooms) → InBid phase q r.parity r.last s.records (Outward w) → IsFair w h → Keeps phase q s.records (received r s h urgent rooms)
+pub receiver_keeps : RecordsBack
+    → (phase : Phase) (q : QueueValue) (r : ReceiverValue) (s : SpoolValue) (w : Message)
+    (h : Option Heard) (urgent : Bool) (rooms : Rooms)
+    → InBid phase q r.parity r.last s.records (Outward w) → IsFair w h
+    → Keeps phase q s.records (received r s h urgent rooms)
 receiver_keeps law phase q r s w None urgent rooms b f = (agree_still phase q r.parity r.last s.records (Outward w) b.agree, inl refl)
 receiver_keeps law phase q r s w (Some h) urgent rooms b f = heard_keeps law phase q r.parity r.last s w h urgent rooms.first rooms.after b f

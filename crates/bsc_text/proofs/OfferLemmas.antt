@@ -22,7 +22,8 @@ use Rattle.bsc_text.proofs.Hearing.{fits}
 abbrev pub OffersQueue : Type 0
 OffersQueue = (q : QueueValue) (r : List ℕ) → IsQueue q → length r ≤ q.format.full → IsQueue (with_offered q r)
 
-more_waiting : (q : QueueValue) (r : List ℕ) → length (waiting q) ≤ length (waiting (with_offered q r))
+more_waiting : (q : QueueValue) (r : List ℕ)
+    → length (waiting q) ≤ length (waiting (with_offered q r))
 more_waiting q r = omega (arith, length-drop q.known q.offered, length-drop q.known (q.offered ++ r ∷ []), length-append q.offered (r ∷ []))
 
 are_waiting : (k n n' : ℕ) (e : End) → n ≤ n' → AreWaiting k e n → AreWaiting k e n'
@@ -36,28 +37,36 @@ counts_more (Unanswered b) n n' l h = (h.0, h.1, are_waiting b.count n n' b.end 
 counts_more (Held e x) n n' l h = are_waiting 0 n n' e l h
 
 -- a sender and its queue after an offer
-pub counts_offered : (p : Phase) (q : QueueValue) (r : List ℕ) → CountsOn p (length (waiting q)) → CountsOn p (length (waiting (with_offered q r)))
+pub counts_offered : (p : Phase) (q : QueueValue) (r : List ℕ) → CountsOn p (length (waiting q))
+    → CountsOn p (length (waiting (with_offered q r)))
 counts_offered p q r h = counts_more p _ _ (more_waiting q r) h
 
 -- the block that was sent stays the same
-text_offered : (b : SentBlock) (q : QueueValue) (r : List ℕ) → IsQueue q → b.count ≤ length (waiting q) → text_of q b ≡ text_of (with_offered q r) b
+text_offered : (b : SentBlock) (q : QueueValue) (r : List ℕ) → IsQueue q
+    → b.count ≤ length (waiting q) → text_of q b ≡ text_of (with_offered q r) b
 text_offered b q r h fit =
     let known : q.known ≤ length q.offered = h.known in
     let same : take b.count (drop q.known (q.offered ++ r ∷ [])) ≡ take b.count (drop q.known q.offered) =
     ap (λ (xs : List (List ℕ)). take b.count xs) (drop-append-le q.known q.offered (r ∷ []) known) ∙ take-append-le b.count (drop q.known q.offered) (r ∷ []) fit in
     ap (λ (xs : List (List ℕ)). record { units = map (unit_of q.format.full) xs; end = b.end }) (sym same)
 
-flight_offered : (b : SentBlock) (q : QueueValue) (r : List ℕ) (last : Reply) (f : Flight) → text_of q b ≡ text_of (with_offered q r) b → IsFlightBefore q b last f → IsFlightBefore (with_offered q r) b last f
+flight_offered : (b : SentBlock) (q : QueueValue) (r : List ℕ) (last : Reply) (f : Flight)
+    → text_of q b ≡ text_of (with_offered q r) b → IsFlightBefore q b last f
+    → IsFlightBefore (with_offered q r) b last f
 flight_offered b q r last Still e h = tt
 flight_offered b q r last (Outward (m.Text t)) e h = h ∙ e
 flight_offered b q r last (Outward m.Enq) e h = tt
 flight_offered b q r last (Outward _) e h = absurd h
 flight_offered b q r last (Back x) e h = h
 
-front_offered : (q : QueueValue) (r : List ℕ) (k : ℕ) (spooled : List (List ℕ)) → k ≤ length q.offered → spooled ≡ take k q.offered → spooled ≡ take k (with_offered q r).offered
+front_offered : (q : QueueValue) (r : List ℕ) (k : ℕ) (spooled : List (List ℕ))
+    → k ≤ length q.offered → spooled ≡ take k q.offered
+    → spooled ≡ take k (with_offered q r).offered
 front_offered q r k spooled h e = e ∙ sym (take-append-le k q.offered (r ∷ []) h)
 
-agree_offered : (p : Phase) (q : QueueValue) (r : List ℕ) (parity : Parity) (last : Reply) (spooled : List (List ℕ)) (f : Flight) → IsQueue q → CountsOn p (length (waiting q)) → Agree p q parity last spooled f → Agree p (with_offered q r) parity last spooled f
+agree_offered : (p : Phase) (q : QueueValue) (r : List ℕ) (parity : Parity) (last : Reply)
+    (spooled : List (List ℕ)) (f : Flight) → IsQueue q → CountsOn p (length (waiting q))
+    → Agree p q parity last spooled f → Agree p (with_offered q r) parity last spooled f
 agree_offered Idle q r parity last spooled f queue counts h = absurd h
 agree_offered (InDoubt k) q r parity last spooled f queue counts h = absurd h
 agree_offered (Held e x) q r parity last spooled f queue counts h = record { front = front_offered q r q.known spooled queue.known h.front; counted = h.counted; reply = h.reply; flight = h.flight }
@@ -67,7 +76,10 @@ agree_offered (Unanswered b) q r parity last spooled f queue counts (inr h) =
     inr (record { front = front_offered q r (q.known + b.count) spooled (within_offered q b.count queue (fits b _ counts)) h.front; counted = h.counted; reply = h.reply; flight = h.flight })
 
 -- a bid that goes on
-pub bid_offered : OffersQueue → (p : Phase) (q : QueueValue) (r : List ℕ) (parity : Parity) (last : Reply) (spooled : List (List ℕ)) (f : Flight) → length r ≤ q.format.full → InBid p q parity last spooled f → InBid p (with_offered q r) parity last spooled f
+pub bid_offered : OffersQueue
+    → (p : Phase) (q : QueueValue) (r : List ℕ) (parity : Parity) (last : Reply)
+    (spooled : List (List ℕ)) (f : Flight) → length r ≤ q.format.full
+    → InBid p q parity last spooled f → InBid p (with_offered q r) parity last spooled f
 bid_offered law p q r parity last spooled f short i =
     record { queue = law q r i.queue short; counts = counts_offered p q r i.counts; agree = agree_offered p q r parity last spooled f i.queue i.counts i.agree }
 
@@ -75,16 +87,22 @@ bid_offered law p q r parity last spooled f short i =
 pub not_longer : (xs ys : List (List ℕ)) → xs ≡ take (length xs) ys → length xs ≤ length ys
 not_longer xs ys e = let k : length xs ≡ min (length xs) (length ys) = ap length e ∙ length-take (length xs) ys in omega arith
 
-sound_offered : (p : Phase) (q : QueueValue) (r : List ℕ) (spooled : List (List ℕ)) → IsSound p (channel q spooled) → IsSound p (channel (with_offered q r) spooled)
+sound_offered : (p : Phase) (q : QueueValue) (r : List ℕ) (spooled : List (List ℕ))
+    → IsSound p (channel q spooled) → IsSound p (channel (with_offered q r) spooled)
 sound_offered p q r spooled h =
     record { front = front_offered q r (length spooled) spooled (not_longer spooled q.offered h.front) h.front; known = h.known; spooled = h.spooled }
 
 -- and one that is over
-pub resting_offered : OffersQueue → (p : Phase) (q : QueueValue) (r : List ℕ) (spooled : List (List ℕ)) → length r ≤ q.format.full → IsResting p q spooled → IsResting p (with_offered q r) spooled
+pub resting_offered : OffersQueue
+    → (p : Phase) (q : QueueValue) (r : List ℕ) (spooled : List (List ℕ))
+    → length r ≤ q.format.full → IsResting p q spooled → IsResting p (with_offered q r) spooled
 resting_offered law p q r spooled short i =
     record { queue = law q r i.queue short; counts = counts_offered p q r i.counts; sound = sound_offered p q r spooled i.sound }
 
-pub continues_offered : OffersQueue → (p : Phase) (q : QueueValue) (r : List ℕ) (parity : Parity) (last : Reply) (spooled : List (List ℕ)) (f : Flight) → length r ≤ q.format.full → Continues p q parity last spooled f → Continues p (with_offered q r) parity last spooled f
+pub continues_offered : OffersQueue
+    → (p : Phase) (q : QueueValue) (r : List ℕ) (parity : Parity) (last : Reply)
+    (spooled : List (List ℕ)) (f : Flight) → length r ≤ q.format.full
+    → Continues p q parity last spooled f → Continues p (with_offered q r) parity last spooled f
 continues_offered law Idle q r parity last spooled f short h = (resting_offered law Idle q r spooled short h.0, h.1)
 continues_offered law (InDoubt k) q r parity last spooled f short h = (resting_offered law (InDoubt k) q r spooled short h.0, h.1)
 continues_offered law (Unanswered b) q r parity last spooled f short h = bid_offered law (Unanswered b) q r parity last spooled f short h

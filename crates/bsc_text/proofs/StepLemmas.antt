@@ -1,15 +1,15 @@
 -- Each single step of a bid keeps that its ends agree.
-use Rattle.std.proofs.Common.{◌≡◌, ◌⊎◌, inl, inr, ℕ, ◌≤◌, List, length, take, Ok, refl, sym, subst, arith}
+use Rattle.std.proofs.Common.{◌≡◌, ◌⊎◌, inl, inr, ℕ, ◌≤◌, List, length, take, refl, sym, subst, arith}
 use Rattle.bsc_frame.specs.declared.message.Message.{Message}
 use Rattle.bsc_frame.specs.declared.message.Message.TheVariants as m
-use Rattle.bsc_spool.specs.Queue.{QueueValue, IsQueue}
+use Rattle.bsc_spool.specs.Queue.{QueueValue, queue_of, IsQueue}
 use Rattle.bsc_text.specs.declared.parity.Parity.{Parity}
 use Rattle.bsc_text.specs.declared.parity.Parity.TheVariants.{Even}
 use Rattle.bsc_text.specs.declared.reply.Reply.{Reply}
 use Rattle.bsc_text.specs.declared.reply.Reply.TheVariants.{Ack0}
 use Rattle.bsc_text.specs.declared.phase.Phase.{Phase}
 use Rattle.bsc_text.specs.declared.phase.Phase.TheVariants.{Idle, InDoubt}
-use Rattle.bsc_text.specs.Sender.{SenderValue, SenderStep, ReleaseStep, with_phase, begin_step, silent_in, released_in}
+use Rattle.bsc_text.specs.Sender.{SenderValue, SenderStep, ReleaseStep, begin_step, silent_in, released, release_in}
 use Rattle.bsc_text.specs.Fair.{IsTextMessage}
 use Rattle.bsc_text.specs.Bid.{answered}
 use Rattle.bsc_text.specs.Agreement.{IsResting}
@@ -21,7 +21,9 @@ use Rattle.bsc_text.proofs.FitLemmas.{Fits, fits_heard, fits_silence, fits_begin
 use Rattle.bsc_text.proofs.Turning.{LawsBelow, ended, sound_by}
 use Rattle.bsc_text.proofs.BlockLemmas.{released_by}
 
-agrees : (s : SenderValue) (q : QueueValue) (parity : Parity) (last : Reply) (spooled : List (List ℕ)) (t : SenderStep) → Leaves q parity last spooled t → Fits s t → SenderAgrees q parity last spooled t
+agrees : (s : SenderValue) (q : QueueValue) (parity : Parity) (last : Reply)
+    (spooled : List (List ℕ)) (t : SenderStep) → Leaves q parity last spooled t → Fits s t
+    → SenderAgrees q parity last spooled t
 agrees s q parity last spooled t h k = record { continues = h.0; ended = ended s t k; moves = h.1 }
 
 pub hearing_agrees : LawsBelow → HearingAgrees
@@ -48,17 +50,20 @@ pub offer_keeps_rest : LawsBelow → OfferKeepsRest
 offer_keeps_rest law phase q spooled r short h = resting_offered law.offers phase q r spooled short h
 
 -- all that was spooled is known
-known_all : (q : QueueValue) (spooled : List (List ℕ)) → IsQueue q → spooled ≡ take (length spooled) q.offered → length spooled ≤ length q.offered →
-    IsResting Idle (record { format = q.format; offered = q.offered; known = length spooled }) spooled
+known_all : (q : QueueValue) (spooled : List (List ℕ)) → IsQueue q
+    → spooled ≡ take (length spooled) q.offered → length spooled ≤ length q.offered →
+    IsResting Idle (queue_of q.format q.offered (length spooled)) spooled
 known_all q spooled h front long = record { queue = record { format = h.format; known = long; short = h.short }; counts = tt; sound = record { front = front; known = omega arith; spooled = refl } }
 
-release_by : (s : SenderValue) (q : QueueValue) (k : ℕ) (spooled : List (List ℕ)) (p : Phase) → p ≡ InDoubt k → IsResting (InDoubt k) q spooled → length spooled ≤ length q.offered → ReleaseAgrees (released_in s q p (length spooled)) spooled
+release_by : (s : SenderValue) (q : QueueValue) (k : ℕ) (spooled : List (List ℕ)) (p : Phase)
+    → p ≡ InDoubt k → IsResting (InDoubt k) q spooled → length spooled ≤ length q.offered
+    → ReleaseAgrees (release_in s q p (length spooled)) spooled
 release_by s q k spooled p e h long =
-    let there : released_in s q (InDoubt k) (length spooled) ≡ record { sender = with_phase s Idle; queue = record { format = q.format; offered = q.offered; known = length spooled }; answer = Ok tt } =
+    let there : release_in s q (InDoubt k) (length spooled) ≡ released s q (length spooled) =
     released_by s q (InDoubt k) (length spooled) refl h.sound.spooled in
-    let all : ReleaseAgrees (record { sender = with_phase s Idle; queue = record { format = q.format; offered = q.offered; known = length spooled }; answer = Ok tt }) spooled =
+    let all : ReleaseAgrees (released s q (length spooled)) spooled =
     record { answer = refl; idle = refl; rest = known_all q spooled h.queue h.sound.front long } in
-    subst (λ (x : Phase). ReleaseAgrees (released_in s q x (length spooled)) spooled) (sym e) (subst (λ (x : ReleaseStep). ReleaseAgrees x spooled) (sym there) all)
+    subst (λ (x : Phase). ReleaseAgrees (release_in s q x (length spooled)) spooled) (sym e) (subst (λ (x : ReleaseStep). ReleaseAgrees x spooled) (sym there) all)
 
 pub release_keeps_rest : ReleaseKeepsRest
 release_keeps_rest s q k spooled e h = release_by s q k spooled s.phase e h (not_longer spooled q.offered h.sound.front)

@@ -53,66 +53,78 @@ ComesBy a.Quiet s u = u ≡ s
 abbrev pub Comes : SenderValue → SenderStep → Type 0
 Comes s t = (t.sender.setup ≡ s.setup) × ComesBy t.act s t.sender
 
-test : (P : SenderStep → Type 0) (v : Bool) (x y : SenderStep) → (v ≡ true → P x) → (v ≡ false → P y) → P (if v then x else y)
+test : (P : SenderStep → Type 0) (v : Bool) (x y : SenderStep) → (v ≡ true → P x) → (v ≡ false
+    → P y) → P (if v then x else y)
 test P true x y p r = p refl
 test P false x y p r = r refl
 
-next_comes : (s : SenderValue) (q : QueueValue) (x : Parity) (n : Option Next) → Comes s (sent_next s q x n)
+next_comes : (s : SenderValue) (q : QueueValue) (x : Parity) (n : Option Next)
+    → Comes s (sent_next s q x n)
 next_comes s q x None = (refl, tt)
 next_comes s q x (Some n) = (refl, inl (record { tries = refl; waits = refl }))
 
-accepted_comes : (s : SenderValue) (q : QueueValue) (e : End) (x : Parity) → Comes s (accepted s q e x)
+accepted_comes : (s : SenderValue) (q : QueueValue) (e : End) (x : Parity)
+    → Comes s (accepted s q e x)
 accepted_comes s q Etx x = (refl, tt)
 accepted_comes s q Etb x = next_comes s q (other x) (next_block q)
 
 more_waits : (w t k : ℕ) → t ≤ k → w * (k + 1) + t + 1 ≤ (w + 1) * (k + 1) + 0
 more_waits w t k h = omega arith
 
-delayed_comes : (s : SenderValue) (q : QueueValue) (e : End) (x : Parity) → IsWithin s → Comes s (delayed s q e x)
+delayed_comes : (s : SenderValue) (q : QueueValue) (e : End) (x : Parity) → IsWithin s
+    → Comes s (delayed s q e x)
 delayed_comes s q e x h =
     test (Comes s) (nat_lt s.setup.waits (s.waits + 1)) _ _
     (λ _. (refl, tt)) (λ n. (refl, record { within = record { tries = omega arith; waits = grind (arith, nat_tests) }; nearer = more_waits s.waits s.tries s.setup.tries h.tries }))
 
-failed_comes : (s : SenderValue) (q : QueueValue) (left : Phase) (act : Act) → IsWithin s → ((u : SenderValue) → IsNearer s u → ComesBy act s u) → Comes s (failed s q left act)
+failed_comes : (s : SenderValue) (q : QueueValue) (left : Phase) (act : Act) → IsWithin s
+    → ((u : SenderValue) → IsNearer s u → ComesBy act s u) → Comes s (failed s q left act)
 failed_comes s q left act h f =
     test (Comes s) (nat_lt s.setup.tries (s.tries + 1)) _ _
     (λ _. (refl, tt)) (λ n. (refl, f _ (record { within = record { tries = grind (arith, nat_tests); waits = h.waits }; nearer = omega arith })))
 
-unanswered_comes : (s : SenderValue) (q : QueueValue) (b : SentBlock) (x : Answer) → IsWithin s → Comes s (unanswered_step s q b x)
+unanswered_comes : (s : SenderValue) (q : QueueValue) (b : SentBlock) (x : Answer) → IsWithin s
+    → Comes s (unanswered_step s q b x)
 unanswered_comes s q b Accepted h = accepted_comes s (with_known q b.count) b.end b.parity
 unanswered_comes s q b Refused h = failed_comes s q Idle (a.Send (text_of q b)) h (λ u n. inr n)
 unanswered_comes s q b Delayed h = delayed_comes s (with_known q b.count) b.end b.parity h
 unanswered_comes s q b Interrupted h = (refl, tt)
 
-held_comes : (s : SenderValue) (q : QueueValue) (e : End) (y : Parity) (x : Answer) → IsWithin s → Comes s (held_step s q e y x)
+held_comes : (s : SenderValue) (q : QueueValue) (e : End) (y : Parity) (x : Answer) → IsWithin s
+    → Comes s (held_step s q e y x)
 held_comes s q e y Accepted h = accepted_comes s q e y
 held_comes s q e y Refused h = failed_comes s q Idle a.Enq h (λ u n. n)
 held_comes s q e y Delayed h = delayed_comes s q e y h
 held_comes s q e y Interrupted h = (refl, tt)
 
-answered_comes : (s : SenderValue) (q : QueueValue) (p : Phase) (r : Reply) → IsWithin s → Comes s (answered_step s q p r)
+answered_comes : (s : SenderValue) (q : QueueValue) (p : Phase) (r : Reply) → IsWithin s
+    → Comes s (answered_step s q p r)
 answered_comes s q Idle r h = (refl, refl)
 answered_comes s q (InDoubt k) r h = (refl, refl)
 answered_comes s q (Unanswered b) r h = unanswered_comes s q b (answer_of b.parity r) h
 answered_comes s q (Held e x) r h = held_comes s q e x (answer_of x r) h
 
-reply_comes : (s : SenderValue) (q : QueueValue) (r : Option Reply) → IsWithin s → Comes s (reply_step s q r)
+reply_comes : (s : SenderValue) (q : QueueValue) (r : Option Reply) → IsWithin s
+    → Comes s (reply_step s q r)
 reply_comes s q None h = (refl, refl)
 reply_comes s q (Some r) h = answered_comes s q s.phase r h
 
-silent_comes : (s : SenderValue) (q : QueueValue) (p : Phase) → IsWithin s → Comes s (silent_in s q p)
+silent_comes : (s : SenderValue) (q : QueueValue) (p : Phase) → IsWithin s
+    → Comes s (silent_in s q p)
 silent_comes s q Idle h = (refl, refl)
 silent_comes s q (InDoubt k) h = (refl, refl)
 silent_comes s q (Unanswered b) h = failed_comes s q (InDoubt b.count) a.Enq h (λ u n. n)
 silent_comes s q (Held e x) h = failed_comes s q Idle a.Enq h (λ u n. n)
 
-heard_comes : (s : SenderValue) (q : QueueValue) (r : Option Reply) (h : Option Heard) → IsWithin s → Comes s (answered s q r h)
+heard_comes : (s : SenderValue) (q : QueueValue) (r : Option Reply) (h : Option Heard)
+    → IsWithin s → Comes s (answered s q r h)
 heard_comes s q None None w = (refl, refl)
 heard_comes s q None (Some h) w = (refl, refl)
 heard_comes s q (Some r) None w = (refl, refl)
 heard_comes s q (Some r) (Some h) w = reply_comes s q (reply_heard h) w
 
-settled_comes : (s : SenderValue) (t : SenderStep) (x : Act) → t.act ≡ x → IsWithin s → Comes s t → Comes s (unless_quiet t x)
+settled_comes : (s : SenderValue) (t : SenderStep) (x : Act) → t.act ≡ x → IsWithin s
+    → Comes s t → Comes s (unless_quiet t x)
 settled_comes s t (a.Send b) e h k = k
 settled_comes s t a.Enq e h k = k
 settled_comes s t a.Over e h k = k
@@ -120,7 +132,8 @@ settled_comes s t a.Quiet e h k =
     let same : t.sender ≡ s = subst (λ (x : Act). ComesBy x s t.sender) e k.1 in
     subst (λ (u : SenderValue). Comes u (silent_in t.sender t.queue t.sender.phase)) same (silent_comes t.sender t.queue t.sender.phase (subst IsWithin (sym same) h))
 
-turn_comes : (b : Bid) (t : Turn) → IsWithin b.sender → Comes b.sender (unless_quiet (sender_in b t) (sender_in b t).act)
+turn_comes : (b : Bid) (t : Turn) → IsWithin b.sender
+    → Comes b.sender (unless_quiet (sender_in b t) (sender_in b t).act)
 turn_comes b t h = settled_comes b.sender (sender_in b t) (sender_in b t).act refl h (heard_comes b.sender b.queue (receiver_in b t).reply t.answer h)
 
 -- what is left of the turns of a block
@@ -140,7 +153,8 @@ sum_begun : (n r b m : ℕ) → r + 1 ≤ m → n + 0 ≤ b * m + m → n + 1 + 
 sum_begun n r b m h k = omega arith
 
 -- once nothing is sent there are no more turns
-no_more : (b : Bid) (es : List Event) (c : Bid) → message_for b.act ≡ None → AreEvents b es c → turn_count es ≡ 0
+no_more : (b : Bid) (es : List Event) (c : Bid) → message_for b.act ≡ None → AreEvents b es c
+    → turn_count es ≡ 0
 no_more b [] c e k = refl
 no_more b (Exchange t ∷ es) c e k = absurd (over k.0)
   where
@@ -151,11 +165,14 @@ no_more b (Offering r ∷ es) c e k = no_more (after_event b (Offering r)) es c 
 abbrev begun_by : Act → SenderValue → ℕ
 begun_by x u = if is_begun x u.tries then 1 else 0
 
-begun_one : (x : Act) (t : TextValue) (u : SenderValue) → x ≡ a.Send t → HasBegun u → begun_by x u ≡ 1
+begun_one : (x : Act) (t : TextValue) (u : SenderValue) → x ≡ a.Send t → HasBegun u
+    → begun_by x u ≡ 1
 begun_one x t u e j = rw (e, j.tries) refl
 
 -- a turn counts against the block that it begins, or the rank
-count_turn : (M : ℕ) (b : Bid) (t : Turn) (es : List Event) (c : Bid) (x : Act) → (after_turn b t).act ≡ x → ComesBy x b.sender (after_turn b t).sender → rank b.sender + 1 ≤ M → AreEvents (after_turn b t) es c →
+count_turn : (M : ℕ) (b : Bid) (t : Turn) (es : List Event) (c : Bid) (x : Act)
+    → (after_turn b t).act ≡ x → ComesBy x b.sender (after_turn b t).sender
+    → rank b.sender + 1 ≤ M → AreEvents (after_turn b t) es c →
     (IsWithin (after_turn b t).sender → turn_count es + rank (after_turn b t).sender ≤ begun_in (after_turn b t) es * M + M) →
     turn_count es + 1 + rank b.sender ≤ begun_in b (Exchange t ∷ es) * M + M
 count_turn M b t es c (a.Send k) e (inl j) h events ih =
@@ -170,7 +187,9 @@ count_turn M b t es c a.Enq e n h events ih = sum_nearer (turn_count es) (rank b
 count_turn M b t es c a.Over e n h events ih = sum_over (turn_count es) (rank b.sender) M (begun_in b (Exchange t ∷ es) * M) (no_more (after_turn b t) es c (ap message_for e) events) h
 count_turn M b t es c a.Quiet e n h events ih = sum_over (turn_count es) (rank b.sender) M (begun_in b (Exchange t ∷ es) * M) (no_more (after_turn b t) es c (ap message_for e) events) h
 
-count : (setup : SetupValue) (b : Bid) (es : List Event) (c : Bid) → b.sender.setup ≡ setup → IsWithin b.sender → AreEvents b es c → turn_count es + rank b.sender ≤ begun_in b es * most_turns setup + most_turns setup
+count : (setup : SetupValue) (b : Bid) (es : List Event) (c : Bid) → b.sender.setup ≡ setup
+    → IsWithin b.sender → AreEvents b es c
+    → turn_count es + rank b.sender ≤ begun_in b es * most_turns setup + most_turns setup
 count setup b [] c e h k =
     let r : rank b.sender + 1 ≤ most_turns setup = subst (λ (x : SetupValue). rank b.sender + 1 ≤ most_turns x) e (rank_below b.sender h) in
     omega arith
@@ -181,7 +200,8 @@ count setup b (Exchange t ∷ es) c e h k =
 count setup b (Offering r ∷ es) c e h k = count setup (after_event b (Offering r)) es c e h k.1
 
 -- the first block of a bid
-begin_within : LawsBelow → (s : SenderValue) (q : QueueValue) → IsQueue q → 1 ≤ length (waiting q) → IsWithin (begin_step s q).sender
+begin_within : LawsBelow → (s : SenderValue) (q : QueueValue) → IsQueue q
+    → 1 ≤ length (waiting q) → IsWithin (begin_step s q).sender
 begin_within law s q h some = let n = has_next law.next q h some in rw n.is (record { tries = omega arith; waits = omega arith })
 
 pub ends_soon : LawsBelow → EndsSoon

@@ -16,7 +16,7 @@ use Rattle.bsc_text.specs.Receiver.{ReceiverValue, ReceiverStep}
 use Rattle.bsc_text.specs.Ready.{CountsOn, IsReady, FitsAct}
 use Rattle.bsc_text.specs.EachStep.{IsEnded}
 use Rattle.bsc_text.specs.Channel.{channel, IsSound}
-use Rattle.bsc_text.specs.Bid.{Bid, Turn, Event, Exchange, Offering, channel_of, message_for, receiver_in, sender_in, unless_quiet, after_turn, after_event, IsFairTurn, MayCome, AreEvents, IsBegun, Reaches}
+use Rattle.bsc_text.specs.Bid.{Bid, Turn, Event, Exchange, Offering, message_for, receiver_in, sender_in, unless_quiet, after_turn, after_event, IsFairTurn, MayCome, AreEvents, IsBegun, Reaches}
 use Rattle.bsc_text.specs.OneBid.{channel_within, MovesInTurn, OnlyMoves, StaysReady, StaysSound, SoundWithinTurns}
 use Rattle.bsc_text.specs.Agreement.{Flight, Outward, InBid, Continues, back, sent_flight}
 use Rattle.bsc_text.proofs.ReadyLemmas.{within_offered}
@@ -47,7 +47,9 @@ pub ended : (s : SenderValue) (t : SenderStep) → Fits s t → IsEnded t.act t.
 ended s t h = ended_by t.act s.phase t.sender.phase h
 
 -- a channel is sound while the ends agree
-pub sound_by : (phase : Phase) (q : QueueValue) (parity : Parity) (last : Reply) (spooled : List (List ℕ)) (f : Flight) → Continues phase q parity last spooled f → IsSound phase (channel q spooled)
+pub sound_by : (phase : Phase) (q : QueueValue) (parity : Parity) (last : Reply)
+    (spooled : List (List ℕ)) (f : Flight) → Continues phase q parity last spooled f
+    → IsSound phase (channel q spooled)
 sound_by Idle q parity last spooled f h = h.0.sound
 sound_by (InDoubt k) q parity last spooled f h = h.0.sound
 sound_by (Held e x) q parity last spooled f h =
@@ -71,7 +73,9 @@ pub record Turned (b : Bid) (t : Turn) : Type 0 where
   pub moves : MovesInTurn b t
 
 -- a bid that goes on continues
-pub bid_continues : (phase : Phase) (q : QueueValue) (parity : Parity) (last : Reply) (spooled : List (List ℕ)) (f : Flight) → InBid phase q parity last spooled f → Continues phase q parity last spooled f
+pub bid_continues : (phase : Phase) (q : QueueValue) (parity : Parity) (last : Reply)
+    (spooled : List (List ℕ)) (f : Flight) → InBid phase q parity last spooled f
+    → Continues phase q parity last spooled f
 bid_continues Idle q parity last spooled f i = absurd i.agree
 bid_continues (InDoubt k) q parity last spooled f i = absurd i.agree
 bid_continues (Held e x) q parity last spooled f i = i
@@ -84,7 +88,8 @@ outward a.Enq sent e = cc
 outward a.Over sent e = absurd (cc e)
 outward a.Quiet sent e = absurd (cc e)
 
-pub going : (b : Bid) (sent : Message) → message_for b.act ≡ Some sent → Holds b → InBid b.sender.phase b.queue b.receiver.parity b.receiver.last b.spool.records (Outward sent)
+pub going : (b : Bid) (sent : Message) → message_for b.act ≡ Some sent → Holds b
+    → InBid b.sender.phase b.queue b.receiver.parity b.receiver.last b.spool.records (Outward sent)
 going b sent e h =
     busy b.sender.phase b.queue b.receiver.parity b.receiver.last b.spool.records sent
     (subst (λ (f : Flight). Continues b.sender.phase b.queue b.receiver.parity b.receiver.last b.spool.records f) (outward b.act sent e) h.ends)
@@ -108,7 +113,8 @@ event_keeps law b (Exchange t) h k = (turn_keeps law b t h k).holds
 event_keeps law b (Offering r) h k =
     record { ends = continues_offered law.offers b.sender.phase b.queue r b.receiver.parity b.receiver.last b.spool.records (sent_flight b.act) k h.ends; rests = h.rests }
 
-events_keep : LawsBelow → (b : Bid) (es : List Event) (c : Bid) → Holds b → AreEvents b es c → Holds c
+events_keep : LawsBelow → (b : Bid) (es : List Event) (c : Bid) → Holds b → AreEvents b es c
+    → Holds c
 events_keep law b [] c h k = subst Holds (sym k) h
 events_keep law b (e ∷ es) c h k = events_keep law (after_event b e) es c (event_keeps law b e h k.0) k.1
 
@@ -126,7 +132,9 @@ begun_holds law b h =
 pub reached_holds : LawsBelow → (b : Bid) (es : List Event) (c : Bid) → Reaches b es c → Holds c
 reached_holds law b es c h = events_keep law b es c (begun_holds law b h.begun) h.events
 
-ready_by : (s : SenderValue) (phase : Phase) (q : QueueValue) (parity : Parity) (last : Reply) (spooled : List (List ℕ)) (f : Flight) → s.phase ≡ phase → Continues phase q parity last spooled f → IsReady s q
+ready_by : (s : SenderValue) (phase : Phase) (q : QueueValue) (parity : Parity) (last : Reply)
+    (spooled : List (List ℕ)) (f : Flight) → s.phase ≡ phase
+    → Continues phase q parity last spooled f → IsReady s q
 ready_by s Idle q parity last spooled f e h = record { queue = h.0.queue; counts = subst (λ (p : Phase). CountsOn p (length (waiting q))) (sym e) h.0.counts }
 ready_by s (InDoubt k) q parity last spooled f e h = record { queue = h.0.queue; counts = subst (λ (p : Phase). CountsOn p (length (waiting q))) (sym e) h.0.counts }
 ready_by s (Held end x) q parity last spooled f e h = record { queue = h.queue; counts = subst (λ (p : Phase). CountsOn p (length (waiting q))) (sym e) h.counts }

@@ -1,5 +1,5 @@
--- How the two ends of a bid agree from step to step (own). What is said here is kept by every step; the laws
--- of one bid and of the line rest on it.
+-- How the two ends of a bid agree from step to step (own). What is said here is kept by every step;
+-- the laws of one bid and of the line rest on it.
 use Rattle.std.specs.Prelude.{◌≡◌, ◌⊎◌, ℕ, ◌+◌, List, length, take, Option, None, Some}
 use Rattle.bsc_frame.specs.declared.message.Message.{Message}
 use Rattle.bsc_frame.specs.declared.message.Message.TheVariants as m
@@ -24,7 +24,8 @@ pub data Flight : Type 0 where
   Outward : (message : Message) → Flight
   Back : (reply : Reply) → Flight
 
--- The block has not landed: the receiver's last reply is the acknowledgement of the blocks before it, or NAK.
+-- The block has not landed: the receiver's last reply is the acknowledgement of the blocks before
+-- it, or NAK.
 abbrev pub IsReplyBefore : Reply → Parity → Type 0
 IsReplyBefore Ack0 Odd = Unit {0}
 IsReplyBefore Ack1 Even = Unit {0}
@@ -60,36 +61,41 @@ IsReplyHeld Wack parity = Unit {0}
 IsReplyHeld _ _ = ⊥
 
 -- an unanswered block has not landed
-pub record NotLanded (b : SentBlock) (q : QueueValue) (parity : Parity) (last : Reply) (spooled : List (List ℕ)) (f : Flight) : Type 0 where
+pub record NotLanded (b : SentBlock) (q : QueueValue) (parity : Parity) (last : Reply)
+    (spooled : List (List ℕ)) (f : Flight) : Type 0 where
   pub front : spooled ≡ take q.known q.offered
   pub counted : parity ≡ other b.parity
   pub reply : IsReplyBefore last b.parity
   pub flight : IsFlightBefore q b last f
 
 -- an unanswered block has landed
-pub record HasLanded (b : SentBlock) (q : QueueValue) (parity : Parity) (last : Reply) (spooled : List (List ℕ)) (f : Flight) : Type 0 where
+pub record HasLanded (b : SentBlock) (q : QueueValue) (parity : Parity) (last : Reply)
+    (spooled : List (List ℕ)) (f : Flight) : Type 0 where
   pub front : spooled ≡ take (q.known + b.count) q.offered
   pub counted : parity ≡ b.parity
   pub reply : IsReplyAfter last b.parity
   pub flight : IsFlightAfter last f
 
 -- the sender is held: all that landed is known
-pub record IsHeld (expected : Parity) (q : QueueValue) (parity : Parity) (last : Reply) (spooled : List (List ℕ)) (f : Flight) : Type 0 where
+pub record IsHeld (expected : Parity) (q : QueueValue) (parity : Parity) (last : Reply)
+    (spooled : List (List ℕ)) (f : Flight) : Type 0 where
   pub front : spooled ≡ take q.known q.offered
   pub counted : parity ≡ expected
   pub reply : IsReplyHeld last expected
   pub flight : IsFlightAfter last f
 
--- the sender's phase and queue agree with the receiver's parity and last reply, the spooled records, and
--- what is on its way
+-- the sender's phase and queue agree with the receiver's parity and last reply, the spooled
+-- records, and what is on its way
 abbrev pub Agree : Phase → QueueValue → Parity → Reply → List (List ℕ) → Flight → Type 0
 Agree Idle q parity last spooled f = ⊥
 Agree (InDoubt k) q parity last spooled f = ⊥
-Agree (Unanswered b) q parity last spooled f = NotLanded b q parity last spooled f ⊎ HasLanded b q parity last spooled f
+Agree (Unanswered b) q parity last spooled f =
+    NotLanded b q parity last spooled f ⊎ HasLanded b q parity last spooled f
 Agree (Held end expected) q parity last spooled f = IsHeld expected q parity last spooled f
 
 -- a bid goes on
-pub record InBid (phase : Phase) (q : QueueValue) (parity : Parity) (last : Reply) (spooled : List (List ℕ)) (f : Flight) : Type 0 where
+pub record InBid (phase : Phase) (q : QueueValue) (parity : Parity) (last : Reply)
+    (spooled : List (List ℕ)) (f : Flight) : Type 0 where
   pub queue : IsQueue q
   pub counts : CountsOn phase (length (waiting q))
   pub agree : Agree phase q parity last spooled f
@@ -105,7 +111,7 @@ abbrev pub Continues : Phase → QueueValue → Parity → Reply → List (List 
 Continues Idle q parity last spooled f = IsResting Idle q spooled × (f ≡ Still)
 Continues (InDoubt k) q parity last spooled f = IsResting (InDoubt k) q spooled × (f ≡ Still)
 Continues (Unanswered b) q parity last spooled f = InBid (Unanswered b) q parity last spooled f
-Continues (Held end expected) q parity last spooled f = InBid (Held end expected) q parity last spooled f
+Continues (Held end x) q parity last spooled f = InBid (Held end x) q parity last spooled f
 
 -- a reply is on its way, or an act's transmission
 abbrev pub back : Option Reply → Flight

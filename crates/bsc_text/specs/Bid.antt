@@ -1,5 +1,5 @@
 -- One bid: a sender and a receiver with one channel, turn by turn (own).
-use Rattle.std.specs.Prelude.{◌≡◌, ◌≤◌, ℕ, Bool, List, [], ◌∷◌, ◌++◌, length, Option, None, Some}
+use Rattle.std.specs.Prelude.{◌≡◌, ◌≤◌, ℕ, Bool, List, [], ◌∷◌, length, Option, None, Some}
 use Rattle.bsc_frame.specs.declared.message.Message.{Message}
 use Rattle.bsc_frame.specs.declared.message.Message.TheVariants as m
 use Rattle.bsc_frame.specs.declared.message.Heard.{Heard}
@@ -27,8 +27,8 @@ pub record Bid : Type 0 where
 abbrev pub channel_of : Bid → Channel
 channel_of b = channel b.queue b.spool.records
 
--- what one exchange meets: how the sender's transmission is heard, the urgent flag and the room at the
--- receiver, and how the reply is heard
+-- what one exchange meets: how the sender's transmission is heard, the urgent flag and the room at
+-- the receiver, and how the reply is heard
 pub record Turn : Type 0 where
   pub heard : Option Heard
   pub urgent : Bool
@@ -69,7 +69,13 @@ abbrev pub after_turn : Bid → Turn → Bid
 after_turn b t =
     let r = receiver_in b t in
     let s = unless_quiet (sender_in b t) (sender_in b t).act in
-    record { sender = s.sender; queue = s.queue; receiver = r.receiver; spool = r.spool; act = s.act }
+    record {
+      sender = s.sender;
+      queue = s.queue;
+      receiver = r.receiver;
+      spool = r.spool;
+      act = s.act;
+    }
 
 -- what may be heard of what was sent, and nothing where nothing was
 abbrev pub IsFairTo : Option Message → Option Heard → Type 0
@@ -95,7 +101,7 @@ pub data Event : Type 0 where
 
 abbrev pub after_event : Bid → Event → Bid
 after_event b (Exchange t) = after_turn b t
-after_event b (Offering r) = record { sender = b.sender; queue = with_offered b.queue r; receiver = b.receiver; spool = b.spool; act = b.act }
+after_event b (Offering r) = record b { queue = with_offered b.queue r }
 
 abbrev pub MayCome : Bid → Event → Type 0
 MayCome b (Exchange t) = IsFairTurn b t
@@ -106,8 +112,8 @@ abbrev pub AreEvents : Bid → List Event → Bid → Type 0
 AreEvents b [] c = c ≡ b
 AreEvents b (e ∷ es) c = MayCome b e × AreEvents (after_event b e) es c
 
--- A bid begins: the sender is idle and not in doubt, records wait, all that was spooled is known, and the
--- receiver begins with ACK 0.
+-- A bid begins: the sender is idle and not in doubt, records wait, all that was spooled is known,
+-- and the receiver begins with ACK 0.
 pub record IsBegun (b : Bid) : Type 0 where
   pub sender : SenderValue
   pub idle : sender.phase ≡ Idle

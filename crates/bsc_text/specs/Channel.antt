@@ -1,12 +1,12 @@
--- A channel: the records that one end offers and the other end spools (own). No acknowledgement, retry or
--- buffer is in it.
+-- A channel: the records that one end offers and the other end spools (own). No acknowledgement,
+-- retry or buffer is in it.
 use Rattle.std.specs.Prelude.{◌≡◌, ◌⊎◌, ℕ, ◌+◌, ◌≤◌, List, [], ◌∷◌, ◌++◌, length, take, drop}
 use Rattle.bsc_spool.specs.Queue.{QueueValue}
 use Rattle.bsc_text.specs.declared.phase.Phase.{Phase}
 use Rattle.bsc_text.specs.declared.phase.Phase.TheVariants.{Idle, Unanswered, Held, InDoubt}
 
--- the records that were offered, how many of them the sending end knows to have arrived, and the records
--- that were spooled at the other end
+-- the records that were offered, how many of them the sending end knows to have arrived, and the
+-- records that were spooled at the other end
 pub record Channel : Type 0 where
   pub offered : List (List ℕ)
   pub known : ℕ
@@ -16,28 +16,29 @@ pub record Channel : Type 0 where
 abbrev pub channel : QueueValue → List (List ℕ) → Channel
 channel q spooled = record { offered = q.offered; known = q.known; spooled = spooled }
 
--- what happens to a channel: nothing, an offer, the landing of some records, or that the sending end learns
--- of what was spooled
+-- what happens to a channel: nothing, an offer, the landing of some records, or that the sending
+-- end learns of what was spooled
 pub data Move : Type 0 where
   Nothing : Move
   Offer : (offered_record : List ℕ) → Move
   Land : (count : ℕ) → Move
   Learn : Move
 
--- 1 to 7 records land: the first ones past the known ones, and only where all that was spooled is known
+-- 1 to 7 records land: the first ones past the known ones, and only where all that was spooled is
+-- known
 pub record Lands (k : ℕ) (old new : Channel) : Type 0 where
   pub some : 1 ≤ k
   pub few : k ≤ 7
   pub all_known : length old.spooled ≡ old.known
   pub there : old.known + k ≤ length old.offered
-  pub landed : new ≡ record { offered = old.offered; known = old.known; spooled = old.spooled ++ take k (drop old.known old.offered) }
+  pub landed : new ≡ record old { spooled = old.spooled ++ take k (drop old.known old.offered) }
 
 -- the channel before and after a move
 abbrev pub Makes : Move → Channel → Channel → Type 0
 Makes Nothing old new = new ≡ old
-Makes (Offer r) old new = new ≡ record { offered = old.offered ++ r ∷ []; known = old.known; spooled = old.spooled }
+Makes (Offer r) old new = new ≡ record old { offered = old.offered ++ r ∷ [] }
 Makes (Land k) old new = Lands k old new
-Makes Learn old new = new ≡ record { offered = old.offered; known = length old.spooled; spooled = old.spooled }
+Makes Learn old new = new ≡ record old { known = length old.spooled }
 
 -- how many records are spooled, by what the sending end knows and does
 abbrev pub IsSpooled : Phase → ℕ → ℕ → Type 0
@@ -46,8 +47,9 @@ IsSpooled (Held end parity) known spooled = spooled ≡ known
 IsSpooled (Unanswered b) known spooled = (spooled ≡ known) ⊎ (spooled ≡ known + b.count)
 IsSpooled (InDoubt k) known spooled = (spooled ≡ known) ⊎ (spooled ≡ known + k)
 
--- The spooled records are the first of the offered ones, in order and each once; the known ones are among
--- them, and they are all of them, unless a block is unanswered or in doubt, which may have landed or not.
+-- The spooled records are the first of the offered ones, in order and each once; the known ones are
+-- among them, and they are all of them, unless a block is unanswered or in doubt, which may have
+-- landed or not.
 pub record IsSound (phase : Phase) (c : Channel) : Type 0 where
   pub front : c.spooled ≡ take (length c.spooled) c.offered
   pub known : c.known ≤ length c.spooled

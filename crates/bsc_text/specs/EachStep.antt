@@ -28,12 +28,14 @@ IsEnded a.Over phase = IsAtRest phase
 IsEnded _ phase = Unit {0}
 
 -- what a step of the receiver leaves: a bid with its reply on the way
-pub record ReceiverAgrees (phase : Phase) (q : QueueValue) (spooled : List (List ℕ)) (r : ReceiverStep) : Type 0 where
+pub record ReceiverAgrees (phase : Phase) (q : QueueValue) (spooled : List (List ℕ))
+    (r : ReceiverStep) : Type 0 where
   pub bid : InBid phase q r.receiver.parity r.receiver.last r.spool.records (back r.reply)
   pub moves : MovesAtReceiver phase (channel q spooled) (channel q r.spool.records)
 
 -- what a step of the sender leaves: the bid goes on with what it sent on the way, or it is over
-pub record SenderAgrees (q : QueueValue) (parity : Parity) (last : Reply) (spooled : List (List ℕ)) (s : SenderStep) : Type 0 where
+pub record SenderAgrees (q : QueueValue) (parity : Parity) (last : Reply)
+    (spooled : List (List ℕ)) (s : SenderStep) : Type 0 where
   pub continues : Continues s.sender.phase s.queue parity last spooled (sent_flight s.act)
   pub ended : IsEnded s.act s.sender.phase
   pub moves : MovesAtSender (channel q spooled) (channel s.queue spooled)
@@ -41,35 +43,45 @@ pub record SenderAgrees (q : QueueValue) (parity : Parity) (last : Reply) (spool
 -- the receiver hears what the sender sent, or nothing
 abbrev pub HearingAgrees : Type 0
 HearingAgrees =
-    (phase : Phase) (q : QueueValue) (r : ReceiverValue) (s : SpoolValue) (sent : Message) (heard : Option Heard) (urgent : Bool) (rooms : Rooms) →
-    InBid phase q r.parity r.last s.records (Outward sent) → IsFair sent heard → ReceiverAgrees phase q s.records (received r s heard urgent rooms)
+    (phase : Phase) (q : QueueValue) (r : ReceiverValue) (s : SpoolValue) (sent : Message)
+    (heard : Option Heard) (urgent : Bool) (rooms : Rooms) →
+    InBid phase q r.parity r.last s.records (Outward sent) → IsFair sent heard
+    → ReceiverAgrees phase q s.records (received r s heard urgent rooms)
 
 -- the sender hears the reply, or nothing
 abbrev pub AnsweringAgrees : Type 0
 AnsweringAgrees =
-    (s : SenderValue) (q : QueueValue) (parity : Parity) (last : Reply) (spooled : List (List ℕ)) (reply : Option Reply) (heard : Option Heard) →
-    InBid s.phase q parity last spooled (back reply) → IsFairTo (message_back reply) heard → SenderAgrees q parity last spooled (answered s q reply heard)
+    (s : SenderValue) (q : QueueValue) (parity : Parity) (last : Reply) (spooled : List (List ℕ))
+    (reply : Option Reply) (heard : Option Heard) →
+    InBid s.phase q parity last spooled (back reply) → IsFairTo (message_back reply) heard
+    → SenderAgrees q parity last spooled (answered s q reply heard)
 
 -- a silence comes to the sender, with nothing on the way
 abbrev pub SilenceAgrees : Type 0
 SilenceAgrees =
     (s : SenderValue) (q : QueueValue) (parity : Parity) (last : Reply) (spooled : List (List ℕ)) →
-    Continues s.phase q parity last spooled Still → SenderAgrees q parity last spooled (silence_step s q)
+    Continues s.phase q parity last spooled Still
+    → SenderAgrees q parity last spooled (silence_step s q)
 
 -- a bid begins, and the receiver begins with ACK 0
 abbrev pub BeginAgrees : Type 0
 BeginAgrees =
-    (s : SenderValue) (q : QueueValue) (spooled : List (List ℕ)) → IsResting Idle q spooled → 1 ≤ length (waiting q) → SenderAgrees q Even Ack0 spooled (begin_step s q)
+    (s : SenderValue) (q : QueueValue) (spooled : List (List ℕ)) → IsResting Idle q spooled
+    → 1 ≤ length (waiting q) → SenderAgrees q Even Ack0 spooled (begin_step s q)
 
 -- a record is offered
 abbrev pub OfferAgrees : Type 0
 OfferAgrees =
-    (phase : Phase) (q : QueueValue) (parity : Parity) (last : Reply) (spooled : List (List ℕ)) (f : Flight) (r : List ℕ) →
-    length r ≤ q.format.full → InBid phase q parity last spooled f → InBid phase (with_offered q r) parity last spooled f
+    (phase : Phase) (q : QueueValue) (parity : Parity) (last : Reply) (spooled : List (List ℕ))
+    (f : Flight) (r : List ℕ) →
+    length r ≤ q.format.full → InBid phase q parity last spooled f
+    → InBid phase (with_offered q r) parity last spooled f
 
 abbrev pub OfferKeepsRest : Type 0
 OfferKeepsRest =
-    (phase : Phase) (q : QueueValue) (spooled : List (List ℕ)) (r : List ℕ) → length r ≤ q.format.full → IsResting phase q spooled → IsResting phase (with_offered q r) spooled
+    (phase : Phase) (q : QueueValue) (spooled : List (List ℕ)) (r : List ℕ)
+    → length r ≤ q.format.full → IsResting phase q spooled
+    → IsResting phase (with_offered q r) spooled
 
 -- a doubt is released with the spooled count
 pub record ReleaseAgrees (s : ReleaseStep) (spooled : List (List ℕ)) : Type 0 where
@@ -79,32 +91,43 @@ pub record ReleaseAgrees (s : ReleaseStep) (spooled : List (List ℕ)) : Type 0 
 
 abbrev pub ReleaseKeepsRest : Type 0
 ReleaseKeepsRest =
-    (s : SenderValue) (q : QueueValue) (k : ℕ) (spooled : List (List ℕ)) → s.phase ≡ InDoubt k → IsResting (InDoubt k) q spooled → ReleaseAgrees (release_step s q (length spooled)) spooled
+    (s : SenderValue) (q : QueueValue) (k : ℕ) (spooled : List (List ℕ)) → s.phase ≡ InDoubt k
+    → IsResting (InDoubt k) q spooled
+    → ReleaseAgrees (release_step s q (length spooled)) spooled
 
 -- where the ends agree the channel is sound
 abbrev pub AgreementIsSound : Type 0
 AgreementIsSound =
-    (phase : Phase) (q : QueueValue) (parity : Parity) (last : Reply) (spooled : List (List ℕ)) (f : Flight) → Continues phase q parity last spooled f → IsSound phase (channel q spooled)
+    (phase : Phase) (q : QueueValue) (parity : Parity) (last : Reply) (spooled : List (List ℕ))
+    (f : Flight) → Continues phase q parity last spooled f → IsSound phase (channel q spooled)
 
 -- what was on its way is lost
 abbrev pub LossAgrees : Type 0
 LossAgrees =
-    (phase : Phase) (q : QueueValue) (parity : Parity) (last : Reply) (spooled : List (List ℕ)) (f : Flight) → InBid phase q parity last spooled f → InBid phase q parity last spooled Still
+    (phase : Phase) (q : QueueValue) (parity : Parity) (last : Reply) (spooled : List (List ℕ))
+    (f : Flight) → InBid phase q parity last spooled f → InBid phase q parity last spooled Still
 
 -- a bid that goes on continues, and one with something of the sender on the way goes on
 abbrev pub BidContinues : Type 0
 BidContinues =
-    (phase : Phase) (q : QueueValue) (parity : Parity) (last : Reply) (spooled : List (List ℕ)) (f : Flight) → InBid phase q parity last spooled f → Continues phase q parity last spooled f
+    (phase : Phase) (q : QueueValue) (parity : Parity) (last : Reply) (spooled : List (List ℕ))
+    (f : Flight) → InBid phase q parity last spooled f → Continues phase q parity last spooled f
 
 abbrev pub SendingGoesOn : Type 0
 SendingGoesOn =
-    (phase : Phase) (q : QueueValue) (parity : Parity) (last : Reply) (spooled : List (List ℕ)) (sent : Message) → Continues phase q parity last spooled (Outward sent) → InBid phase q parity last spooled (Outward sent)
+    (phase : Phase) (q : QueueValue) (parity : Parity) (last : Reply) (spooled : List (List ℕ))
+    (sent : Message) → Continues phase q parity last spooled (Outward sent)
+    → InBid phase q parity last spooled (Outward sent)
 
--- what the sender has on the way is a text or ENQ, and a reply on the way is the receiver's last one
+-- what the sender has on the way is a text or ENQ, and a reply on the way is the receiver's last
+-- one
 abbrev pub OutwardIsTextOrEnq : Type 0
 OutwardIsTextOrEnq =
-    (phase : Phase) (q : QueueValue) (parity : Parity) (last : Reply) (spooled : List (List ℕ)) (sent : Message) → InBid phase q parity last spooled (Outward sent) → IsTextMessage sent ⊎ (sent ≡ m.Enq)
+    (phase : Phase) (q : QueueValue) (parity : Parity) (last : Reply) (spooled : List (List ℕ))
+    (sent : Message) → InBid phase q parity last spooled (Outward sent)
+    → IsTextMessage sent ⊎ (sent ≡ m.Enq)
 
 abbrev pub BackIsLast : Type 0
 BackIsLast =
-    (phase : Phase) (q : QueueValue) (parity : Parity) (last reply : Reply) (spooled : List (List ℕ)) → InBid phase q parity last spooled (Back reply) → reply ≡ last
+    (phase : Phase) (q : QueueValue) (parity : Parity) (last reply : Reply)
+    (spooled : List (List ℕ)) → InBid phase q parity last spooled (Back reply) → reply ≡ last

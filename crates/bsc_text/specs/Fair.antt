@@ -1,5 +1,5 @@
--- What may be heard of a transmission while every spoiled one fails its check (GA27-3004: VRC and LRC
--- checking; own).
+-- What may be heard of a transmission while every spoiled one fails its check (GA27-3004: VRC and
+-- LRC checking; own).
 use Rattle.std.specs.Prelude.{◌≡◌, ◌⊎◌, Option, None, Some}
 use Rattle.bsc_frame.specs.declared.message.Message.{Message}
 use Rattle.bsc_frame.specs.declared.message.Message.TheVariants as m
@@ -16,7 +16,8 @@ abbrev pub IsCallCutShort : Message → Message → Type 0
 IsCallCutShort (m.Call a) m.Eot = Unit {0}
 IsCallCutShort _ _ = ⊥
 
--- what is heard: the message itself, or of a call its EOT; a text may fail its check; all may be noise
+-- what is heard: the message itself, or of a call its EOT; a text may fail its check; all may be
+-- noise
 abbrev pub IsFairlyHeard : Message → Heard → Type 0
 IsFairlyHeard sent (Whole w) = (w ≡ sent) ⊎ IsCallCutShort sent w
 IsFairlyHeard sent Failed = IsTextMessage sent

@@ -1,18 +1,18 @@
 -- The law of one bid: what holds of a sender and a receiver over every list of fair turns (own).
-use Rattle.std.specs.Prelude.{◌≡◌, ◌⊎◌, ◌↔◌, ◌≤◌, ◌<◌, ◌+◌, ◌*◌, ℕ, Bool, true, false, nat_eq, List, [], ◌∷◌, length, take, Some, Ok, if◌then◌else◌}
+use Rattle.std.specs.Prelude.{◌≡◌, ◌⊎◌, ◌↔◌, ◌≤◌, ◌<◌, ◌+◌, ◌*◌, ℕ, Bool, true, false, nat_eq, List, [], ◌∷◌, length, take, Some, if◌then◌else◌}
 use Rattle.bsc_frame.specs.declared.message.Message.{Message}
 use Rattle.bsc_frame.specs.declared.message.Message.TheVariants as m
 use Rattle.bsc_frame.specs.declared.message.Heard.TheVariants.{Whole}
 use Rattle.bsc_frame.specs.Texts.{TextValue}
 use Rattle.bsc_block.specs.Blocks.{records_in}
-use Rattle.bsc_spool.specs.Queue.{queue_of, waiting}
+use Rattle.bsc_spool.specs.Queue.{waiting}
 use Rattle.bsc_text.specs.declared.act.Act.{Act}
 use Rattle.bsc_text.specs.declared.act.Act.TheVariants as a
 use Rattle.bsc_text.specs.declared.phase.SentBlock.{SentBlock}
 use Rattle.bsc_text.specs.declared.phase.Phase.{Phase}
 use Rattle.bsc_text.specs.declared.phase.Phase.TheVariants.{Idle, Unanswered}
 use Rattle.bsc_text.specs.Setup.{SetupValue}
-use Rattle.bsc_text.specs.Sender.{ReleaseStep, text_of, with_phase, is_in_doubt, release_step}
+use Rattle.bsc_text.specs.Sender.{text_of, is_in_doubt, released, release_step}
 use Rattle.bsc_text.specs.Ready.{IsReady}
 use Rattle.bsc_text.specs.Channel.{Channel, channel, Nothing, Offer, Land, Learn, Makes, IsSound}
 use Rattle.bsc_text.specs.Fair.{IsTextMessage}
@@ -20,7 +20,8 @@ use Rattle.bsc_text.specs.Bid.{Bid, Turn, Event, Exchange, Offering, channel_of,
 
 -- the sender sends texts and ENQ alone
 abbrev pub SendsTextsAndEnq : Type 0
-SendsTextsAndEnq = (b : Bid) (w : Message) → message_for b.act ≡ Some w → IsTextMessage w ⊎ (w ≡ m.Enq)
+SendsTextsAndEnq =
+    (b : Bid) (w : Message) → message_for b.act ≡ Some w → IsTextMessage w ⊎ (w ≡ m.Enq)
 
 -- the text of a block: the one that is unanswered
 pub record CarriesBlock (b : Bid) (t : TextValue) : Type 0 where
@@ -31,15 +32,22 @@ pub record CarriesBlock (b : Bid) (t : TextValue) : Type 0 where
 
 -- each text that is sent, and each that is heard whole, has exactly the records of the block
 abbrev pub SendsItsBlocks : Type 0
-SendsItsBlocks = (b : Bid) (es : List Event) (c : Bid) (t : TextValue) → Reaches b es c → c.act ≡ a.Send t → CarriesBlock c t
+SendsItsBlocks =
+    (b : Bid) (es : List Event) (c : Bid) (t : TextValue) → Reaches b es c
+    → c.act ≡ a.Send t → CarriesBlock c t
 
 abbrev pub HearsItsBlocks : Type 0
 HearsItsBlocks =
-    (b : Bid) (es : List Event) (c : Bid) (turn : Turn) (t : TextValue) → Reaches b es c → IsFairTurn c turn → turn.heard ≡ Some (Whole (m.Text t)) → CarriesBlock c t
+    (b : Bid) (es : List Event) (c : Bid) (turn : Turn) (t : TextValue) → Reaches b es c
+    → IsFairTurn c turn → turn.heard ≡ Some (Whole (m.Text t)) → CarriesBlock c t
 
 -- where the receiver hears, nothing moves, or the unanswered block lands
+abbrev pub LandsBlock : Phase → Channel → Channel → Type 0
+LandsBlock phase old new =
+    (block : SentBlock) × (phase ≡ Unanswered block) × Makes (Land block.count) old new
+
 abbrev pub MovesAtReceiver : Phase → Channel → Channel → Type 0
-MovesAtReceiver phase old new = Makes Nothing old new ⊎ ((block : SentBlock) × (phase ≡ Unanswered block) × Makes (Land block.count) old new)
+MovesAtReceiver phase old new = Makes Nothing old new ⊎ LandsBlock phase old new
 
 -- where the sender hears, nothing moves, or it learns of what was spooled
 abbrev pub MovesAtSender : Channel → Channel → Type 0
@@ -54,14 +62,16 @@ pub record MovesInTurn (b : Bid) (t : Turn) : Type 0 where
   pub receiver : MovesAtReceiver b.sender.phase (channel_of b) (channel_within b t)
   pub sender : MovesAtSender (channel_within b t) (channel_of (after_turn b t))
 
--- Each block lands at most once, since it lands only where all that was spooled is known; it is learnt only
--- after it landed, since what is learnt is what was spooled.
+-- Each block lands at most once, since it lands only where all that was spooled is known; it is
+-- learnt only after it landed, since what is learnt is what was spooled.
 abbrev pub OnlyMoves : Type 0
 OnlyMoves =
-    (b : Bid) (es : List Event) (c : Bid) (t : Turn) → Reaches b es c → IsFairTurn c t → MovesInTurn c t
+    (b : Bid) (es : List Event) (c : Bid) (t : Turn) → Reaches b es c → IsFairTurn c t
+    → MovesInTurn c t
 
 abbrev pub OffersMove : Type 0
-OffersMove = (b : Bid) (r : List ℕ) → Makes (Offer r) (channel_of b) (channel_of (after_event b (Offering r)))
+OffersMove =
+    (b : Bid) (r : List ℕ) → Makes (Offer r) (channel_of b) (channel_of (after_event b (Offering r)))
 
 -- at each moment the queue has what the sender counts on: the conditions of its calls are met
 abbrev pub StaysReady : Type 0
@@ -69,19 +79,23 @@ StaysReady = (b : Bid) (es : List Event) (c : Bid) → Reaches b es c → IsRead
 
 -- at each moment the channel is sound: before and after each event, and within each turn
 abbrev pub StaysSound : Type 0
-StaysSound = (b : Bid) (es : List Event) (c : Bid) → Reaches b es c → IsSound c.sender.phase (channel_of c)
+StaysSound =
+    (b : Bid) (es : List Event) (c : Bid) → Reaches b es c → IsSound c.sender.phase (channel_of c)
 
 abbrev pub SoundWithinTurns : Type 0
 SoundWithinTurns =
-    (b : Bid) (es : List Event) (c : Bid) (t : Turn) → Reaches b es c → IsFairTurn c t → IsSound c.sender.phase (channel_within c t)
+    (b : Bid) (es : List Event) (c : Bid) (t : Turn) → Reaches b es c → IsFairTurn c t
+    → IsSound c.sender.phase (channel_within c t)
 
 -- a bid that ended without doubt knows of all that was spooled
 abbrev pub EndsKnowing : Type 0
 EndsKnowing =
-    (b : Bid) (es : List Event) (c : Bid) → Reaches b es c → c.act ≡ a.Over → is_in_doubt c.sender.phase ≡ false → (c.sender.phase ≡ Idle) × (c.queue.known ≡ length c.spool.records)
+    (b : Bid) (es : List Event) (c : Bid) → Reaches b es c → c.act ≡ a.Over
+    → is_in_doubt c.sender.phase ≡ false
+    → (c.sender.phase ≡ Idle) × (c.queue.known ≡ length c.spool.records)
 
--- the sender gives up on a silence, with a block unanswered: nothing was acted on in the turn, and one more
--- failure passes the limit
+-- the sender gives up on a silence, with a block unanswered: nothing was acted on in the turn, and
+-- one more failure passes the limit
 pub record GivesUpUnanswered (b : Bid) (t : Turn) : Type 0 where
   pub block : SentBlock
   pub unanswered : b.sender.phase ≡ Unanswered block
@@ -92,16 +106,14 @@ pub record GivesUpUnanswered (b : Bid) (t : Turn) : Type 0 where
 abbrev pub DoubtsAtSilence : Type 0
 DoubtsAtSilence =
     (b : Bid) (es : List Event) (c : Bid) (t : Turn) → Reaches b es c → IsFairTurn c t →
-    (is_in_doubt c.sender.phase ≡ false) × ((is_in_doubt (after_turn c t).sender.phase ≡ true) ↔ GivesUpUnanswered c t)
+    (is_in_doubt c.sender.phase ≡ false) × ((is_in_doubt (after_turn c t).sender.phase ≡ true)
+    ↔ GivesUpUnanswered c t)
 
 -- a release of the spooled count succeeds, makes it the known one, and ends the doubt
-abbrev pub released : Bid → ReleaseStep
-released c =
-    record { sender = with_phase c.sender Idle; queue = queue_of c.queue.format c.queue.offered (length c.spool.records); answer = Ok tt }
-
 abbrev pub ReleaseEndsDoubt : Type 0
 ReleaseEndsDoubt =
-    (b : Bid) (es : List Event) (c : Bid) → Reaches b es c → is_in_doubt c.sender.phase ≡ true → release_step c.sender c.queue (length c.spool.records) ≡ released c
+    (b : Bid) (es : List Event) (c : Bid) → Reaches b es c → is_in_doubt c.sender.phase ≡ true
+    → release_step c.sender c.queue (length c.spool.records) ≡ released c.sender c.queue (length c.spool.records)
 
 -- the turns among the events
 abbrev pub turn_count : List Event → ℕ
@@ -118,7 +130,8 @@ is_begun _ tries = false
 abbrev pub begun_in : Bid → List Event → ℕ
 begun_in b [] = 0
 begun_in b (Exchange t ∷ es) =
-    (if is_begun (after_turn b t).act (after_turn b t).sender.tries then 1 else 0) + begun_in (after_turn b t) es
+    (if is_begun (after_turn b t).act (after_turn b t).sender.tries then 1 else 0)
+    + begun_in (after_turn b t) es
 begun_in b (Offering r ∷ es) = begun_in (after_event b (Offering r)) es
 
 -- the most turns that a block takes
@@ -128,4 +141,5 @@ most_turns setup = (setup.tries + 1) * (setup.waits + 1)
 -- a bid in which so many blocks were begun, the first one included, takes at most so many turns
 abbrev pub EndsSoon : Type 0
 EndsSoon =
-    (b : Bid) (es : List Event) (c : Bid) → Reaches b es c → turn_count es ≤ (1 + begun_in b es) * most_turns b.sender.setup
+    (b : Bid) (es : List Event) (c : Bid) → Reaches b es c
+    → turn_count es ≤ (1 + begun_in b es) * most_turns b.sender.setup

@@ -1,4 +1,5 @@
--- What a sender counts on in its queue (own). It is true of the queue of `begin`, whatever is offered since.
+-- What a sender counts on in its queue (own). It is true of the queue of `begin`, whatever is
+-- offered since.
 use Rattle.std.specs.Prelude.{◌≡◌, ℕ, ◌+◌, ◌≤◌, length}
 use Rattle.bsc_frame.specs.declared.text.End.{End}
 use Rattle.bsc_frame.specs.declared.text.End.TheVariants.{Etb, Etx}
@@ -47,8 +48,8 @@ IsAtRest (InDoubt k) = Unit {0}
 IsAtRest (Unanswered b) = ⊥
 IsAtRest (Held end parity) = ⊥
 
--- the phase that an act leaves: a bid goes on where something is sent, none goes on where it is over, and
--- nothing changes where the sender keeps quiet
+-- the phase that an act leaves: a bid goes on where something is sent, none goes on where it is
+-- over, and nothing changes where the sender keeps quiet
 abbrev pub FitsAct : Act → Phase → Phase → Type 0
 FitsAct (a.Send t) old new = IsGoing new
 FitsAct a.Enq old new = IsGoing new

@@ -1,4 +1,5 @@
--- The receiver's table (GA27-3004: ACK 0 and ACK 1, NAK, ENQ, WACK and RVI; that RVI comes by a flag is own).
+-- The receiver's table (GA27-3004: ACK 0 and ACK 1, NAK, ENQ, WACK and RVI; that RVI comes by a
+-- flag is own).
 use Rattle.std.specs.Prelude.{◌≡◌, ℕ, Bool, true, false, not, List, ◌++◌, Option, None, Some, if◌then◌else◌}
 use Rattle.bsc_frame.specs.declared.message.Message.TheVariants as m
 use Rattle.bsc_frame.specs.declared.message.Heard.{Heard}
@@ -62,23 +63,29 @@ sends_rvi (Some r) = is_rvi r
 
 -- a reply, which is the last one from now on
 abbrev pub replied : Parity → SpoolValue → Reply → ReceiverStep
-replied parity s r = record { receiver = record { parity = parity; last = r }; spool = s; reply = Some r }
+replied parity s r =
+    record { receiver = record { parity = parity; last = r }; spool = s; reply = Some r }
 
 -- a text is taken: its acknowledgement, or WACK where no room is left for another one
 abbrev pub taken : ReceiverValue → SpoolValue → TextValue → Rooms → ReceiverStep
 taken r s t rooms =
-    replied (other r.parity) (tried (stored (tried s true) (records_in t.units) rooms.after) rooms.after) (if rooms.after then ack (other r.parity) else Wack)
+    replied (other r.parity) (tried (stored (tried s true)
+    (records_in t.units) rooms.after) rooms.after)
+    (if rooms.after then ack (other r.parity) else Wack)
 
 -- a text is taken, and RVI asks for the line
 abbrev pub taken_urgently : ReceiverValue → SpoolValue → TextValue → Rooms → ReceiverStep
-taken_urgently r s t rooms = replied (other r.parity) (stored (tried s true) (records_in t.units) rooms.after) Rvi
+taken_urgently r s t rooms = replied (other r.parity) (stored (tried s true)
+    (records_in t.units) rooms.after) Rvi
 
--- A text: NAK where there is no room; else it is taken. RVI is the reply where the flag is up, but not twice
--- in a row.
+-- A text: NAK where there is no room; else it is taken. RVI is the reply where the flag is up, but
+-- not twice in a row.
 abbrev pub text_step : ReceiverValue → SpoolValue → TextValue → Bool → Rooms → ReceiverStep
 text_step r s t urgent rooms =
     if rooms.first
-    then (if urgent then (if is_rvi r.last then taken r s t rooms else taken_urgently r s t rooms) else taken r s t rooms)
+    then (if urgent
+    then (if is_rvi r.last then taken r s t rooms else taken_urgently r s t rooms)
+    else taken r s t rooms)
     else replied r.parity (tried s false) Nak
 
 -- ENQ: the last reply again, and after WACK the acknowledgement once there is room
@@ -95,13 +102,15 @@ heard_step r s (Whole m.Enq) urgent rooms = enq_step r s rooms
 heard_step r s Failed urgent rooms = replied r.parity s Nak
 heard_step r s _ urgent rooms = record { receiver = r; spool = s; reply = None }
 
--- What the tries found, read from the state that they left: a text was refused room exactly where the last
--- reply is NAK now.
+-- What the tries found, read from the state that they left: a text was refused room exactly where
+-- the last reply is NAK now.
 abbrev pub rooms_left : Heard → Reply → SpoolValue → Rooms
 rooms_left (Whole (m.Text t)) last s = record { first = not (is_nak last); after = s.room }
 rooms_left _ last s = record { first = s.room; after = s.room }
 
--- The receiver, its spool and the reply are those of the table. Where there was room, the first try found it.
-pub record Receives (r : ReceiverValue) (s : SpoolValue) (h : Heard) (urgent : Bool) (out : ReceiverStep) : Type 0 where
+-- The receiver, its spool and the reply are those of the table. Where there was room, the first try
+-- found it.
+pub record Receives (r : ReceiverValue) (s : SpoolValue) (h : Heard) (urgent : Bool)
+    (out : ReceiverStep) : Type 0 where
   pub row : out ≡ heard_step r s h urgent (rooms_left h out.receiver.last out.spool)
   pub room : s.room ≡ true → (rooms_left h out.receiver.last out.spool).first ≡ true

@@ -1,4 +1,5 @@
--- Replies (GA27-3004: ACK 0, ACK 1, NAK, WACK, RVI): the message of each, and what each is to a block.
+-- Replies (GA27-3004: ACK 0, ACK 1, NAK, WACK, RVI): the message of each, and what each is to a
+-- block.
 use Rattle.std.specs.Prelude.{Option, None, Some}
 use Rattle.bsc_frame.specs.declared.message.Message.{Message}
 use Rattle.bsc_frame.specs.declared.message.Message.TheVariants as m
@@ -44,8 +45,8 @@ reply_heard (Whole w) = reply_in w
 reply_heard Failed = None
 reply_heard Noise = None
 
--- What a reply is to a block: the acknowledgement that it expects, the other one or NAK, WACK, or RVI. The
--- parity is that of the number of blocks taken once the block is taken.
+-- What a reply is to a block: the acknowledgement that it expects, the other one or NAK, WACK, or
+-- RVI. The parity is that of the number of blocks taken once the block is taken.
 abbrev pub answer_of : Parity → Reply → Answer
 answer_of Odd Ack1 = Accepted
 answer_of Odd Ack0 = Refused

@@ -1,6 +1,7 @@
--- The sender's table (GA27-3004: acknowledgements, NAK, WACK, RVI and time-outs; limits, doubt and release
--- are own). Every counter is raised first and compared afterwards. What no line lists changes nothing.
-use Rattle.std.specs.Prelude.{ℕ, ◌+◌, nat_lt, Bool, true, false, ◌==◌, ◌||◌, take, map, Option, None, Some, Result, Ok, Err, if◌then◌else◌}
+-- The sender's table (GA27-3004: acknowledgements, NAK, WACK, RVI and time-outs; limits, doubt and
+-- release are own). Every counter is raised first and compared afterwards. What no line lists
+-- changes nothing.
+use Rattle.std.specs.Prelude.{ℕ, ◌+◌, nat_lt, Bool, true, false, ◌==◌, ◌||◌, take, Option, None, Some, Result, Ok, Err, if◌then◌else◌}
 use Rattle.bsc_frame.specs.declared.text.End.{End}
 use Rattle.bsc_frame.specs.declared.text.End.TheVariants.{Etb, Etx}
 use Rattle.bsc_frame.specs.Texts.{TextValue}
@@ -38,10 +39,10 @@ pub record SenderStep : Type 0 where
 
 -- the sender with another phase, and with other counters
 abbrev pub with_phase : SenderValue → Phase → SenderValue
-with_phase s phase = record { setup = s.setup; phase = phase; tries = s.tries; waits = s.waits }
+with_phase s phase = record s { phase = phase }
 
 abbrev pub with_counts : SenderValue → ℕ → ℕ → SenderValue
-with_counts s tries waits = record { setup = s.setup; phase = s.phase; tries = tries; waits = waits }
+with_counts s tries waits = record s { tries = tries; waits = waits }
 
 -- nothing changes, and nothing is sent
 abbrev pub quiet : SenderValue → QueueValue → SenderStep
@@ -55,20 +56,25 @@ over s q left = record { sender = with_phase s left; queue = q; act = a.Over }
 abbrev pub text_of : QueueValue → SentBlock → TextValue
 text_of q b = block_text q.format (take b.count (waiting q)) b.end
 
--- The next block is sent, with the counters at 0. (Where no record waits the bid is over; the conditions of
--- the calls exclude it.)
+-- The next block is sent, with the counters at 0. (Where no record waits the bid is over; the
+-- conditions of the calls exclude it.)
 abbrev pub sent_next : SenderValue → QueueValue → Parity → Option Next → SenderStep
 sent_next s q parity None = over (with_counts s 0 0) q Idle
 sent_next s q parity (Some n) =
     let b : SentBlock = record { count = n.count; end = n.end; parity = parity } in
-    record { sender = with_phase (with_counts s 0 0) (Unanswered b); queue = q; act = a.Send (text_of q b) }
+    record {
+      sender = with_phase (with_counts s 0 0)
+          (Unanswered b);
+      queue = q;
+      act = a.Send (text_of q b);
+    }
 
 -- begin: the next block is unanswered, and ACK 1 is expected
 abbrev pub begin_step : SenderValue → QueueValue → SenderStep
 begin_step s q = sent_next s q Odd (next_block q)
 
--- the expected acknowledgement of a block with this end: after ETX the bid is over, after ETB the next block
--- is sent, which expects the other acknowledgement
+-- the expected acknowledgement of a block with this end: after ETX the bid is over, after ETB the
+-- next block is sent, which expects the other acknowledgement
 abbrev pub accepted : SenderValue → QueueValue → End → Parity → SenderStep
 accepted s q Etx parity = over (with_counts s 0 0) q Idle
 accepted s q Etb parity = sent_next s q (other parity) (next_block q)
@@ -77,7 +83,8 @@ accepted s q Etb parity = sent_next s q (other parity) (next_block q)
 abbrev pub failed : SenderValue → QueueValue → Phase → Act → SenderStep
 failed s q left act =
     let t : SenderValue = with_counts s (s.tries + 1) s.waits in
-    if nat_lt s.setup.tries (s.tries + 1) then over t q left else record { sender = t; queue = q; act = act }
+    if nat_lt s.setup.tries (s.tries + 1) then over t q left
+    else record { sender = t; queue = q; act = act }
 
 -- one more WACK: over the limit the bid ends, else the sender is held and asks again
 abbrev pub delayed : SenderValue → QueueValue → End → Parity → SenderStep
@@ -139,13 +146,20 @@ pub record ReleaseStep : Type 0 where
   pub queue : QueueValue
   pub answer : Result (Unit {0}) ReleaseError
 
-abbrev pub released_in : SenderValue → QueueValue → Phase → ℕ → ReleaseStep
-released_in s q (InDoubt k) count =
-    if (count == q.known) || (count == (q.known + k))
-    then record { sender = with_phase s Idle; queue = queue_of q.format q.offered count; answer = Ok tt }
-    else record { sender = s; queue = q; answer = Err CountMismatch }
-released_in s q _ count = record { sender = s; queue = q; answer = Err NotInDoubt }
+-- so many records are known, and the doubt is over
+abbrev pub released : SenderValue → QueueValue → ℕ → ReleaseStep
+released s q count =
+    record { sender = with_phase s Idle; queue = queue_of q.format q.offered count; answer = Ok tt }
+
+abbrev pub not_released : SenderValue → QueueValue → ReleaseError → ReleaseStep
+not_released s q error = record { sender = s; queue = q; answer = Err error }
+
+abbrev pub release_in : SenderValue → QueueValue → Phase → ℕ → ReleaseStep
+release_in s q (InDoubt k) count =
+    if (count == q.known) || (count == (q.known + k)) then released s q count
+    else not_released s q CountMismatch
+release_in s q _ count = not_released s q NotInDoubt
 
 -- a release: with a doubt about k records, the count of the other end is known or known + k
 abbrev pub release_step : SenderValue → QueueValue → ℕ → ReleaseStep
-release_step s q count = released_in s q s.phase count
+release_step s q count = release_in s q s.phase count

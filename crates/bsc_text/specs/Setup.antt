@@ -29,4 +29,6 @@ setup_of full chars tries waits =
     else if is_outside 146 400 chars then Err BlockChars
     else if is_outside 1 15 tries then Err Tries
     else if is_outside 1 255 waits then Err Waits
-    else Ok (record { format = record { full = full; block_chars = chars }; tries = tries; waits = waits })
+    else
+    (let format : FormatValue = record { full = full; block_chars = chars } in
+    Ok (record { format = format; tries = tries; waits = waits }))

@@ -1,4 +1,5 @@
--- The addresses of a terminal (GA27-3004, polling and selection; up to four selection addresses are own).
+-- The addresses of a terminal (GA27-3004, polling and selection; up to four selection addresses are
+-- own).
 use Rattle.std.specs.Prelude.{◌≡◌, ◌<◌, ◌≤◌, ◌-◌, ℕ, List, ◌++◌, length, take, replicate}
 use Rattle.std.specs.Prelude.{nat_lt, nat_eq, ◌||◌, if◌then◌else◌, Result, Ok, Err}
 use Rattle.bsc_text.specs.declared.terminal.TerminalError.{TerminalError}

@@ -1,5 +1,5 @@
-//! What a sender does, apart from the state that it keeps: each call of a sender answers one act, and the
-//! station that owns it transmits accordingly.
+//! What a sender does, apart from the state that it keeps: each call of a sender answers one act,
+//! and the station that owns it transmits accordingly.
 
 use bsc_frame::Text;
 

@@ -6,15 +6,19 @@ ghost use Rattle.bsc_text.specs.EachStep.{HearingAgrees, AnsweringAgrees, Silenc
 use bsc_block::laws::records_back;
 use bsc_spool::laws::next_blocks;
 
-/// One bid, end to end. For every bid that begins while the spooled records are the known ones, and every
-/// list of turns in which each spoiled transmission fails its check, with offers between the turns:
+/// One bid, end to end. For every bid that begins while the spooled records are the known ones, and
+/// every list of turns in which each spoiled transmission fails its check, with offers between the
+/// turns:
 ///
-/// - the sender sends texts and ENQ alone, and each text, sent or heard, has exactly the records of its block;
-/// - a block lands at most once, and is learnt only after it landed; an offer adds its record alone;
+/// - the sender sends texts and ENQ alone, and each text, sent or heard, has exactly the records of
+///   its block;
+/// - a block lands at most once, and is learnt only after it landed; an offer adds its record
+///   alone;
 /// - at each moment the conditions of the sender's calls are met;
-/// - at each moment the channel is sound, and a bid that ended without doubt knows of all that was spooled;
-/// - doubt begins exactly where the sender gives up on a silence with a block unanswered, and a release of
-///   the spooled count ends it;
+/// - at each moment the channel is sound, and a bid that ended without doubt knows of all that was
+///   spooled;
+/// - doubt begins exactly where the sender gives up on a silence with a block unanswered, and a
+///   release of the spooled count ends it;
 /// - with b blocks begun there are at most b · (tries + 1) · (waits + 1) turns.
 pub fn one_bid()
     ensures sends { SendsTextsAndEnq }
@@ -34,8 +38,8 @@ pub fn one_bid()
     next_blocks();
 }
 
-/// One step of a bid, for those who interleave bids with other traffic. Where the ends agree before it they
-/// agree after it, whatever is lost or spoiled by failing its check:
+/// One step of a bid, for those who interleave bids with other traffic. Where the ends agree before
+/// it they agree after it, whatever is lost or spoiled by failing its check:
 ///
 /// - the receiver hears what the sender sent, or nothing; the sender hears the reply, or nothing;
 /// - a silence comes to the sender, a bid begins, or a record is offered;

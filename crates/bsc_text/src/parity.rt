@@ -1,4 +1,5 @@
-//! Whether the number of blocks taken in a bid is even or odd: the two acknowledgements alternate by it.
+//! Whether the number of blocks taken in a bid is even or odd: the two acknowledgements alternate
+//! by it.
 
 ghost use Rattle.std.specs.Prelude.{◌≡◌};
 ghost use Rattle.bsc_text.specs.Reply.{ack, other};

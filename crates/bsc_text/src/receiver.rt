@@ -37,8 +37,8 @@ impl Receiver {
         }
     }
 
-    /// Begins a bid, and gives the reply that says so: ACK 0, or WACK where there is no room for a block.
-    /// (GA27-3004, replies to a selection.)
+    /// Begins a bid, and gives the reply that says so: ACK 0, or WACK where there is no room for a
+    /// block. (GA27-3004, replies to a selection.)
     pub fn begin(&mut self, room: bool) -> Reply
         ensures reply { result ≡ first_reply room }
         ensures state { self.new ≡ begun room }
@@ -48,17 +48,19 @@ impl Receiver {
         self.last
     }
 
-    /// Hears a transmission, and gives the reply to it; None where it is neither a text nor ENQ. With
-    /// `urgent` a text that is taken is answered by RVI, but not twice in a row. It may try to reserve
-    /// memory; a refusal changes the reply alone: NAK where a text then finds no room, WACK where the next
-    /// one would not. (GA27-3004, replies to text and to ENQ; the urgent flag is own.)
+    /// Hears a transmission, and gives the reply to it; None where it is neither a text nor ENQ.
+    /// With `urgent` a text that is taken is answered by RVI, but not twice in a row. It may try to
+    /// reserve memory; a refusal changes the reply alone: NAK where a text then finds no room, WACK
+    /// where the next one would not. (GA27-3004, replies to text and to ENQ; the urgent flag is
+    /// own.)
     pub fn heard<A: Allocator>(
         &mut self,
         heard: &Heard,
         urgent: bool,
         spool: &mut Spool<A>,
     ) -> Option<Reply>
-        ensures { Receives self.old spool.old heard.now urgent (record { receiver = self.new; spool = spool.new; reply = result }) }
+        ensures { Receives self.old spool.old heard.now urgent
+            (record { receiver = self.new; spool = spool.new; reply = result }) }
     {
         match heard {
             Heard::Whole(Message::Text(text)) => Some(self.take_text(text, urgent, spool)),
@@ -73,7 +75,8 @@ impl Receiver {
 
     /// Takes a text where there is room for it.
     fn take_text<A: Allocator>(&mut self, text: &Text, urgent: bool, spool: &mut Spool<A>) -> Reply
-        ensures { Receives self.old spool.old (Heard.Whole (Message.Text text.now)) urgent (record { receiver = self.new; spool = spool.new; reply = Some result }) }
+        ensures { Receives self.old spool.old (Heard.Whole (Message.Text text.now)) urgent
+            (record { receiver = self.new; spool = spool.new; reply = Some result }) }
     {
         if !spool.make_room() {
             self.last = Reply::Nak;
@@ -96,7 +99,8 @@ impl Receiver {
 
     /// Gives the last reply again, or the acknowledgement that a WACK put off.
     fn repeat<A: Allocator>(&mut self, urgent: bool, spool: &mut Spool<A>) -> Reply
-        ensures { Receives self.old spool.old (Heard.Whole Message.Enq) urgent (record { receiver = self.new; spool = spool.new; reply = Some result }) }
+        ensures { Receives self.old spool.old (Heard.Whole Message.Enq) urgent
+            (record { receiver = self.new; spool = spool.new; reply = Some result }) }
     {
         if self.last == Reply::Wack && spool.make_room() {
             self.last = self.parity.ack();

@@ -17,8 +17,8 @@ use std::alloc::Allocator;
 use std::marker::Model;
 use thiserror::Error;
 
-/// The sender of one bid: it sends the waiting records of a queue, block by block, and marks in the queue
-/// which are known to have arrived.
+/// The sender of one bid: it sends the waiting records of a queue, block by block, and marks in the
+/// queue which are known to have arrived.
 #[derive(Drop)]
 pub struct Sender {
     setup: Setup,
@@ -67,25 +67,27 @@ impl Sender {
         }
     }
 
-    /// Begins a bid: sends the first block of the waiting records. Condition: the sender is idle, without a
-    /// doubt, and records wait. (GA27-3004, transmission of blocks.)
+    /// Begins a bid: sends the first block of the waiting records. Condition: the sender is idle,
+    /// without a doubt, and records wait. (GA27-3004, transmission of blocks.)
     #[tactic(auto, using(crate::proofs::ReadyLemmas::going_begin))]
     pub fn begin<A: Allocator>(&mut self, queue: &Queue<A>) -> Act
         requires idle { self.old.phase ≡ Phase.Idle }
         requires some { 1 ≤ length (waiting queue.now) }
-        ensures row { record { sender = self.new; queue = queue.now; act = result } ≡ begin_step self.old queue.now }
+        ensures row { record { sender = self.new; queue = queue.now; act = result }
+            ≡ begin_step self.old queue.now }
         ensures going { IsGoing self.new.phase }
         ensures ready { IsReady self.old queue.now → IsReady self.new queue.now }
     {
         self.send_next(queue, Parity::Odd)
     }
 
-    /// Hears a transmission. A reply is acted on; anything else changes nothing. Condition: in the queue
-    /// wait the records of the unanswered block, behind ETB one more, and while held behind ETB at least
-    /// one. (GA27-3004, ACK 0, ACK 1, NAK, WACK and RVI; the limits are own.)
+    /// Hears a transmission. A reply is acted on; anything else changes nothing. Condition: in the
+    /// queue wait the records of the unanswered block, behind ETB one more, and while held behind
+    /// ETB at least one. (GA27-3004, ACK 0, ACK 1, NAK, WACK and RVI; the limits are own.)
     pub fn reply<A: Allocator>(&mut self, heard: &Heard, queue: &mut Queue<A>) -> Act
         requires { CountsOn self.old.phase (length (waiting queue.old)) }
-        ensures row { record { sender = self.new; queue = queue.new; act = result } ≡ reply_step self.old queue.old (reply_heard heard.now) }
+        ensures row { record { sender = self.new; queue = queue.new; act = result }
+            ≡ reply_step self.old queue.old (reply_heard heard.now) }
         ensures ready { IsReady self.old queue.old → IsReady self.new queue.new }
         ensures fits { FitsAct result self.old.phase self.new.phase }
     {
@@ -103,11 +105,12 @@ impl Sender {
         }
     }
 
-    /// Nothing was heard for the time of a time-out. (GA27-3004, time-outs; the limit and the doubt are
-    /// own.)
+    /// Nothing was heard for the time of a time-out. (GA27-3004, time-outs; the limit and the doubt
+    /// are own.)
     #[tactic(auto, using(crate::proofs::ReadyLemmas::all_waiting))]
     pub fn silence(&mut self) -> Act
-        ensures row { (q : QueueValue) → record { sender = self.new; queue = q; act = result } ≡ silence_step self.old q }
+        ensures row { (q : QueueValue)
+            → record { sender = self.new; queue = q; act = result } ≡ silence_step self.old q }
         ensures ready { (q : QueueValue) → IsReady self.old q → IsReady self.new q }
         ensures fits { FitsAct result self.old.phase self.new.phase }
     {
@@ -118,8 +121,8 @@ impl Sender {
         }
     }
 
-    /// The line was taken from the sender: an unanswered block is in doubt from now on, and a held sender
-    /// is idle. (Own.)
+    /// The line was taken from the sender: an unanswered block is in doubt from now on, and a held
+    /// sender is idle. (Own.)
     pub fn cut_off(&mut self)
         ensures state { self.new ≡ with_phase self.old (cut_phase self.old.phase) }
         ensures rests { IsAtRest self.new.phase }
@@ -139,16 +142,17 @@ impl Sender {
         matches!(self.phase, Phase::InDoubt { .. })
     }
 
-    /// Ends the doubt: the other end has `count` records. `NotInDoubt`, then `CountMismatch` where the
-    /// count is neither that of the known records nor that with the doubtful block; both change nothing.
-    /// Condition: the records of the doubtful block wait in the queue. (Own.)
+    /// Ends the doubt: the other end has `count` records. `NotInDoubt`, then `CountMismatch` where
+    /// the count is neither that of the known records nor that with the doubtful block; both change
+    /// nothing. Condition: the records of the doubtful block wait in the queue. (Own.)
     pub fn release<A: Allocator>(
         &mut self,
         count: usize,
         queue: &mut Queue<A>,
     ) -> Result<(), ReleaseError>
         requires { CountsOn self.old.phase (length (waiting queue.old)) }
-        ensures row { record { sender = self.new; queue = queue.new; answer = result } ≡ release_step self.old queue.old count }
+        ensures row { record { sender = self.new; queue = queue.new; answer = result }
+            ≡ release_step self.old queue.old count }
         ensures ok { OnOk result (self.new ≡ with_phase self.old Phase.Idle) }
         ensures err { OnErr result ((self.new ≡ self.old) × (queue.new ≡ queue.old)) }
         ensures ready { IsReady self.old queue.old → IsReady self.new queue.new }
@@ -177,7 +181,8 @@ impl Sender {
     /// Sends the next block.
     #[tactic(auto, using(crate::proofs::ReadyLemmas::counts_next))]
     fn send_next<A: Allocator>(&mut self, queue: &Queue<A>, parity: Parity) -> Act
-        ensures row { record { sender = self.new; queue = queue.now; act = result } ≡ sent_next self.old queue.now parity (next_block queue.now) }
+        ensures row { record { sender = self.new; queue = queue.now; act = result }
+            ≡ sent_next self.old queue.now parity (next_block queue.now) }
         ensures ready { IsQueue queue.now → IsReady self.new queue.now }
     {
         self.tries = 0;
@@ -198,7 +203,8 @@ impl Sender {
 
     /// The expected acknowledgement of a block with this end came.
     fn accept<A: Allocator>(&mut self, queue: &Queue<A>, end: End, parity: Parity) -> Act
-        ensures row { record { sender = self.new; queue = queue.now; act = result } ≡ accepted self.old queue.now end parity }
+        ensures row { record { sender = self.new; queue = queue.now; act = result }
+            ≡ accepted self.old queue.now end parity }
         ensures ready { IsQueue queue.now → IsReady self.new queue.now }
     {
         match end {
@@ -211,13 +217,16 @@ impl Sender {
         }
     }
 
-    /// One more failure in a row. True where the limit is passed: the bid is over, and `left` is its phase.
+    /// One more failure in a row. True where the limit is passed: the bid is over, and `left` is
+    /// its phase.
     fn fail(&mut self, left: Phase) -> bool
         requires going { IsGoing self.old.phase }
         requires left { IsAtRest left }
         ensures over { result ≡ nat_lt self.old.setup.tries (self.old.tries + 1) }
-        ensures ends { result ≡ true → self.new ≡ with_phase (with_counts self.old (self.old.tries + 1) self.old.waits) left }
-        ensures goes_on { result ≡ false → self.new ≡ with_counts self.old (self.old.tries + 1) self.old.waits }
+        ensures ends { result ≡ true
+            → self.new ≡ with_phase (with_counts self.old (self.old.tries + 1) self.old.waits) left }
+        ensures goes_on { result ≡ false
+            → self.new ≡ with_counts self.old (self.old.tries + 1) self.old.waits }
     {
         let limit = self.setup.tries();
         self.tries += 1;
@@ -228,12 +237,16 @@ impl Sender {
         false
     }
 
-    /// One more failure in a row, on which the last reply is asked for again, unless the bid is over.
+    /// One more failure in a row, on which the last reply is asked for again, unless the bid is
+    /// over.
     fn ask_again(&mut self, left: Phase) -> Act
         requires going { IsGoing self.old.phase }
         requires left { IsAtRest left }
-        ensures row { (q : QueueValue) → record { sender = self.new; queue = q; act = result } ≡ failed self.old q left Act.Enq }
-        ensures ready { (q : QueueValue) → IsReady self.old q → CountsOn left (length (waiting q)) → IsReady self.new q }
+        ensures row { (q : QueueValue)
+            → record { sender = self.new; queue = q; act = result }
+            ≡ failed self.old q left Act.Enq }
+        ensures ready { (q : QueueValue) → IsReady self.old q
+            → CountsOn left (length (waiting q)) → IsReady self.new q }
         ensures fits { FitsAct result self.old.phase self.new.phase }
     {
         if self.fail(left) { Act::Over } else { Act::Enq }
@@ -242,8 +255,11 @@ impl Sender {
     /// One more WACK, to a block with this end.
     fn delay(&mut self, end: End, parity: Parity) -> Act
         requires { IsGoing self.old.phase }
-        ensures row { (q : QueueValue) → record { sender = self.new; queue = q; act = result } ≡ delayed self.old q end parity }
-        ensures ready { (q : QueueValue) → IsQueue q → AreWaiting 0 end (length (waiting q)) → IsReady self.new q }
+        ensures row { (q : QueueValue)
+            → record { sender = self.new; queue = q; act = result }
+            ≡ delayed self.old q end parity }
+        ensures ready { (q : QueueValue) → IsQueue q → AreWaiting 0 end (length (waiting q))
+            → IsReady self.new q }
     {
         self.tries = 0;
         self.waits += 1;
@@ -265,7 +281,8 @@ impl Sender {
     ) -> Act
         requires phase { self.old.phase ≡ Phase.Unanswered block }
         requires counts { CountsOn self.old.phase (length (waiting queue.old)) }
-        ensures row { record { sender = self.new; queue = queue.new; act = result } ≡ unanswered_step self.old queue.old block answer }
+        ensures row { record { sender = self.new; queue = queue.new; act = result }
+            ≡ unanswered_step self.old queue.old block answer }
         ensures ready { IsReady self.old queue.old → IsReady self.new queue.new }
     {
         match answer {
@@ -300,7 +317,8 @@ impl Sender {
         answer: Answer,
     ) -> Act
         requires { self.old.phase ≡ Phase.Held end parity }
-        ensures row { record { sender = self.new; queue = queue.now; act = result } ≡ held_step self.old queue.now end parity answer }
+        ensures row { record { sender = self.new; queue = queue.now; act = result }
+            ≡ held_step self.old queue.now end parity answer }
         ensures ready { IsReady self.old queue.now → IsReady self.new queue.now }
     {
         match answer {

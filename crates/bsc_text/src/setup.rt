@@ -61,9 +61,10 @@ impl From<FormatError> for SettingError {
 }
 
 impl Setup {
-    /// The settings: the full length of a record (1 to 144), the most characters that a block counts (146
-    /// to 400), how many failures in a row are borne (1 to 15), and how many WACKs since the last
-    /// acknowledgement (1 to 255). The error names the first number that is outside its limits. All own.
+    /// The settings: the full length of a record (1 to 144), the most characters that a block
+    /// counts (146 to 400), how many failures in a row are borne (1 to 15), and how many WACKs
+    /// since the last acknowledgement (1 to 255). The error names the first number that is outside
+    /// its limits. All own.
     pub fn new(full: u8, block_chars: u16, tries: u8, waits: u8) -> Result<Setup, SettingError>
         ensures value { result ≡ setup_of full block_chars tries waits }
         ensures limits { IfOk result IsSetup }

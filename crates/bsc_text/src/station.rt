@@ -10,8 +10,8 @@ use bsc_frame::{Heard, Message, Wire, decode, encode};
 
 /// A station of the line (GA27-3004, centralised multipoint operation).
 pub trait Station {
-    /// Its table of what is heard: the station before, what is heard, the station after, and the message
-    /// that it sends.
+    /// Its table of what is heard: the station before, what is heard, the station after, and the
+    /// message that it sends.
     ghost hears: { Self → HeardValue → Self → Option MessageValue → Type 0 };
 
     /// Its table of silences: the station before, the station after, and the message that it sends.
@@ -20,34 +20,39 @@ pub trait Station {
     /// Whether it acts on a silence before the control station does.
     ghost holds: { Self → Bool };
 
-    /// Hears what octets were decoded as. True: the wire holds the one message to send. False: the wire
-    /// is empty. It may try to reserve memory; a refusal changes a reply alone.
+    /// Hears what octets were decoded as. True: the wire holds the one message to send. False: the
+    /// wire is empty. It may try to reserve memory; a refusal changes a reply alone.
     fn hear_message(&mut self, heard: &Heard, wire: &mut Wire) -> bool
-        ensures { (sent : Option MessageValue) × hears self.old heard.now self.new sent × IsSent sent result wire.new.items };
+        ensures { (sent : Option MessageValue) × hears self.old heard.now self.new sent
+            × IsSent sent result wire.new.items };
 
-    /// Hears octets. True: the wire holds the one message to send. False: the wire is empty. It may try
-    /// to reserve memory; a refusal changes a reply alone.
+    /// Hears octets. True: the wire holds the one message to send. False: the wire is empty. It may
+    /// try to reserve memory; a refusal changes a reply alone.
     fn hear(&mut self, octets: &[u8], wire: &mut Wire) -> bool
-        ensures { (heard : HeardValue) × (IsHeardAs octets.now heard × ((sent : Option MessageValue) × hears self.old heard self.new sent × IsSent sent result wire.new.items)) }
+        ensures { (heard : HeardValue) × (IsHeardAs octets.now heard
+            × ((sent : Option MessageValue) × hears self.old heard self.new sent
+            × IsSent sent result wire.new.items)) }
     {
         self.hear_message(&decode(octets), wire)
     }
 
-    /// Nothing was heard for the time of a time-out. True: the wire holds the one message to send. False:
-    /// the wire is empty.
+    /// Nothing was heard for the time of a time-out. True: the wire holds the one message to send.
+    /// False: the wire is empty.
     fn silence(&mut self, wire: &mut Wire) -> bool
-        ensures { (sent : Option MessageValue) × acts self.old self.new sent × IsSent sent result wire.new.items };
+        ensures { (sent : Option MessageValue) × acts self.old self.new sent
+            × IsSent sent result wire.new.items };
 
     /// Whether it acts on a silence before the control station does.
     fn holds_line(&self) -> bool
         ensures { result ≡ holds self.now };
 
     /// Noise changes nothing, and nothing is sent.
-    ghost ignores_noise: { (old new : Self) (sent : Option MessageValue) → hears old Noise new sent → (new ≡ old) × (sent ≡ None) };
+    ghost ignores_noise: { (old new : Self) (sent : Option MessageValue)
+        → hears old Noise new sent → (new ≡ old) × (sent ≡ None) };
 }
 
-/// Puts the octets of the message into the wire, in place of what it had, and nothing where there is no
-/// message. True where there is one.
+/// Puts the octets of the message into the wire, in place of what it had, and nothing where there
+/// is no message. True where there is one.
 pub fn transmit(message: Option<Message>, wire: &mut Wire) -> bool
     ensures { IsSent message result wire.new.items }
 {

@@ -42,9 +42,9 @@ pub enum TerminalError {
 }
 
 impl Terminal {
-    /// The terminal with this polling address and these selection addresses. `Count` where there are not
-    /// one to four of them. Whether the addresses differ is not looked at. (GA27-3004, polling and
-    /// selection; several selection addresses are own.)
+    /// The terminal with this polling address and these selection addresses. `Count` where there
+    /// are not one to four of them. Whether the addresses differ is not looked at. (GA27-3004,
+    /// polling and selection; several selection addresses are own.)
     pub fn new(poll: Address, selects: &[Address]) -> Result<Terminal, TerminalError>
         ensures value { result ≡ terminal_of poll selects.now }
     {

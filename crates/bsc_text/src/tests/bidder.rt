@@ -27,7 +27,8 @@ impl<A: Allocator> Model for Bidder<A> {
 
     ghost view = { λ b. (b.sender, b.queue) };
 
-    ghost invariant = { λ b. IsReady b.sender b.queue × (b.going ≡ false → IsAtRest b.sender.phase) };
+    ghost invariant = { λ b. IsReady b.sender b.queue × (b.going ≡ false
+        → IsAtRest b.sender.phase) };
 }
 
 impl<A: Allocator> Bidder<A> {
