@@ -32,6 +32,7 @@ IsReplyBefore Ack1 Even = Unit {0}
 IsReplyBefore Nak parity = Unit {0}
 IsReplyBefore _ _ = ⊥
 
+-- on its way then: nothing, the block, ENQ, or the last reply
 abbrev pub IsFlightBefore : QueueValue → SentBlock → Reply → Flight → Type 0
 IsFlightBefore q b last Still = Unit {0}
 IsFlightBefore q b last (Outward (m.Text t)) = t ≡ text_of q b
@@ -47,6 +48,7 @@ IsReplyAfter Wack parity = Unit {0}
 IsReplyAfter Rvi parity = Unit {0}
 IsReplyAfter _ _ = ⊥
 
+-- on its way then: nothing, ENQ, or the last reply
 abbrev pub IsFlightAfter : Reply → Flight → Type 0
 IsFlightAfter last Still = Unit {0}
 IsFlightAfter last (Outward m.Enq) = Unit {0}
@@ -113,11 +115,12 @@ Continues (InDoubt k) q parity last spooled f = IsResting (InDoubt k) q spooled 
 Continues (Unanswered b) q parity last spooled f = InBid (Unanswered b) q parity last spooled f
 Continues (Held end x) q parity last spooled f = InBid (Held end x) q parity last spooled f
 
--- a reply is on its way, or an act's transmission
+-- a reply is on its way
 abbrev pub back : Option Reply → Flight
 back None = Still
 back (Some r) = Back r
 
+-- what an act sends is on its way
 abbrev pub sent_flight : Act → Flight
 sent_flight (a.Send t) = Outward (m.Text t)
 sent_flight a.Enq = Outward m.Enq

@@ -24,6 +24,7 @@ pub record Bid : Type 0 where
   pub spool : SpoolValue
   pub act : Act
 
+-- the channel of a bid
 abbrev pub channel_of : Bid → Channel
 channel_of b = channel b.queue b.spool.records
 
@@ -58,13 +59,15 @@ abbrev pub unless_quiet : SenderStep → Act → SenderStep
 unless_quiet t a.Quiet = silence_step t.sender t.queue
 unless_quiet t _ = t
 
--- the parts of a turn, and what it leaves
+-- what the receiver does in a turn
 abbrev pub receiver_in : Bid → Turn → ReceiverStep
 receiver_in b t = received b.receiver b.spool t.heard t.urgent t.rooms
 
+-- what the sender does on the reply, before any silence
 abbrev pub sender_in : Bid → Turn → SenderStep
 sender_in b t = answered b.sender b.queue (receiver_in b t).reply t.answer
 
+-- the two ends after a turn
 abbrev pub after_turn : Bid → Turn → Bid
 after_turn b t =
     let r = receiver_in b t in
@@ -83,6 +86,7 @@ IsFairTo (Some w) h = IsFair w h
 IsFairTo None None = Unit {0}
 IsFairTo None (Some h) = ⊥
 
+-- the message of the reply, if there is one
 abbrev pub message_back : Option Reply → Option Message
 message_back None = None
 message_back (Some r) = Some (message_of r)
@@ -99,10 +103,12 @@ pub data Event : Type 0 where
   Exchange : (turn : Turn) → Event
   Offering : (offered_record : List ℕ) → Event
 
+-- the two ends after an event
 abbrev pub after_event : Bid → Event → Bid
 after_event b (Exchange t) = after_turn b t
 after_event b (Offering r) = record b { queue = with_offered b.queue r }
 
+-- a turn is fair, and an offered record is not longer than the full length
 abbrev pub MayCome : Bid → Event → Type 0
 MayCome b (Exchange t) = IsFairTurn b t
 MayCome b (Offering r) = length r ≤ b.queue.format.full
@@ -113,7 +119,7 @@ AreEvents b [] c = c ≡ b
 AreEvents b (e ∷ es) c = MayCome b e × AreEvents (after_event b e) es c
 
 -- A bid begins: the sender is idle and not in doubt, records wait, all that was spooled is known,
--- and the receiver begins with ACK 0.
+-- and the receiver begins with ACK0.
 pub record IsBegun (b : Bid) : Type 0 where
   pub sender : SenderValue
   pub idle : sender.phase ≡ Idle

@@ -63,7 +63,7 @@ SilenceAgrees =
     Continues s.phase q parity last spooled Still
     → SenderAgrees q parity last spooled (silence_step s q)
 
--- a bid begins, and the receiver begins with ACK 0
+-- a bid begins, and the receiver begins with ACK0
 abbrev pub BeginAgrees : Type 0
 BeginAgrees =
     (s : SenderValue) (q : QueueValue) (spooled : List (List ℕ)) → IsResting Idle q spooled
@@ -77,6 +77,7 @@ OfferAgrees =
     length r ≤ q.format.full → InBid phase q parity last spooled f
     → InBid phase (with_offered q r) parity last spooled f
 
+-- a record is offered while no bid goes on
 abbrev pub OfferKeepsRest : Type 0
 OfferKeepsRest =
     (phase : Phase) (q : QueueValue) (spooled : List (List ℕ)) (r : List ℕ)
@@ -89,6 +90,7 @@ pub record ReleaseAgrees (s : ReleaseStep) (spooled : List (List ℕ)) : Type 0 
   pub idle : s.sender.phase ≡ Idle
   pub rest : IsResting Idle s.queue spooled
 
+-- the spooled count releases any doubt
 abbrev pub ReleaseKeepsRest : Type 0
 ReleaseKeepsRest =
     (s : SenderValue) (q : QueueValue) (k : ℕ) (spooled : List (List ℕ)) → s.phase ≡ InDoubt k
@@ -107,26 +109,27 @@ LossAgrees =
     (phase : Phase) (q : QueueValue) (parity : Parity) (last : Reply) (spooled : List (List ℕ))
     (f : Flight) → InBid phase q parity last spooled f → InBid phase q parity last spooled Still
 
--- a bid that goes on continues, and one with something of the sender on the way goes on
+-- a bid that goes on continues
 abbrev pub BidContinues : Type 0
 BidContinues =
     (phase : Phase) (q : QueueValue) (parity : Parity) (last : Reply) (spooled : List (List ℕ))
     (f : Flight) → InBid phase q parity last spooled f → Continues phase q parity last spooled f
 
+-- where something of the sender is on the way the bid goes on
 abbrev pub SendingGoesOn : Type 0
 SendingGoesOn =
     (phase : Phase) (q : QueueValue) (parity : Parity) (last : Reply) (spooled : List (List ℕ))
     (sent : Message) → Continues phase q parity last spooled (Outward sent)
     → InBid phase q parity last spooled (Outward sent)
 
--- what the sender has on the way is a text or ENQ, and a reply on the way is the receiver's last
--- one
+-- what the sender has on the way is a text or ENQ
 abbrev pub OutwardIsTextOrEnq : Type 0
 OutwardIsTextOrEnq =
     (phase : Phase) (q : QueueValue) (parity : Parity) (last : Reply) (spooled : List (List ℕ))
     (sent : Message) → InBid phase q parity last spooled (Outward sent)
     → IsTextMessage sent ⊎ (sent ≡ m.Enq)
 
+-- a reply on the way is the receiver's last one
 abbrev pub BackIsLast : Type 0
 BackIsLast =
     (phase : Phase) (q : QueueValue) (parity : Parity) (last reply : Reply)

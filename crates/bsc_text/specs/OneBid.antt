@@ -30,22 +30,24 @@ pub record CarriesBlock (b : Bid) (t : TextValue) : Type 0 where
   pub text : t ≡ text_of b.queue block
   pub records : records_in t.units ≡ take block.count (waiting b.queue)
 
--- each text that is sent, and each that is heard whole, has exactly the records of the block
+-- each text that is sent has exactly the records of its block
 abbrev pub SendsItsBlocks : Type 0
 SendsItsBlocks =
     (b : Bid) (es : List Event) (c : Bid) (t : TextValue) → Reaches b es c
     → c.act ≡ a.Send t → CarriesBlock c t
 
+-- and each text that is heard whole
 abbrev pub HearsItsBlocks : Type 0
 HearsItsBlocks =
     (b : Bid) (es : List Event) (c : Bid) (turn : Turn) (t : TextValue) → Reaches b es c
     → IsFairTurn c turn → turn.heard ≡ Some (Whole (m.Text t)) → CarriesBlock c t
 
--- where the receiver hears, nothing moves, or the unanswered block lands
+-- the unanswered block lands
 abbrev pub LandsBlock : Phase → Channel → Channel → Type 0
 LandsBlock phase old new =
     (block : SentBlock) × (phase ≡ Unanswered block) × Makes (Land block.count) old new
 
+-- where the receiver hears, nothing moves, or a block lands
 abbrev pub MovesAtReceiver : Phase → Channel → Channel → Type 0
 MovesAtReceiver phase old new = Makes Nothing old new ⊎ LandsBlock phase old new
 
@@ -62,13 +64,14 @@ pub record MovesInTurn (b : Bid) (t : Turn) : Type 0 where
   pub receiver : MovesAtReceiver b.sender.phase (channel_of b) (channel_within b t)
   pub sender : MovesAtSender (channel_within b t) (channel_of (after_turn b t))
 
--- Each block lands at most once, since it lands only where all that was spooled is known; it is
+-- Each turn moves the channel so. A block lands at most once, since it lands only where all that was spooled is known; it is
 -- learnt only after it landed, since what is learnt is what was spooled.
 abbrev pub OnlyMoves : Type 0
 OnlyMoves =
     (b : Bid) (es : List Event) (c : Bid) (t : Turn) → Reaches b es c → IsFairTurn c t
     → MovesInTurn c t
 
+-- an offer adds its record, and moves nothing else
 abbrev pub OffersMove : Type 0
 OffersMove =
     (b : Bid) (r : List ℕ) → Makes (Offer r) (channel_of b) (channel_of (after_event b (Offering r)))
@@ -77,11 +80,12 @@ OffersMove =
 abbrev pub StaysReady : Type 0
 StaysReady = (b : Bid) (es : List Event) (c : Bid) → Reaches b es c → IsReady c.sender c.queue
 
--- at each moment the channel is sound: before and after each event, and within each turn
+-- at each moment the channel is sound: before and after each event
 abbrev pub StaysSound : Type 0
 StaysSound =
     (b : Bid) (es : List Event) (c : Bid) → Reaches b es c → IsSound c.sender.phase (channel_of c)
 
+-- and within each turn
 abbrev pub SoundWithinTurns : Type 0
 SoundWithinTurns =
     (b : Bid) (es : List Event) (c : Bid) (t : Turn) → Reaches b es c → IsFairTurn c t

@@ -35,13 +35,14 @@ AreWithin setup tries waits (InDoubt k) = Unit {0}
 AreWithin setup tries waits (Unanswered b) = (tries ≤ setup.tries) × (waits ≤ setup.waits)
 AreWithin setup tries waits (Held end parity) = (tries ≤ setup.tries) × (waits ≤ setup.waits)
 
--- a bid goes on, or not
+-- a bid goes on
 abbrev pub IsGoing : Phase → Type 0
 IsGoing Idle = ⊥
 IsGoing (InDoubt k) = ⊥
 IsGoing (Unanswered b) = Unit {0}
 IsGoing (Held end parity) = Unit {0}
 
+-- no bid goes on
 abbrev pub IsAtRest : Phase → Type 0
 IsAtRest Idle = Unit {0}
 IsAtRest (InDoubt k) = Unit {0}

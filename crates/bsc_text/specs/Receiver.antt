@@ -1,4 +1,4 @@
--- The receiver's table (GA27-3004: ACK 0 and ACK 1, NAK, ENQ, WACK and RVI; that RVI comes by a
+-- The receiver's table (GA27-3004: ACK0 and ACK1, NAK, ENQ, WACK and RVI; that RVI comes by a
 -- flag is own).
 use Rattle.std.specs.Prelude.{◌≡◌, ℕ, Bool, true, false, not, List, ◌++◌, Option, None, Some, if◌then◌else◌}
 use Rattle.bsc_frame.specs.declared.message.Message.TheVariants as m
@@ -33,6 +33,7 @@ pub record Rooms : Type 0 where
 abbrev pub first_reply : Bool → Reply
 first_reply room = if room then Ack0 else Wack
 
+-- the receiver of a bid that begins
 abbrev pub begun : Bool → ReceiverValue
 begun room = record { parity = Even; last = first_reply room }
 
@@ -44,14 +45,17 @@ tried = room_asked
 abbrev pub stored : SpoolValue → List (List ℕ) → Bool → SpoolValue
 stored s rs room = record { records = s.records ++ rs; room = room; delays = s.delays }
 
+-- RVI
 abbrev pub is_rvi : Reply → Bool
 is_rvi Rvi = true
 is_rvi _ = false
 
+-- WACK
 abbrev pub is_wack : Reply → Bool
 is_wack Wack = true
 is_wack _ = false
 
+-- NAK
 abbrev pub is_nak : Reply → Bool
 is_nak Nak = true
 is_nak _ = false

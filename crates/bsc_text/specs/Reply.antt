@@ -1,4 +1,4 @@
--- Replies (GA27-3004: ACK 0, ACK 1, NAK, WACK, RVI): the message of each, and what each is to a
+-- Replies (GA27-3004: ACK0, ACK1, NAK, WACK, RVI): the message of each, and what each is to a
 -- block.
 use Rattle.std.specs.Prelude.{Option, None, Some}
 use Rattle.bsc_frame.specs.declared.message.Message.{Message}
@@ -17,7 +17,7 @@ abbrev pub other : Parity → Parity
 other Even = Odd
 other Odd = Even
 
--- the acknowledgement of so many blocks: ACK 0 where their number is even, ACK 1 where it is odd
+-- the acknowledgement of so many blocks: ACK0 where their number is even, ACK1 where it is odd
 abbrev pub ack : Parity → Reply
 ack Even = Ack0
 ack Odd = Ack1

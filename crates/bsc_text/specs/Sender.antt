@@ -37,10 +37,11 @@ pub record SenderStep : Type 0 where
   pub queue : QueueValue
   pub act : Act
 
--- the sender with another phase, and with other counters
+-- the sender with another phase
 abbrev pub with_phase : SenderValue → Phase → SenderValue
 with_phase s phase = record s { phase = phase }
 
+-- the sender with other counters
 abbrev pub with_counts : SenderValue → ℕ → ℕ → SenderValue
 with_counts s tries waits = record s { tries = tries; waits = waits }
 
@@ -69,7 +70,7 @@ sent_next s q parity (Some n) =
       act = a.Send (text_of q b);
     }
 
--- begin: the next block is unanswered, and ACK 1 is expected
+-- begin: the next block is unanswered, and ACK1 is expected
 abbrev pub begin_step : SenderValue → QueueValue → SenderStep
 begin_step s q = sent_next s q Odd (next_block q)
 
@@ -107,6 +108,7 @@ held_step s q end parity Refused = failed s q Idle a.Enq
 held_step s q end parity Delayed = delayed s q end parity
 held_step s q end parity Interrupted = over s q Idle
 
+-- a reply in this phase
 abbrev pub answered_step : SenderValue → QueueValue → Phase → Reply → SenderStep
 answered_step s q Idle r = quiet s q
 answered_step s q (InDoubt count) r = quiet s q
@@ -136,6 +138,7 @@ cut_phase (Held end parity) = Idle
 cut_phase Idle = Idle
 cut_phase (InDoubt count) = InDoubt count
 
+-- whether it is not known if a block arrived
 abbrev pub is_in_doubt : Phase → Bool
 is_in_doubt (InDoubt count) = true
 is_in_doubt _ = false
@@ -151,9 +154,11 @@ abbrev pub released : SenderValue → QueueValue → ℕ → ReleaseStep
 released s q count =
     record { sender = with_phase s Idle; queue = queue_of q.format q.offered count; answer = Ok tt }
 
+-- nothing changes, and the release is refused
 abbrev pub not_released : SenderValue → QueueValue → ReleaseError → ReleaseStep
 not_released s q error = record { sender = s; queue = q; answer = Err error }
 
+-- a release in this phase
 abbrev pub release_in : SenderValue → QueueValue → Phase → ℕ → ReleaseStep
 release_in s q (InDoubt k) count =
     if (count == q.known) || (count == (q.known + k)) then released s q count

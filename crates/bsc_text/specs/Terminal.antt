@@ -25,6 +25,7 @@ pub record HoldsSelects (poll : List ℕ) (table : List (List ℕ)) (count : ℕ
   pub long : length (take count table) ≡ count
   pub rest : padded poll (take count table) ≡ table
 
+-- the terminal with these addresses, unless there are too few or too many to select it by
 abbrev pub terminal_of : List ℕ → List (List ℕ) → Result TerminalValue TerminalError
 terminal_of poll selects =
     if nat_eq (length selects) 0 || nat_lt 4 (length selects) then Err Count

@@ -26,6 +26,14 @@ impl Model for Receiver {
     ghost view = { λ r. record { parity = r.parity; last = r.last } };
 }
 
+impl Default for Receiver {
+    ghost is_default = { λ r. r ≡ begun true };
+
+    fn default() -> Self {
+        Receiver::new()
+    }
+}
+
 impl Receiver {
     /// A receiver as after a begin with room.
     pub fn new() -> Self
@@ -37,7 +45,7 @@ impl Receiver {
         }
     }
 
-    /// Begins a bid, and gives the reply that says so: ACK 0, or WACK where there is no room for a
+    /// Begins a bid, and gives the reply that says so: ACK0, or WACK where there is no room for a
     /// block. (GA27-3004, replies to a selection.)
     pub fn begin(&mut self, room: bool) -> Reply
         ensures reply { result ≡ first_reply room }

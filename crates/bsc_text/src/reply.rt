@@ -6,7 +6,7 @@ ghost use Rattle.bsc_text.specs.Reply.{answer_of, message_of, reply_heard};
 use crate::parity::Parity;
 use bsc_frame::{Heard, Message};
 
-/// The replies of a receiver (GA27-3004, ACK 0, ACK 1, NAK, WACK and RVI).
+/// The replies of a receiver (GA27-3004, ACK0, ACK1, NAK, WACK and RVI).
 #[derive(Clone, Copy, Debug, PartialEq, Eq)]
 pub enum Reply {
     /// An even number of blocks was taken.
