@@ -26,6 +26,10 @@ run_end p at s c l =
     let step : prefix_len p (drop at s) ≡ 0 = rw (drop_all at s l) refl in
     omega (arith, c.rest, c.within)
 
+pub run_none : (p : ℕ → Bool) (s : List ℕ) → p (get_or s 0 0) ≡ false → 0 ≡ prefix_len p s
+run_none p [] h = refl
+run_none p (x ∷ s) h = rw h refl
+
 -- ---- many at a time
 
 record Cuts (p : ℕ → Bool) (n : ℕ) (s : List ℕ) : Type 0 where

@@ -69,12 +69,18 @@ fn before_ending_rest(octets: &[u8]) -> usize
     octets.len()
 }
 
-/// How many octets at the front are one of the two.
-#[tactic(auto, using(crate::proofs::RunLemmas::run_rest))]
+/// How many octets at the front are one of the two. Mostly there is none: most transmissions have no pads.
+#[tactic(auto, using(crate::proofs::RunLemmas::run_rest, crate::proofs::RunLemmas::run_none))]
 pub(crate) fn either_front(octets: &[u8], one: u8, other: u8) -> usize
     ensures count { result ≡ prefix_len (is_either one other) octets.now }
     ensures within { result ≤ length octets.now }
 {
+    if octets.is_empty() {
+        return 0;
+    }
+    if octets[0] != one && octets[0] != other {
+        return 0;
+    }
     let mut at = 0;
     while octets.len() - at >= LANES {
         let run = either_in(octets, at, one, other);
