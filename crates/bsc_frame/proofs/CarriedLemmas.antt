@@ -83,12 +83,3 @@ pub start_low : (behind : Bool) (s : List ℕ) → AreCarried s → behind_start
 start_low false s c = refl
 start_low true [] c = refl
 start_low true (x ∷ s) c = rw (stx_same x c.0) (by_stx (x == 0x02) x s)
-
-pub carried_start : (behind : Bool) (s : List ℕ) → AreCarried s → AreCarried (behind_start behind s)
-carried_start false s c = c
-carried_start true [] c = tt
-carried_start true (x ∷ s) c = by_test (x == 0x02)
-  where
-    by_test : (b : Bool) → AreCarried (cond b s (x ∷ s))
-    by_test true = c.1
-    by_test false = c

@@ -94,14 +94,6 @@ ends_filtered s e = record {
   ends = e.ends;
 }
 
-pub carried_filtered : (s : List ℕ) → AreCarried s → AreCarried (filter is_other s)
-carried_filtered [] c = tt
-carried_filtered (x ∷ s) c = by_test (x == 0x16) (carried_filtered s c.1)
-  where
-    by_test : (b : Bool) → AreCarried (filter is_other s) → AreCarried (cond (not b) (x ∷ filter is_other s) (filter is_other s))
-    by_test true k = k
-    by_test false k = (c.0, k)
-
 pub ends_start : (behind : Bool) (s : List ℕ) → IsFront s → IsFront (behind_start behind s)
 ends_start false s e = e
 ends_start true [] e = e

@@ -23,6 +23,7 @@ is_pad_octet x = (x == 0x55) || (x == 0xaa)
 abbrev pub is_octet : ℕ → ℕ → Bool
 is_octet octet x = x == octet
 
+-- one of two octets
 abbrev pub is_either : ℕ → ℕ → ℕ → Bool
 is_either one other x = (x == one) || (x == other)
 
@@ -99,6 +100,7 @@ is_ending_code c = (c == 0x1f) || ((c == 0x17) || (c == 0x03))
 abbrev pub is_ending_octet : ℕ → Bool
 is_ending_octet x = (x == 0x1f) || ((x == 0x97) || (x == 0x83))
 
+-- any other octet
 abbrev pub is_before_ending : ℕ → Bool
 is_before_ending x = not (is_ending_octet x)
 
@@ -106,10 +108,11 @@ is_before_ending x = not (is_ending_octet x)
 abbrev pub low_bits : ℕ → ℕ
 low_bits x = x % 128
 
--- any octet but fill
+-- any octet but SYN
 abbrev pub is_other : ℕ → Bool
 is_other x = not (x == 0x16)
 
+-- an octet that carries a record character
 abbrev pub is_char_octet : ℕ → Bool
 is_char_octet x = is_record_char (low_bits x)
 

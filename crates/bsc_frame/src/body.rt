@@ -7,9 +7,11 @@ use crate::front::{LANES, either_front, either_in};
 /// The most octets that are heard as one transmission.
 const MAX_HEARD: usize = 2048;
 
+const SYN: u8 = 0x16;
+
 const PAD: u8 = 0xff;
 
-/// What stands behind the leading pads.
+/// What stands behind the leading pads, 0x55 or 0xaa.
 #[tactic(auto, using(crate::proofs::RunLemmas::skip_pads))]
 fn behind_pads(octets: &[u8]) -> &[u8]
     ensures { result.now ≡ skip is_pad_octet octets.now }
@@ -80,8 +82,8 @@ pub(crate) fn body_of(octets: &[u8]) -> &[u8]
         return &[];
     }
     let rest = behind_pads(octets);
-    if !starts_with(rest, 0x16) {
+    if !starts_with(rest, SYN) {
         return &[];
     }
-    trim(behind_all(rest, 0x16))
+    trim(behind_all(rest, SYN))
 }

@@ -8,6 +8,13 @@ use std::simd::prelude::*;
 
 pub(crate) const LANES: usize = 32;
 
+/// The octets that carry US, ETB and ETX.
+const US: u8 = 0x1f;
+
+const ETB: u8 = 0x97;
+
+const ETX: u8 = 0x83;
+
 /// The first lane of the 32 that is set in the mask; 32 where none is.
 fn first_lane(mask: u64) -> usize
     ensures { result ≡ (if mask == 0 then 32 else trailing_zeros w64 mask) }
@@ -35,9 +42,9 @@ fn before_ending_in(octets: &[u8], at: usize) -> usize
     ensures { result ≡ prefix_len is_before_ending (take 32 (drop at octets.now)) }
 {
     let lanes = u8x32::from_slice(&octets[at..]);
-    let ends = lanes.simd_eq(u8x32::splat(0x1f))
-        | lanes.simd_eq(u8x32::splat(0x97))
-        | lanes.simd_eq(u8x32::splat(0x83));
+    let ends = lanes.simd_eq(u8x32::splat(US))
+        | lanes.simd_eq(u8x32::splat(ETB))
+        | lanes.simd_eq(u8x32::splat(ETX));
     first_lane(ends.to_bitmask())
 }
 
@@ -62,7 +69,7 @@ fn before_ending_rest(octets: &[u8]) -> usize
     ensures within { result ≤ length octets.now }
 {
     for (i, octet) in octets.iter().enumerate() {
-        if *octet == 0x1f || *octet == 0x97 || *octet == 0x83 {
+        if *octet == US || *octet == ETB || *octet == ETX {
             return i;
         }
     }

@@ -55,17 +55,32 @@ fn without_start(behind: bool, octets: &[u8]) -> &[u8]
     }
 }
 
+/// The octets of a unit by what they are for.
+struct Parts<'a> {
+    chars: &'a [u8],
+    em: bool,
+    last: u8,
+}
+
 /// The characters, whether EM follows them, and the last octet.
-fn parts(octets: &[u8]) -> (&[u8], bool, u8)
+fn parts_of(octets: &[u8]) -> Parts<'_>
     requires { 0 < length octets.now }
-    ensures { AreParts octets.now result.0.now result.1 result.2 }
+    ensures { AreParts octets.now result.chars.now result.em result.last }
 {
     let count = octets.len() - 1;
     let last = octets[count];
     if count > 0 && octets[count - 1] == EM {
-        return (&octets[..count - 1], true, last);
+        return Parts {
+            chars: &octets[..count - 1],
+            em: true,
+            last,
+        };
     }
-    (&octets[..count], false, last)
+    Parts {
+        chars: &octets[..count],
+        em: false,
+        last,
+    }
 }
 
 /// Adds the unit of these octets to the draft, and gives its ending character.
@@ -77,7 +92,7 @@ fn take_chars(octets: &[u8], draft: &mut Draft) -> Option<u8>
     ensures found { IfSome result (λ e. AddsUnit draft.old draft.new (unit_of (map low_bits octets.now)) e) }
     ensures none { IfNone result (unit_of (map low_bits octets.now) ≡ None) }
 {
-    let (chars, em, last) = parts(octets);
+    let Parts { chars, em, last } = parts_of(octets);
     if chars.len() > 144 {
         return None;
     }
