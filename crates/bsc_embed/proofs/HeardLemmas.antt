@@ -1,38 +1,54 @@
--- The number and the content that what is heard leaves.
-use Rattle.std.proofs.Common.{◌≡◌, ◌↔◌, ℕ, ◌∙◌, refl, sym, ap, List, Some, None, arith}
+-- The kind and the content that what is heard leaves.
+use Rattle.std.proofs.Common.{◌≡◌, ◌↔◌, ℕ, ◌∙◌, refl, sym, ap, List, Some, arith}
 use Rattle.std.proofs.lemmas.Bool.Decides.{nat_tests}
 use Rattle.bsc_frame.specs.declared.message.Message.{Message}
 use Rattle.bsc_frame.specs.declared.message.Heard.{Heard}
-use Rattle.bsc_frame.specs.declared.message.Heard.TheVariants.{Whole}
-use Rattle.bsc_frame.specs.Spells.{Spells}
+use Rattle.bsc_frame.specs.declared.message.Heard.TheVariants.{Whole, Failed, Noise}
+use Rattle.bsc_frame.specs.Short.{IsHeard}
 use Rattle.bsc_embed.specs.Kinds.{kind_at}
 use Rattle.bsc_embed.specs.Contents.{message_as, message_in}
+use Rattle.bsc_embed.specs.Decoded.{IsLeft, HoldsNoContent, Tells}
 use Rattle.bsc_embed.specs.declared.kind.Kind.{Kind}
 use Rattle.bsc_embed.specs.declared.kind.Kind.TheVariants as kind
 use Rattle.bsc_embed.specs.declared.content.Content.{Content}
 
-by_kind : (number : ℕ) (k : Kind) (c : Content) → kind_at number ≡ Some k → message_in number c ≡ message_as k c
+not_failed : (k : Kind) (c : Content) (x : Message) → message_as k c ≡ Some x → k ≡ kind.Failed → ⊥
+not_failed k c x s e = let r : message_as kind.Failed c ≡ Some x = rw e at s in cc
+
+not_noise : (k : Kind) (c : Content) (x : Message) → message_as k c ≡ Some x → k ≡ kind.Noise → ⊥
+not_noise k c x s e = let r : message_as kind.Noise c ≡ Some x = rw e at s in cc
+
+-- what is heard is told by what it leaves
+pub tells : (octets : List ℕ) (h : Heard) (k : Kind) (old new : Content) → IsHeard octets h → IsLeft h k new → (HoldsNoContent h → new ≡ old) → Tells octets k old new
+tells octets (Whole x) k old new w s n = record {
+  whole = λ m. (
+    λ q. let r : Some x ≡ Some m = sym s ∙ q in let same : x ≡ m = cc in (w.whole m).0 (ap Whole same),
+    λ q. let r : Whole x ≡ Whole m = (w.whole m).1 q in let same : x ≡ m = cc in s ∙ ap Some same,
+  );
+  failed = (λ e. absurd (not_failed k new x s e), λ f. let r : Whole x ≡ Failed = w.failed.1 f in cc);
+  noise = (λ e. absurd (not_noise k new x s e), λ f. let r : Whole x ≡ Noise = w.noise.1 f in cc);
+  kept = λ e. n (e x ((w.whole x).0 refl));
+}
+tells octets Failed k old new w s n = record {
+  whole = λ m. (λ q. let r : message_as kind.Failed new ≡ Some m = rw s at q in cc, λ q. let r : Failed ≡ Whole m = (w.whole m).1 q in cc);
+  failed = (λ e. w.failed.0 refl, λ f. s);
+  noise = (λ e. cc, λ f. let r : Failed ≡ Noise = w.noise.1 f in cc);
+  kept = λ e. n tt;
+}
+tells octets Noise k old new w s n = record {
+  whole = λ m. (λ q. let r : message_as kind.Noise new ≡ Some m = rw s at q in cc, λ q. let r : Noise ≡ Whole m = (w.whole m).1 q in cc);
+  failed = (λ e. cc, λ f. let r : Noise ≡ Failed = w.failed.1 f in cc);
+  noise = (λ e. w.noise.0 refl, λ f. s);
+  kept = λ e. n tt;
+}
+
+-- a number stands for its kind
+pub by_kind : (number : ℕ) (k : Kind) (c : Content) → kind_at number ≡ Some k → message_in number c ≡ message_as k c
 unfolding message_in
 by_kind number k c e = rw e refl
 
--- where a message was heard, the content holds it and no other
-pub whole_holds : (octets : List ℕ) (h : Heard) (x : Message) (number : ℕ) (k : Kind) (c : Content) → ((m : Message) → (h ≡ Whole m) ↔ Spells octets m)
-    → h ≡ Whole x → kind_at number ≡ Some k → message_as k c ≡ Some x → (m : Message) → (message_in number c ≡ Some m) ↔ Spells octets m
-whole_holds octets h x number k c w e n s m = (
-  λ q. let same : x ≡ m = cc_of q in (w m).0 (e ∙ ap Whole same),
-  λ q. let r : Whole x ≡ Whole m = sym e ∙ (w m).1 q in let same : x ≡ m = cc in by_kind number k c n ∙ s ∙ ap Some same,
-)
-  where
-    cc_of : message_in number c ≡ Some m → x ≡ m
-    cc_of q = let r : Some x ≡ Some m = sym (by_kind number k c n ∙ s) ∙ q in cc
+pub failed_number : (number : ℕ) (k : Kind) → kind_at number ≡ Some k → (number ≡ 1) ↔ (k ≡ kind.Failed)
+failed_number number k e = (λ n. let r : kind_at 1 ≡ Some k = rw n at e in cc, λ f. let r : kind_at number ≡ Some kind.Failed = rw f at e in grind (arith, nat_tests))
 
--- where no message was heard, the content of a kind that is none holds none
-pub none_holds : (octets : List ℕ) (h : Heard) (number : ℕ) (k : Kind) (c : Content) → ((m : Message) → (h ≡ Whole m) ↔ Spells octets m)
-    → ((m : Message) → h ≡ Whole m → ⊥) → kind_at number ≡ Some k → message_as k c ≡ None → (m : Message) → (message_in number c ≡ Some m) ↔ Spells octets m
-none_holds octets h number k c w e n s m = (
-  λ q. let r : None ≡ Some m = sym (by_kind number k c n ∙ s) ∙ q in cc,
-  λ q. absurd (e m ((w m).1 q)),
-)
-
-pub noise_number : (number : ℕ) → kind_at number ≡ Some kind.Noise → number ≡ 0
-noise_number number e = grind (arith, nat_tests)
+pub noise_number : (number : ℕ) (k : Kind) → kind_at number ≡ Some k → (number ≡ 0) ↔ (k ≡ kind.Noise)
+noise_number number k e = (λ n. let r : kind_at 0 ≡ Some k = rw n at e in cc, λ f. let r : kind_at number ≡ Some kind.Noise = rw f at e in grind (arith, nat_tests))

@@ -1,3 +1,4 @@
 pub mod Kinds
 pub mod Contents
 pub mod Sent
+pub mod Decoded

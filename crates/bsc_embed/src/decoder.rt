@@ -1,11 +1,13 @@
 //! Decoding for C.
 ghost use Rattle.std.specs.Prelude.{◌≡◌, ◌↔◌, Some};
+ghost use Rattle.bsc_frame.specs.Short.{heard_as};
 ghost use Rattle.bsc_frame.specs.Spells.{Spells, IsFailed, IsNoise};
 ghost use Rattle.bsc_frame.specs.declared.message.Message.{Message};
 ghost use Rattle.bsc_embed.specs.Contents.{message_as, message_in, HoldsNothing};
+ghost use Rattle.bsc_embed.specs.Decoded.{IsLeft, HoldsNoContent, Tells};
 
 use crate::{Content, Kind};
-use bsc_frame::{Heard, Message, decode};
+use bsc_frame::{Heard, Message, Short, decode, decode_short};
 
 /// Puts what the message holds into the content, and gives its kind.
 fn put(message: &Message, content: &mut Content) -> Kind
@@ -31,6 +33,49 @@ fn put(message: &Message, content: &mut Content) -> Kind
     }
 }
 
+/// Puts what the short message holds into the content, and gives its kind.
+fn put_short(short: &Short, content: &mut Content) -> Kind
+    ensures left { IsLeft (heard_as short.now) result content.new }
+    ensures kept { HoldsNoContent (heard_as short.now) → content.new ≡ content.old }
+{
+    match short {
+        Short::Eot => Kind::Eot,
+        Short::Call(address) => {
+            content.put_address(address);
+            Kind::Call
+        }
+        Short::Enq => Kind::Enq,
+        Short::Ack0 => Kind::Ack0,
+        Short::Ack1 => Kind::Ack1,
+        Short::Nak => Kind::Nak,
+        Short::Wack => Kind::Wack,
+        Short::Rvi => Kind::Rvi,
+        Short::Noise => Kind::Noise,
+    }
+}
+
+/// Decodes what may be a text. Its own function, since only here there must be room for a text.
+#[inline(never)]
+fn decode_text(octets: &[u8], content: &mut Content) -> Kind
+    ensures { Tells octets.now result content.old content.new }
+{
+    match &decode(octets) {
+        Heard::Whole(message) => put(message, content),
+        Heard::Failed => Kind::Failed,
+        Heard::Noise => Kind::Noise,
+    }
+}
+
+/// The kind of what the octets are heard as, whose content is put into the content.
+fn decode_kind(octets: &[u8], content: &mut Content) -> Kind
+    ensures { Tells octets.now result content.old content.new }
+{
+    match &decode_short(octets) {
+        Some(short) => put_short(short, content),
+        None => decode_text(octets, content),
+    }
+}
+
 /// What the octets are heard as, by the number of its kind: 0 where they are noise, 1 where they begin as a
 /// text and spell no message, else the number of the message that they spell. The address of a call and the
 /// units and the end of a text are put into the content; else it stays as it was (GA27-3004: control
@@ -42,9 +87,5 @@ pub extern "C" fn bsc_decode(octets: &[u8], content: &mut Content) -> u32
     ensures noise { (result ≡ 0) ↔ IsNoise octets.now }
     ensures kept { ((m : Message) → Spells octets.now m → HoldsNothing m) → content.new ≡ content.old }
 {
-    match &decode(octets) {
-        Heard::Whole(message) => put(message, content).number(),
-        Heard::Failed => Kind::Failed.number(),
-        Heard::Noise => Kind::Noise.number(),
-    }
+    decode_kind(octets, content).number()
 }
