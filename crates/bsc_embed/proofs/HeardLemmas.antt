@@ -1,10 +1,13 @@
 -- The kind and the content that what is heard leaves.
-use Rattle.std.proofs.Common.{◌≡◌, ◌↔◌, ℕ, ◌∙◌, refl, sym, ap, List, Some, arith}
+use Rattle.std.proofs.Common.{◌≡◌, inl, inr, ◌↔◌, ℕ, ◌∙◌, refl, sym, ap, List, Some, arith}
 use Rattle.std.proofs.lemmas.Bool.Decides.{nat_tests}
 use Rattle.bsc_frame.specs.declared.message.Message.{Message}
 use Rattle.bsc_frame.specs.declared.message.Heard.{Heard}
 use Rattle.bsc_frame.specs.declared.message.Heard.TheVariants.{Whole, Failed, Noise}
-use Rattle.bsc_frame.specs.Short.{IsHeard}
+use Rattle.bsc_frame.specs.Spells.{Spells, IsFailed, IsNoise}
+use Rattle.bsc_frame.specs.Short.{IsHeard, BeginsText}
+use Rattle.bsc_frame.specs.Texts.{TextValue}
+use Rattle.bsc_frame.specs.declared.message.Message.TheVariants.{Text}
 use Rattle.bsc_embed.specs.Kinds.{kind_at}
 use Rattle.bsc_embed.specs.Contents.{message_as, message_in}
 use Rattle.bsc_embed.specs.Decoded.{IsLeft, HoldsNoContent, Tells}
@@ -52,3 +55,19 @@ failed_number number k e = (λ n. let r : kind_at 1 ≡ Some k = rw n at e in cc
 
 pub noise_number : (number : ℕ) (k : Kind) → kind_at number ≡ Some k → (number ≡ 0) ↔ (k ≡ kind.Noise)
 noise_number number k e = (λ n. let r : kind_at 0 ≡ Some k = rw n at e in cc, λ f. let r : kind_at number ≡ Some kind.Noise = rw f at e in grind (arith, nat_tests))
+
+-- what begins as a text and spells a message spells a text
+pub only_text : (octets : List ℕ) (m : Message) → BeginsText octets → IsHeard octets (Whole m) → ((t : TextValue) → m ≡ Text t → ⊥) → ⊥
+only_text octets m (inl (t, s)) w n =
+    let r : Whole m ≡ Whole (Text t) = (w.whole (Text t)).1 s in
+    n t cc
+only_text octets m (inr f) w n =
+    let r : Whole m ≡ Failed = w.failed.1 f in
+    cc
+
+-- what a call of the decoder says of its answer is said of what the answer is
+pub heard_is : (octets : List ℕ) (r h : Heard) → r ≡ h → ((m : Message) → (r ≡ Whole m) ↔ Spells octets m) → (r ≡ Failed) ↔ IsFailed octets → (r ≡ Noise) ↔ IsNoise octets
+    → IsHeard octets h
+heard_is octets r h e whole failed noise =
+    let w : IsHeard octets r = record { whole = whole; failed = failed; noise = noise } in
+    rw e at w

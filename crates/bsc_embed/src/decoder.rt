@@ -1,37 +1,13 @@
 //! Decoding for C.
 ghost use Rattle.std.specs.Prelude.{◌≡◌, ◌↔◌, Some};
-ghost use Rattle.bsc_frame.specs.Short.{heard_as};
+ghost use Rattle.bsc_frame.specs.Short.{heard_as, BeginsText};
 ghost use Rattle.bsc_frame.specs.Spells.{Spells, IsFailed, IsNoise};
 ghost use Rattle.bsc_frame.specs.declared.message.Message.{Message};
-ghost use Rattle.bsc_embed.specs.Contents.{message_as, message_in, HoldsNothing};
+ghost use Rattle.bsc_embed.specs.Contents.{message_in, HoldsNothing};
 ghost use Rattle.bsc_embed.specs.Decoded.{IsLeft, HoldsNoContent, Tells};
 
 use crate::{Content, Kind};
 use bsc_frame::{Heard, Message, Short, decode, decode_short};
-
-/// Puts what the message holds into the content, and gives its kind.
-fn put(message: &Message, content: &mut Content) -> Kind
-    ensures message { message_as result content.new ≡ Some message.now }
-    ensures kept { HoldsNothing message.now → content.new ≡ content.old }
-{
-    match message {
-        Message::Eot => Kind::Eot,
-        Message::Call(address) => {
-            content.put_address(address);
-            Kind::Call
-        }
-        Message::Enq => Kind::Enq,
-        Message::Ack0 => Kind::Ack0,
-        Message::Ack1 => Kind::Ack1,
-        Message::Nak => Kind::Nak,
-        Message::Wack => Kind::Wack,
-        Message::Rvi => Kind::Rvi,
-        Message::Text(text) => {
-            content.put_text(text);
-            Kind::Text
-        }
-    }
-}
 
 /// Puts what the short message holds into the content, and gives its kind.
 fn put_short(short: &Short, content: &mut Content) -> Kind
@@ -54,15 +30,22 @@ fn put_short(short: &Short, content: &mut Content) -> Kind
     }
 }
 
-/// Decodes what may be a text. Its own function, since only here there must be room for a text.
+/// Decodes what begins as a text. Its own function, since only here there must be room for a text.
 #[inline(never)]
 fn decode_text(octets: &[u8], content: &mut Content) -> Kind
+    requires { BeginsText octets.now }
     ensures { Tells octets.now result content.old content.new }
 {
     match &decode(octets) {
-        Heard::Whole(message) => put(message, content),
+        Heard::Whole(message) => match message {
+            Message::Text(text) => {
+                content.put_text(text);
+                Kind::Text
+            }
+            _ => unreachable!(),
+        },
         Heard::Failed => Kind::Failed,
-        Heard::Noise => Kind::Noise,
+        Heard::Noise => unreachable!(),
     }
 }
 

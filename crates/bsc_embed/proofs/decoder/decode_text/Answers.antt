@@ -1,21 +1,21 @@
-use Rattle.std.proofs.Common.{refl}
-use Rattle.bsc_frame.specs.Short.{IsHeard}
-use Rattle.bsc_frame.specs.declared.message.Heard.TheVariants.{Whole, Failed, Noise}
-use Rattle.bsc_embed.proofs.HeardLemmas.{tells}
+use Rattle.std.proofs.Common.{◌∙◌, ap, refl}
+use Rattle.bsc_frame.specs.declared.message.Message.TheVariants.{Text}
+use Rattle.bsc_frame.specs.declared.message.Heard.TheVariants.{Whole, Failed}
+use Rattle.bsc_embed.proofs.HeardLemmas.{heard_is, only_text, tells}
 use Rattle.bsc_embed.proofs.decoder.decode_text.Goals as goal
 
-pub returns-in-Whole : goal.returns-in-Whole
-returns-in-Whole c =
-    let h : IsHeard c.args.octets.now c.decode.result = record { whole = c.decode.ensures.whole; failed = c.decode.ensures.failed; noise = c.decode.ensures.noise } in
-    tells c.args.octets.now (Whole c.in-Whole.message) c.put.result c.args.content.now c.put.new.content
-    (rw c.in-Whole.is at h) c.put.ensures.message c.put.ensures.kept
+pub unreachable-requires : goal.unreachable-requires
+unreachable-requires c =
+    only_text c.args.octets.now c.in-Whole.message c.requires
+    (heard_is c.args.octets.now c.decode.result (Whole c.in-Whole.message) c.in-Whole.is c.decode.ensures.whole c.decode.ensures.failed c.decode.ensures.noise) c.in_default.not-Text
+
+pub returns-in-Text : goal.returns-in-Text
+returns-in-Text c =
+    tells c.args.octets.now (Whole (Text c.in-Text.text)) _ c.args.content.now c.put_text.new.self
+    (heard_is c.args.octets.now c.decode.result _ (c.in-Whole.is ∙ ap Whole c.in-Text.is) c.decode.ensures.whole c.decode.ensures.failed c.decode.ensures.noise) (rw c.put_text.ensures refl)
+    (λ n. absurd n)
 
 pub returns-in-Failed : goal.returns-in-Failed
 returns-in-Failed c =
-    let h : IsHeard c.args.octets.now c.decode.result = record { whole = c.decode.ensures.whole; failed = c.decode.ensures.failed; noise = c.decode.ensures.noise } in
-    tells c.args.octets.now Failed _ c.args.content.now c.args.content.now (rw c.in-Failed.is at h) refl (λ n. refl)
-
-pub returns-in-Noise : goal.returns-in-Noise
-returns-in-Noise c =
-    let h : IsHeard c.args.octets.now c.decode.result = record { whole = c.decode.ensures.whole; failed = c.decode.ensures.failed; noise = c.decode.ensures.noise } in
-    tells c.args.octets.now Noise _ c.args.content.now c.args.content.now (rw c.in-Noise.is at h) refl (λ n. refl)
+    tells c.args.octets.now Failed _ c.args.content.now c.args.content.now
+    (heard_is c.args.octets.now c.decode.result Failed c.in-Failed.is c.decode.ensures.whole c.decode.ensures.failed c.decode.ensures.noise) refl (λ n. refl)
