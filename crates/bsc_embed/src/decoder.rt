@@ -49,7 +49,7 @@ fn decode_text(octets: &[u8], content: &mut Content) -> Kind
     }
 }
 
-/// The kind of what the octets are heard as, whose content is put into the content.
+/// Puts what the octets are heard as into the content, and gives its kind.
 fn decode_kind(octets: &[u8], content: &mut Content) -> Kind
     ensures { Tells octets.now result content.old content.new }
 {
