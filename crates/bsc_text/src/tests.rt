@@ -2,6 +2,7 @@
 
 mod bidder;
 mod stations;
+mod turns;
 
 use crate::tests::bidder::Bidder;
 use crate::{Act, Receiver, ReleaseError, Reply, SettingError, Setup};
