@@ -1,5 +1,4 @@
 pub mod Setup
-pub mod SetupErrors
 pub mod Terminal
 pub mod Station
 pub mod Reply

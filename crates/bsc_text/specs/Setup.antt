@@ -1,6 +1,8 @@
 -- The settings of a station (own).
-use Rattle.std.specs.Prelude.{ℕ, ◌≤◌, Bool, nat_lt, ◌||◌, if◌then◌else◌, Result, Ok, Err}
-use Rattle.bsc_block.specs.Format.{FormatValue, IsFormat}
+use Rattle.std.specs.Prelude.{ℕ, ◌≤◌, if◌then◌else◌, Result, Ok, Err}
+use Rattle.bsc_block.specs.Format.{FormatValue, IsFormat, is_within, format_of}
+use Rattle.bsc_block.specs.declared.FormatError.{FormatError}
+use Rattle.bsc_block.specs.declared.FormatError.TheVariants as f
 use Rattle.bsc_text.specs.declared.setup.SettingError.{SettingError}
 use Rattle.bsc_text.specs.declared.setup.SettingError.TheVariants.{Full, BlockChars, Tries, Waits}
 
@@ -18,17 +20,19 @@ pub record IsSetup (s : SetupValue) : Type 0 where
   pub waits_least : 1 ≤ s.waits
   pub waits_most : s.waits ≤ 255
 
--- a number below the least or above the most
-abbrev pub is_outside : ℕ → ℕ → ℕ → Bool
-is_outside least most n = nat_lt n least || nat_lt most n
+-- the setting that is wrong where the format is
+abbrev pub setting_error : FormatError → SettingError
+setting_error f.Full = Full
+setting_error f.BlockChars = BlockChars
 
--- the settings of four numbers, or the first of them that is outside its limits
+-- the settings of a format and two limits, or the first of these that is out of range
+abbrev pub with_limits : Result FormatValue FormatError → ℕ → ℕ → Result SetupValue SettingError
+with_limits (Err e) tries waits = Err (setting_error e)
+with_limits (Ok format) tries waits =
+    if is_within 1 15 tries
+    then (if is_within 1 255 waits then Ok (record { format = format; tries = tries; waits = waits }) else Err Waits)
+    else Err Tries
+
+-- the settings of four numbers, or the first of them that is out of range
 abbrev pub setup_of : ℕ → ℕ → ℕ → ℕ → Result SetupValue SettingError
-setup_of full chars tries waits =
-    if is_outside 1 144 full then Err Full
-    else if is_outside 146 400 chars then Err BlockChars
-    else if is_outside 1 15 tries then Err Tries
-    else if is_outside 1 255 waits then Err Waits
-    else
-    (let format : FormatValue = record { full = full; block_chars = chars } in
-    Ok (record { format = format; tries = tries; waits = waits }))
+setup_of full block_chars tries waits = with_limits (format_of full block_chars) tries waits

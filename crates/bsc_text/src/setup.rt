@@ -1,7 +1,7 @@
 //! The settings that a station is made with.
 
 ghost use Rattle.std.specs.Prelude.{◌≡◌, ◌≤◌, IfOk};
-ghost use Rattle.bsc_text.specs.Setup.{SetupValue, IsSetup, setup_of};
+ghost use Rattle.bsc_text.specs.Setup.{IsSetup, setup_of, setting_error};
 
 use bsc_block::{Format, FormatError};
 use std::marker::Model;
@@ -48,8 +48,6 @@ pub enum SettingError {
 }
 
 impl From<FormatError> for SettingError {
-    ghost use Rattle.bsc_text.specs.SetupErrors.{setting_error};
-
     ghost from_gives = { λ e s. s ≡ setting_error e };
 
     fn from(error: FormatError) -> SettingError {
