@@ -25,7 +25,7 @@ use Rattle.bsc_text.specs.Channel.{channel, IsSound}
 use Rattle.bsc_text.specs.Fair.{IsTextMessage, IsCallCutShort, IsFairlyHeard}
 use Rattle.bsc_text.specs.Bid.{IsFairTo, message_back, answered, unless_quiet}
 use Rattle.bsc_text.specs.OneBid.{MovesAtSender}
-use Rattle.bsc_text.specs.Agreement.{Flight, Still, Outward, Back, IsReplyBefore, NotLanded, HasLanded, Agree, InBid, IsResting, Continues, back, sent_flight}
+use Rattle.bsc_text.specs.Agreement.{Flight, Still, Outward, Back, IsReplyBefore, IsReplyAfter, NotLanded, HasLanded, Agree, InBid, IsResting, Continues, back, sent_flight}
 use Rattle.bsc_text.proofs.ReadyLemmas.{counts_next, within_offered, is_queue_marked, still_waiting}
 use Rattle.bsc_text.proofs.Hearing.{fits, agree_still}
 
@@ -121,38 +121,70 @@ other_twice : (x y : Parity) → x ≡ y → x ≡ other (other y)
 other_twice x Odd e = e
 other_twice x Even e = e
 
--- a reply to a block that has landed
-landed_keeps : NextLaw → (s : SenderValue) (k : ℕ) (e : End) (expected : Parity) (q : QueueValue)
-    (parity : Parity) (last : Reply) (spooled : List (List ℕ))
-    → let b : SentBlock = record { count = k; end = e; parity = expected } in
-    InBid (Unanswered b) q parity last spooled (Back last) → HasLanded b q parity last spooled (Back last) →
-    Leaves q parity last spooled (unanswered_step s q b (answer_of expected last))
-landed_keeps law s k e Odd q parity Ack1 spooled i h =
-    let there : k ≤ length (waiting q) = fits (record { count = k; end = e; parity = Odd }) _ i.counts in
-    let within : q.known + k ≤ length q.offered = within_offered q k i.queue there in
-    at_learnt q k parity Ack1 spooled (accepted s (with_known q k) e Odd) within h.front (accepted_keeps law s (with_known q k) e Odd parity Ack1 spooled (is_queue_marked q k i.queue there) h.front (still_waiting q k e i.counts.2) (other_twice parity Odd h.counted) tt)
-landed_keeps law s k e Even q parity Ack0 spooled i h =
-    let there : k ≤ length (waiting q) = fits (record { count = k; end = e; parity = Even }) _ i.counts in
-    let within : q.known + k ≤ length q.offered = within_offered q k i.queue there in
-    at_learnt q k parity Ack0 spooled (accepted s (with_known q k) e Even) within h.front (accepted_keeps law s (with_known q k) e Even parity Ack0 spooled (is_queue_marked q k i.queue there) h.front (still_waiting q k e i.counts.2) (other_twice parity Even h.counted) tt)
-landed_keeps law s k e Odd q parity Wack spooled i h =
-    let there : k ≤ length (waiting q) = fits (record { count = k; end = e; parity = Odd }) _ i.counts in
-    let within : q.known + k ≤ length q.offered = within_offered q k i.queue there in
-    at_learnt q k parity Wack spooled (delayed s (with_known q k) e Odd) within h.front (delayed_keeps s (with_known q k) e Odd parity spooled (is_queue_marked q k i.queue there) h.front (still_waiting q k e i.counts.2) h.counted)
-landed_keeps law s k e Even q parity Wack spooled i h =
-    let there : k ≤ length (waiting q) = fits (record { count = k; end = e; parity = Even }) _ i.counts in
-    let within : q.known + k ≤ length q.offered = within_offered q k i.queue there in
-    at_learnt q k parity Wack spooled (delayed s (with_known q k) e Even) within h.front (delayed_keeps s (with_known q k) e Even parity spooled (is_queue_marked q k i.queue there) h.front (still_waiting q k e i.counts.2) h.counted)
-landed_keeps law s k e Odd q parity Rvi spooled i h =
-    let there : k ≤ length (waiting q) = fits (record { count = k; end = e; parity = Odd }) _ i.counts in
-    at_learnt q k parity Rvi spooled (over s (with_known q k) Idle) (within_offered q k i.queue there) h.front (at_rest (with_known q k) spooled (is_queue_marked q k i.queue there) h.front, refl)
-landed_keeps law s k e Even q parity Rvi spooled i h =
-    let there : k ≤ length (waiting q) = fits (record { count = k; end = e; parity = Even }) _ i.counts in
-    at_learnt q k parity Rvi spooled (over s (with_known q k) Idle) (within_offered q k i.queue there) h.front (at_rest (with_known q k) spooled (is_queue_marked q k i.queue there) h.front, refl)
-landed_keeps law s k e Odd q parity Ack0 spooled i h = absurd h.reply
-landed_keeps law s k e Odd q parity Nak spooled i h = absurd h.reply
-landed_keeps law s k e Even q parity Ack1 spooled i h = absurd h.reply
-landed_keeps law s k e Even q parity Nak spooled i h = absurd h.reply
+-- A reply to a block that has landed. The queue then counts the block.
+record Marked (b : SentBlock) (q : QueueValue) (spooled : List (List ℕ)) : Type 0 where
+  pub within : q.known + b.count ≤ length q.offered
+  pub front : spooled ≡ take (q.known + b.count) q.offered
+  pub queue : IsQueue (with_known q b.count)
+  pub more : AreWaiting 0 b.end (length (waiting (with_known q b.count)))
+
+is_marked : (b : SentBlock) (q : QueueValue) (parity : Parity) (last : Reply) (spooled : List (List ℕ))
+    → InBid (Unanswered b) q parity last spooled (Back last)
+    → HasLanded b q parity last spooled (Back last) → Marked b q spooled
+is_marked b q parity last spooled i h =
+    let there : b.count ≤ length (waiting q) = fits b _ i.counts in
+    record {
+      within = within_offered q b.count i.queue there;
+      front = h.front;
+      queue = is_queue_marked q b.count i.queue there;
+      more = still_waiting q b.count b.end i.counts.2;
+    }
+
+landed_accepted : NextLaw → (s : SenderValue) (b : SentBlock) (q : QueueValue) (parity : Parity)
+    (last : Reply) (spooled : List (List ℕ)) → Marked b q spooled → parity ≡ b.parity
+    → IsReplyBefore last (other b.parity)
+    → Leaves q parity last spooled (accepted s (with_known q b.count) b.end b.parity)
+landed_accepted law s b q parity last spooled m counted reply =
+    at_learnt q b.count parity last spooled (accepted s (with_known q b.count) b.end b.parity) m.within m.front
+    (accepted_keeps law s (with_known q b.count) b.end b.parity parity last spooled m.queue m.front m.more
+    (other_twice parity b.parity counted) reply)
+
+landed_delayed : (s : SenderValue) (b : SentBlock) (q : QueueValue) (parity : Parity)
+    (spooled : List (List ℕ)) → Marked b q spooled → parity ≡ b.parity
+    → Leaves q parity Wack spooled (delayed s (with_known q b.count) b.end b.parity)
+landed_delayed s b q parity spooled m counted =
+    at_learnt q b.count parity Wack spooled (delayed s (with_known q b.count) b.end b.parity) m.within m.front
+    (delayed_keeps s (with_known q b.count) b.end b.parity parity spooled m.queue m.front m.more counted)
+
+landed_over : (s : SenderValue) (b : SentBlock) (q : QueueValue) (parity : Parity) (last : Reply)
+    (spooled : List (List ℕ)) → Marked b q spooled
+    → Leaves q parity last spooled (over s (with_known q b.count) Idle)
+landed_over s b q parity last spooled m =
+    at_learnt q b.count parity last spooled (over s (with_known q b.count) Idle) m.within m.front
+    (at_rest (with_known q b.count) spooled m.queue m.front, refl)
+
+landed_by : NextLaw → (s : SenderValue) (k : ℕ) (e : End) (expected : Parity) (q : QueueValue)
+    (parity : Parity) (last : Reply) (spooled : List (List ℕ)) →
+    let b : SentBlock = record { count = k; end = e; parity = expected } in
+    Marked b q spooled → parity ≡ expected → IsReplyAfter last expected
+    → Leaves q parity last spooled (unanswered_step s q b (answer_of expected last))
+landed_by law s k e Odd q parity Ack1 spooled m c r = landed_accepted law s _ q parity Ack1 spooled m c tt
+landed_by law s k e Even q parity Ack0 spooled m c r = landed_accepted law s _ q parity Ack0 spooled m c tt
+landed_by law s k e Odd q parity Wack spooled m c r = landed_delayed s _ q parity spooled m c
+landed_by law s k e Even q parity Wack spooled m c r = landed_delayed s _ q parity spooled m c
+landed_by law s k e Odd q parity Rvi spooled m c r = landed_over s _ q parity Rvi spooled m
+landed_by law s k e Even q parity Rvi spooled m c r = landed_over s _ q parity Rvi spooled m
+landed_by law s k e Odd q parity Ack0 spooled m c r = absurd r
+landed_by law s k e Odd q parity Nak spooled m c r = absurd r
+landed_by law s k e Even q parity Ack1 spooled m c r = absurd r
+landed_by law s k e Even q parity Nak spooled m c r = absurd r
+
+landed_keeps : NextLaw → (s : SenderValue) (b : SentBlock) (q : QueueValue) (parity : Parity)
+    (last : Reply) (spooled : List (List ℕ)) → InBid (Unanswered b) q parity last spooled (Back last)
+    → HasLanded b q parity last spooled (Back last)
+    → Leaves q parity last spooled (unanswered_step s q b (answer_of b.parity last))
+landed_keeps law s b q parity last spooled i h =
+    landed_by law s b.count b.end b.parity q parity last spooled (is_marked b q parity last spooled i h) h.counted h.reply
 
 -- a reply to a block that has not landed: it is sent again
 refused_keeps : (s : SenderValue) (b : SentBlock) (q : QueueValue) (parity : Parity)
@@ -214,7 +246,7 @@ answered_keeps law s Idle q parity last spooled e i = absurd i.agree
 answered_keeps law s (InDoubt k) q parity last spooled e i = absurd i.agree
 answered_keeps law s (Held end x) q parity last spooled e i = held_keeps law s end x q parity last spooled i
 answered_keeps law s (Unanswered b) q parity last spooled e i =
-    elim i.agree [ inl h ↦ before_keeps s b q parity b.parity last spooled e h.reply i h | inr h ↦ landed_keeps law s b.count b.end b.parity q parity last spooled i h ]
+    elim i.agree [ inl h ↦ before_keeps s b q parity b.parity last spooled e h.reply i h | inr h ↦ landed_keeps law s b q parity last spooled i h ]
 
 -- a silence comes, and nothing is on its way
 in_doubt : (b : SentBlock) (q : QueueValue) (parity : Parity) (last : Reply)
