@@ -56,11 +56,13 @@ choose P false x y p r = r
 -- what a step of the sender leaves: the bid goes on or is over, and the channel moved as it may
 abbrev pub Leaves : QueueValue → Parity → Reply → List (List ℕ) → SenderStep → Type 0
 Leaves q parity last spooled t =
-    Continues t.sender.phase t.queue parity last spooled (sent_flight t.act) × MovesAtSender (channel q spooled) (channel t.queue spooled)
+    Continues t.sender.phase t.queue parity last spooled (sent_flight t.act) × MovesAtSender (channel q spooled)
+    (channel t.queue spooled)
 
 -- the same, at a queue that the step does not change
 abbrev pub LeavesQueue : QueueValue → Parity → Reply → List (List ℕ) → SenderStep → Type 0
-LeavesQueue q parity last spooled t = Continues t.sender.phase t.queue parity last spooled (sent_flight t.act) × (t.queue ≡ q)
+LeavesQueue q parity last spooled t =
+    Continues t.sender.phase t.queue parity last spooled (sent_flight t.act) × (t.queue ≡ q)
 
 -- all is known, and the bid is over
 at_rest : (q : QueueValue) (spooled : List (List ℕ)) → IsQueue q
@@ -77,7 +79,15 @@ next_keeps : NextLaw → (s : SenderValue) (q : QueueValue) (expected parity : P
     LeavesQueue q parity last spooled (sent_next s q expected (next_block q))
 next_keeps law s q expected parity last spooled h front some counted reply =
     let n = has_next law q h some in
-    rw n.is (record { queue = h; counts = counts_next q n.next n.fit; agree = inl (record { front = front; counted = counted; reply = reply; flight = refl }) }, refl)
+    rw n.is (
+      record {
+        queue = h;
+        counts = counts_next q n.next n.fit;
+        agree = inl
+            (record { front = front; counted = counted; reply = reply; flight = refl });
+      },
+      refl,
+    )
 
 -- what was spooled is learnt
 learns : (q : QueueValue) (k : ℕ) (spooled : List (List ℕ)) → q.known + k ≤ length q.offered
@@ -95,8 +105,11 @@ at_same q parity last spooled t h = (h.0, inl (ap (λ (u : QueueValue). channel 
 at_learnt : (q : QueueValue) (k : ℕ) (parity : Parity) (last : Reply) (spooled : List (List ℕ))
     (t : SenderStep) → q.known + k ≤ length q.offered → spooled ≡ take (q.known + k) q.offered →
     LeavesQueue (with_known q k) parity last spooled t → Leaves q parity last spooled t
-at_learnt q k parity last spooled t within front h =
-    (h.0, subst (λ (u : QueueValue). MovesAtSender (channel q spooled) (channel u spooled)) (sym h.1) (learns q k spooled within front))
+at_learnt q k parity last spooled t within front h = (
+  h.0,
+  subst (λ (u : QueueValue). MovesAtSender (channel q spooled) (channel u spooled)) (sym h.1)
+      (learns q k spooled within front),
+)
 
 -- the expected acknowledgement came, at a queue that counts the block
 accepted_keeps : NextLaw → (s : SenderValue) (q : QueueValue) (e : End)
@@ -105,7 +118,8 @@ accepted_keeps : NextLaw → (s : SenderValue) (q : QueueValue) (e : End)
     → parity ≡ other (other expected) → IsReplyBefore last (other expected) →
     LeavesQueue q parity last spooled (accepted s q e expected)
 accepted_keeps law s q Etx expected parity last spooled h front more counted reply = (at_rest q spooled h front, refl)
-accepted_keeps law s q Etb expected parity last spooled h front more counted reply = next_keeps law (s) q (other expected) parity last spooled h front (omega arith) counted reply
+accepted_keeps law s q Etb expected parity last spooled h front more counted reply =
+    next_keeps law (s) q (other expected) parity last spooled h front (omega arith) counted reply
 
 -- WACK came
 delayed_keeps : (s : SenderValue) (q : QueueValue) (e : End) (expected parity : Parity)
@@ -193,8 +207,15 @@ refused_keeps : (s : SenderValue) (b : SentBlock) (q : QueueValue) (parity : Par
     → NotLanded b q parity last spooled (Back last) →
     Leaves q parity last spooled (failed s q Idle (a.Send (text_of q b)))
 refused_keeps s b q parity last spooled e i h =
-    choose (Leaves q parity last spooled) _ _ _ (at_rest q spooled i.queue h.front, inl refl)
-    (rw e (record { queue = i.queue; counts = i.counts; agree = inl (record { front = h.front; counted = h.counted; reply = h.reply; flight = refl }) }), inl refl)
+    choose (Leaves q parity last spooled) _ _ _ (at_rest q spooled i.queue h.front, inl refl) (
+      rw e (record {
+        queue = i.queue;
+        counts = i.counts;
+        agree = inl
+            (record { front = h.front; counted = h.counted; reply = h.reply; flight = refl });
+      }),
+      inl refl,
+    )
 
 before_keeps : (s : SenderValue) (b : SentBlock) (q : QueueValue) (parity expected : Parity)
     (last : Reply) (spooled : List (List ℕ)) → s.phase ≡ Unanswered b
@@ -217,10 +238,20 @@ held_keeps : NextLaw → (s : SenderValue) (e : End) (expected : Parity) (q : Qu
     (parity : Parity) (last : Reply) (spooled : List (List ℕ))
     → InBid (Held e expected) q parity last spooled (Back last) →
     Leaves q parity last spooled (held_step s q e expected (answer_of expected last))
-held_keeps law s e Odd q parity Ack1 spooled i = at_same q parity Ack1 spooled (accepted s q e Odd) (accepted_keeps law s q e Odd parity Ack1 spooled i.queue i.agree.front i.counts (other_twice parity Odd i.agree.counted) tt)
-held_keeps law s e Even q parity Ack0 spooled i = at_same q parity Ack0 spooled (accepted s q e Even) (accepted_keeps law s q e Even parity Ack0 spooled i.queue i.agree.front i.counts (other_twice parity Even i.agree.counted) tt)
-held_keeps law s e Odd q parity Wack spooled i = at_same q parity Wack spooled (delayed s q e Odd) (delayed_keeps s q e Odd parity spooled i.queue i.agree.front i.counts i.agree.counted)
-held_keeps law s e Even q parity Wack spooled i = at_same q parity Wack spooled (delayed s q e Even) (delayed_keeps s q e Even parity spooled i.queue i.agree.front i.counts i.agree.counted)
+held_keeps law s e Odd q parity Ack1 spooled i =
+    at_same q parity Ack1 spooled (accepted s q e Odd)
+    (accepted_keeps law s q e Odd parity Ack1 spooled i.queue i.agree.front i.counts
+    (other_twice parity Odd i.agree.counted) tt)
+held_keeps law s e Even q parity Ack0 spooled i =
+    at_same q parity Ack0 spooled (accepted s q e Even)
+    (accepted_keeps law s q e Even parity Ack0 spooled i.queue i.agree.front i.counts
+    (other_twice parity Even i.agree.counted) tt)
+held_keeps law s e Odd q parity Wack spooled i =
+    at_same q parity Wack spooled (delayed s q e Odd)
+    (delayed_keeps s q e Odd parity spooled i.queue i.agree.front i.counts i.agree.counted)
+held_keeps law s e Even q parity Wack spooled i =
+    at_same q parity Wack spooled (delayed s q e Even)
+    (delayed_keeps s q e Even parity spooled i.queue i.agree.front i.counts i.agree.counted)
 held_keeps law s e Odd q parity Ack0 spooled i = absurd i.agree.reply
 held_keeps law s e Odd q parity Nak spooled i = absurd i.agree.reply
 held_keeps law s e Odd q parity Rvi spooled i = absurd i.agree.reply
@@ -260,15 +291,18 @@ in_doubt b q parity last spooled i =
           (let long : length spooled ≡ q.known = ap length h.front ∙ length-take-le q.known q.offered known in
           (record { queue = i.queue; counts = short; sound = record { front = rw long h.front; known = omega arith; spooled = inl long } }, refl))
       | inr h ↦
-          (let long : length spooled ≡ q.known + b.count = ap length h.front ∙ length-take-le (q.known + b.count) q.offered (within_offered q b.count i.queue short) in
+          (let long : length spooled ≡ q.known + b.count = ap length h.front ∙ length-take-le
+          (q.known + b.count) q.offered (within_offered q b.count i.queue short) in
           (record { queue = i.queue; counts = short; sound = record { front = rw long h.front; known = omega arith; spooled = inr long } }, refl))
     ]
 
 enq_sent : (b : SentBlock) (q : QueueValue) (parity : Parity) (last : Reply)
     (spooled : List (List ℕ)) → Agree (Unanswered b) q parity last spooled Still
     → Agree (Unanswered b) q parity last spooled (Outward m.Enq)
-enq_sent b q parity last spooled (inl h) = inl (record { front = h.front; counted = h.counted; reply = h.reply; flight = tt })
-enq_sent b q parity last spooled (inr h) = inr (record { front = h.front; counted = h.counted; reply = h.reply; flight = tt })
+enq_sent b q parity last spooled (inl h) =
+    inl (record { front = h.front; counted = h.counted; reply = h.reply; flight = tt })
+enq_sent b q parity last spooled (inr h) =
+    inr (record { front = h.front; counted = h.counted; reply = h.reply; flight = tt })
 
 silent_keeps : (s : SenderValue) (phase : Phase) (q : QueueValue) (parity : Parity)
     (last : Reply) (spooled : List (List ℕ)) → s.phase ≡ phase
@@ -329,7 +363,8 @@ quiet_keeps s q parity last spooled i = (goes_on s.phase q parity last spooled i
 pub still_on : (phase : Phase) (q : QueueValue) (parity : Parity) (last : Reply)
     (spooled : List (List ℕ)) (f : Flight) → InBid phase q parity last spooled f
     → InBid phase q parity last spooled Still
-still_on phase q parity last spooled f i = record { queue = i.queue; counts = i.counts; agree = agree_still phase q parity last spooled f i.agree }
+still_on phase q parity last spooled f i =
+    record { queue = i.queue; counts = i.counts; agree = agree_still phase q parity last spooled f i.agree }
 
 -- the reply is heard, or not
 pub sender_keeps : NextLaw
@@ -339,13 +374,18 @@ pub sender_keeps : NextLaw
     Leaves q parity last spooled (answered s q r h)
 sender_keeps law s q parity last spooled None None i f = quiet_keeps s q parity last spooled i
 sender_keeps law s q parity last spooled None (Some h) i f = absurd f
-sender_keeps law s q parity last spooled (Some r) None i f = quiet_keeps s q parity last spooled (still_on s.phase q parity last spooled (Back r) i)
+sender_keeps law s q parity last spooled (Some r) None i f =
+    quiet_keeps s q parity last spooled (still_on s.phase q parity last spooled (Back r) i)
 sender_keeps law s q parity last spooled (Some r) (Some h) i f =
     let same : r ≡ last = back_last s.phase q parity last r spooled i.agree in
-    let there : InBid s.phase q parity last spooled (Back last) = subst (λ (x : Reply). InBid s.phase q parity last spooled (Back x)) same i in
+    let there : InBid s.phase q parity last spooled (Back last) =
+    subst (λ (x : Reply). InBid s.phase q parity last spooled (Back x)) same i in
     elim (fair_reply r h f) [
-      | inl e ↦ subst (λ (o : Option Reply). Leaves q parity last spooled (reply_step s q o)) (sym (e ∙ ap (λ (x : Reply). Some x) same)) (answered_keeps law s s.phase q parity last spooled refl there)
-      | inr e ↦ subst (λ (o : Option Reply). Leaves q parity last spooled (reply_step s q o)) (sym e) (quiet_keeps s q parity last spooled (still_on s.phase q parity last spooled (Back last) there))
+      | inl e ↦ subst (λ (o : Option Reply). Leaves q parity last spooled (reply_step s q o))
+          (sym (e ∙ ap (λ (x : Reply). Some x) same))
+          (answered_keeps law s s.phase q parity last spooled refl there)
+      | inr e ↦ subst (λ (o : Option Reply). Leaves q parity last spooled (reply_step s q o)) (sym e)
+          (quiet_keeps s q parity last spooled (still_on s.phase q parity last spooled (Back last) there))
     ]
 
 -- a bid with something on its way goes on
@@ -375,8 +415,10 @@ settled_keeps q parity last spooled t (a.Send b) e h = h
 settled_keeps q parity last spooled t a.Enq e h = h
 settled_keeps q parity last spooled t a.Over e h = h
 settled_keeps q parity last spooled t a.Quiet e h =
-    let on : Continues t.sender.phase t.queue parity last spooled Still = subst (λ (x : Act). Continues t.sender.phase t.queue parity last spooled (sent_flight x)) e h.0 in
-    let k : LeavesQueue t.queue parity last spooled (silent_in t.sender t.queue t.sender.phase) = silence_keeps t.sender t.sender.phase t.queue parity last spooled refl on in
+    let on : Continues t.sender.phase t.queue parity last spooled Still =
+    subst (λ (x : Act). Continues t.sender.phase t.queue parity last spooled (sent_flight x)) e h.0 in
+    let k : LeavesQueue t.queue parity last spooled (silent_in t.sender t.queue t.sender.phase) =
+    silence_keeps t.sender t.sender.phase t.queue parity last spooled refl on in
     (k.0, subst (λ (u : QueueValue). MovesAtSender (channel q spooled) (channel u spooled)) (sym k.1) h.1)
 
 -- a bid begins

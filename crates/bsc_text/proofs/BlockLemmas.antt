@@ -40,14 +40,22 @@ is_block law (InDoubt k) q parity last spooled t i = absurd i.agree
 is_block law (Held e x) q parity last spooled t i = absurd i.agree.flight
 is_block law (Unanswered b) q parity last spooled t i =
     elim i.agree [
-      | inl h ↦ record { block = b; unanswered = refl; text = h.flight; records = ap (λ (u : TextValue). records_in u.units) h.flight ∙ block_records law q b i.queue }
+      | inl h ↦ record {
+        block = b;
+        unanswered = refl;
+        text = h.flight;
+        records = ap
+            (λ (u : TextValue). records_in u.units) h.flight ∙ block_records law q b i.queue;
+      }
       | inr h ↦ absurd h.flight
     ]
 
 carries : LawsBelow → (c : Bid) (t : TextValue)
-    → InBid c.sender.phase c.queue c.receiver.parity c.receiver.last c.spool.records (Outward (m.Text t)) → CarriesBlock c t
+    → InBid c.sender.phase c.queue c.receiver.parity c.receiver.last c.spool.records (Outward (m.Text t))
+    → CarriesBlock c t
 carries law c t i =
-    let b : IsBlock c.sender.phase c.queue t = is_block law.records c.sender.phase c.queue c.receiver.parity c.receiver.last c.spool.records t i in
+    let b : IsBlock c.sender.phase c.queue t =
+    is_block law.records c.sender.phase c.queue c.receiver.parity c.receiver.last c.spool.records t i in
     record { block = b.block; unanswered = b.unanswered; text = b.text; records = b.records }
 
 pub sends_its_blocks : LawsBelow → SendsItsBlocks
@@ -55,11 +63,15 @@ sends_its_blocks law b es c t h e = carries law c t (going c (m.Text t) (ap mess
 
 pub hears_its_blocks : LawsBelow → HearsItsBlocks
 hears_its_blocks law b es c turn t h fair e =
-    let i : InBid c.sender.phase c.queue c.receiver.parity c.receiver.last c.spool.records (Outward fair.sent) = going c fair.sent fair.goes_on (reached_holds law b es c h) in
+    let i : InBid c.sender.phase c.queue c.receiver.parity c.receiver.last c.spool.records (Outward fair.sent) =
+    going c fair.sent fair.goes_on (reached_holds law b es c h) in
     let f : IsFairlyHeard fair.sent (Whole (m.Text t)) = subst (λ (o : Option Heard). IsFair fair.sent o) e fair.there in
     elim f [
-      | inl same ↦ carries law c t (subst (λ (w : Message). InBid c.sender.phase c.queue c.receiver.parity c.receiver.last c.spool.records (Outward w)) (sym same) i)
-      | inr short ↦ absurd (no_call fair.sent (m.Text t) (senders c.sender.phase c.queue c.receiver.parity c.receiver.last c.spool.records fair.sent i.agree) short)
+      | inl same ↦ carries law c t
+          (subst (λ (w : Message). InBid c.sender.phase c.queue c.receiver.parity c.receiver.last c.spool.records
+          (Outward w)) (sym same) i)
+      | inr short ↦ absurd (no_call fair.sent (m.Text t)
+          (senders c.sender.phase c.queue c.receiver.parity c.receiver.last c.spool.records fair.sent i.agree) short)
     ]
 
 -- a sender at rest without doubt is idle, and all that was spooled is known
@@ -74,7 +86,8 @@ known_by (Held e x) q spooled r d s = absurd r
 pub ends_knowing : LawsBelow → EndsKnowing
 ends_knowing law b es c h over certain =
     let k : Holds c = reached_holds law b es c h in
-    known_by c.sender.phase c.queue c.spool.records (subst (λ (x : Act). IsEnded x c.sender.phase) over k.rests) certain (stays_sound law b es c h)
+    known_by c.sender.phase c.queue c.spool.records
+    (subst (λ (x : Act). IsEnded x c.sender.phase) over k.rests) certain (stays_sound law b es c h)
 
 one_of : (n k j : ℕ) → (n ≡ k) ⊎ (n ≡ k + j) → ((n == k) || (n == (k + j))) ≡ true
 one_of n k j (inl e) = grind (arith, nat_tests)
@@ -94,4 +107,5 @@ released_by s q (Held e x) n d h = absurd (cc d)
 released_by s q (InDoubt k) n d h = pick _ _ _ (one_of n q.known k h)
 
 pub release_ends_doubt : LawsBelow → ReleaseEndsDoubt
-release_ends_doubt law b es c h d = released_by c.sender c.queue c.sender.phase (length c.spool.records) d (stays_sound law b es c h).spooled
+release_ends_doubt law b es c h d =
+    released_by c.sender c.queue c.sender.phase (length c.spool.records) d (stays_sound law b es c h).spooled

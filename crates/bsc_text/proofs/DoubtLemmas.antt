@@ -114,9 +114,15 @@ silent_doubt : (s : SenderValue) (q : QueueValue) (p : Phase) → is_in_doubt s.
     → is_in_doubt p ≡ false → is_in_doubt (silent_in s q p).sender.phase ≡ true → GivesUp s p
 silent_doubt s q Idle d c k = absurd (cc (d, k))
 silent_doubt s q (InDoubt n) d c k = absurd (cc (d, k))
-silent_doubt s q (Held e x) d c k = let none = (first_of_two (nat_lt s.setup.tries (s.tries + 1)) _ _ d k).1 in absurd (cc none)
+silent_doubt s q (Held e x) d c k =
+    let none = (first_of_two (nat_lt s.setup.tries (s.tries + 1)) _ _ d k).1 in absurd (cc none)
 silent_doubt s q (Unanswered b) d c k =
-    record { block = b; unanswered = refl; over = below_by s.setup.tries (s.tries + 1) (first_of_two (nat_lt s.setup.tries (s.tries + 1)) _ _ d k).0 }
+    record {
+      block = b;
+      unanswered = refl;
+      over = below_by s.setup.tries (s.tries + 1)
+          (first_of_two (nat_lt s.setup.tries (s.tries + 1)) _ _ d k).0;
+    }
 
 -- doubt after a turn, by what the sender did on the reply
 doubt_by : (s : SenderValue) (t : SenderStep) (x : Act) → t.act ≡ x → IsCertainBy x s t
@@ -125,8 +131,11 @@ doubt_by : (s : SenderValue) (t : SenderStep) (x : Act) → t.act ≡ x → IsCe
 doubt_by s t (a.Send u) e c d k = absurd (cc (c, k))
 doubt_by s t a.Enq e c d k = absurd (cc (c, k))
 doubt_by s t a.Over e c d k = absurd (cc (c, k))
-doubt_by s t a.Quiet e c d k =
-    (refl, silent_doubt s t.queue s.phase d d (subst (λ (u : SenderValue). is_in_doubt (silent_in u t.queue u.phase).sender.phase ≡ true) c k))
+doubt_by s t a.Quiet e c d k = (
+  refl,
+  silent_doubt s t.queue s.phase d d
+      (subst (λ (u : SenderValue). is_in_doubt (silent_in u t.queue u.phase).sender.phase ≡ true) c k),
+)
 
 -- and back
 gives_up : (s : SenderValue) (t : SenderStep) (x : Act) (b : SentBlock) → x ≡ a.Quiet
@@ -136,19 +145,24 @@ gives_up s t (a.Send u) b e c p over = absurd (cc e)
 gives_up s t a.Enq b e c p over = absurd (cc e)
 gives_up s t a.Over b e c p over = absurd (cc e)
 gives_up s t a.Quiet b e c p over =
-    let there : is_in_doubt (silent_in s t.queue (Unanswered b)).sender.phase ≡ true = second_out (nat_lt s.setup.tries (s.tries + 1)) _ _ (test_by s.setup.tries (s.tries + 1) over) refl in
-    let here : is_in_doubt (silent_in s t.queue s.phase).sender.phase ≡ true = subst (λ (y : Phase). is_in_doubt (silent_in s t.queue y).sender.phase ≡ true) (sym p) there in
+    let there : is_in_doubt (silent_in s t.queue (Unanswered b)).sender.phase ≡ true =
+    second_out (nat_lt s.setup.tries (s.tries + 1)) _ _ (test_by s.setup.tries (s.tries + 1) over) refl in
+    let here : is_in_doubt (silent_in s t.queue s.phase).sender.phase ≡ true =
+    subst (λ (y : Phase). is_in_doubt (silent_in s t.queue y).sender.phase ≡ true) (sym p) there in
     subst (λ (u : SenderValue). is_in_doubt (silent_in u t.queue u.phase).sender.phase ≡ true) (sym c) here
 
 pub doubts_at_silence : LawsBelow → DoubtsAtSilence
 doubts_at_silence law b es c t h fair =
     let i = going c fair.sent fair.goes_on (reached_holds law b es c h) in
-    let d : is_in_doubt c.sender.phase ≡ false = certain_going c.sender.phase c.queue c.receiver.parity c.receiver.last c.spool.records _ i in
+    let d : is_in_doubt c.sender.phase ≡ false =
+    certain_going c.sender.phase c.queue c.receiver.parity c.receiver.last c.spool.records _ i in
     let k : IsCertain c.sender (sender_in c t) = certain_heard c.sender c.queue (receiver_in c t).reply t.answer d in (
       d,
       (
-        λ e. let g : ((sender_in c t).act ≡ a.Quiet) × GivesUp c.sender c.sender.phase = doubt_by c.sender (sender_in c t) (sender_in c t).act refl k d e in
+        λ e. let g : ((sender_in c t).act ≡ a.Quiet) × GivesUp c.sender c.sender.phase = doubt_by c.sender
+            (sender_in c t) (sender_in c t).act refl k d e in
             record { block = g.1.block; unanswered = g.1.unanswered; silence = g.0; over = g.1.over },
-        λ (g : GivesUpUnanswered c t). gives_up c.sender (sender_in c t) (sender_in c t).act g.block g.silence k g.unanswered g.over,
+        λ (g : GivesUpUnanswered c t). gives_up c.sender (sender_in c t)
+            (sender_in c t).act g.block g.silence k g.unanswered g.over,
       ),
     )

@@ -35,7 +35,8 @@ RecordsBack = (full : ℕ) (rs : List (List ℕ)) → 1 ≤ full → records_in 
 -- what hearing leaves: the ends agree with the reply on its way, and the channel moved as it may
 abbrev pub Keeps : Phase → QueueValue → List (List ℕ) → ReceiverStep → Type 0
 Keeps phase q spooled out =
-    Agree phase q out.receiver.parity out.receiver.last out.spool.records (back out.reply) × MovesAtReceiver phase (channel q spooled) (channel q out.spool.records)
+    Agree phase q out.receiver.parity out.receiver.last out.spool.records (back out.reply) × MovesAtReceiver phase
+    (channel q spooled) (channel q out.spool.records)
 
 -- the records of a block that is sent
 pub block_records : RecordsBack → (q : QueueValue) (b : SentBlock) → IsQueue q
@@ -62,15 +63,29 @@ landed : RecordsBack → (b : SentBlock) (q : QueueValue) (parity : Parity) (las
     (spooled : List (List ℕ)) (t : TextValue) → IsQueue q
     → CountsOn (Unanswered b) (length (waiting q))
     → NotLanded b q parity last spooled (Outward (m.Text t)) → IsReplyAfter x b.parity →
-    (Agree (Unanswered b) q (other parity) x (spooled ++ records_in t.units) (Back x)) × MovesAtReceiver (Unanswered b) (channel q spooled) (channel q (spooled ++ records_in t.units))
+    (Agree (Unanswered b) q (other parity) x (spooled ++ records_in t.units) (Back x)) × MovesAtReceiver
+    (Unanswered b) (channel q spooled) (channel q (spooled ++ records_in t.units))
 landed law b q parity last x spooled t queue counts h a =
     let known : q.known ≤ length q.offered = queue.known in
     let fit : b.count ≤ length (waiting q) = fits b _ counts in
-    let there : records_in t.units ≡ take b.count (drop q.known q.offered) = ap (λ (u : TextValue). records_in u.units) h.flight ∙ block_records law q b queue in
+    let there : records_in t.units ≡ take b.count (drop q.known q.offered) =
+    ap (λ (u : TextValue). records_in u.units) h.flight ∙ block_records law q b queue in
     let long : length spooled ≡ q.known = ap length h.front ∙ length-take-le q.known q.offered known in
-    let all : spooled ++ records_in t.units ≡ take (q.known + b.count) q.offered = rw (h.front, there, take-add q.known b.count q.offered) in (
+    let all : spooled ++ records_in t.units ≡ take (q.known + b.count) q.offered =
+    rw (h.front, there, take-add q.known b.count q.offered) in (
       inr (record { front = all; counted = other_other parity b.parity h.counted; reply = a; flight = refl }),
-      inr (b, refl, record { some = counts.0; few = counts.1; all_known = long; there = omega (arith, length-drop q.known q.offered); landed = ap (λ u. channel q (spooled ++ u)) there }),
+      inr (
+        b,
+        refl,
+        record {
+          some = counts.0;
+          few = counts.1;
+          all_known = long;
+          there = omega
+              (arith, length-drop q.known q.offered);
+          landed = ap (λ u. channel q (spooled ++ u)) there;
+        },
+      ),
     )
 
 -- a text is heard
@@ -78,7 +93,8 @@ text_keeps : RecordsBack → (b : SentBlock) (q : QueueValue) (parity : Parity) 
     (s : SpoolValue) (t : TextValue) (urgent first after : Bool) → IsQueue q
     → CountsOn (Unanswered b) (length (waiting q))
     → NotLanded b q parity last s.records (Outward (m.Text t)) →
-    Keeps (Unanswered b) q s.records (text_step (record { parity = parity; last = last }) s t urgent (record { first = first; after = after }))
+    Keeps (Unanswered b) q s.records
+    (text_step (record { parity = parity; last = last }) s t urgent (record { first = first; after = after }))
 text_keeps law b q parity last s t urgent false after queue counts h =
     (inl (record { front = h.front; counted = h.counted; reply = tt; flight = refl }), inl refl)
 text_keeps law b q parity last s t false true true queue counts h =
@@ -87,17 +103,23 @@ text_keeps law b q parity last s t false true false queue counts h =
     landed law b q parity last Wack s.records t queue counts h tt
 text_keeps law b q parity Rvi s t true true after queue counts h = absurd h.reply
 text_keeps law b q parity Wack s t true true after queue counts h = absurd h.reply
-text_keeps law b q parity Ack0 s t true true after queue counts h = landed law b q parity Ack0 Rvi s.records t queue counts h tt
-text_keeps law b q parity Ack1 s t true true after queue counts h = landed law b q parity Ack1 Rvi s.records t queue counts h tt
-text_keeps law b q parity Nak s t true true after queue counts h = landed law b q parity Nak Rvi s.records t queue counts h tt
+text_keeps law b q parity Ack0 s t true true after queue counts h =
+    landed law b q parity Ack0 Rvi s.records t queue counts h tt
+text_keeps law b q parity Ack1 s t true true after queue counts h =
+    landed law b q parity Ack1 Rvi s.records t queue counts h tt
+text_keeps law b q parity Nak s t true true after queue counts h =
+    landed law b q parity Nak Rvi s.records t queue counts h tt
 
 -- ENQ is heard before the block landed
 enq_before : (b : SentBlock) (q : QueueValue) (parity : Parity) (last : Reply) (s : SpoolValue)
     (rooms : Rooms) → NotLanded b q parity last s.records (Outward m.Enq) →
     Keeps (Unanswered b) q s.records (enq_step (record { parity = parity; last = last }) s rooms)
-enq_before b q parity Ack0 s rooms h = (inl (record { front = h.front; counted = h.counted; reply = h.reply; flight = refl }), inl refl)
-enq_before b q parity Ack1 s rooms h = (inl (record { front = h.front; counted = h.counted; reply = h.reply; flight = refl }), inl refl)
-enq_before b q parity Nak s rooms h = (inl (record { front = h.front; counted = h.counted; reply = h.reply; flight = refl }), inl refl)
+enq_before b q parity Ack0 s rooms h =
+    (inl (record { front = h.front; counted = h.counted; reply = h.reply; flight = refl }), inl refl)
+enq_before b q parity Ack1 s rooms h =
+    (inl (record { front = h.front; counted = h.counted; reply = h.reply; flight = refl }), inl refl)
+enq_before b q parity Nak s rooms h =
+    (inl (record { front = h.front; counted = h.counted; reply = h.reply; flight = refl }), inl refl)
 enq_before b q parity Wack s rooms h = absurd h.reply
 enq_before b q parity Rvi s rooms h = absurd h.reply
 
@@ -110,13 +132,19 @@ ack_after Even Even e = tt
 -- and after it landed
 enq_after : (b : SentBlock) (q : QueueValue) (parity : Parity) (last : Reply) (s : SpoolValue)
     (first after : Bool) → HasLanded b q parity last s.records (Outward m.Enq) →
-    Keeps (Unanswered b) q s.records (enq_step (record { parity = parity; last = last }) s (record { first = first; after = after }))
-enq_after b q parity Ack0 s first after h = (inr (record { front = h.front; counted = h.counted; reply = h.reply; flight = refl }), inl refl)
-enq_after b q parity Ack1 s first after h = (inr (record { front = h.front; counted = h.counted; reply = h.reply; flight = refl }), inl refl)
+    Keeps (Unanswered b) q s.records
+    (enq_step (record { parity = parity; last = last }) s (record { first = first; after = after }))
+enq_after b q parity Ack0 s first after h =
+    (inr (record { front = h.front; counted = h.counted; reply = h.reply; flight = refl }), inl refl)
+enq_after b q parity Ack1 s first after h =
+    (inr (record { front = h.front; counted = h.counted; reply = h.reply; flight = refl }), inl refl)
 enq_after b q parity Nak s first after h = absurd h.reply
-enq_after b q parity Rvi s first after h = (inr (record { front = h.front; counted = h.counted; reply = tt; flight = refl }), inl refl)
-enq_after b q parity Wack s true after h = (inr (record { front = h.front; counted = h.counted; reply = ack_after parity b.parity h.counted; flight = refl }), inl refl)
-enq_after b q parity Wack s false after h = (inr (record { front = h.front; counted = h.counted; reply = tt; flight = refl }), inl refl)
+enq_after b q parity Rvi s first after h =
+    (inr (record { front = h.front; counted = h.counted; reply = tt; flight = refl }), inl refl)
+enq_after b q parity Wack s true after h =
+    (inr (record { front = h.front; counted = h.counted; reply = ack_after parity b.parity h.counted; flight = refl }), inl refl)
+enq_after b q parity Wack s false after h =
+    (inr (record { front = h.front; counted = h.counted; reply = tt; flight = refl }), inl refl)
 
 ack_held : (x y : Parity) → x ≡ y → IsReplyHeld (ack x) y
 ack_held Odd Odd e = tt
@@ -129,13 +157,18 @@ enq_held : (end_phase : Phase) (expected : Parity) (q : QueueValue) (parity : Pa
     (last : Reply) (s : SpoolValue) (first after : Bool)
     → IsHeld expected q parity last s.records (Outward m.Enq) →
     let out = enq_step (record { parity = parity; last = last }) s (record { first = first; after = after }) in
-    IsHeld expected q out.receiver.parity out.receiver.last out.spool.records (back out.reply) × MovesAtReceiver end_phase (channel q s.records) (channel q out.spool.records)
-enq_held p expected q parity Ack0 s first after h = (record { front = h.front; counted = h.counted; reply = h.reply; flight = refl }, inl refl)
-enq_held p expected q parity Ack1 s first after h = (record { front = h.front; counted = h.counted; reply = h.reply; flight = refl }, inl refl)
+    IsHeld expected q out.receiver.parity out.receiver.last out.spool.records
+    (back out.reply) × MovesAtReceiver end_phase (channel q s.records) (channel q out.spool.records)
+enq_held p expected q parity Ack0 s first after h =
+    (record { front = h.front; counted = h.counted; reply = h.reply; flight = refl }, inl refl)
+enq_held p expected q parity Ack1 s first after h =
+    (record { front = h.front; counted = h.counted; reply = h.reply; flight = refl }, inl refl)
 enq_held p expected q parity Nak s first after h = absurd h.reply
 enq_held p expected q parity Rvi s first after h = absurd h.reply
-enq_held p expected q parity Wack s true after h = (record { front = h.front; counted = h.counted; reply = ack_held parity expected h.counted; flight = refl }, inl refl)
-enq_held p expected q parity Wack s false after h = (record { front = h.front; counted = h.counted; reply = tt; flight = refl }, inl refl)
+enq_held p expected q parity Wack s true after h =
+    (record { front = h.front; counted = h.counted; reply = ack_held parity expected h.counted; flight = refl }, inl refl)
+enq_held p expected q parity Wack s false after h =
+    (record { front = h.front; counted = h.counted; reply = tt; flight = refl }, inl refl)
 
 -- what was on its way is lost
 pub agree_still : (phase : Phase) (q : QueueValue) (parity : Parity) (last : Reply)
@@ -143,9 +176,12 @@ pub agree_still : (phase : Phase) (q : QueueValue) (parity : Parity) (last : Rep
     → Agree phase q parity last spooled Still
 agree_still Idle q parity last spooled f h = absurd h
 agree_still (InDoubt k) q parity last spooled f h = absurd h
-agree_still (Held e x) q parity last spooled f h = record { front = h.front; counted = h.counted; reply = h.reply; flight = tt }
-agree_still (Unanswered b) q parity last spooled f (inl h) = inl (record { front = h.front; counted = h.counted; reply = h.reply; flight = tt })
-agree_still (Unanswered b) q parity last spooled f (inr h) = inr (record { front = h.front; counted = h.counted; reply = h.reply; flight = tt })
+agree_still (Held e x) q parity last spooled f h =
+    record { front = h.front; counted = h.counted; reply = h.reply; flight = tt }
+agree_still (Unanswered b) q parity last spooled f (inl h) =
+    inl (record { front = h.front; counted = h.counted; reply = h.reply; flight = tt })
+agree_still (Unanswered b) q parity last spooled f (inr h) =
+    inr (record { front = h.front; counted = h.counted; reply = h.reply; flight = tt })
 
 -- what a sender sends
 abbrev pub IsSenders : Message → Type 0
@@ -185,17 +221,24 @@ whole_keeps : RecordsBack
     → (phase : Phase) (q : QueueValue) (parity : Parity) (last : Reply) (s : SpoolValue)
     (w : Message) (urgent first after : Bool) → IsQueue q → CountsOn phase (length (waiting q))
     → Agree phase q parity last s.records (Outward w) →
-    Keeps phase q s.records (heard_step (record { parity = parity; last = last }) s (Whole w) urgent (record { first = first; after = after }))
+    Keeps phase q s.records (heard_step (record { parity = parity; last = last }) s (Whole w) urgent
+    (record { first = first; after = after }))
 whole_keeps law Idle q parity last s w urgent first after queue counts h = absurd h
 whole_keeps law (InDoubt k) q parity last s w urgent first after queue counts h = absurd h
-whole_keeps law (Unanswered b) q parity last s (m.Text t) urgent first after queue counts (inl h) = text_keeps law b q parity last s t urgent first after queue counts h
+whole_keeps law (Unanswered b) q parity last s (m.Text t) urgent first after queue counts (inl h) =
+    text_keeps law b q parity last s t urgent first after queue counts h
 whole_keeps law (Unanswered b) q parity last s (m.Text t) urgent first after queue counts (inr h) = absurd h.flight
-whole_keeps law (Unanswered b) q parity last s m.Enq urgent first after queue counts (inl h) = enq_before b q parity last s (record { first = first; after = after }) h
-whole_keeps law (Unanswered b) q parity last s m.Enq urgent first after queue counts (inr h) = enq_after b q parity last s first after h
-whole_keeps law (Held e x) q parity last s m.Enq urgent first after queue counts h = enq_held (Held e x) x q parity last s first after h
+whole_keeps law (Unanswered b) q parity last s m.Enq urgent first after queue counts (inl h) =
+    enq_before b q parity last s (record { first = first; after = after }) h
+whole_keeps law (Unanswered b) q parity last s m.Enq urgent first after queue counts (inr h) =
+    enq_after b q parity last s first after h
+whole_keeps law (Held e x) q parity last s m.Enq urgent first after queue counts h =
+    enq_held (Held e x) x q parity last s first after h
 whole_keeps law (Held e x) q parity last s (m.Text t) urgent first after queue counts h = absurd h.flight
-whole_keeps law (Unanswered b) q parity last s w urgent first after queue counts h = absurd (senders (Unanswered b) q parity last s.records w h)
-whole_keeps law (Held e x) q parity last s w urgent first after queue counts h = absurd (senders (Held e x) q parity last s.records w h)
+whole_keeps law (Unanswered b) q parity last s w urgent first after queue counts h =
+    absurd (senders (Unanswered b) q parity last s.records w h)
+whole_keeps law (Held e x) q parity last s w urgent first after queue counts h =
+    absurd (senders (Held e x) q parity last s.records w h)
 
 -- a spoiled text is heard
 spoiled_keeps : (phase : Phase) (q : QueueValue) (parity : Parity) (last : Reply)
@@ -205,7 +248,8 @@ spoiled_keeps : (phase : Phase) (q : QueueValue) (parity : Parity) (last : Reply
 spoiled_keeps Idle q parity last s w f h = absurd h
 spoiled_keeps (InDoubt k) q parity last s w f h = absurd h
 spoiled_keeps (Held e x) q parity last s (m.Text t) f h = absurd h.flight
-spoiled_keeps (Unanswered b) q parity last s (m.Text t) f (inl h) = inl (record { front = h.front; counted = h.counted; reply = tt; flight = refl })
+spoiled_keeps (Unanswered b) q parity last s (m.Text t) f (inl h) =
+    inl (record { front = h.front; counted = h.counted; reply = tt; flight = refl })
 spoiled_keeps (Unanswered b) q parity last s (m.Text t) f (inr h) = absurd h.flight
 spoiled_keeps (Held e x) q parity last s w f h = absurd f
 spoiled_keeps (Unanswered b) q parity last s w f h = absurd f
@@ -214,12 +258,17 @@ heard_keeps : RecordsBack
     → (phase : Phase) (q : QueueValue) (parity : Parity) (last : Reply) (s : SpoolValue)
     (w : Message) (h : Heard) (urgent first after : Bool)
     → InBid phase q parity last s.records (Outward w) → IsFairlyHeard w h →
-    Keeps phase q s.records (heard_step (record { parity = parity; last = last }) s h urgent (record { first = first; after = after }))
-heard_keeps law phase q parity last s w Noise urgent first after b f = (agree_still phase q parity last s.records (Outward w) b.agree, inl refl)
-heard_keeps law phase q parity last s w Failed urgent first after b f = (spoiled_keeps phase q parity last s w f b.agree, inl refl)
+    Keeps phase q s.records (heard_step (record { parity = parity; last = last }) s h urgent
+    (record { first = first; after = after }))
+heard_keeps law phase q parity last s w Noise urgent first after b f =
+    (agree_still phase q parity last s.records (Outward w) b.agree, inl refl)
+heard_keeps law phase q parity last s w Failed urgent first after b f =
+    (spoiled_keeps phase q parity last s w f b.agree, inl refl)
 heard_keeps law phase q parity last s w (Whole v) urgent first after b (inl e) =
-    whole_keeps law phase q parity last s v urgent first after b.queue b.counts (subst (λ (x : Message). Agree phase q parity last s.records (Outward x)) (sym e) b.agree)
-heard_keeps law phase q parity last s w (Whole v) urgent first after b (inr e) = absurd (no_call w v (senders phase q parity last s.records w b.agree) e)
+    whole_keeps law phase q parity last s v urgent first after b.queue b.counts
+    (subst (λ (x : Message). Agree phase q parity last s.records (Outward x)) (sym e) b.agree)
+heard_keeps law phase q parity last s w (Whole v) urgent first after b (inr e) =
+    absurd (no_call w v (senders phase q parity last s.records w b.agree) e)
 
 -- the sender's transmission is heard at the receiver, or not
 pub receiver_keeps : RecordsBack
@@ -227,5 +276,7 @@ pub receiver_keeps : RecordsBack
     (h : Option Heard) (urgent : Bool) (rooms : Rooms)
     → InBid phase q r.parity r.last s.records (Outward w) → IsFair w h
     → Keeps phase q s.records (received r s h urgent rooms)
-receiver_keeps law phase q r s w None urgent rooms b f = (agree_still phase q r.parity r.last s.records (Outward w) b.agree, inl refl)
-receiver_keeps law phase q r s w (Some h) urgent rooms b f = heard_keeps law phase q r.parity r.last s w h urgent rooms.first rooms.after b f
+receiver_keeps law phase q r s w None urgent rooms b f =
+    (agree_still phase q r.parity r.last s.records (Outward w) b.agree, inl refl)
+receiver_keeps law phase q r s w (Some h) urgent rooms b f =
+    heard_keeps law phase q r.parity r.last s w h urgent rooms.first rooms.after b f

@@ -24,7 +24,14 @@ OffersQueue = (q : QueueValue) (r : List ℕ) → IsQueue q → length r ≤ q.f
 
 more_waiting : (q : QueueValue) (r : List ℕ)
     → length (waiting q) ≤ length (waiting (with_offered q r))
-more_waiting q r = omega (arith, length-drop q.known q.offered, length-drop q.known (q.offered ++ r ∷ []), length-append q.offered (r ∷ []))
+more_waiting q r =
+    omega (
+      arith,
+      length-drop q.known q.offered,
+      length-drop q.known (q.offered ++ r ∷ []),
+      length-append q.offered
+          (r ∷ []),
+    )
 
 are_waiting : (k n n' : ℕ) (e : End) → n ≤ n' → AreWaiting k e n → AreWaiting k e n'
 are_waiting k n n' Etb l h = omega arith
@@ -47,7 +54,9 @@ text_offered : (b : SentBlock) (q : QueueValue) (r : List ℕ) → IsQueue q
 text_offered b q r h fit =
     let known : q.known ≤ length q.offered = h.known in
     let same : take b.count (drop q.known (q.offered ++ r ∷ [])) ≡ take b.count (drop q.known q.offered) =
-    ap (λ (xs : List (List ℕ)). take b.count xs) (drop-append-le q.known q.offered (r ∷ []) known) ∙ take-append-le b.count (drop q.known q.offered) (r ∷ []) fit in
+    ap (λ (xs : List (List ℕ)). take b.count xs)
+    (drop-append-le q.known q.offered (r ∷ []) known) ∙ take-append-le b.count (drop q.known q.offered)
+    (r ∷ []) fit in
     ap (λ (xs : List (List ℕ)). record { units = map (unit_of q.format.full) xs; end = b.end }) (sym same)
 
 flight_offered : (b : SentBlock) (q : QueueValue) (r : List ℕ) (last : Reply) (f : Flight)
@@ -69,11 +78,19 @@ agree_offered : (p : Phase) (q : QueueValue) (r : List ℕ) (parity : Parity) (l
     → Agree p q parity last spooled f → Agree p (with_offered q r) parity last spooled f
 agree_offered Idle q r parity last spooled f queue counts h = absurd h
 agree_offered (InDoubt k) q r parity last spooled f queue counts h = absurd h
-agree_offered (Held e x) q r parity last spooled f queue counts h = record { front = front_offered q r q.known spooled queue.known h.front; counted = h.counted; reply = h.reply; flight = h.flight }
+agree_offered (Held e x) q r parity last spooled f queue counts h =
+    record { front = front_offered q r q.known spooled queue.known h.front; counted = h.counted; reply = h.reply; flight = h.flight }
 agree_offered (Unanswered b) q r parity last spooled f queue counts (inl h) =
     inl (record { front = front_offered q r q.known spooled queue.known h.front; counted = h.counted; reply = h.reply; flight = flight_offered b q r last f (text_offered b q r queue (fits b _ counts)) h.flight })
 agree_offered (Unanswered b) q r parity last spooled f queue counts (inr h) =
-    inr (record { front = front_offered q r (q.known + b.count) spooled (within_offered q b.count queue (fits b _ counts)) h.front; counted = h.counted; reply = h.reply; flight = h.flight })
+    inr (record {
+      front = front_offered q r (q.known + b.count) spooled
+          (within_offered q b.count queue
+          (fits b _ counts)) h.front;
+      counted = h.counted;
+      reply = h.reply;
+      flight = h.flight;
+    })
 
 -- a bid that goes on
 pub bid_offered : OffersQueue
@@ -85,12 +102,18 @@ bid_offered law p q r parity last spooled f short i =
 
 -- what begins a list is not longer
 pub not_longer : (xs ys : List (List ℕ)) → xs ≡ take (length xs) ys → length xs ≤ length ys
-not_longer xs ys e = let k : length xs ≡ min (length xs) (length ys) = ap length e ∙ length-take (length xs) ys in omega arith
+not_longer xs ys e =
+    let k : length xs ≡ min (length xs) (length ys) = ap length e ∙ length-take (length xs) ys in omega arith
 
 sound_offered : (p : Phase) (q : QueueValue) (r : List ℕ) (spooled : List (List ℕ))
     → IsSound p (channel q spooled) → IsSound p (channel (with_offered q r) spooled)
 sound_offered p q r spooled h =
-    record { front = front_offered q r (length spooled) spooled (not_longer spooled q.offered h.front) h.front; known = h.known; spooled = h.spooled }
+    record {
+      front = front_offered q r (length spooled) spooled
+          (not_longer spooled q.offered h.front) h.front;
+      known = h.known;
+      spooled = h.spooled;
+    }
 
 -- and one that is over
 pub resting_offered : OffersQueue
@@ -104,6 +127,9 @@ pub continues_offered : OffersQueue
     (spooled : List (List ℕ)) (f : Flight) → length r ≤ q.format.full
     → Continues p q parity last spooled f → Continues p (with_offered q r) parity last spooled f
 continues_offered law Idle q r parity last spooled f short h = (resting_offered law Idle q r spooled short h.0, h.1)
-continues_offered law (InDoubt k) q r parity last spooled f short h = (resting_offered law (InDoubt k) q r spooled short h.0, h.1)
-continues_offered law (Unanswered b) q r parity last spooled f short h = bid_offered law (Unanswered b) q r parity last spooled f short h
-continues_offered law (Held e x) q r parity last spooled f short h = bid_offered law (Held e x) q r parity last spooled f short h
+continues_offered law (InDoubt k) q r parity last spooled f short h =
+    (resting_offered law (InDoubt k) q r spooled short h.0, h.1)
+continues_offered law (Unanswered b) q r parity last spooled f short h =
+    bid_offered law (Unanswered b) q r parity last spooled f short h
+continues_offered law (Held e x) q r parity last spooled f short h =
+    bid_offered law (Held e x) q r parity last spooled f short h

@@ -26,7 +26,8 @@ all_waiting k n Etx h = h
 
 pub within_offered : (q : QueueValue) (k : ℕ) → IsQueue q → k ≤ length (waiting q)
     → q.known + k ≤ length q.offered
-within_offered q k h there = let known : q.known ≤ length q.offered = h.known in omega (arith, length-drop q.known q.offered)
+within_offered q k h there =
+    let known : q.known ≤ length q.offered = h.known in omega (arith, length-drop q.known q.offered)
 
 -- a queue in which waiting records are marked is a queue
 pub is_queue_marked : (q : QueueValue) (k : ℕ) → IsQueue q → k ≤ length (waiting q)
@@ -51,4 +52,5 @@ going_next s q x f (r ∷ rs) h = tt
 -- where records wait, begin starts a bid
 pub going_begin : (s : SenderValue) (q : QueueValue) (t : SenderStep) → t ≡ begin_step s q
     → 1 ≤ length (waiting q) → IsGoing t.sender.phase
-going_begin s q t e h = subst (λ (u : SenderStep). IsGoing u.sender.phase) (sym e) (going_next s q Odd q.format (waiting q) h)
+going_begin s q t e h =
+    subst (λ (u : SenderStep). IsGoing u.sender.phase) (sym e) (going_next s q Odd q.format (waiting q) h)

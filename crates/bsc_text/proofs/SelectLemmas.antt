@@ -12,7 +12,9 @@ pub holds_selects : (poll : List ℕ) (selects : List (List ℕ)) → 0 < length
     → length selects ≤ 4
     → HoldsSelects poll (selects ++ drop {A = List ℕ} (length selects) (poll ∷ poll ∷ poll ∷ poll ∷ [])) (length selects)
 holds_selects poll selects some most =
-    let front : take (length selects) (selects ++ drop {A = List ℕ} (length selects) (poll ∷ poll ∷ poll ∷ poll ∷ [])) ≡ selects = take-append_seam selects _ in
+    let front : take (length selects)
+    (selects ++ drop {A = List ℕ} (length selects) (poll ∷ poll ∷ poll ∷ poll ∷ []))
+    ≡ selects = take-append_seam selects _ in
     record {
       terminal = rw front (record { some = some; most = most });
       long = rw front refl;

@@ -33,15 +33,20 @@ hearing_agrees law phase q r s sent heard urgent rooms i fair =
 
 pub answering_agrees : LawsBelow → AnsweringAgrees
 answering_agrees law s q parity last spooled reply heard i fair =
-    agrees s q parity last spooled (answered s q reply heard) (sender_keeps law.next s q parity last spooled reply heard i fair) (fits_heard s q reply heard)
+    agrees s q parity last spooled (answered s q reply heard)
+    (sender_keeps law.next s q parity last spooled reply heard i fair) (fits_heard s q reply heard)
 
 pub silence_agrees : SilenceAgrees
 silence_agrees s q parity last spooled h =
-    agrees s q parity last spooled (silent_in s q s.phase) (at_same q parity last spooled (silent_in s q s.phase) (silence_keeps s s.phase q parity last spooled refl h)) (fits_silence s q)
+    agrees s q parity last spooled (silent_in s q s.phase)
+    (at_same q parity last spooled (silent_in s q s.phase) (silence_keeps s s.phase q parity last spooled refl h))
+    (fits_silence s q)
 
 pub begin_agrees : LawsBelow → BeginAgrees
 begin_agrees law s q spooled h some =
-    agrees s q Even Ack0 spooled (begin_step s q) (at_same q Even Ack0 spooled (begin_step s q) (begin_keeps law.next s q spooled h.queue h.sound some)) (fits_begin s q)
+    agrees s q Even Ack0 spooled (begin_step s q)
+    (at_same q Even Ack0 spooled (begin_step s q) (begin_keeps law.next s q spooled h.queue h.sound some))
+    (fits_begin s q)
 
 pub offer_agrees : LawsBelow → OfferAgrees
 offer_agrees law phase q parity last spooled f r short i = bid_offered law.offers phase q r parity last spooled f short i
@@ -53,7 +58,8 @@ offer_keeps_rest law phase q spooled r short h = resting_offered law.offers phas
 known_all : (q : QueueValue) (spooled : List (List ℕ)) → IsQueue q
     → spooled ≡ take (length spooled) q.offered → length spooled ≤ length q.offered →
     IsResting Idle (queue_of q.format q.offered (length spooled)) spooled
-known_all q spooled h front long = record { queue = record { format = h.format; known = long; short = h.short }; counts = tt; sound = record { front = front; known = omega arith; spooled = refl } }
+known_all q spooled h front long =
+    record { queue = record { format = h.format; known = long; short = h.short }; counts = tt; sound = record { front = front; known = omega arith; spooled = refl } }
 
 release_by : (s : SenderValue) (q : QueueValue) (k : ℕ) (spooled : List (List ℕ)) (p : Phase)
     → p ≡ InDoubt k → IsResting (InDoubt k) q spooled → length spooled ≤ length q.offered
@@ -63,7 +69,8 @@ release_by s q k spooled p e h long =
     released_by s q (InDoubt k) (length spooled) refl h.sound.spooled in
     let all : ReleaseAgrees (released s q (length spooled)) spooled =
     record { answer = refl; idle = refl; rest = known_all q spooled h.queue h.sound.front long } in
-    subst (λ (x : Phase). ReleaseAgrees (release_in s q x (length spooled)) spooled) (sym e) (subst (λ (x : ReleaseStep). ReleaseAgrees x spooled) (sym there) all)
+    subst (λ (x : Phase). ReleaseAgrees (release_in s q x (length spooled)) spooled) (sym e)
+    (subst (λ (x : ReleaseStep). ReleaseAgrees x spooled) (sym there) all)
 
 pub release_keeps_rest : ReleaseKeepsRest
 release_keeps_rest s q k spooled e h = release_by s q k spooled s.phase e h (not_longer spooled q.offered h.sound.front)
@@ -80,7 +87,8 @@ text_or_enq m.Enq h = inr refl
 text_or_enq _ h = absurd h
 
 pub outward_is_text_or_enq : OutwardIsTextOrEnq
-outward_is_text_or_enq phase q parity last spooled sent i = text_or_enq sent (senders phase q parity last spooled sent i.agree)
+outward_is_text_or_enq phase q parity last spooled sent i =
+    text_or_enq sent (senders phase q parity last spooled sent i.agree)
 
 pub back_is_last : BackIsLast
 back_is_last phase q parity last reply spooled i = back_last phase q parity last reply spooled i.agree

@@ -75,13 +75,27 @@ delayed_comes : (s : SenderValue) (q : QueueValue) (e : End) (x : Parity) → Is
     → Comes s (delayed s q e x)
 delayed_comes s q e x h =
     test (Comes s) (nat_lt s.setup.waits (s.waits + 1)) _ _
-    (λ _. (refl, tt)) (λ n. (refl, record { within = record { tries = omega arith; waits = grind (arith, nat_tests) }; nearer = more_waits s.waits s.tries s.setup.tries h.tries }))
+    (λ _. (refl, tt)) (λ n. (
+      refl,
+      record {
+        within = record {
+          tries = omega arith;
+          waits = grind
+              (arith, nat_tests);
+        };
+        nearer = more_waits s.waits s.tries s.setup.tries h.tries;
+      },
+    ))
 
 failed_comes : (s : SenderValue) (q : QueueValue) (left : Phase) (act : Act) → IsWithin s
     → ((u : SenderValue) → IsNearer s u → ComesBy act s u) → Comes s (failed s q left act)
 failed_comes s q left act h f =
     test (Comes s) (nat_lt s.setup.tries (s.tries + 1)) _ _
-    (λ _. (refl, tt)) (λ n. (refl, f _ (record { within = record { tries = grind (arith, nat_tests); waits = h.waits }; nearer = omega arith })))
+    (λ _. (refl, tt)) (λ n. (
+      refl,
+      f _
+          (record { within = record { tries = grind (arith, nat_tests); waits = h.waits }; nearer = omega arith }),
+    ))
 
 unanswered_comes : (s : SenderValue) (q : QueueValue) (b : SentBlock) (x : Answer) → IsWithin s
     → Comes s (unanswered_step s q b x)
@@ -130,11 +144,14 @@ settled_comes s t a.Enq e h k = k
 settled_comes s t a.Over e h k = k
 settled_comes s t a.Quiet e h k =
     let same : t.sender ≡ s = subst (λ (x : Act). ComesBy x s t.sender) e k.1 in
-    subst (λ (u : SenderValue). Comes u (silent_in t.sender t.queue t.sender.phase)) same (silent_comes t.sender t.queue t.sender.phase (subst IsWithin (sym same) h))
+    subst (λ (u : SenderValue). Comes u (silent_in t.sender t.queue t.sender.phase)) same
+    (silent_comes t.sender t.queue t.sender.phase (subst IsWithin (sym same) h))
 
 turn_comes : (b : Bid) (t : Turn) → IsWithin b.sender
     → Comes b.sender (unless_quiet (sender_in b t) (sender_in b t).act)
-turn_comes b t h = settled_comes b.sender (sender_in b t) (sender_in b t).act refl h (heard_comes b.sender b.queue (receiver_in b t).reply t.answer h)
+turn_comes b t h =
+    settled_comes b.sender (sender_in b t) (sender_in b t).act refl h
+    (heard_comes b.sender b.queue (receiver_in b t).reply t.answer h)
 
 -- what is left of the turns of a block
 bound : (w wl t tl : ℕ) → w ≤ wl → t ≤ tl → w * (tl + 1) + t + 1 ≤ (tl + 1) * (wl + 1)
@@ -173,40 +190,58 @@ begun_one x t u e j = rw (e, j.tries) refl
 count_turn : (M : ℕ) (b : Bid) (t : Turn) (es : List Event) (c : Bid) (x : Act)
     → (after_turn b t).act ≡ x → ComesBy x b.sender (after_turn b t).sender
     → rank b.sender + 1 ≤ M → AreEvents (after_turn b t) es c →
-    (IsWithin (after_turn b t).sender → turn_count es + rank (after_turn b t).sender ≤ begun_in (after_turn b t) es * M + M) →
+    (IsWithin (after_turn b t).sender → turn_count es + rank (after_turn b t).sender ≤ begun_in
+    (after_turn b t) es * M + M) →
     turn_count es + 1 + rank b.sender ≤ begun_in b (Exchange t ∷ es) * M + M
 count_turn M b t es c (a.Send k) e (inl j) h events ih =
     let u : SenderValue = (after_turn b t).sender in
     let one : begun_by (after_turn b t).act u ≡ 1 = begun_one (after_turn b t).act k u e j in
     let zero_rank : rank u ≡ 0 = rw (j.waits, j.tries) (omega arith) in
     let n : turn_count es + 0 ≤ begun_in (after_turn b t) es * M + M =
-    subst (λ (r : ℕ). turn_count es + r ≤ begun_in (after_turn b t) es * M + M) zero_rank (ih (record { tries = omega (arith, j.tries); waits = omega (arith, j.waits) })) in
-    subst (λ (z : ℕ). turn_count es + 1 + rank b.sender ≤ (z + begun_in (after_turn b t) es) * M + M) (sym one) (sum_begun (turn_count es) (rank b.sender) (begun_in (after_turn b t) es) M h n)
-count_turn M b t es c (a.Send k) e (inr n) h events ih = sum_nearer (turn_count es) (rank b.sender) (rank (after_turn b t).sender) (begun_in (after_turn b t) es) _ M n.nearer (ih n.within)
-count_turn M b t es c a.Enq e n h events ih = sum_nearer (turn_count es) (rank b.sender) (rank (after_turn b t).sender) (begun_in (after_turn b t) es) _ M n.nearer (ih n.within)
-count_turn M b t es c a.Over e n h events ih = sum_over (turn_count es) (rank b.sender) M (begun_in b (Exchange t ∷ es) * M) (no_more (after_turn b t) es c (ap message_for e) events) h
-count_turn M b t es c a.Quiet e n h events ih = sum_over (turn_count es) (rank b.sender) M (begun_in b (Exchange t ∷ es) * M) (no_more (after_turn b t) es c (ap message_for e) events) h
+    subst (λ (r : ℕ). turn_count es + r ≤ begun_in (after_turn b t) es * M + M) zero_rank
+    (ih (record { tries = omega (arith, j.tries); waits = omega (arith, j.waits) })) in
+    subst (λ (z : ℕ). turn_count es + 1 + rank b.sender ≤ (z + begun_in (after_turn b t) es) * M + M) (sym one)
+    (sum_begun (turn_count es) (rank b.sender) (begun_in (after_turn b t) es) M h n)
+count_turn M b t es c (a.Send k) e (inr n) h events ih =
+    sum_nearer (turn_count es) (rank b.sender) (rank (after_turn b t).sender)
+    (begun_in (after_turn b t) es) _ M n.nearer (ih n.within)
+count_turn M b t es c a.Enq e n h events ih =
+    sum_nearer (turn_count es) (rank b.sender) (rank (after_turn b t).sender)
+    (begun_in (after_turn b t) es) _ M n.nearer (ih n.within)
+count_turn M b t es c a.Over e n h events ih =
+    sum_over (turn_count es) (rank b.sender) M (begun_in b (Exchange t ∷ es) * M)
+    (no_more (after_turn b t) es c (ap message_for e) events) h
+count_turn M b t es c a.Quiet e n h events ih =
+    sum_over (turn_count es) (rank b.sender) M (begun_in b (Exchange t ∷ es) * M)
+    (no_more (after_turn b t) es c (ap message_for e) events) h
 
 count : (setup : SetupValue) (b : Bid) (es : List Event) (c : Bid) → b.sender.setup ≡ setup
     → IsWithin b.sender → AreEvents b es c
     → turn_count es + rank b.sender ≤ begun_in b es * most_turns setup + most_turns setup
 count setup b [] c e h k =
-    let r : rank b.sender + 1 ≤ most_turns setup = subst (λ (x : SetupValue). rank b.sender + 1 ≤ most_turns x) e (rank_below b.sender h) in
+    let r : rank b.sender + 1 ≤ most_turns setup =
+    subst (λ (x : SetupValue). rank b.sender + 1 ≤ most_turns x) e (rank_below b.sender h) in
     omega arith
 count setup b (Exchange t ∷ es) c e h k =
-    let r : rank b.sender + 1 ≤ most_turns setup = subst (λ (x : SetupValue). rank b.sender + 1 ≤ most_turns x) e (rank_below b.sender h) in
+    let r : rank b.sender + 1 ≤ most_turns setup =
+    subst (λ (x : SetupValue). rank b.sender + 1 ≤ most_turns x) e (rank_below b.sender h) in
     let s : Comes b.sender (unless_quiet (sender_in b t) (sender_in b t).act) = turn_comes b t h in
-    count_turn (most_turns setup) b t es c (after_turn b t).act refl s.1 r k.1 (λ within. count setup (after_turn b t) es c (s.0 ∙ e) within k.1)
+    count_turn (most_turns setup) b t es c (after_turn b t).act refl s.1 r k.1
+    (λ within. count setup (after_turn b t) es c (s.0 ∙ e) within k.1)
 count setup b (Offering r ∷ es) c e h k = count setup (after_event b (Offering r)) es c e h k.1
 
 -- the first block of a bid
 begin_within : LawsBelow → (s : SenderValue) (q : QueueValue) → IsQueue q
     → 1 ≤ length (waiting q) → IsWithin (begin_step s q).sender
-begin_within law s q h some = let n = has_next law.next q h some in rw n.is (record { tries = omega arith; waits = omega arith })
+begin_within law s q h some =
+    let n = has_next law.next q h some in rw n.is (record { tries = omega arith; waits = omega arith })
 
 pub ends_soon : LawsBelow → EndsSoon
 ends_soon law b es c h =
     let first : SenderStep = record { sender = b.sender; queue = b.queue; act = b.act } in
-    let within : IsWithin b.sender = subst (λ (t : SenderStep). IsWithin t.sender) (sym h.begun.first) (begin_within law h.begun.sender b.queue h.begun.queue h.begun.waits) in
-    let n : turn_count es + rank b.sender ≤ begun_in b es * most_turns b.sender.setup + most_turns b.sender.setup = count b.sender.setup b es c refl within h.events in
+    let within : IsWithin b.sender =
+    subst (λ (t : SenderStep). IsWithin t.sender) (sym h.begun.first)
+    (begin_within law h.begun.sender b.queue h.begun.queue h.begun.waits) in
+    let n : turn_count es + rank b.sender ≤ begun_in b es * most_turns b.sender.setup + most_turns b.sender.setup =
+    count b.sender.setup b es c refl within h.events in
     omega arith

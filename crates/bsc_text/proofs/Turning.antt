@@ -63,7 +63,8 @@ sound_by (Unanswered b) q parity last spooled f h =
           (let long : length spooled ≡ q.known = ap length x.front ∙ length-take-le q.known q.offered known in
           record { front = rw long x.front; known = omega arith; spooled = inl long })
       | inr x ↦
-          (let long : length spooled ≡ q.known + b.count = ap length x.front ∙ length-take-le (q.known + b.count) q.offered (within_offered q b.count h.queue (fits b _ h.counts)) in
+          (let long : length spooled ≡ q.known + b.count = ap length x.front ∙ length-take-le
+          (q.known + b.count) q.offered (within_offered q b.count h.queue (fits b _ h.counts)) in
           record { front = rw long x.front; known = omega arith; spooled = inr long })
     ]
 
@@ -92,26 +93,40 @@ pub going : (b : Bid) (sent : Message) → message_for b.act ≡ Some sent → H
     → InBid b.sender.phase b.queue b.receiver.parity b.receiver.last b.spool.records (Outward sent)
 going b sent e h =
     busy b.sender.phase b.queue b.receiver.parity b.receiver.last b.spool.records sent
-    (subst (λ (f : Flight). Continues b.sender.phase b.queue b.receiver.parity b.receiver.last b.spool.records f) (outward b.act sent e) h.ends)
+    (subst (λ (f : Flight). Continues b.sender.phase b.queue b.receiver.parity b.receiver.last b.spool.records f)
+    (outward b.act sent e) h.ends)
 
 pub turn_keeps : LawsBelow → (b : Bid) (t : Turn) → Holds b → IsFairTurn b t → Turned b t
 turn_keeps law b t h fair =
-    let i : InBid b.sender.phase b.queue b.receiver.parity b.receiver.last b.spool.records (Outward fair.sent) = going b fair.sent fair.goes_on h in
+    let i : InBid b.sender.phase b.queue b.receiver.parity b.receiver.last b.spool.records (Outward fair.sent) =
+    going b fair.sent fair.goes_on h in
     let r : ReceiverStep = receiver_in b t in
-    let k : Keeps b.sender.phase b.queue b.spool.records r = receiver_keeps law.records b.sender.phase b.queue b.receiver b.spool fair.sent t.heard t.urgent t.rooms i fair.there in
-    let j : InBid b.sender.phase b.queue r.receiver.parity r.receiver.last r.spool.records (back r.reply) = record { queue = i.queue; counts = i.counts; agree = k.0 } in
-    let l : Leaves b.queue r.receiver.parity r.receiver.last r.spool.records (sender_in b t) = sender_keeps law.next b.sender b.queue r.receiver.parity r.receiver.last r.spool.records r.reply t.answer j fair.back in
-    let u : Leaves b.queue r.receiver.parity r.receiver.last r.spool.records (unless_quiet (sender_in b t) (sender_in b t).act) = settled_keeps b.queue r.receiver.parity r.receiver.last r.spool.records (sender_in b t) (sender_in b t).act refl l in
+    let k : Keeps b.sender.phase b.queue b.spool.records r =
+    receiver_keeps law.records b.sender.phase b.queue b.receiver b.spool fair.sent t.heard t.urgent t.rooms i fair.there in
+    let j : InBid b.sender.phase b.queue r.receiver.parity r.receiver.last r.spool.records (back r.reply) =
+    record { queue = i.queue; counts = i.counts; agree = k.0 } in
+    let l : Leaves b.queue r.receiver.parity r.receiver.last r.spool.records (sender_in b t) =
+    sender_keeps law.next b.sender b.queue r.receiver.parity r.receiver.last r.spool.records r.reply t.answer j fair.back in
+    let s : SenderStep = sender_in b t in
+    let u : Leaves b.queue r.receiver.parity r.receiver.last r.spool.records (unless_quiet s s.act) =
+    settled_keeps b.queue r.receiver.parity r.receiver.last r.spool.records s s.act refl l in
     record {
-      holds = record { ends = u.0; rests = ended b.sender (unless_quiet (sender_in b t) (sender_in b t).act) (fits_settled b.sender (sender_in b t) (sender_in b t).act refl (fits_heard b.sender b.queue r.reply t.answer)) };
-      sound = sound_by b.sender.phase b.queue r.receiver.parity r.receiver.last r.spool.records (back r.reply) (bid_continues b.sender.phase b.queue r.receiver.parity r.receiver.last r.spool.records (back r.reply) j);
+      holds = record {
+        ends = u.0;
+        rests = ended b.sender (unless_quiet s s.act) (fits_settled b.sender s s.act refl (fits_heard b.sender b.queue r.reply t.answer));
+      };
+      sound = sound_by b.sender.phase b.queue r.receiver.parity r.receiver.last r.spool.records (back r.reply)
+          (bid_continues b.sender.phase b.queue r.receiver.parity r.receiver.last r.spool.records (back r.reply) j);
       moves = record { receiver = k.1; sender = u.1 };
     }
 
 event_keeps : LawsBelow → (b : Bid) (e : Event) → Holds b → MayCome b e → Holds (after_event b e)
 event_keeps law b (Exchange t) h k = (turn_keeps law b t h k).holds
 event_keeps law b (Offering r) h k =
-    record { ends = continues_offered law.offers b.sender.phase b.queue r b.receiver.parity b.receiver.last b.spool.records (sent_flight b.act) k h.ends; rests = h.rests }
+    record {
+      ends = continues_offered law.offers b.sender.phase b.queue r b.receiver.parity b.receiver.last b.spool.records (sent_flight b.act) k h.ends;
+      rests = h.rests;
+    }
 
 events_keep : LawsBelow → (b : Bid) (es : List Event) (c : Bid) → Holds b → AreEvents b es c
     → Holds c
@@ -123,10 +138,13 @@ begun_holds law b h =
     let k = begin_keeps law.next h.sender b.queue b.spool.records h.queue h.sound h.waits in
     let first : SenderStep = record { sender = b.sender; queue = b.queue; act = b.act } in
     let there : Continues b.sender.phase b.queue Even Ack0 b.spool.records (sent_flight b.act) =
-    subst (λ (t : SenderStep). Continues t.sender.phase t.queue Even Ack0 b.spool.records (sent_flight t.act)) (sym h.first) k.0 in
+    subst (λ (t : SenderStep). Continues t.sender.phase t.queue Even Ack0 b.spool.records (sent_flight t.act))
+    (sym h.first) k.0 in
     record {
-      ends = subst (λ (r : ReceiverValue). Continues b.sender.phase b.queue r.parity r.last b.spool.records (sent_flight b.act)) (sym h.receiver) there;
-      rests = subst (λ (t : SenderStep). IsEnded t.act t.sender.phase) (sym h.first) (ended h.sender (begin_step h.sender b.queue) (fits_begin h.sender b.queue));
+      ends = subst (λ (r : ReceiverValue). Continues b.sender.phase b.queue r.parity r.last b.spool.records
+          (sent_flight b.act)) (sym h.receiver) there;
+      rests = subst (λ (t : SenderStep). IsEnded t.act t.sender.phase) (sym h.first)
+          (ended h.sender (begin_step h.sender b.queue) (fits_begin h.sender b.queue));
     }
 
 pub reached_holds : LawsBelow → (b : Bid) (es : List Event) (c : Bid) → Reaches b es c → Holds c
@@ -135,16 +153,24 @@ reached_holds law b es c h = events_keep law b es c (begun_holds law b h.begun) 
 ready_by : (s : SenderValue) (phase : Phase) (q : QueueValue) (parity : Parity) (last : Reply)
     (spooled : List (List ℕ)) (f : Flight) → s.phase ≡ phase
     → Continues phase q parity last spooled f → IsReady s q
-ready_by s Idle q parity last spooled f e h = record { queue = h.0.queue; counts = subst (λ (p : Phase). CountsOn p (length (waiting q))) (sym e) h.0.counts }
-ready_by s (InDoubt k) q parity last spooled f e h = record { queue = h.0.queue; counts = subst (λ (p : Phase). CountsOn p (length (waiting q))) (sym e) h.0.counts }
-ready_by s (Held end x) q parity last spooled f e h = record { queue = h.queue; counts = subst (λ (p : Phase). CountsOn p (length (waiting q))) (sym e) h.counts }
-ready_by s (Unanswered b) q parity last spooled f e h = record { queue = h.queue; counts = subst (λ (p : Phase). CountsOn p (length (waiting q))) (sym e) h.counts }
+ready_by s Idle q parity last spooled f e h =
+    record { queue = h.0.queue; counts = subst (λ (p : Phase). CountsOn p (length (waiting q))) (sym e) h.0.counts }
+ready_by s (InDoubt k) q parity last spooled f e h =
+    record { queue = h.0.queue; counts = subst (λ (p : Phase). CountsOn p (length (waiting q))) (sym e) h.0.counts }
+ready_by s (Held end x) q parity last spooled f e h =
+    record { queue = h.queue; counts = subst (λ (p : Phase). CountsOn p (length (waiting q))) (sym e) h.counts }
+ready_by s (Unanswered b) q parity last spooled f e h =
+    record { queue = h.queue; counts = subst (λ (p : Phase). CountsOn p (length (waiting q))) (sym e) h.counts }
 
 pub stays_ready : LawsBelow → StaysReady
-stays_ready law b es c h = ready_by c.sender c.sender.phase c.queue c.receiver.parity c.receiver.last c.spool.records (sent_flight c.act) refl (reached_holds law b es c h).ends
+stays_ready law b es c h =
+    ready_by c.sender c.sender.phase c.queue c.receiver.parity c.receiver.last c.spool.records
+    (sent_flight c.act) refl (reached_holds law b es c h).ends
 
 pub stays_sound : LawsBelow → StaysSound
-stays_sound law b es c h = sound_by c.sender.phase c.queue c.receiver.parity c.receiver.last c.spool.records (sent_flight c.act) (reached_holds law b es c h).ends
+stays_sound law b es c h =
+    sound_by c.sender.phase c.queue c.receiver.parity c.receiver.last c.spool.records (sent_flight c.act)
+    (reached_holds law b es c h).ends
 
 pub sound_within_turns : LawsBelow → SoundWithinTurns
 sound_within_turns law b es c t h fair = (turn_keeps law c t (reached_holds law b es c h) fair).sound
