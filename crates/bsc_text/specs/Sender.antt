@@ -63,12 +63,8 @@ abbrev pub sent_next : SenderValue → QueueValue → Parity → Option Next →
 sent_next s q parity None = over (with_counts s 0 0) q Idle
 sent_next s q parity (Some n) =
     let b : SentBlock = record { count = n.count; end = n.end; parity = parity } in
-    record {
-      sender = with_phase (with_counts s 0 0)
-          (Unanswered b);
-      queue = q;
-      act = a.Send (text_of q b);
-    }
+    let t : SenderValue = with_phase (with_counts s 0 0) (Unanswered b) in
+    record { sender = t; queue = q; act = a.Send (text_of q b) }
 
 -- begin: the next block is unanswered, and ACK1 is expected
 abbrev pub begin_step : SenderValue → QueueValue → SenderStep
