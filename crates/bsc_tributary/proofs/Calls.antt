@@ -1,0 +1,127 @@
+-- What a terminal does at a call of its own: the steps of the code, put together, are the rows of the table.
+use Rattle.std.proofs.Common.{◌≡◌, ◌∙◌, ◌<◌, ℕ, sym, ap, subst, refl, Bool, true, false, List, [], ◌∷◌, length, nat_eq, slice_set, Option, None, Some, is_some, if◌then◌else◌, arith}
+use Rattle.std.proofs.lemmas.Bool.Decides.{nat_tests}
+use Rattle.std.proofs.lemmas.List.{get_or-set_same, length-set}
+use Rattle.bsc_frame.specs.declared.message.Message.{Message}
+use Rattle.bsc_frame.specs.declared.message.Message.TheVariants as m
+use Rattle.bsc_block.specs.Format.{FormatValue}
+use Rattle.bsc_spool.specs.Queue.{waiting, next_after, next_block}
+use Rattle.bsc_spool.specs.Spool.{SpoolValue}
+use Rattle.bsc_text.specs.declared.parity.Parity.TheVariants.{Odd}
+use Rattle.bsc_text.specs.declared.phase.Phase.{Phase}
+use Rattle.bsc_text.specs.declared.phase.Phase.TheVariants.{Idle, Unanswered, Held, InDoubt}
+use Rattle.bsc_text.specs.declared.reply.Reply.{Reply}
+use Rattle.bsc_text.specs.Ready.{IsReady, IsAtRest}
+use Rattle.bsc_text.specs.Reply.{message_of}
+use Rattle.bsc_text.specs.Receiver.{ReceiverValue, begun, first_reply, tried}
+use Rattle.bsc_text.specs.Sender.{SenderStep, begin_step, is_in_doubt}
+use Rattle.bsc_tributary.specs.declared.mode.Mode.{Mode}
+use Rattle.bsc_tributary.specs.declared.mode.Mode.TheVariants.{Receiving}
+use Rattle.bsc_tributary.specs.Tributary.{TributaryValue, TributaryStep, spool_at, empty_spool, answer_step, without_line, mode_after, message_for, act_step, poll_step, selection_step}
+use Rattle.bsc_tributary.specs.Kept.{IsTributary}
+use Rattle.bsc_tributary.proofs.Acts.{FollowsFrom, follows-sent_next, IsAtRest-cut_phase}
+use Rattle.bsc_tributary.proofs.Stays.{stays-act_step, stays-flags}
+
+-- the answer to a poll, of a terminal from which the line was taken
+abbrev poll_from : TributaryValue → TributaryStep
+poll_from d =
+    if is_in_doubt d.sender.phase then answer_step d m.Eot
+    else if nat_eq (length (waiting d.queue)) 0 then answer_step d m.Eot
+    else act_step d (begin_step d.sender d.queue)
+
+poll_from-poll_step : (t old : TributaryValue) → t ≡ without_line old → poll_from (record t { urgent = false }) ≡ poll_step old
+poll_from-poll_step t old e = ap (λ (v : TributaryValue). poll_from (record v { urgent = false })) e
+
+none_waits : (f : FormatValue) (rs : List (List ℕ)) → next_after f rs ≡ None → nat_eq (length rs) 0 ≡ true
+none_waits f [] e = refl
+none_waits f (r ∷ rs) e = absurd (cc)
+
+some_wait : (f : FormatValue) (rs : List (List ℕ)) → is_some (next_after f rs) ≡ true → nat_eq (length rs) 0 ≡ false
+some_wait f [] e = absurd (cc)
+some_wait f (r ∷ rs) e = grind (arith, nat_tests)
+
+none_of : {X : Type 0} (o : Option X) → is_some o ≡ false → o ≡ None
+none_of None e = refl
+none_of (Some x) e = absurd (cc)
+
+-- EOT, in doubt
+pub poll_step-in_doubt : (t old : TributaryValue) → t ≡ without_line old → is_in_doubt t.sender.phase ≡ true → answer_step (record t { urgent = false }) m.Eot ≡ poll_step old
+poll_step-in_doubt t old e doubt =
+    let here : answer_step (record t { urgent = false }) m.Eot ≡ poll_from (record t { urgent = false }) = rw doubt refl in
+    here ∙ poll_from-poll_step t old e
+
+-- EOT, with nothing to send
+pub poll_step-empty : (t old : TributaryValue) → t ≡ without_line old → is_in_doubt t.sender.phase ≡ false → is_some (next_block t.queue) ≡ false → answer_step (record t { urgent = false }) m.Eot ≡ poll_step old
+poll_step-empty t old e sure none =
+    let empty : nat_eq (length (waiting t.queue)) 0 ≡ true = none_waits t.queue.format (waiting t.queue) (none_of (next_block t.queue) none) in
+    let here : answer_step (record t { urgent = false }) m.Eot ≡ poll_from (record t { urgent = false }) = rw (sure, empty) refl in
+    here ∙ poll_from-poll_step t old e
+
+-- the first block
+pub poll_step-begins : (t old : TributaryValue) (step : SenderStep) (mode : Mode) (sent : Option Message) → t ≡ without_line old → is_in_doubt t.sender.phase ≡ false → is_some (next_block t.queue) ≡ true →
+    step ≡ begin_step t.sender t.queue → mode ≡ mode_after step.act t.mode → sent ≡ message_for step.act →
+    record { tributary = record t { urgent = false; mode = mode; sender = step.sender; queue = step.queue }; sent = sent } ≡ poll_step old
+poll_step-begins t old step mode sent e sure some row mode_is sent_is =
+    let waits : nat_eq (length (waiting t.queue)) 0 ≡ false = some_wait t.queue.format (waiting t.queue) some in
+    let u : TributaryValue = record t { urgent = false } in
+    let done : record { tributary = record u { mode = mode; sender = step.sender; queue = step.queue }; sent = sent } ≡ act_step u step = rw (mode_is, sent_is) refl in
+    let here : act_step u (begin_step t.sender t.queue) ≡ poll_from u = rw (sure, waits) refl in
+    done ∙ ap (act_step u) row ∙ here ∙ poll_from-poll_step t old e
+
+-- a terminal from which the line was taken, and which is not in doubt, is idle
+at_rest_idle : (p : Phase) → IsAtRest p → is_in_doubt p ≡ false → p ≡ Idle
+at_rest_idle Idle rests sure = refl
+at_rest_idle (InDoubt k) rests sure = absurd (cc)
+at_rest_idle (Unanswered b) rests sure = absurd rests
+at_rest_idle (Held end parity) rests sure = absurd rests
+
+pub without_line-idle : (t old : TributaryValue) → t ≡ without_line old → is_in_doubt t.sender.phase ≡ false → t.sender.phase ≡ Idle
+without_line-idle t old e sure =
+    at_rest_idle t.sender.phase (subst (λ (v : TributaryValue). IsAtRest v.sender.phase) (sym e) (IsAtRest-cut_phase old.sender.phase)) sure
+
+pub stays-begun : (t : TributaryValue) (step : SenderStep) (mode : Mode) → IsTributary t → step ≡ begin_step t.sender t.queue → mode ≡ mode_after step.act t.mode → IsReady step.sender step.queue →
+    IsTributary (record t { urgent = false; mode = mode; sender = step.sender; queue = step.queue })
+stays-begun t step mode is row mode_is ready =
+    stays-act_step (record t { urgent = false }) mode t.mode step (stays-flags t t.ready false t.receiver is) mode_is
+    (subst (FollowsFrom t.mode (length t.spools) t.sender t.queue) (sym row) (follows-sent_next t.mode (length t.spools) t.sender t.queue Odd (next_block t.queue))) ready
+
+-- the answer to a selection, of a terminal from which the line was taken
+abbrev selection_from : TributaryValue → ℕ → Bool → TributaryStep
+selection_from d s room =
+    if d.ready
+    then answer_step (record d { mode = Receiving s; receiver = begun room; spools = slice_set d.spools s (tried (spool_at d.spools s) room) }) (message_of (first_reply room))
+    else answer_step d m.Nak
+
+pub selection_step-ready : (t old : TributaryValue) (s : ℕ) (room : Bool) (receiver : ReceiverValue) (spools : List SpoolValue) (reply : Reply) (message : Message) → t ≡ without_line old → t.ready ≡ true → s < length t.spools →
+    spools ≡ slice_set t.spools s (tried (spool_at t.spools s) room) → receiver ≡ begun room → reply ≡ first_reply room → message ≡ message_of reply →
+    answer_step (record t { mode = Receiving s; receiver = receiver; spools = spools }) message ≡ selection_step old s (spool_at spools s).room
+selection_step-ready t old s room receiver spools reply message e ready within spools_is receiver_is reply_is message_is =
+    let there : spool_at (slice_set t.spools s (tried (spool_at t.spools s) room)) s ≡ tried (spool_at t.spools s) room = get_or-set_same t.spools s (tried (spool_at t.spools s) room) empty_spool within in
+    let same : (spool_at spools s).room ≡ room = ap (λ (xs : List SpoolValue). (spool_at xs s).room) spools_is ∙ ap (λ (x : SpoolValue). x.room) there in
+    let here : answer_step (record t { mode = Receiving s; receiver = receiver; spools = spools }) message ≡ selection_from t s room = rw (spools_is, receiver_is, message_is, reply_is, ready) refl in
+    here ∙ ap (λ (v : TributaryValue). selection_from v s room) e ∙ ap (selection_step old s) (sym same)
+
+pub selection_step-room : (t old : TributaryValue) (s : ℕ) (room : Bool) (spools : List SpoolValue) → t ≡ without_line old → s < length t.spools → spools ≡ slice_set t.spools s (tried (spool_at t.spools s) room) →
+    ((spool_at t.spools s).room ≡ true → room ≡ true) → (spool_at old.spools s).room ≡ true → (spool_at spools s).room ≡ true
+selection_step-room t old s room spools e within spools_is there had =
+    let now : spool_at (slice_set t.spools s (tried (spool_at t.spools s) room)) s ≡ tried (spool_at t.spools s) room = get_or-set_same t.spools s (tried (spool_at t.spools s) room) empty_spool within in
+    ap (λ (xs : List SpoolValue). (spool_at xs s).room) spools_is ∙ ap (λ (x : SpoolValue). x.room) now ∙ there (ap (λ (v : TributaryValue). (spool_at v.spools s).room) e ∙ had)
+
+pub stays-selection_step : (t old : TributaryValue) (s : ℕ) (receiver : ReceiverValue) (spools : List SpoolValue) (spool : SpoolValue) → IsTributary t → t ≡ without_line old → s < length t.spools → spools ≡ slice_set t.spools s spool →
+    IsTributary (record t { mode = Receiving s; receiver = receiver; spools = spools })
+stays-selection_step t old s receiver spools spool is e within spools_is =
+    let same : length spools ≡ length t.spools = ap (λ (xs : List SpoolValue). length xs) spools_is ∙ length-set t.spools s spool in
+    record {
+      distinct = is.distinct;
+      terminal = is.terminal;
+      spools = same ∙ is.spools;
+      format = is.format;
+      ready = is.ready;
+      bid = (subst (λ (v : TributaryValue). IsAtRest v.sender.phase) (sym e) (IsAtRest-cut_phase old.sender.phase), omega (arith, same));
+    }
+
+-- the spools of a terminal are those of its selection addresses
+pub within-spools : (t old : TributaryValue) (s : ℕ) → IsTributary t → t ≡ without_line old → s < length old.terminal.selects → s < length t.spools
+within-spools t old s is e within =
+    let addresses : length t.terminal.selects ≡ length old.terminal.selects = ap (λ (v : TributaryValue). length v.terminal.selects) e in
+    omega (arith, addresses, is.spools)

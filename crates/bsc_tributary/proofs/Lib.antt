@@ -1,0 +1,9 @@
+pub mod Acts
+pub mod Addresses
+pub mod Calls
+pub mod CallsHeard
+pub mod Hearing
+pub mod InMode
+pub mod Offering
+pub mod Places
+pub mod Stays

@@ -1,0 +1,100 @@
+-- What holds of every terminal, and what a transmission or a silence may change of it (own).
+use Rattle.std.specs.Prelude.{◌≡◌, ◌≢◌, ◌⊎◌, ℕ, ◌<◌, Bool, false, List, ◌++◌, length}
+use Rattle.bsc_frame.specs.declared.message.Message.TheVariants as m
+use Rattle.bsc_frame.specs.declared.message.Heard.{Heard}
+use Rattle.bsc_frame.specs.declared.message.Heard.TheVariants.{Whole, Noise}
+use Rattle.bsc_frame.specs.Texts.{TextValue}
+use Rattle.bsc_block.specs.Blocks.{records_in}
+use Rattle.bsc_text.specs.declared.phase.Phase.{Phase}
+use Rattle.bsc_text.specs.Ready.{IsReady, IsGoing, IsAtRest}
+use Rattle.bsc_text.specs.Terminal.{TerminalValue, IsTerminal}
+use Rattle.bsc_tributary.specs.declared.called.Called.{Called}
+use Rattle.bsc_tributary.specs.declared.called.Called.TheVariants.{Polling, Selection, Other}
+use Rattle.bsc_tributary.specs.declared.mode.Mode.{Mode}
+use Rattle.bsc_tributary.specs.declared.mode.Mode.TheVariants.{Control, Receiving, Sending}
+use Rattle.bsc_tributary.specs.Called.{AreDistinct, called_as}
+use Rattle.bsc_tributary.specs.Tributary.{TributaryValue, spool_at}
+
+-- a bid goes on exactly while the terminal sends, and it receives into a spool that it has
+abbrev pub SuitsMode : Mode → Phase → ℕ → Type 0
+SuitsMode Control phase spools = IsAtRest phase
+SuitsMode (Receiving s) phase spools = IsAtRest phase × (s < spools)
+SuitsMode Sending phase spools = IsGoing phase
+
+-- a terminal: its addresses differ, each selection address has its spool, the queue has what the sender counts
+-- on, and a bid goes on exactly while it sends
+pub record IsTributary (t : TributaryValue) : Type 0 where
+  pub distinct : AreDistinct t.terminal
+  pub terminal : IsTerminal t.terminal
+  pub spools : length t.spools ≡ length t.terminal.selects
+  pub format : t.queue.format ≡ t.sender.setup.format
+  pub ready : IsReady t.sender t.queue
+  pub bid : SuitsMode t.mode t.sender.phase (length t.spools)
+
+-- what stays: the addresses, the settings, the ready flag, the records that were offered, and a spool for each
+-- selection address
+pub record Keeps (old new : TributaryValue) : Type 0 where
+  pub terminal : new.terminal ≡ old.terminal
+  pub setup : new.sender.setup ≡ old.sender.setup
+  pub ready : new.ready ≡ old.ready
+  pub format : new.queue.format ≡ old.queue.format
+  pub offered : new.queue.offered ≡ old.queue.offered
+  pub spools : length new.spools ≡ length old.spools
+
+-- a whole text was heard while receiving into spool s, and the records become the old ones and all of its
+pub record Stores (mode : Mode) (h : Heard) (s : ℕ) (old new : List (List ℕ)) : Type 0 where
+  pub text : TextValue
+  pub heard : h ≡ Whole (m.Text text)
+  pub receiving : mode ≡ Receiving s
+  pub becomes : new ≡ old ++ records_in text.units
+
+-- a spool has the records that it had, or stores those of a text
+abbrev pub GrowsByText : Mode → Heard → ℕ → List (List ℕ) → List (List ℕ) → Type 0
+GrowsByText mode h s old new = (new ≡ old) ⊎ Stores mode h s old new
+
+-- the mode after a call
+abbrev pub IsModeCalled : Called → Mode → Type 0
+IsModeCalled Polling mode = (mode ≡ Control) ⊎ (mode ≡ Sending)
+IsModeCalled (Selection s) mode = (mode ≡ Control) ⊎ (mode ≡ Receiving s)
+IsModeCalled Other mode = mode ≡ Control
+
+-- the mode after a transmission was heard
+abbrev pub IsModeAfter : TributaryValue → Heard → Mode → Type 0
+IsModeAfter t (Whole m.Eot) mode = mode ≡ Control
+IsModeAfter t (Whole (m.Call address)) mode = IsModeCalled (called_as t.terminal address) mode
+IsModeAfter t h mode = (mode ≡ Control) ⊎ (mode ≡ t.mode)
+
+-- EOT, or the call of an address that is not the terminal's own
+abbrev pub TakesLine : TerminalValue → Heard → Type 0
+TakesLine t (Whole m.Eot) = Unit {0}
+TakesLine t (Whole (m.Call address)) = called_as t address ≡ Other
+TakesLine t h = ⊥
+
+-- neither EOT nor a call
+abbrev pub IsNoCall : Heard → Type 0
+IsNoCall (Whole m.Eot) = ⊥
+IsNoCall (Whole (m.Call address)) = ⊥
+IsNoCall h = Unit {0}
+
+-- Nothing is sent and nothing changes.
+abbrev pub StaysQuiet : TributaryValue → TributaryValue → Bool → Type 0
+StaysQuiet old new sent = (new ≡ old) × (sent ≡ false)
+
+-- what a terminal is once it has heard a transmission; sent says whether it answers
+pub record AfterHearing (old : TributaryValue) (h : Heard) (new : TributaryValue) (sent : Bool) : Type 0 where
+  pub tributary : IsTributary new
+  pub keeps : Keeps old new
+  pub mode : IsModeAfter old h new.mode
+  pub other_spools : (s : ℕ) → new.mode ≢ Receiving s → spool_at new.spools s ≡ spool_at old.spools s
+  pub grows : (s : ℕ) → GrowsByText old.mode h s (spool_at old.spools s).records (spool_at new.spools s).records
+  pub taken : TakesLine old.terminal h → (new.mode ≡ Control) × (sent ≡ false)
+  pub control : old.mode ≡ Control → IsNoCall h → StaysQuiet old new sent
+  pub noise : h ≡ Noise → StaysQuiet old new sent
+
+-- what a terminal is after a silence
+pub record AfterSilence (old new : TributaryValue) (sent : Bool) : Type 0 where
+  pub tributary : IsTributary new
+  pub keeps : Keeps old new
+  pub mode : (new.mode ≡ Control) ⊎ (new.mode ≡ old.mode)
+  pub spools : new.spools ≡ old.spools
+  pub still : old.mode ≢ Sending → StaysQuiet old new sent

@@ -1,0 +1,4 @@
+pub mod Called
+pub mod Tributary
+pub mod Kept
+pub mod Noise

@@ -1,0 +1,154 @@
+-- The terminal's table (GA27-3004: polling, selection, control mode, and the tributary's side of a bid; that a
+-- sending terminal acts on a silence, the ready and urgent flags and several spools are own). What no line
+-- lists changes nothing, and nothing is sent.
+use Rattle.std.specs.Prelude.{◌≡◌, ℕ, Bool, true, false, nat_eq, List, [], length, slice_index_or, slice_set, Option, None, Some, option_map, if◌then◌else◌}
+use Rattle.bsc_frame.specs.declared.message.Message.{Message}
+use Rattle.bsc_frame.specs.declared.message.Message.TheVariants as m
+use Rattle.bsc_frame.specs.declared.message.Heard.{Heard}
+use Rattle.bsc_frame.specs.declared.message.Heard.TheVariants.{Whole}
+use Rattle.bsc_spool.specs.Queue.{QueueValue, waiting}
+use Rattle.bsc_spool.specs.Spool.{SpoolValue}
+use Rattle.bsc_text.specs.declared.act.Act.{Act}
+use Rattle.bsc_text.specs.declared.act.Act.TheVariants as a
+use Rattle.bsc_text.specs.Terminal.{TerminalValue}
+use Rattle.bsc_text.specs.Reply.{message_of, reply_heard}
+use Rattle.bsc_text.specs.Receiver.{ReceiverValue, ReceiverStep, Rooms, begun, first_reply, tried, heard_step, rooms_left, sends_rvi}
+use Rattle.bsc_text.specs.Sender.{SenderValue, SenderStep, with_phase, begin_step, reply_step, silence_step, cut_phase, is_in_doubt, release_step}
+use Rattle.bsc_tributary.specs.declared.called.Called.{Called}
+use Rattle.bsc_tributary.specs.declared.called.Called.TheVariants.{Polling, Selection, Other}
+use Rattle.bsc_tributary.specs.declared.mode.Mode.{Mode}
+use Rattle.bsc_tributary.specs.declared.mode.Mode.TheVariants.{Control, Receiving, Sending}
+use Rattle.bsc_tributary.specs.Called.{called_as}
+
+-- a terminal: its addresses, its mode, its two flags, the two ends of its bids, the records that it has to
+-- send, and for each selection address the records that arrived
+pub record TributaryValue : Type 0 where
+  pub terminal : TerminalValue
+  pub mode : Mode
+  pub ready : Bool
+  pub urgent : Bool
+  pub sender : SenderValue
+  pub receiver : ReceiverValue
+  pub queue : QueueValue
+  pub spools : List SpoolValue
+
+-- what is left of the terminal, and the message that it sends
+pub record TributaryStep : Type 0 where
+  pub tributary : TributaryValue
+  pub sent : Option Message
+
+-- a spool into which nothing arrived
+abbrev pub empty_spool : SpoolValue
+empty_spool = record { records = []; room = false; delays = 0 }
+
+-- the spool of this number
+abbrev pub spool_at : List SpoolValue → ℕ → SpoolValue
+spool_at spools s = slice_index_or spools s empty_spool
+
+-- nothing is sent
+abbrev pub quiet_step : TributaryValue → TributaryStep
+quiet_step t = record { tributary = t; sent = None }
+
+abbrev pub answer_step : TributaryValue → Message → TributaryStep
+answer_step t message = record { tributary = t; sent = Some message }
+
+-- the line is taken from the terminal: an unanswered block is cut off, and it is in control mode
+abbrev pub without_line : TributaryValue → TributaryValue
+without_line t = record t { mode = Control; sender = with_phase t.sender (cut_phase t.sender.phase) }
+
+-- what the sender's act makes of the mode, and the message for it
+abbrev pub mode_after : Act → Mode → Mode
+mode_after (a.Send text) mode = Sending
+mode_after a.Enq mode = Sending
+mode_after a.Over mode = Control
+mode_after a.Quiet mode = mode
+
+abbrev pub message_for : Act → Option Message
+message_for (a.Send text) = Some (m.Text text)
+message_for a.Enq = Some m.Enq
+message_for a.Over = Some m.Eot
+message_for a.Quiet = None
+
+-- the sender acts
+abbrev pub act_step : TributaryValue → SenderStep → TributaryStep
+act_step t step =
+    record {
+      tributary = record t { mode = mode_after step.act t.mode; sender = step.sender; queue = step.queue };
+      sent = message_for step.act;
+    }
+
+-- the receiver replies, from the spool of this number; RVI clears the urgent flag
+abbrev pub receive_step : TributaryValue → ℕ → ReceiverStep → TributaryStep
+receive_step t s step =
+    record {
+      tributary = record t { receiver = step.receiver; spools = slice_set t.spools s step.spool; urgent = if sends_rvi step.reply then false else t.urgent };
+      sent = option_map message_of step.reply;
+    }
+
+-- a call of its polling address: EOT where it is in doubt or no record waits, else the first block
+abbrev pub poll_step : TributaryValue → TributaryStep
+poll_step t =
+    let d : TributaryValue = record (without_line t) { urgent = false } in
+    if is_in_doubt d.sender.phase then answer_step d m.Eot
+    else if nat_eq (length (waiting d.queue)) 0 then answer_step d m.Eot
+    else act_step d (begin_step d.sender d.queue)
+
+-- a call of its selection address of this number: NAK where it is not ready, else as there is room
+abbrev pub selection_step : TributaryValue → ℕ → Bool → TributaryStep
+selection_step t s room =
+    let d : TributaryValue = without_line t in
+    if t.ready
+    then answer_step (record d { mode = Receiving s; receiver = begun room; spools = slice_set t.spools s (tried (spool_at t.spools s) room) }) (message_of (first_reply room))
+    else answer_step d m.Nak
+
+-- a call
+abbrev pub call_step : TributaryValue → Called → Rooms → TributaryStep
+call_step t Polling rooms = poll_step t
+call_step t (Selection s) rooms = selection_step t s rooms.first
+call_step t Other rooms = quiet_step (without_line t)
+
+-- what is no call and no EOT, in this mode
+abbrev pub mode_step : TributaryValue → Mode → Heard → Rooms → TributaryStep
+mode_step t Control h rooms = quiet_step t
+mode_step t (Receiving s) h rooms = receive_step t s (heard_step t.receiver (spool_at t.spools s) h t.urgent rooms)
+mode_step t Sending h rooms = act_step t (reply_step t.sender t.queue (reply_heard h))
+
+-- the table: what is heard
+abbrev pub hear_step : TributaryValue → Heard → Rooms → TributaryStep
+hear_step t (Whole m.Eot) rooms = quiet_step (without_line t)
+hear_step t (Whole (m.Call address)) rooms = call_step t (called_as t.terminal address) rooms
+hear_step t h rooms = mode_step t t.mode h rooms
+
+-- the table: a silence in this mode
+abbrev pub silence_in : TributaryValue → Mode → TributaryStep
+silence_in t Control = quiet_step t
+silence_in t (Receiving s) = quiet_step t
+silence_in t Sending = act_step t (silence_step t.sender t.queue)
+
+-- the spool that is received into in this mode
+abbrev pub spool_in : Mode → List SpoolValue → SpoolValue
+spool_in (Receiving s) spools = spool_at spools s
+spool_in _ spools = empty_spool
+
+-- what the tries for room found, read from the state that they left
+abbrev pub rooms_after : Heard → TributaryValue → Rooms
+rooms_after h new = rooms_left h new.receiver.last (spool_in new.mode new.spools)
+
+-- The terminal and what it sends are those of the table. Where there was room, the first try found it.
+pub record Hears (old : TributaryValue) (h : Heard) (new : TributaryValue) (sent : Option Message) : Type 0 where
+  pub row : record { tributary = new; sent = sent } ≡ hear_step old h (rooms_after h new)
+  pub room : (s : ℕ) → new.mode ≡ Receiving s → (spool_at old.spools s).room ≡ true → (rooms_after h new).first ≡ true
+
+-- at a silence
+abbrev pub ActsOnSilence : TributaryValue → TributaryValue → Option Message → Type 0
+ActsOnSilence old new sent = record { tributary = new; sent = sent } ≡ silence_in old old.mode
+
+-- whether it holds the line
+abbrev pub holds : Mode → Bool
+holds Control = false
+holds (Receiving s) = false
+holds Sending = true
+
+-- a release of its list
+abbrev pub after_release : TributaryValue → ℕ → TributaryValue
+after_release t count = record t { sender = (release_step t.sender t.queue count).sender; queue = (release_step t.sender t.queue count).queue }

@@ -1,0 +1,59 @@
+//! Whose call is heard: every terminal hears the calls of all.
+
+ghost use Rattle.std.specs.Prelude.{◌≡◌, ◌↔◌, ◌<◌, [], length, slice_index_or, IsTrue};
+ghost use Rattle.bsc_tributary.specs.Called.{called_as, AreDistinct};
+
+use bsc_frame::Address;
+use bsc_text::Terminal;
+
+/// Which of a terminal's addresses a call names.
+#[derive(Clone, Copy, Debug, PartialEq, Eq)]
+pub enum Called {
+    /// The polling address.
+    Polling,
+
+    /// The selection address of this number.
+    Selection { select: usize },
+
+    /// None of its own.
+    Other,
+}
+
+/// Which of the terminal's addresses this is.
+pub(crate) fn called_address(terminal: &Terminal, address: &Address) -> Called
+    ensures { result ≡ called_as terminal.now address.now }
+{
+    if *address == terminal.poll() {
+        return Called::Polling;
+    }
+    for select in 0..terminal.selects() {
+        if *address == terminal.select(select) {
+            return Called::Selection { select };
+        }
+    }
+    Called::Other
+}
+
+/// Whether a call of the selection address of this number is taken as a call of it: no address before it
+/// is the same.
+fn is_first(terminal: &Terminal, select: usize) -> bool
+    requires { select < length terminal.now.selects }
+    ensures { IsTrue result ↔ (called_as terminal.now (slice_index_or terminal.now.selects select []) ≡ Called.Selection select) }
+{
+    match called_address(terminal, &terminal.select(select)) {
+        Called::Selection { select: first } => first == select,
+        _ => false,
+    }
+}
+
+/// Whether all addresses of the terminal differ, as a tributary needs it. (Own.)
+pub fn addresses_differ(terminal: &Terminal) -> bool
+    ensures { IsTrue result ↔ AreDistinct terminal.now }
+{
+    for select in 0..terminal.selects() {
+        if !is_first(terminal, select) {
+            return false;
+        }
+    }
+    true
+}

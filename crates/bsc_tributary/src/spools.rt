@@ -1,0 +1,90 @@
+//! The spools of a terminal: one for each selection address.
+
+ghost use Rattle.std.specs.Prelude.{◌≡◌, ◌<◌, ◌≤◌, [], true, length, slice_set, All};
+ghost use Rattle.bsc_text.specs.Receiver.{Receives, tried};
+ghost use Rattle.bsc_tributary.specs.Tributary.{spool_at};
+
+use arrayvec::ArrayVec;
+use bsc_frame::Heard;
+use bsc_spool::Spool;
+use bsc_text::{Receiver, Reply};
+use std::alloc::Allocator;
+use std::marker::Model;
+
+/// A spool for each selection address, in their order. They lie in the terminal itself, so that a new
+/// terminal takes no memory: every place of the table has a spool, and the first `count` are in use.
+#[derive(Drop)]
+pub(crate) struct Spools<A: Allocator> {
+    table: ArrayVec<Spool<A>, 4, A>,
+    count: usize,
+}
+
+impl<A: Allocator> Model for Spools<A> {
+    ghost use Rattle.std.specs.Prelude.{◌≡◌, ◌≤◌, List, length, take};
+    ghost use Rattle.bsc_spool.specs.Spool.{SpoolValue};
+
+    ghost Value = { List SpoolValue };
+
+    ghost view = { λ s. take s.count s.table.items };
+
+    ghost invariant = { λ s. (s.count ≤ 4) × (length s.table.items ≡ 4) };
+}
+
+impl<A: Allocator> Spools<A> {
+    /// This many empty spools.
+    pub(crate) fn new(alloc: A, count: usize) -> Self
+    where
+        A: Copy,
+        requires { count ≤ 4 }
+        ensures count { length result ≡ count }
+        ensures empty { All (λ s. (s.records ≡ []) × (s.delays ≡ 0)) result }
+    {
+        Spools {
+            table: ArrayVec::from_array_in(
+                alloc,
+                [
+                    Spool::new(alloc),
+                    Spool::new(alloc),
+                    Spool::new(alloc),
+                    Spool::new(alloc),
+                ],
+            ),
+            count,
+        }
+    }
+
+    /// The spool of this number.
+    pub(crate) fn spool(&self, select: usize) -> &Spool<A>
+        requires { select < length self.now }
+        ensures { result.now ≡ spool_at self.now select }
+    {
+        &self.table[select]
+    }
+
+    /// Makes room in the spool of this number; true where there is room.
+    pub(crate) fn make_room(&mut self, select: usize) -> bool
+        requires { select < length self.old }
+        ensures spool { self.new ≡ slice_set self.old select (tried (spool_at self.old select) result) }
+        ensures there { (spool_at self.old select).room ≡ true → result ≡ true }
+    {
+        let spool = self.table.get_mut(select).unwrap();
+        spool.make_room()
+    }
+
+    /// The receiver hears a transmission, and stores in the spool of this number what it takes.
+    pub(crate) fn receive(
+        &mut self,
+        select: usize,
+        receiver: &mut Receiver,
+        heard: &Heard,
+        urgent: bool,
+    ) -> Option<Reply>
+        requires { select < length self.old }
+        ensures receives { Receives receiver.old (spool_at self.old select) heard.now urgent
+            (record { receiver = receiver.new; spool = spool_at self.new select; reply = result }) }
+        ensures spools { self.new ≡ slice_set self.old select (spool_at self.new select) }
+    {
+        let spool = self.table.get_mut(select).unwrap();
+        receiver.heard(heard, urgent, spool)
+    }
+}

@@ -1,0 +1,79 @@
+//! Terminals for the tests, and their exchanges with a control station.
+
+ghost use Rattle.std.specs.Prelude.{◌≡◌, ◌≤◌, ◌<◌, length, IfOk};
+
+use crate::{Tributary, addresses_differ};
+use bsc_block::{Record, RecordError};
+use bsc_frame::{Address, Wire};
+use bsc_text::{SettingError, Setup, Station, Terminal};
+use std::alloc::Allocator;
+use std::test::Fail;
+
+/// Settings that bear so many failures in a row.
+fn setup(tries: u8) -> Result<Setup, SettingError>
+    ensures { IfOk result (λ s. s.format.full ≡ 80) }
+{
+    Setup::new(80, 400, tries, 10)
+}
+
+/// A terminal that is polled by A and selected by these addresses.
+pub(crate) fn terminal_a<A: Allocator + Copy>(
+    alloc: A,
+    selects: &[Address],
+    tries: u8,
+) -> Result<Tributary<A>, Fail>
+    ensures full { IfOk result (λ t. t.queue.format.full ≡ 80) }
+    ensures spools { IfOk result (λ t. length t.terminal.selects ≡ length selects.now) }
+{
+    let setup = setup(tries)?;
+    let terminal = Terminal::new(Address::read(b"A")?, selects)?;
+    if !addresses_differ(&terminal) {
+        return Err("the addresses are the same".into());
+    }
+    Ok(Tributary::new(alloc, setup, terminal))
+}
+
+/// The record HI.
+pub(crate) fn hi() -> Result<Record, RecordError>
+    ensures { IfOk result (λ r. length r ≤ 80) }
+{
+    Record::read(b"HI", 80)
+}
+
+/// What the terminal answers to these octets; nothing where it is quiet.
+pub(crate) fn answer_to<A: Allocator>(tributary: &mut Tributary<A>, octets: &[u8]) -> Wire
+    ensures { tributary.new.terminal ≡ tributary.old.terminal }
+{
+    let mut wire = Wire::new();
+    tributary.hear(octets, &mut wire);
+    wire
+}
+
+/// What the terminal sends at a silence; nothing where it is quiet.
+pub(crate) fn sent_at_silence<A: Allocator>(tributary: &mut Tributary<A>) -> Wire
+    ensures { tributary.new.terminal ≡ tributary.old.terminal }
+{
+    let mut wire = Wire::new();
+    tributary.silence(&mut wire);
+    wire
+}
+
+/// Whether the spool of this number has exactly these records.
+pub(crate) fn has_spooled<A: Allocator>(
+    tributary: &Tributary<A>,
+    select: usize,
+    expected: &[&[u8]],
+) -> bool
+    requires { select < length tributary.now.terminal.selects }
+{
+    let records = tributary.spool(select).records();
+    if records.len() != expected.len() {
+        return false;
+    }
+    for (record, chars) in records.iter().zip(expected) {
+        if record.chars() != *chars {
+            return false;
+        }
+    }
+    true
+}

@@ -1,0 +1,337 @@
+//! The terminal.
+
+ghost use Rattle.std.specs.Prelude.{◌≡◌, ◌≤◌, ◌<◌, [], true, false, if◌then◌else◌, Option, length, OnOk, OnErr, IfErr, All, is_some, option_map};
+ghost use Rattle.bsc_frame.specs.declared.message.Message.{Message as MessageValue};
+ghost use Rattle.bsc_frame.specs.declared.message.Heard.{Heard as HeardValue};
+ghost use Rattle.bsc_spool.specs.Queue.{queue_of, with_offered};
+ghost use Rattle.bsc_text.specs.declared.phase.Phase.TheVariants.{Idle};
+ghost use Rattle.bsc_text.specs.Receiver.{begun, sends_rvi};
+ghost use Rattle.bsc_text.specs.Reply.{message_of};
+ghost use Rattle.bsc_text.specs.Sender.{release_step, is_in_doubt};
+ghost use Rattle.bsc_text.specs.Station.{IsSent, IsHeardAs};
+ghost use Rattle.bsc_tributary.specs.Called.{AreDistinct};
+ghost use Rattle.bsc_tributary.specs.Tributary.{without_line, poll_step, selection_step, mode_after, message_for, after_release, holds, spool_at, Hears, ActsOnSilence};
+ghost use Rattle.bsc_tributary.specs.Kept.{IsTributary, AfterHearing, AfterSilence, IsNoCall};
+
+use crate::called::{Called, called_address};
+use crate::mode::Mode;
+use crate::spools::Spools;
+use bsc_block::Record;
+use bsc_frame::{Address, Heard, Message, Wire, decode};
+use bsc_spool::{Queue, Spool};
+use bsc_text::{Act, Receiver, ReleaseError, Reply, Sender, Setup, Station, Terminal, transmit};
+use std::alloc::Allocator;
+use std::marker::Model;
+
+/// A terminal of the line (GA27-3004, a tributary station of a centralised multipoint line).
+#[derive(Drop)]
+pub struct Tributary<A: Allocator> {
+    terminal: Terminal,
+    mode: Mode,
+    ready: bool,
+    urgent: bool,
+    sender: Sender,
+    receiver: Receiver,
+    queue: Queue<A>,
+    spools: Spools<A>,
+}
+
+impl<A: Allocator> Model for Tributary<A> {
+    ghost use Rattle.bsc_tributary.specs.Tributary.{TributaryValue};
+    ghost use Rattle.bsc_tributary.specs.Kept.{IsTributary};
+
+    ghost Value = { TributaryValue };
+
+    ghost view = { λ t. record { terminal = t.terminal; mode = t.mode; ready = t.ready; urgent = t.urgent; sender = t.sender; receiver = t.receiver; queue = t.queue; spools = t.spools } };
+
+    ghost invariant = { λ t. IsTributary (record { terminal = t.terminal; mode = t.mode; ready = t.ready; urgent = t.urgent; sender = t.sender; receiver = t.receiver; queue = t.queue; spools = t.spools }) };
+}
+
+impl<A: Allocator> Tributary<A> {
+    /// A terminal in control mode, ready, with nothing to send, nothing received and no doubt. It takes no
+    /// memory. Condition: all its addresses differ (`addresses_differ`).
+    pub fn new(alloc: A, setup: Setup, terminal: Terminal) -> Self
+    where
+        A: Copy,
+        requires { AreDistinct terminal }
+        ensures terminal { result.terminal ≡ terminal }
+        ensures mode { result.mode ≡ Mode.Control }
+        ensures flags { (result.ready ≡ true) × (result.urgent ≡ false) }
+        ensures sender { result.sender ≡ record { setup = setup; phase = Idle; tries = 0; waits = 0 } }
+        ensures receiver { result.receiver ≡ begun true }
+        ensures queue { result.queue ≡ queue_of setup.format [] 0 }
+        ensures spools { All (λ s. (s.records ≡ []) × (s.delays ≡ 0)) result.spools }
+        ensures tributary { IsTributary result }
+    {
+        Tributary {
+            terminal,
+            mode: Mode::Control,
+            ready: true,
+            urgent: false,
+            sender: Sender::new(setup),
+            receiver: Receiver::new(),
+            queue: Queue::new(alloc, setup.format()),
+            spools: Spools::new(alloc, terminal.selects()),
+        }
+    }
+
+    /// Adds a record to those that the terminal has to send. It comes back where memory is wanting, and
+    /// then nothing changed. Condition: it is not longer than the full length.
+    pub fn offer(&mut self, record: Record) -> Result<(), Record>
+        requires { length «record» ≤ self.old.queue.format.full }
+        ensures ok { OnOk result (self.new ≡ record self.old { queue = with_offered self.old.queue «record» }) }
+        ensures err { OnErr result (self.new ≡ self.old) }
+        ensures given_back { IfErr result (λ r. r ≡ «record») }
+        ensures tributary { IsTributary self.new }
+    {
+        self.queue.offer(record)
+    }
+
+    /// Whether the terminal takes selections: one that is not ready answers them by NAK. A bid that it is
+    /// taking goes on. (GA27-3004, NAK to a selection; the flag is own.)
+    pub fn set_ready(&mut self, ready: bool)
+        ensures state { self.new ≡ record self.old { ready = ready } }
+        ensures tributary { IsTributary self.new }
+    {
+        self.ready = ready;
+    }
+
+    /// Asks for the line: the next text that the terminal takes is answered by RVI, unless its last reply
+    /// was RVI too, or it is polled before. (GA27-3004, RVI; the flag is own.)
+    pub fn set_urgent(&mut self)
+        ensures state { self.new ≡ record self.old { urgent = true } }
+        ensures tributary { IsTributary self.new }
+    {
+        self.urgent = true;
+    }
+
+    /// Whether it is not known if the last block that the terminal sent arrived. (Own.)
+    pub fn in_doubt(&self) -> bool
+        ensures doubt { result ≡ is_in_doubt self.now.sender.phase }
+        ensures tributary { IsTributary self.now }
+    {
+        self.sender.in_doubt()
+    }
+
+    /// Ends the doubt: the other end has `count` records of this terminal. `NotInDoubt`, then
+    /// `CountMismatch` where the count is neither that of the known records nor that with the doubtful
+    /// block; both change nothing. (Own.)
+    pub fn release(&mut self, count: usize) -> Result<(), ReleaseError>
+        ensures state { self.new ≡ after_release self.old count }
+        ensures answer { result ≡ (release_step self.old.sender self.old.queue count).answer }
+        ensures tributary { IsTributary self.new }
+    {
+        self.sender.release(count, &mut self.queue)
+    }
+
+    /// The records that were offered, and how many of them are known to have arrived.
+    pub fn queue(&self) -> &Queue<A>
+        ensures value { result.now ≡ self.now.queue }
+        ensures tributary { IsTributary self.now }
+    {
+        &self.queue
+    }
+
+    /// The records that arrived by selections of the address of this number, counted from 0. Condition:
+    /// the terminal has such an address.
+    pub fn spool(&self, select: usize) -> &Spool<A>
+        requires { select < length self.now.terminal.selects }
+        ensures value { result.now ≡ spool_at self.now.spools select }
+        ensures tributary { IsTributary self.now }
+    {
+        self.spools.spool(select)
+    }
+
+    /// The line is taken from the terminal.
+    fn drop_line(&mut self)
+        ensures state { self.new ≡ without_line self.old }
+        ensures after { AfterHearing self.old (Heard.Whole Message.Eot) self.new false }
+    {
+        self.sender.cut_off();
+        self.mode = Mode::Control;
+    }
+
+    /// A call of the polling address.
+    fn answer_poll(&mut self) -> Option<Message>
+        ensures row { record { tributary = self.new; sent = result } ≡ poll_step self.old }
+        ensures tributary { IsTributary self.new }
+    {
+        self.drop_line();
+        self.urgent = false;
+        if self.sender.in_doubt() || self.queue.next().is_none() {
+            return Some(Message::Eot);
+        }
+        let act = self.sender.begin(&self.queue);
+        perform(act, &mut self.mode)
+    }
+
+    /// A call of the selection address of this number.
+    fn answer_selection(&mut self, select: usize) -> Option<Message>
+        requires { select < length self.old.terminal.selects }
+        ensures row { record { tributary = self.new; sent = result } ≡ selection_step self.old select (spool_at self.new.spools select).room }
+        ensures room { (spool_at self.old.spools select).room ≡ true → (spool_at self.new.spools select).room ≡ true }
+        ensures tributary { IsTributary self.new }
+    {
+        self.drop_line();
+        if !self.ready {
+            return Some(Message::Nak);
+        }
+        self.mode = Mode::Receiving { select };
+        let room = self.spools.make_room(select);
+        Some(self.receiver.begin(room).message())
+    }
+
+    /// A call.
+    fn hear_call(&mut self, address: &Address) -> Option<Message>
+        ensures row { Hears self.old (Heard.Whole (Message.Call address.now)) self.new result }
+        ensures after { AfterHearing self.old (Heard.Whole (Message.Call address.now)) self.new (is_some result) }
+    {
+        match called_address(&self.terminal, address) {
+            Called::Polling => self.answer_poll(),
+            Called::Selection { select } => self.answer_selection(select),
+            Called::Other => {
+                self.drop_line();
+                None
+            }
+        }
+    }
+
+    /// What is no call and no EOT.
+    fn hear_in_mode(&mut self, heard: &Heard) -> Option<Message>
+        requires { IsNoCall heard.now }
+        ensures row { Hears self.old heard.now self.new result }
+        ensures after { AfterHearing self.old heard.now self.new (is_some result) }
+    {
+        match self.mode {
+            Mode::Control => None,
+            Mode::Receiving { select } => {
+                let reply = self
+                    .spools
+                    .receive(select, &mut self.receiver, heard, self.urgent);
+                self.urgent = still_urgent(self.urgent, reply);
+                message_of(reply)
+            }
+            Mode::Sending => {
+                let act = self.sender.reply(heard, &mut self.queue);
+                perform(act, &mut self.mode)
+            }
+        }
+    }
+
+    /// Hears what octets were decoded as, and gives the message to send.
+    fn answer(&mut self, heard: &Heard) -> Option<Message>
+        ensures row { Hears self.old heard.now self.new result }
+        ensures after { AfterHearing self.old heard.now self.new (is_some result) }
+    {
+        match heard {
+            Heard::Whole(Message::Eot) => {
+                self.drop_line();
+                None
+            }
+            Heard::Whole(Message::Call(address)) => self.hear_call(address),
+            _ => self.hear_in_mode(heard),
+        }
+    }
+
+    /// Nothing was heard; gives the message to send.
+    fn act_on_silence(&mut self) -> Option<Message>
+        ensures row { ActsOnSilence self.old self.new result }
+        ensures after { AfterSilence self.old self.new (is_some result) }
+    {
+        match self.mode {
+            Mode::Control | Mode::Receiving { .. } => None,
+            Mode::Sending => {
+                let act = self.sender.silence();
+                perform(act, &mut self.mode)
+            }
+        }
+    }
+}
+
+impl<A: Allocator> Station for Tributary<A> {
+    ghost use Rattle.bsc_tributary.specs.Tributary.{Hears, ActsOnSilence, holds};
+    ghost use Rattle.bsc_tributary.specs.Noise.{noise_changes_nothing};
+
+    ghost hears = { Hears };
+
+    ghost acts = { ActsOnSilence };
+
+    ghost holds = { λ t. holds t.mode };
+
+    /// Hears what octets were decoded as. True: the wire holds the one message to send. False: the wire is
+    /// empty. It may try to reserve memory; a refusal changes a reply alone.
+    fn hear_message(&mut self, heard: &Heard, wire: &mut Wire) -> bool
+        ensures row { (sent : Option MessageValue) × Hears self.old heard.now self.new sent × IsSent sent result wire.new.items }
+        ensures after { AfterHearing self.old heard.now self.new result }
+    {
+        transmit(self.answer(heard), wire)
+    }
+
+    /// Hears octets. True: the wire holds the one message to send. False: the wire is empty. It may try to
+    /// reserve memory; a refusal changes a reply alone.
+    fn hear(&mut self, octets: &[u8], wire: &mut Wire) -> bool
+        ensures row { (heard : HeardValue) × (IsHeardAs octets.now heard
+            × ((sent : Option MessageValue) × Hears self.old heard self.new sent × IsSent sent result wire.new.items)) }
+        ensures after { (heard : HeardValue) × (IsHeardAs octets.now heard × AfterHearing self.old heard self.new result) }
+    {
+        self.hear_message(&decode(octets), wire)
+    }
+
+    /// Nothing was heard for the time of a time-out. True: the wire holds the one message to send. False:
+    /// the wire is empty.
+    fn silence(&mut self, wire: &mut Wire) -> bool
+        ensures row { (sent : Option MessageValue) × ActsOnSilence self.old self.new sent × IsSent sent result wire.new.items }
+        ensures after { AfterSilence self.old self.new result }
+    {
+        transmit(self.act_on_silence(), wire)
+    }
+
+    /// Whether the terminal acts on a silence: exactly while it sends.
+    fn holds_line(&self) -> bool
+        ensures holds { result ≡ holds self.now.mode }
+        ensures tributary { IsTributary self.now }
+    {
+        self.mode == Mode::Sending
+    }
+
+    ghost ignores_noise = { noise_changes_nothing };
+}
+
+/// Whether the urgent flag stays up once the terminal gave this reply: RVI clears it.
+fn still_urgent(urgent: bool, reply: Option<Reply>) -> bool
+    ensures { result ≡ (if sends_rvi reply then false else urgent) }
+{
+    match reply {
+        Some(Reply::Rvi) => false,
+        _ => urgent,
+    }
+}
+
+/// The message that carries the reply, if there is one.
+fn message_of(reply: Option<Reply>) -> Option<Message>
+    ensures { result ≡ option_map message_of reply }
+{
+    reply.map(Reply::message)
+}
+
+/// Does to the mode what follows from the sender's act, and gives the message for it.
+fn perform(act: Act, mode: &mut Mode) -> Option<Message>
+    ensures mode { mode.new ≡ mode_after act mode.old }
+    ensures sent { result ≡ message_for act }
+{
+    match act {
+        Act::Send(text) => {
+            *mode = Mode::Sending;
+            Some(Message::Text(text))
+        }
+        Act::Enq => {
+            *mode = Mode::Sending;
+            Some(Message::Enq)
+        }
+        Act::Over => {
+            *mode = Mode::Control;
+            Some(Message::Eot)
+        }
+        Act::Quiet => None,
+    }
+}
