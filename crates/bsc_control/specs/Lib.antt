@@ -1,0 +1,6 @@
+pub mod Peer
+pub mod Control
+pub mod CallOrder
+pub mod Table
+pub mod Noise
+pub mod Kept

@@ -1,0 +1,99 @@
+-- What the control station keeps for one terminal (own).
+use Rattle.std.specs.Prelude.{◌≡◌, ◌≤◌, ℕ, Bool, false, not, nat_eq, List, [], ◌∷◌, ◌++◌, length, slice_index_or, slice_set, replicate, All, if◌then◌else◌, Option}
+use Rattle.bsc_frame.specs.declared.message.Heard.{Heard}
+use Rattle.bsc_spool.specs.Queue.{QueueValue, waiting}
+use Rattle.bsc_spool.specs.Spool.{SpoolValue}
+use Rattle.bsc_text.specs.declared.act.Act.{Act}
+use Rattle.bsc_text.specs.declared.phase.Phase.TheVariants.{Idle}
+use Rattle.bsc_text.specs.declared.reply.Reply.{Reply}
+use Rattle.bsc_text.specs.Ready.{IsReady}
+use Rattle.bsc_text.specs.Receiver.{ReceiverValue, Receives, begun, sends_rvi}
+use Rattle.bsc_text.specs.Sender.{SenderValue, SenderStep, is_in_doubt, release_step}
+use Rattle.bsc_text.specs.Setup.{SetupValue}
+use Rattle.bsc_text.specs.Terminal.{TerminalValue, IsTerminal}
+use Rattle.std.specs.Prelude.{true}
+
+-- the records for one selection address, and the sender of their bids
+pub record OutboundValue : Type 0 where
+  pub sender : SenderValue
+  pub queue : QueueValue
+
+-- a terminal's addresses; whether the control station asks it for the line; the receiver and the spool of what
+-- it sends; and what is sent to each of its selection addresses
+pub record PeerValue : Type 0 where
+  pub terminal : TerminalValue
+  pub urgent : Bool
+  pub receiver : ReceiverValue
+  pub spool : SpoolValue
+  pub outbounds : List OutboundValue
+
+-- what is read where there is none
+abbrev pub no_outbound : OutboundValue
+no_outbound =
+    record {
+      sender = record { setup = record { format = record { full = 0; block_chars = 0 }; tries = 0; waits = 0 }; phase = Idle; tries = 0; waits = 0 };
+      queue = record { format = record { full = 0; block_chars = 0 }; offered = []; known = 0 };
+    }
+
+abbrev pub no_peer : PeerValue
+no_peer =
+    record {
+      terminal = record { poll = []; selects = [] };
+      urgent = false;
+      receiver = begun true;
+      spool = record { records = []; room = false; delays = 0 };
+      outbounds = [];
+    }
+
+-- what is sent to the selection address of this number
+abbrev pub outbound_at : PeerValue → ℕ → OutboundValue
+outbound_at p s = slice_index_or p.outbounds s no_outbound
+
+abbrev pub with_outbound : PeerValue → ℕ → OutboundValue → PeerValue
+with_outbound p s o = record p { outbounds = slice_set p.outbounds s o }
+
+-- what a step of the sender leaves
+abbrev pub outbound_after : SenderStep → OutboundValue
+outbound_after step = record { sender = step.sender; queue = step.queue }
+
+abbrev pub released : OutboundValue → ℕ → OutboundValue
+released o count = record { sender = (release_step o.sender o.queue count).sender; queue = (release_step o.sender o.queue count).queue }
+
+-- an outbound of a new control station
+abbrev pub new_outbound : SetupValue → OutboundValue
+new_outbound setup = record { sender = record { setup = setup; phase = Idle; tries = 0; waits = 0 }; queue = record { format = setup.format; offered = []; known = 0 } }
+
+-- nothing to send, nothing received, and no flag
+pub record IsNewPeer (setup : SetupValue) (terminal : TerminalValue) (p : PeerValue) : Type 0 where
+  pub terminal_given : p.terminal ≡ terminal
+  pub calm : p.urgent ≡ false
+  pub receiver : p.receiver ≡ begun true
+  pub nothing_spooled : p.spool.records ≡ []
+  pub no_delays : p.spool.delays ≡ 0
+  pub outbounds : p.outbounds ≡ replicate (length terminal.selects) (new_outbound setup)
+
+-- a record is offered for a selection address
+abbrev pub offered : OutboundValue → List ℕ → OutboundValue
+offered o r = record o { queue = record o.queue { offered = o.queue.offered ++ r ∷ [] } }
+
+abbrev pub offered_to : PeerValue → ℕ → List ℕ → PeerValue
+offered_to p s r = with_outbound p s (offered (outbound_at p s) r)
+
+-- records wait, and no doubt stands in their way
+abbrev pub is_selectable : OutboundValue → Bool
+is_selectable o = if is_in_doubt o.sender.phase then false else not (nat_eq (length (waiting o.queue)) 0)
+
+-- the queue has what the sender counts on
+abbrev pub IsOutbound : OutboundValue → Type 0
+IsOutbound o = IsReady o.sender o.queue
+
+-- one to four selection addresses, each with its queue, which has what its sender counts on
+pub record IsPeer (p : PeerValue) : Type 0 where
+  pub terminal : IsTerminal p.terminal
+  pub outbounds : length p.outbounds ≡ length p.terminal.selects
+  pub ready : All IsOutbound p.outbounds
+
+-- the receiver hears a transmission; RVI clears the urgent flag
+pub record PeerReceives (old : PeerValue) (h : Heard) (new : PeerValue) (reply : Option Reply) : Type 0 where
+  pub receives : Receives old.receiver old.spool h old.urgent (record { receiver = new.receiver; spool = new.spool; reply = reply })
+  pub becomes : new ≡ record old { receiver = new.receiver; spool = new.spool; urgent = if sends_rvi reply then false else old.urgent }

@@ -1,0 +1,158 @@
+-- The control station's table (GA27-3004: polling, selection, and the control station's side of a bid; the
+-- limits, the urgent flag and several selection addresses are own). What no line lists changes nothing, and
+-- nothing is sent.
+use Rattle.std.specs.Prelude.{◌≡◌, ℕ, ◌+◌, Bool, true, false, nat_lt, List, slice_index_or, Option, None, Some, option_map, if◌then◌else◌}
+use Rattle.bsc_frame.specs.declared.message.Message.{Message}
+use Rattle.bsc_frame.specs.declared.message.Message.TheVariants as m
+use Rattle.bsc_frame.specs.declared.message.Heard.{Heard}
+use Rattle.bsc_frame.specs.declared.message.Heard.TheVariants.{Whole, Failed, Noise}
+use Rattle.bsc_text.specs.declared.act.Act.{Act}
+use Rattle.bsc_text.specs.declared.act.Act.TheVariants as a
+use Rattle.bsc_text.specs.declared.reply.Reply.{Reply}
+use Rattle.bsc_text.specs.declared.reply.Reply.TheVariants.{Ack0, Ack1, Nak, Wack, Rvi}
+use Rattle.bsc_text.specs.Terminal.{TerminalValue}
+use Rattle.bsc_text.specs.Reply.{message_of, reply_heard}
+use Rattle.bsc_text.specs.Receiver.{ReceiverStep, Rooms, begun, heard_step, rooms_left, is_rvi, sends_rvi}
+use Rattle.bsc_text.specs.Sender.{SenderStep, begin_step, reply_step, silence_step}
+use Rattle.bsc_control.specs.declared.task.Replied.{Replied}
+use Rattle.bsc_control.specs.declared.task.Replied.TheVariants.{Nothing, WithoutRvi, WithRvi}
+use Rattle.bsc_control.specs.declared.task.Task.{Task}
+use Rattle.bsc_control.specs.declared.task.Task.TheVariants.{AtRest, Selecting, Sending, Polling}
+use Rattle.bsc_control.specs.declared.way.Way.{Way}
+use Rattle.bsc_control.specs.declared.way.Way.TheVariants.{FromTerminal, ToTerminal}
+use Rattle.bsc_control.specs.Peer.{OutboundValue, PeerValue, outbound_at, with_outbound, outbound_after}
+use Rattle.bsc_control.specs.Control.{ControlValue, ControlStep, peer, peer_at, current, terminal_of_entry, with_peer, with_current, quiet, sends}
+use Rattle.bsc_control.specs.CallOrder.{Call, After, Start, Selection, Interruption, Poll, next_call}
+
+-- the selection address of this number
+abbrev pub select_address : TerminalValue → ℕ → List ℕ
+select_address t s = slice_index_or t.selects s t.poll
+
+-- what was replied in a poll, once this reply is sent or none
+abbrev pub replied_after : Replied → Option Reply → Replied
+replied_after r None = r
+replied_after r (Some Rvi) = WithRvi
+replied_after WithRvi (Some _) = WithRvi
+replied_after _ (Some _) = WithoutRvi
+
+abbrev pub has_rvi : Replied → Bool
+has_rvi WithRvi = true
+has_rvi _ = false
+
+-- the polling address of an entry is called, after so many failures: the receiver begins
+abbrev pub polls : ControlValue → ℕ → ℕ → ControlStep
+polls c place tries =
+    let t : ℕ = terminal_of_entry c place in
+    let p : PeerValue = peer_at c t in
+    sends (record (with_peer c t (record p { receiver = begun true })) { place = place; task = Polling Nothing; tries = tries; waits = 0 }) (m.Call p.terminal.poll)
+
+-- a selection address of an entry is called: the urgent flag is cleared
+abbrev pub selects : ControlValue → ℕ → ℕ → ControlStep
+selects c place s =
+    let t : ℕ = terminal_of_entry c place in
+    let p : PeerValue = peer_at c t in
+    sends (record (with_peer c t (record p { urgent = false })) { place = place; task = Selecting s false; tries = 0; waits = 0 }) (m.Call (select_address p.terminal s))
+
+abbrev pub calls_by : ControlValue → ℕ → Way → ControlStep
+calls_by c place FromTerminal = polls c place 0
+calls_by c place (ToTerminal s) = selects c place s
+
+-- a call, with its own tries and waits
+abbrev pub calls : ControlValue → Call → ControlStep
+calls c call = calls_by c call.place call.way
+
+-- the next call is made
+abbrev pub calls_next : ControlValue → After → ControlStep
+calls_next c after = calls c (next_call c after)
+
+-- the sender acts; after the bid the next call is made
+abbrev pub performs : ControlValue → ℕ → Act → After → ControlStep
+performs c s (a.Send text) after = sends (record c { task = Sending s }) (m.Text text)
+performs c s a.Enq after = sends (record c { task = Sending s }) m.Enq
+performs c s a.Over after = calls_next c after
+performs c s a.Quiet after = quiet c
+
+abbrev pub acted : ControlValue → ℕ → SenderStep → After → ControlStep
+acted c s step after = performs (with_current c (with_outbound (peer c) s (outbound_after step))) s step.act after
+
+-- what a bid that ends now is over by: RVI, or all else
+abbrev pub after_bid : ℕ → Option Reply → After
+after_bid s (Some Rvi) = Interruption
+after_bid s _ = Selection s
+
+-- a selection is answered
+abbrev pub selecting_step : ControlValue → ℕ → Option Reply → ControlStep
+selecting_step c s (Some Ack0) = acted c s (begin_step (outbound_at (peer c) s).sender (outbound_at (peer c) s).queue) (Selection s)
+selecting_step c s (Some Nak) = calls_next c (Selection s)
+selecting_step c s (Some Wack) =
+    if nat_lt c.setup.waits (c.waits + 1) then calls_next c (Selection s)
+    else sends (record c { task = Selecting s true; tries = 0; waits = c.waits + 1 }) m.Enq
+selecting_step c s _ = quiet c
+
+-- the receiver replies; RVI clears the urgent flag
+abbrev pub receives : ControlValue → Replied → ReceiverStep → ControlStep
+receives c replied step =
+    let p : PeerValue = peer c in
+    record {
+      control =
+        record (with_current c (record p { receiver = step.receiver; spool = step.spool; urgent = if sends_rvi step.reply then false else p.urgent })) {
+          task = Polling (replied_after replied step.reply);
+        };
+      sent = option_map message_of step.reply;
+    }
+
+-- a poll is answered
+abbrev pub polling_step : ControlValue → Replied → Heard → Rooms → ControlStep
+polling_step c replied (Whole m.Eot) rooms = calls_next c (Poll (has_rvi replied))
+polling_step c replied h rooms = receives c replied (heard_step (peer c).receiver (peer c).spool h (peer c).urgent rooms)
+
+-- the table: what is heard
+abbrev pub task_step : ControlValue → Task → Heard → Rooms → ControlStep
+task_step c AtRest h rooms = quiet c
+task_step c (Selecting s enquired) h rooms = selecting_step c s (reply_heard h)
+task_step c (Sending s) h rooms =
+    acted c s (reply_step (outbound_at (peer c) s).sender (outbound_at (peer c) s).queue (reply_heard h)) (after_bid s (reply_heard h))
+task_step c (Polling replied) h rooms = polling_step c replied h rooms
+
+abbrev pub hear_step : ControlValue → Heard → Rooms → ControlStep
+hear_step c h rooms = task_step c c.task h rooms
+
+-- a call is repeated: ENQ where ENQ was sent last
+abbrev pub repeated : ControlValue → ℕ → Bool → Message
+repeated c s true = m.Enq
+repeated c s false = m.Call (select_address (peer c).terminal s)
+
+-- the table: a silence during this task
+abbrev pub silence_in : ControlValue → Task → ControlStep
+silence_in c AtRest = calls_next c Start
+silence_in c (Selecting s enquired) =
+    if nat_lt c.setup.tries (c.tries + 1) then calls_next c (Selection s)
+    else sends (record c { tries = c.tries + 1 }) (repeated c s enquired)
+silence_in c (Sending s) = acted c s (silence_step (outbound_at (peer c) s).sender (outbound_at (peer c) s).queue) (Selection s)
+silence_in c (Polling Nothing) =
+    if nat_lt c.setup.tries (c.tries + 1) then calls_next c (Poll false)
+    else polls c c.place (c.tries + 1)
+silence_in c (Polling WithoutRvi) = calls_next c (Poll false)
+silence_in c (Polling WithRvi) = calls_next c (Poll true)
+
+abbrev pub silent_step : ControlValue → ControlStep
+silent_step c = silence_in c c.task
+
+-- what the tries for room found, read from what they left at the terminal that was polled
+abbrev pub rooms_after : ControlValue → Heard → ControlValue → Rooms
+rooms_after old h new = rooms_left h (peer_at new (current old)).receiver.last (peer_at new (current old)).spool
+
+-- the receiver of the polled terminal hears this
+abbrev pub IsReceived : Task → Heard → Type 0
+IsReceived (Polling replied) (Whole m.Eot) = ⊥
+IsReceived (Polling replied) h = Unit {0}
+IsReceived task h = ⊥
+
+-- The control station and what it sends are those of the table. Where there was room, the first try found it.
+pub record Hears (old : ControlValue) (h : Heard) (new : ControlValue) (sent : Option Message) : Type 0 where
+  pub row : record { control = new; sent = sent } ≡ hear_step old h (rooms_after old h new)
+  pub room : IsReceived old.task h → (peer old).spool.room ≡ true → (rooms_after old h new).first ≡ true
+
+-- at a silence
+abbrev pub IsSilent : ControlValue → ControlValue → Option Message → Type 0
+IsSilent old new sent = record { control = new; sent = sent } ≡ silent_step old

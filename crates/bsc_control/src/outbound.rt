@@ -1,0 +1,116 @@
+//! What is sent to one selection address: the records, and the sender of their bids.
+
+ghost use Rattle.std.specs.Prelude.{◌≡◌, ◌≤◌, ◌++◌, [], ◌∷◌, length, OnOk, OnErr, IfErr};
+ghost use Rattle.bsc_spool.specs.Queue.{waiting};
+ghost use Rattle.bsc_text.specs.declared.phase.Phase.TheVariants.{Idle};
+ghost use Rattle.bsc_text.specs.Reply.{reply_heard};
+ghost use Rattle.bsc_text.specs.Sender.{begin_step, reply_step, silence_step, is_in_doubt, release_step};
+ghost use Rattle.bsc_control.specs.Peer.{OutboundValue, IsOutbound, outbound_after, new_outbound, released, is_selectable};
+
+use bsc_block::Record;
+use bsc_frame::Heard;
+use bsc_spool::Queue;
+use bsc_text::{Act, ReleaseError, Sender, Setup};
+use std::alloc::Allocator;
+use std::marker::Model;
+
+/// The records for one selection address, and the sender of their bids.
+#[derive(Drop)]
+pub(crate) struct Outbound<A: Allocator> {
+    sender: Sender,
+    queue: Queue<A>,
+}
+
+impl<A: Allocator> Model for Outbound<A> {
+    ghost use Rattle.bsc_text.specs.Ready.{IsReady};
+    ghost use Rattle.bsc_control.specs.Peer.{OutboundValue};
+
+    ghost Value = { OutboundValue };
+
+    ghost view = { λ o. record { sender = o.sender; queue = o.queue } };
+
+    ghost invariant = { λ o. IsReady o.sender o.queue };
+}
+
+impl<A: Allocator> Outbound<A> {
+    /// No records and no bid. It takes no memory.
+    pub(crate) fn new(alloc: A, setup: Setup) -> Self
+        ensures value { result ≡ new_outbound setup }
+        ensures outbound { IsOutbound result }
+    {
+        Outbound {
+            sender: Sender::new(setup),
+            queue: Queue::new(alloc, setup.format()),
+        }
+    }
+
+    /// Whether records wait and no doubt stands in their way.
+    pub(crate) fn is_selectable(&self) -> bool
+        ensures { result ≡ is_selectable self.now }
+    {
+        !self.sender.in_doubt() && self.queue.next().is_some()
+    }
+
+    /// Begins a bid.
+    pub(crate) fn begin(&mut self) -> Act
+        requires idle { self.old.sender.phase ≡ Idle }
+        requires some { 1 ≤ length (waiting self.old.queue) }
+        ensures state { self.new ≡ outbound_after (begin_step self.old.sender self.old.queue) }
+        ensures act { result ≡ (begin_step self.old.sender self.old.queue).act }
+        ensures outbound { IsOutbound self.new }
+    {
+        self.sender.begin(&self.queue)
+    }
+
+    /// Hears a transmission during a bid.
+    pub(crate) fn reply(&mut self, heard: &Heard) -> Act
+        ensures state { self.new ≡ outbound_after (reply_step self.old.sender self.old.queue (reply_heard heard.now)) }
+        ensures act { result ≡ (reply_step self.old.sender self.old.queue (reply_heard heard.now)).act }
+        ensures outbound { IsOutbound self.new }
+    {
+        self.sender.reply(heard, &mut self.queue)
+    }
+
+    /// Nothing was heard during a bid.
+    pub(crate) fn silence(&mut self) -> Act
+        ensures state { self.new ≡ outbound_after (silence_step self.old.sender self.old.queue) }
+        ensures act { result ≡ (silence_step self.old.sender self.old.queue).act }
+        ensures outbound { IsOutbound self.new }
+    {
+        self.sender.silence()
+    }
+
+    /// Adds a record that is not longer than the full length. It comes back where memory is wanting.
+    pub(crate) fn offer(&mut self, record: Record) -> Result<(), Record>
+        requires { length «record» ≤ self.old.queue.format.full }
+        ensures ok { OnOk result (self.new ≡ record self.old { queue = record self.old.queue { offered = self.old.queue.offered ++ «record» ∷ [] } }) }
+        ensures err { OnErr result (self.new ≡ self.old) }
+        ensures given_back { IfErr result (λ r. r ≡ «record») }
+        ensures outbound { IsOutbound self.new }
+    {
+        self.queue.offer(record)
+    }
+
+    /// Whether it is not known if a block arrived.
+    pub(crate) fn in_doubt(&self) -> bool
+        ensures { result ≡ is_in_doubt self.now.sender.phase }
+    {
+        self.sender.in_doubt()
+    }
+
+    /// Ends the doubt: the other end has `count` records.
+    pub(crate) fn release(&mut self, count: usize) -> Result<(), ReleaseError>
+        ensures state { self.new ≡ released self.old count }
+        ensures answer { result ≡ (release_step self.old.sender self.old.queue count).answer }
+        ensures outbound { IsOutbound self.new }
+    {
+        self.sender.release(count, &mut self.queue)
+    }
+
+    /// The records, and how many of them are known to have arrived.
+    pub(crate) fn queue(&self) -> &Queue<A>
+        ensures { result.now ≡ self.now.queue }
+    {
+        &self.queue
+    }
+}

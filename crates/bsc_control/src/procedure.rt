@@ -1,0 +1,290 @@
+//! The line procedure of the control station: whom it calls next, and what it does with what it hears.
+
+ghost use Rattle.std.specs.Prelude.{if◌then◌else◌, ◌≡◌, ◌≤◌, ◌<◌, ◌+◌, [], length, true, false, Some, Option, None, slice_index, All};
+ghost use Rattle.bsc_spool.specs.Queue.{waiting};
+ghost use Rattle.bsc_text.specs.declared.phase.Phase.TheVariants.{Idle};
+ghost use Rattle.bsc_text.specs.Receiver.{heard_step};
+ghost use Rattle.bsc_text.specs.Reply.{reply_heard};
+ghost use Rattle.bsc_text.specs.Sender.{begin_step, reply_step, silence_step, is_in_doubt, release_step};
+ghost use Rattle.bsc_control.specs.CallOrder.{After, Start, Selection, Interruption, Poll, way_from};
+ghost use Rattle.bsc_control.specs.Control.{ControlValue, HasEntries, peer, peer_at, with_peer, with_current, current};
+ghost use Rattle.bsc_control.specs.Kept.{IsSelected, SuitsTask};
+ghost use Rattle.bsc_control.specs.Peer.{PeerValue, IsPeer, outbound_at, with_outbound, released, offered_to};
+ghost use Rattle.bsc_control.specs.Table.{polls, selects, calls_by, calls, calls_next, performs, acted, after_bid, selecting_step, receives, polling_step, task_step, hear_step, repeated, silence_in, silent_step, rooms_after, Hears, IsSilent, has_rvi, IsReceived};
+
+use crate::peer::Peer;
+use crate::task::{Replied, Task};
+use crate::way::Way;
+use bsc_frame::{Heard, Message};
+use bsc_text::{Act, Reply, Setup};
+use std::alloc::Allocator;
+use std::marker::Model;
+
+/// The procedure of a control station: its settings, its poll list, where it stands in it, and what it keeps
+/// for each terminal.
+#[derive(Drop)]
+pub(crate) struct Procedure<A: Allocator> {
+    setup: Setup,
+    poll_list: Vec<u8, A>,
+    place: usize,
+    task: Task,
+    tries: u8,
+    waits: u8,
+    peers: Vec<Peer<A>, A>,
+}
+
+impl<A: Allocator> Model for Procedure<A> {
+    ghost use Rattle.bsc_control.specs.Control.{ControlValue, HasEntries};
+
+    ghost Value = { ControlValue };
+
+    ghost view = { λ c. record { setup = c.setup; poll_list = c.poll_list.items; place = c.place; task = c.task; tries = c.tries; waits = c.waits; peers = c.peers.items } };
+
+    ghost invariant = { λ c. HasEntries (record { setup = c.setup; poll_list = c.poll_list.items; place = c.place; task = c.task; tries = c.tries; waits = c.waits; peers = c.peers.items }) };
+}
+
+impl<A: Allocator> Procedure<A> {
+    /// Calls the polling address of an entry, after so many failures.
+    fn poll(&mut self, place: usize, tries: u8) -> Option<Message>
+        requires { place < length self.old.poll_list }
+        ensures { record { control = self.new; sent = result } ≡ polls self.old place tries }
+    {
+        let terminal = self.poll_list[place] as usize;
+        self.place = place;
+        self.task = Task::Polling {
+            replied: Replied::Nothing,
+        };
+        self.tries = tries;
+        self.waits = 0;
+        let peer = &mut self.peers[terminal];
+        peer.begin_receiving();
+        Some(Message::Call(peer.terminal().poll()))
+    }
+
+    /// Calls a selection address of an entry.
+    fn select(&mut self, place: usize, select: usize) -> Option<Message>
+        requires place { place < length self.old.poll_list }
+        requires select { select < length (peer_at self.old (slice_index self.old.poll_list place)).outbounds }
+        ensures { record { control = self.new; sent = result } ≡ selects self.old place select }
+    {
+        let terminal = self.poll_list[place] as usize;
+        self.place = place;
+        self.task = Task::Selecting {
+            select,
+            enquired: false,
+        };
+        self.tries = 0;
+        self.waits = 0;
+        let peer = &mut self.peers[terminal];
+        peer.set_urgent(false);
+        Some(Message::Call(peer.select_address(select)))
+    }
+
+    /// Makes the first call of an entry from this selection address on.
+    fn call_from(&mut self, place: usize, from: usize) -> Option<Message>
+        requires place { place < length self.old.poll_list }
+        requires from { from ≤ length (peer_at self.old (slice_index self.old.poll_list place)).outbounds }
+        ensures { record { control = self.new; sent = result } ≡ calls_by self.old place (way_from (peer_at self.old (slice_index self.old.poll_list place)) from) }
+    {
+        let terminal = self.poll_list[place] as usize;
+        let peer = &self.peers[terminal];
+        match peer.way_from(from) {
+            Way::FromTerminal => self.poll(place, 0),
+            Way::ToTerminal(select) => self.select(place, select),
+        }
+    }
+
+    /// Makes the first call, that of the present entry.
+    fn call_first(&mut self) -> Option<Message>
+        ensures { record { control = self.new; sent = result } ≡ calls_next self.old Start }
+    {
+        self.call_from(self.place, 0)
+    }
+
+    /// Makes the call after a selection, or after the bid that it led to.
+    fn call_after_selection(&mut self, select: usize) -> Option<Message>
+        requires { select < length (peer self.old).outbounds }
+        ensures { record { control = self.new; sent = result } ≡ calls_next self.old (Selection select) }
+    {
+        self.call_from(self.place, select + 1)
+    }
+
+    /// Makes the call after a poll.
+    fn call_after_poll(&mut self, rvi: bool) -> Option<Message>
+        ensures { record { control = self.new; sent = result } ≡ calls_next self.old (Poll rvi) }
+    {
+        let place = if rvi {
+            self.place
+        } else if self.place + 1 == self.poll_list.len() {
+            0
+        } else {
+            self.place + 1
+        };
+        self.call_from(place, 0)
+    }
+
+    /// Does what the sender to a selection address says. `interrupted`: RVI was heard.
+    fn perform(&mut self, act: Act, select: usize, interrupted: bool) -> Option<Message>
+        requires { select < length (peer self.old).outbounds }
+        ensures { record { control = self.new; sent = result } ≡ performs self.old select act (if interrupted then Interruption else Selection select) }
+    {
+        match act {
+            Act::Send(text) => {
+                self.task = Task::Sending { select };
+                Some(Message::Text(text))
+            }
+            Act::Enq => {
+                self.task = Task::Sending { select };
+                Some(Message::Enq)
+            }
+            Act::Over if interrupted => self.poll(self.place, 0),
+            Act::Over => self.call_after_selection(select),
+            Act::Quiet => None,
+        }
+    }
+
+    /// The selected terminal is ready: a bid begins.
+    fn begin_bid(&mut self, select: usize) -> Option<Message>
+        requires { IsSelected (peer self.old) select }
+        ensures { record { control = self.new; sent = result } ≡ selecting_step self.old select (Some Reply.Ack0) }
+    {
+        let terminal = self.poll_list[self.place] as usize;
+        let peer = &mut self.peers[terminal];
+        let act = peer.begin(select);
+        self.perform(act, select, false)
+    }
+
+    /// Something is heard after a selection.
+    fn hear_selecting(&mut self, select: usize, heard: &Heard) -> Option<Message>
+        requires { IsSelected (peer self.old) select }
+        ensures { record { control = self.new; sent = result } ≡ selecting_step self.old select (reply_heard heard.now) }
+    {
+        match Reply::heard(heard) {
+            Some(Reply::Ack0) => self.begin_bid(select),
+            Some(Reply::Nak) => self.call_after_selection(select),
+            Some(Reply::Wack) => self.enquire(select),
+            _ => None,
+        }
+    }
+
+    /// The selected terminal has no room yet.
+    fn enquire(&mut self, select: usize) -> Option<Message>
+        requires { select < length (peer self.old).outbounds }
+        ensures { record { control = self.new; sent = result } ≡ selecting_step self.old select (Some Reply.Wack) }
+    {
+        if self.waits >= self.setup.waits() {
+            return self.call_after_selection(select);
+        }
+        self.task = Task::Selecting {
+            select,
+            enquired: true,
+        };
+        self.tries = 0;
+        self.waits += 1;
+        Some(Message::Enq)
+    }
+
+    /// Something is heard during a bid.
+    fn hear_sending(&mut self, select: usize, heard: &Heard) -> Option<Message>
+        requires { select < length (peer self.old).outbounds }
+        ensures { record { control = self.new; sent = result } ≡ acted self.old select (reply_step (outbound_at (peer self.old) select).sender (outbound_at (peer self.old) select).queue (reply_heard heard.now)) (after_bid select (reply_heard heard.now)) }
+    {
+        let interrupted = Reply::heard(heard) == Some(Reply::Rvi);
+        let terminal = self.poll_list[self.place] as usize;
+        let peer = &mut self.peers[terminal];
+        let act = peer.reply(select, heard);
+        self.perform(act, select, interrupted)
+    }
+
+    /// Something but EOT is heard after a poll.
+    fn receive(&mut self, replied: Replied, heard: &Heard) -> Option<Message>
+        requires { IsReceived (Task.Polling replied) heard.now }
+        ensures row { record { control = self.new; sent = result } ≡ polling_step self.old replied heard.now (rooms_after self.old heard.now self.new) }
+        ensures room { (peer self.old).spool.room ≡ true → (rooms_after self.old heard.now self.new).first ≡ true }
+    {
+        let terminal = self.poll_list[self.place] as usize;
+        let peer = &mut self.peers[terminal];
+        let reply = peer.receive(heard);
+        self.task = Task::Polling {
+            replied: replied.after(reply),
+        };
+        reply.map(Reply::message)
+    }
+
+    /// Something is heard after a poll.
+    fn hear_polling(&mut self, replied: Replied, heard: &Heard) -> Option<Message>
+        requires { self.old.task ≡ Task.Polling replied }
+        ensures { Hears self.old heard.now self.new result }
+    {
+        match heard {
+            Heard::Whole(Message::Eot) => self.call_after_poll(replied.has_rvi()),
+            _ => self.receive(replied, heard),
+        }
+    }
+
+    /// Hears what octets were decoded as, and gives the message to send.
+    pub(crate) fn hear(&mut self, heard: &Heard) -> Option<Message>
+        requires { SuitsTask self.old.task (peer self.old) }
+        ensures { Hears self.old heard.now self.new result }
+    {
+        match self.task {
+            Task::AtRest => None,
+            Task::Selecting { select, .. } => self.hear_selecting(select, heard),
+            Task::Sending { select } => self.hear_sending(select, heard),
+            Task::Polling { replied } => self.hear_polling(replied, heard),
+        }
+    }
+
+    /// A selection is not answered.
+    fn fail_selection(&mut self, select: usize, enquired: bool) -> Option<Message>
+        requires { select < length (peer self.old).outbounds }
+        ensures { record { control = self.new; sent = result } ≡ silence_in self.old (Task.Selecting select enquired) }
+    {
+        if self.tries >= self.setup.tries() {
+            return self.call_after_selection(select);
+        }
+        self.tries += 1;
+        if enquired {
+            return Some(Message::Enq);
+        }
+        let terminal = self.poll_list[self.place] as usize;
+        let peer = &self.peers[terminal];
+        Some(Message::Call(peer.select_address(select)))
+    }
+
+    /// A silence during a bid.
+    fn send_on(&mut self, select: usize) -> Option<Message>
+        requires { select < length (peer self.old).outbounds }
+        ensures { record { control = self.new; sent = result } ≡ silence_in self.old (Task.Sending select) }
+    {
+        let terminal = self.poll_list[self.place] as usize;
+        let peer = &mut self.peers[terminal];
+        let act = peer.silence(select);
+        self.perform(act, select, false)
+    }
+
+    /// A silence after a poll.
+    fn fail_poll(&mut self, replied: Replied) -> Option<Message>
+        ensures { record { control = self.new; sent = result } ≡ silence_in self.old (Task.Polling replied) }
+    {
+        match replied {
+            Replied::Nothing if self.tries < self.setup.tries() => {
+                self.poll(self.place, self.tries + 1)
+            }
+            _ => self.call_after_poll(replied.has_rvi()),
+        }
+    }
+
+    /// Nothing was heard; gives the message to send.
+    pub(crate) fn act_on_silence(&mut self) -> Option<Message>
+        requires { SuitsTask self.old.task (peer self.old) }
+        ensures { IsSilent self.old self.new result }
+    {
+        match self.task {
+            Task::AtRest => self.call_first(),
+            Task::Selecting { select, enquired } => self.fail_selection(select, enquired),
+            Task::Sending { select } => self.send_on(select),
+            Task::Polling { replied } => self.fail_poll(replied),
+        }
+    }
+}
