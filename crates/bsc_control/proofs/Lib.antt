@@ -1,0 +1,3 @@
+pub mod SenderSteps
+pub mod ReceiverSteps
+pub mod PeerLists

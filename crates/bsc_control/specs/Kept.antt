@@ -1,5 +1,5 @@
 -- What holds of every control station, and what a transmission or a silence may change of it (own).
-use Rattle.std.specs.Prelude.{◌≡◌, ◌≢◌, ◌⊎◌, ◌≤◌, ◌<◌, ℕ, ◌+◌, Bool, true, List, ◌++◌, length, Option, None, Some, slice_get, All}
+use Rattle.std.specs.Prelude.{◌≡◌, ◌≢◌, ◌⊎◌, ◌≤◌, ◌<◌, ℕ, ◌+◌, Bool, true, false, List, [], ◌++◌, length, Option, None, Some, slice_get, All}
 use Rattle.bsc_frame.specs.declared.message.Message.{Message}
 use Rattle.bsc_frame.specs.declared.message.Message.TheVariants as m
 use Rattle.bsc_frame.specs.declared.message.Heard.{Heard}
@@ -9,24 +9,29 @@ use Rattle.bsc_block.specs.Blocks.{records_in}
 use Rattle.bsc_spool.specs.Queue.{waiting}
 use Rattle.bsc_text.specs.declared.phase.Phase.{Phase}
 use Rattle.bsc_text.specs.declared.phase.Phase.TheVariants.{Idle}
-use Rattle.bsc_text.specs.Ready.{IsReady, IsGoing, IsAtRest}
+use Rattle.bsc_text.specs.Ready.{IsGoing, IsAtRest}
 use Rattle.bsc_text.specs.Receiver.{begun}
-use Rattle.bsc_text.specs.Terminal.{TerminalValue, IsTerminal}
+use Rattle.bsc_text.specs.Reply.{reply_heard}
 use Rattle.bsc_control.specs.declared.task.Replied.{Replied}
 use Rattle.bsc_control.specs.declared.task.Replied.TheVariants.{Nothing, WithoutRvi, WithRvi}
 use Rattle.bsc_control.specs.declared.task.Task.{Task}
 use Rattle.bsc_control.specs.declared.task.Task.TheVariants.{AtRest, Selecting, Sending, Polling}
+use Rattle.bsc_control.specs.declared.way.Way.{Way}
+use Rattle.bsc_control.specs.declared.way.Way.TheVariants.{FromTerminal, ToTerminal}
+use Rattle.bsc_control.specs.Addresses.{IsAddressOf, AreDistinct}
+use Rattle.bsc_control.specs.CallOrder.{Call, After, Start, Selection, Interruption, Poll, next_call}
 use Rattle.bsc_control.specs.Peer.{OutboundValue, PeerValue, outbound_at}
 use Rattle.bsc_control.specs.Control.{ControlValue, HasEntries, terminals, peer_at, peer, current}
+use Rattle.bsc_control.specs.Table.{after_bid, has_rvi}
 
--- a selection address of the terminal was called: records wait for it, and there is no doubt and no bid
+-- a selection address was called: records wait for it, and there is no doubt and no bid
 pub record IsSelected (p : PeerValue) (s : ℕ) : Type 0 where
   pub there : s < length p.outbounds
   pub idle : (outbound_at p s).sender.phase ≡ Idle
   pub some : 1 ≤ length (waiting (outbound_at p s).queue)
 
--- a bid goes on to this selection address
-pub record IsSent (p : PeerValue) (s : ℕ) : Type 0 where
+-- a bid to this selection address goes on
+pub record IsInBid (p : PeerValue) (s : ℕ) : Type 0 where
   pub there : s < length p.outbounds
   pub going : IsGoing (outbound_at p s).sender.phase
 
@@ -34,6 +39,117 @@ pub record IsSent (p : PeerValue) (s : ℕ) : Type 0 where
 abbrev pub SuitsTask : Task → PeerValue → Type 0
 SuitsTask AtRest p = Unit {0}
 SuitsTask (Selecting s enquired) p = IsSelected p s
-SuitsTask (Sending s) p = IsSent p s
+SuitsTask (Sending s) p = IsInBid p s
 SuitsTask (Polling Nothing) p = p.receiver ≡ begun true
-SuitsTask (Polling _) p = Unit {0}
+SuitsTask (Polling WithoutRvi) p = Unit {0}
+SuitsTask (Polling WithRvi) p = Unit {0}
+
+-- what is sent to this selection address of this terminal
+abbrev pub outbound_of : ControlValue → ℕ → ℕ → OutboundValue
+outbound_of c t s = outbound_at (peer_at c t) s
+
+abbrev pub phase_of : ControlValue → ℕ → ℕ → Phase
+phase_of c t s = (outbound_of c t s).sender.phase
+
+-- the one bid that goes on, if any, is to this selection address of this terminal
+abbrev pub IsInUse : ControlValue → ℕ → ℕ → Type 0
+IsInUse c t s = (t ≡ current c) × (c.task ≡ Sending s)
+
+-- the senders' settings and the queues' formats are the station's
+pub record HasSettings (c : ControlValue) (o : OutboundValue) : Type 0 where
+  pub setup : o.sender.setup ≡ c.setup
+  pub format : o.queue.format ≡ c.setup.format
+
+-- what the task needs of the present terminal is there, and no other bid goes on
+pub record IsOrderly (c : ControlValue) : Type 0 where
+  pub suits : SuitsTask c.task (peer c)
+  pub rests : (t s : ℕ) → (IsInUse c t s → ⊥) → IsAtRest (phase_of c t s)
+  pub settings : (t s : ℕ) → s < length (peer_at c t).outbounds → HasSettings c (outbound_of c t s)
+
+-- a control station: it has 1 to 64 terminals, whose addresses differ, and at most 255 entries in its poll
+-- list; each entry names a terminal; each queue has what its sender counts on; and at most one bid goes on
+pub record IsControl (c : ControlValue) : Type 0 where
+  pub some : 1 ≤ length c.peers
+  pub few : length c.peers ≤ 64
+  pub list : length c.poll_list ≤ 255
+  pub distinct : AreDistinct (terminals c)
+  pub entries : HasEntries c
+  pub orderly : IsOrderly c
+
+-- what stays: the settings, the poll list, the addresses, and the records that were offered
+pub record Keeps (old new : ControlValue) : Type 0 where
+  pub setup : new.setup ≡ old.setup
+  pub poll_list : new.poll_list ≡ old.poll_list
+  pub terminals : terminals new ≡ terminals old
+  pub peers : length new.peers ≡ length old.peers
+  pub outbounds : (t : ℕ) → length (peer_at new t).outbounds ≡ length (peer_at old t).outbounds
+  pub offered : (t s : ℕ) → (outbound_of new t s).queue.offered ≡ (outbound_of old t s).queue.offered
+
+-- the task that begins with a call
+abbrev pub IsTaskOf : Way → Task → Type 0
+IsTaskOf FromTerminal task = task ≡ Polling Nothing
+IsTaskOf (ToTerminal s) task = task ≡ Selecting s false
+
+-- the address of this call is called, with tries and waits of its own
+pub record IsCalled (c : ControlValue) (call : Call) (address : List ℕ) : Type 0 where
+  pub place : c.place ≡ call.place
+  pub called : IsAddressOf (terminals c) (current c) call.way address
+  pub task : IsTaskOf call.way c.task
+  pub tries : c.tries ≡ 0
+  pub waits : c.waits ≡ 0
+
+-- what the call is made after, when this is heard during this task
+abbrev pub after_hearing : Task → Heard → After
+after_hearing AtRest h = Start
+after_hearing (Selecting s enquired) h = Selection s
+after_hearing (Sending s) h = after_bid s (reply_heard h)
+after_hearing (Polling replied) h = Poll (has_rvi replied)
+
+-- what the next call is made after, at a silence
+abbrev pub after_silence : Task → After
+after_silence AtRest = Start
+after_silence (Selecting s enquired) = Selection s
+after_silence (Sending s) = Selection s
+after_silence (Polling replied) = Poll (has_rvi replied)
+
+-- a whole text was heard in a poll of terminal t, and the records become the old ones and all of its
+pub record Stores (c : ControlValue) (h : Heard) (t : ℕ) (old new : List (List ℕ)) : Type 0 where
+  pub text : TextValue
+  pub heard : h ≡ Whole (m.Text text)
+  pub replied : Replied
+  pub polling : c.task ≡ Polling replied
+  pub polled : t ≡ current c
+  pub becomes : new ≡ old ++ records_in text.units
+
+-- a spool has the records that it had, or stores those of a text
+abbrev pub GrowsByText : ControlValue → Heard → ℕ → List (List ℕ) → List (List ℕ) → Type 0
+GrowsByText c h t old new = (new ≡ old) ⊎ Stores c h t old new
+
+-- the way that a task goes
+abbrev pub way_of : Task → Way
+way_of AtRest = FromTerminal
+way_of (Selecting s enquired) = ToTerminal s
+way_of (Sending s) = ToTerminal s
+way_of (Polling replied) = FromTerminal
+
+-- the same call again
+pub record IsRepeated (old new : ControlValue) (address : List ℕ) : Type 0 where
+  pub place : new.place ≡ old.place
+  pub task : new.task ≡ old.task
+  pub called : IsAddressOf (terminals new) (current new) (way_of new.task) address
+  pub tries : new.tries ≡ old.tries + 1
+
+-- what a control station is once it has heard a transmission: each call that it makes is the next one
+pub record AfterHearing (old : ControlValue) (h : Heard) (new : ControlValue) (sent : Option Message) : Type 0 where
+  pub control : IsControl new
+  pub keeps : Keeps old new
+  pub calls : (address : List ℕ) → sent ≡ Some (m.Call address) → IsCalled new (next_call old (after_hearing old.task h)) address
+  pub spools : (t : ℕ) → GrowsByText old h t (peer_at old t).spool.records (peer_at new t).spool.records
+  pub noise : h ≡ Noise → (new ≡ old) × (sent ≡ None)
+
+-- what a control station is after a silence: each call that it makes is the next one, or the same again
+pub record AfterSilence (old new : ControlValue) (sent : Option Message) : Type 0 where
+  pub control : IsControl new
+  pub keeps : Keeps old new
+  pub calls : (address : List ℕ) → sent ≡ Some (m.Call address) → IsCalled new (next_call old (after_silence old.task)) address ⊎ IsRepeated old new address
+  pub spools : (t : ℕ) → (peer_at new t).spool ≡ (peer_at old t).spool

@@ -1,3 +1,4 @@
+pub mod Addresses
 pub mod Peer
 pub mod Control
 pub mod CallOrder

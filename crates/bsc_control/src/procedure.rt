@@ -47,7 +47,8 @@ impl<A: Allocator> Procedure<A> {
     /// Calls the polling address of an entry, after so many failures.
     fn poll(&mut self, place: usize, tries: u8) -> Option<Message>
         requires { place < length self.old.poll_list }
-        ensures { record { control = self.new; sent = result } ≡ polls self.old place tries }
+        ensures row { record { control = self.new; sent = result } ≡ polls self.old place tries }
+        ensures entries { HasEntries self.new }
     {
         let terminal = self.poll_list[place] as usize;
         self.place = place;
@@ -65,7 +66,8 @@ impl<A: Allocator> Procedure<A> {
     fn select(&mut self, place: usize, select: usize) -> Option<Message>
         requires place { place < length self.old.poll_list }
         requires select { select < length (peer_at self.old (slice_index self.old.poll_list place)).outbounds }
-        ensures { record { control = self.new; sent = result } ≡ selects self.old place select }
+        ensures row { record { control = self.new; sent = result } ≡ selects self.old place select }
+        ensures entries { HasEntries self.new }
     {
         let terminal = self.poll_list[place] as usize;
         self.place = place;
@@ -84,7 +86,8 @@ impl<A: Allocator> Procedure<A> {
     fn call_from(&mut self, place: usize, from: usize) -> Option<Message>
         requires place { place < length self.old.poll_list }
         requires from { from ≤ length (peer_at self.old (slice_index self.old.poll_list place)).outbounds }
-        ensures { record { control = self.new; sent = result } ≡ calls_by self.old place (way_from (peer_at self.old (slice_index self.old.poll_list place)) from) }
+        ensures row { record { control = self.new; sent = result } ≡ calls_by self.old place (way_from (peer_at self.old (slice_index self.old.poll_list place)) from) }
+        ensures entries { HasEntries self.new }
     {
         let terminal = self.poll_list[place] as usize;
         let peer = &self.peers[terminal];
@@ -96,7 +99,8 @@ impl<A: Allocator> Procedure<A> {
 
     /// Makes the first call, that of the present entry.
     fn call_first(&mut self) -> Option<Message>
-        ensures { record { control = self.new; sent = result } ≡ calls_next self.old Start }
+        ensures row { record { control = self.new; sent = result } ≡ calls_next self.old Start }
+        ensures entries { HasEntries self.new }
     {
         self.call_from(self.place, 0)
     }
@@ -104,14 +108,16 @@ impl<A: Allocator> Procedure<A> {
     /// Makes the call after a selection, or after the bid that it led to.
     fn call_after_selection(&mut self, select: usize) -> Option<Message>
         requires { select < length (peer self.old).outbounds }
-        ensures { record { control = self.new; sent = result } ≡ calls_next self.old (Selection select) }
+        ensures row { record { control = self.new; sent = result } ≡ calls_next self.old (Selection select) }
+        ensures entries { HasEntries self.new }
     {
         self.call_from(self.place, select + 1)
     }
 
     /// Makes the call after a poll.
     fn call_after_poll(&mut self, rvi: bool) -> Option<Message>
-        ensures { record { control = self.new; sent = result } ≡ calls_next self.old (Poll rvi) }
+        ensures row { record { control = self.new; sent = result } ≡ calls_next self.old (Poll rvi) }
+        ensures entries { HasEntries self.new }
     {
         let place = if rvi {
             self.place
@@ -126,8 +132,10 @@ impl<A: Allocator> Procedure<A> {
     /// Does what the sender to a selection address says. `interrupted`: RVI was heard.
     fn perform(&mut self, act: Act, select: usize, interrupted: bool) -> Option<Message>
         requires { select < length (peer self.old).outbounds }
-        ensures { record { control = self.new; sent = result } ≡ performs self.old select act (if interrupted then Interruption else Selection select) }
+        ensures row { record { control = self.new; sent = result } ≡ performs self.old select act (if interrupted then Interruption else Selection select) }
+        ensures entries { HasEntries self.new }
     {
+        let _ = &self.task;
         match act {
             Act::Send(text) => {
                 self.task = Task::Sending { select };
@@ -146,7 +154,8 @@ impl<A: Allocator> Procedure<A> {
     /// The selected terminal is ready: a bid begins.
     fn begin_bid(&mut self, select: usize) -> Option<Message>
         requires { IsSelected (peer self.old) select }
-        ensures { record { control = self.new; sent = result } ≡ selecting_step self.old select (Some Reply.Ack0) }
+        ensures row { record { control = self.new; sent = result } ≡ selecting_step self.old select (Some Reply.Ack0) }
+        ensures entries { HasEntries self.new }
     {
         let terminal = self.poll_list[self.place] as usize;
         let peer = &mut self.peers[terminal];
@@ -157,8 +166,10 @@ impl<A: Allocator> Procedure<A> {
     /// Something is heard after a selection.
     fn hear_selecting(&mut self, select: usize, heard: &Heard) -> Option<Message>
         requires { IsSelected (peer self.old) select }
-        ensures { record { control = self.new; sent = result } ≡ selecting_step self.old select (reply_heard heard.now) }
+        ensures row { record { control = self.new; sent = result } ≡ selecting_step self.old select (reply_heard heard.now) }
+        ensures entries { HasEntries self.new }
     {
+        let _ = &self.task;
         match Reply::heard(heard) {
             Some(Reply::Ack0) => self.begin_bid(select),
             Some(Reply::Nak) => self.call_after_selection(select),
@@ -170,7 +181,8 @@ impl<A: Allocator> Procedure<A> {
     /// The selected terminal has no room yet.
     fn enquire(&mut self, select: usize) -> Option<Message>
         requires { select < length (peer self.old).outbounds }
-        ensures { record { control = self.new; sent = result } ≡ selecting_step self.old select (Some Reply.Wack) }
+        ensures row { record { control = self.new; sent = result } ≡ selecting_step self.old select (Some Reply.Wack) }
+        ensures entries { HasEntries self.new }
     {
         if self.waits >= self.setup.waits() {
             return self.call_after_selection(select);
@@ -187,7 +199,8 @@ impl<A: Allocator> Procedure<A> {
     /// Something is heard during a bid.
     fn hear_sending(&mut self, select: usize, heard: &Heard) -> Option<Message>
         requires { select < length (peer self.old).outbounds }
-        ensures { record { control = self.new; sent = result } ≡ acted self.old select (reply_step (outbound_at (peer self.old) select).sender (outbound_at (peer self.old) select).queue (reply_heard heard.now)) (after_bid select (reply_heard heard.now)) }
+        ensures row { record { control = self.new; sent = result } ≡ acted self.old select (reply_step (outbound_at (peer self.old) select).sender (outbound_at (peer self.old) select).queue (reply_heard heard.now)) (after_bid select (reply_heard heard.now)) }
+        ensures entries { HasEntries self.new }
     {
         let interrupted = Reply::heard(heard) == Some(Reply::Rvi);
         let terminal = self.poll_list[self.place] as usize;
@@ -200,6 +213,7 @@ impl<A: Allocator> Procedure<A> {
     fn receive(&mut self, replied: Replied, heard: &Heard) -> Option<Message>
         requires { IsReceived (Task.Polling replied) heard.now }
         ensures row { record { control = self.new; sent = result } ≡ polling_step self.old replied heard.now (rooms_after self.old heard.now self.new) }
+        ensures entries { HasEntries self.new }
         ensures room { (peer self.old).spool.room ≡ true → (rooms_after self.old heard.now self.new).first ≡ true }
     {
         let terminal = self.poll_list[self.place] as usize;
@@ -214,7 +228,8 @@ impl<A: Allocator> Procedure<A> {
     /// Something is heard after a poll.
     fn hear_polling(&mut self, replied: Replied, heard: &Heard) -> Option<Message>
         requires { self.old.task ≡ Task.Polling replied }
-        ensures { Hears self.old heard.now self.new result }
+        ensures row { Hears self.old heard.now self.new result }
+        ensures entries { HasEntries self.new }
     {
         match heard {
             Heard::Whole(Message::Eot) => self.call_after_poll(replied.has_rvi()),
@@ -225,7 +240,8 @@ impl<A: Allocator> Procedure<A> {
     /// Hears what octets were decoded as, and gives the message to send.
     pub(crate) fn hear(&mut self, heard: &Heard) -> Option<Message>
         requires { SuitsTask self.old.task (peer self.old) }
-        ensures { Hears self.old heard.now self.new result }
+        ensures row { Hears self.old heard.now self.new result }
+        ensures entries { HasEntries self.new }
     {
         match self.task {
             Task::AtRest => None,
@@ -238,7 +254,8 @@ impl<A: Allocator> Procedure<A> {
     /// A selection is not answered.
     fn fail_selection(&mut self, select: usize, enquired: bool) -> Option<Message>
         requires { select < length (peer self.old).outbounds }
-        ensures { record { control = self.new; sent = result } ≡ silence_in self.old (Task.Selecting select enquired) }
+        ensures row { record { control = self.new; sent = result } ≡ silence_in self.old (Task.Selecting select enquired) }
+        ensures entries { HasEntries self.new }
     {
         if self.tries >= self.setup.tries() {
             return self.call_after_selection(select);
@@ -255,7 +272,8 @@ impl<A: Allocator> Procedure<A> {
     /// A silence during a bid.
     fn send_on(&mut self, select: usize) -> Option<Message>
         requires { select < length (peer self.old).outbounds }
-        ensures { record { control = self.new; sent = result } ≡ silence_in self.old (Task.Sending select) }
+        ensures row { record { control = self.new; sent = result } ≡ silence_in self.old (Task.Sending select) }
+        ensures entries { HasEntries self.new }
     {
         let terminal = self.poll_list[self.place] as usize;
         let peer = &mut self.peers[terminal];
@@ -265,7 +283,8 @@ impl<A: Allocator> Procedure<A> {
 
     /// A silence after a poll.
     fn fail_poll(&mut self, replied: Replied) -> Option<Message>
-        ensures { record { control = self.new; sent = result } ≡ silence_in self.old (Task.Polling replied) }
+        ensures row { record { control = self.new; sent = result } ≡ silence_in self.old (Task.Polling replied) }
+        ensures entries { HasEntries self.new }
     {
         match replied {
             Replied::Nothing if self.tries < self.setup.tries() => {
@@ -278,7 +297,8 @@ impl<A: Allocator> Procedure<A> {
     /// Nothing was heard; gives the message to send.
     pub(crate) fn act_on_silence(&mut self) -> Option<Message>
         requires { SuitsTask self.old.task (peer self.old) }
-        ensures { IsSilent self.old self.new result }
+        ensures row { IsSilent self.old self.new result }
+        ensures entries { HasEntries self.new }
     {
         match self.task {
             Task::AtRest => self.call_first(),

@@ -1,0 +1,47 @@
+-- How the records of a spool grow when its receiver hears something.
+use Rattle.std.proofs.Common.{◌≡◌, ◌⊎◌, inl, inr, ℕ, Bool, true, false, List, ◌++◌, if◌then◌else◌, refl}
+use Rattle.bsc_frame.specs.declared.message.Message.TheVariants as m
+use Rattle.bsc_frame.specs.declared.message.Heard.{Heard}
+use Rattle.bsc_frame.specs.declared.message.Heard.TheVariants.{Whole, Failed, Noise}
+use Rattle.bsc_frame.specs.Texts.{TextValue}
+use Rattle.bsc_block.specs.Blocks.{records_in}
+use Rattle.bsc_spool.specs.Spool.{SpoolValue}
+use Rattle.bsc_text.specs.Receiver.{ReceiverValue, ReceiverStep, Rooms, is_rvi, is_wack, taken, taken_urgently, text_step, enq_step, heard_step, replied, tried}
+
+-- the records are the old ones, or a whole text was heard and they are the old ones and all of its
+pub record TakesText (h : Heard) (old new : List (List ℕ)) : Type 0 where
+  pub text : TextValue
+  pub heard : h ≡ Whole (m.Text text)
+  pub becomes : new ≡ old ++ records_in text.units
+
+abbrev pub Grows : Heard → SpoolValue → ReceiverStep → Type 0
+Grows h s step = (step.spool.records ≡ s.records) ⊎ TakesText h s.records step.spool.records
+
+grows_if : (h : Heard) (s : SpoolValue) (b : Bool) (x y : ReceiverStep) → Grows h s x → Grows h s y → Grows h s (if b then x else y)
+grows_if h s true x y p q = p
+grows_if h s false x y p q = q
+
+grows-text : (r : ReceiverValue) (s : SpoolValue) (t : TextValue) (urgent : Bool) (rooms : Rooms) → Grows (Whole (m.Text t)) s (text_step r s t urgent rooms)
+grows-text r s t urgent rooms =
+    let P = λ (x : ReceiverStep). Grows (Whole (m.Text t)) s x in
+    let plain : P (taken r s t rooms) = inr (record { text = t; heard = refl; becomes = refl }) in
+    let urgently : P (taken_urgently r s t rooms) = inr (record { text = t; heard = refl; becomes = refl }) in
+    grows_if (Whole (m.Text t)) s rooms.first _ _
+    (grows_if (Whole (m.Text t)) s urgent _ _ (grows_if (Whole (m.Text t)) s (is_rvi r.last) _ _ plain urgently) plain)
+    (inl refl)
+
+grows-enq : (r : ReceiverValue) (s : SpoolValue) (rooms : Rooms) → Grows (Whole m.Enq) s (enq_step r s rooms)
+grows-enq r s rooms = grows_if (Whole m.Enq) s (is_wack r.last) _ _ (inl refl) (inl refl)
+
+pub grows-heard_step : (r : ReceiverValue) (s : SpoolValue) (h : Heard) (urgent : Bool) (rooms : Rooms) → Grows h s (heard_step r s h urgent rooms)
+grows-heard_step r s (Whole (m.Text t)) urgent rooms = grows-text r s t urgent rooms
+grows-heard_step r s (Whole m.Enq) urgent rooms = grows-enq r s rooms
+grows-heard_step r s Failed urgent rooms = inl refl
+grows-heard_step r s Noise urgent rooms = inl refl
+grows-heard_step r s (Whole m.Eot) urgent rooms = inl refl
+grows-heard_step r s (Whole (m.Call x)) urgent rooms = inl refl
+grows-heard_step r s (Whole m.Ack0) urgent rooms = inl refl
+grows-heard_step r s (Whole m.Ack1) urgent rooms = inl refl
+grows-heard_step r s (Whole m.Nak) urgent rooms = inl refl
+grows-heard_step r s (Whole m.Wack) urgent rooms = inl refl
+grows-heard_step r s (Whole m.Rvi) urgent rooms = inl refl
