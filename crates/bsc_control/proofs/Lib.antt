@@ -1,3 +1,5 @@
-pub mod SenderSteps
-pub mod ReceiverSteps
+pub mod Calls
 pub mod PeerLists
+pub mod ReceiverSteps
+pub mod SenderSteps
+pub mod Bids

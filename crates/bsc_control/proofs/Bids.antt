@@ -1,0 +1,160 @@
+-- What a step of a sender keeps.
+use Rattle.std.proofs.Common.{◌≡◌, ◌≢◌, ℕ, ◌+◌, ◌≤◌, ◌<◌, List, length, drop, map, get_or, set, Option, None, Some, refl, sym, ◌∙◌, ap, subst, arith}
+use Rattle.std.proofs.lemmas.List.{length-set, get_or-set_same, drop-set-lt}
+use Rattle.bsc_frame.specs.declared.message.Message.TheVariants as m
+use Rattle.bsc_spool.specs.Queue.{QueueValue}
+use Rattle.bsc_text.specs.declared.act.Act.{Act}
+use Rattle.bsc_text.specs.declared.act.Act.TheVariants as a
+use Rattle.bsc_text.specs.declared.phase.Phase.{Phase}
+use Rattle.bsc_text.specs.declared.reply.Reply.{Reply}
+use Rattle.bsc_text.specs.Ready.{IsGoing, IsAtRest}
+use Rattle.bsc_text.specs.Sender.{SenderValue, SenderStep}
+use Rattle.bsc_control.specs.declared.task.Task.{Task}
+use Rattle.bsc_control.specs.declared.task.Task.TheVariants.{AtRest, Selecting, Sending, Polling}
+use Rattle.bsc_control.specs.declared.way.Way.TheVariants.{FromTerminal, ToTerminal}
+use Rattle.bsc_control.specs.CallOrder.{Call, After, Start, Selection, Interruption, Poll, way_at, way_from, next_call}
+use Rattle.bsc_control.specs.Control.{ControlValue, ControlStep, HasEntries, terminals, peer_at, peer, current, with_current}
+use Rattle.bsc_control.specs.Kept.{IsInBid, outbound_of, phase_of, IsInUse, HasSettings, IsOrderly, Keeps, IsCalled}
+use Rattle.bsc_control.specs.Peer.{OutboundValue, PeerValue, no_outbound, no_peer, outbound_at, with_outbound, outbound_after, is_selectable}
+use Rattle.bsc_control.specs.Table.{performs, acted}
+use Rattle.bsc_control.proofs.Calls.{IsCalm, Fares, entry_within, fares-calls_next}
+use Rattle.bsc_control.proofs.PeerLists.{same_at, same_map, holds_at}
+use Rattle.bsc_control.proofs.SenderSteps.{LeavesPhase, StepKeeps}
+
+-- the station once the sender to a selection address of the present terminal, and its queue, are these
+abbrev pub stepped : ControlValue → ℕ → OutboundValue → ControlValue
+stepped c s o = with_current c (with_outbound (peer c) s o)
+
+-- the settings and the offered records stay
+pub record OutboundKeeps (old new : OutboundValue) : Type 0 where
+  pub setup : new.sender.setup ≡ old.sender.setup
+  pub format : new.queue.format ≡ old.queue.format
+  pub offered : new.queue.offered ≡ old.queue.offered
+
+-- what is read of an outbound stays everywhere where it stays at the one that is replaced
+same_of : {B : Type 0} (f : OutboundValue → B) (c : ControlValue) (s : ℕ) (o : OutboundValue) → f o ≡ f (outbound_of c (current c) s) → (t k : ℕ) → f (outbound_of (stepped c s o) t k) ≡ f (outbound_of c t k)
+same_of f c s o same t k =
+    same_at (λ (p : PeerValue). f (outbound_at p k)) c.peers (current c) t (with_outbound (peer c) s o) no_peer (same_at f (peer c).outbounds s k o no_outbound same)
+
+same_lengths : (c : ControlValue) (s : ℕ) (o : OutboundValue) (t : ℕ) → length (peer_at (stepped c s o) t).outbounds ≡ length (peer_at c t).outbounds
+same_lengths c s o t = same_at (λ (p : PeerValue). length p.outbounds) c.peers (current c) t (with_outbound (peer c) s o) no_peer (length-set (peer c).outbounds s o)
+
+pub same_spools : (c : ControlValue) (s : ℕ) (o : OutboundValue) (t : ℕ) → (peer_at (stepped c s o) t).spool ≡ (peer_at c t).spool
+same_spools c s o t = same_at (λ (p : PeerValue). p.spool) c.peers (current c) t (with_outbound (peer c) s o) no_peer refl
+
+pub keeps-stepped : (c : ControlValue) (s : ℕ) (o : OutboundValue) → OutboundKeeps (outbound_of c (current c) s) o → Keeps c (stepped c s o)
+keeps-stepped c s o k =
+    record {
+      setup = refl;
+      poll_list = refl;
+      terminals = same_map (λ (p : PeerValue). p.terminal) c.peers (current c) (with_outbound (peer c) s o) no_peer refl;
+      peers = length-set c.peers (current c) (with_outbound (peer c) s o);
+      outbounds = same_lengths c s o;
+      offered = same_of (λ (x : OutboundValue). x.queue.offered) c s o k.offered;
+    }
+
+settings-stepped : (c : ControlValue) (s : ℕ) (o : OutboundValue) → OutboundKeeps (outbound_of c (current c) s) o
+    → ((t k : ℕ) → k < length (peer_at c t).outbounds → HasSettings c (outbound_of c t k))
+    → (t k : ℕ) → k < length (peer_at (stepped c s o) t).outbounds → HasSettings (stepped c s o) (outbound_of (stepped c s o) t k)
+settings-stepped c s o keeps h t k there =
+    let was : HasSettings c (outbound_of c t k) = h t k (subst (λ (n : ℕ). k < n) (same_lengths c s o t) there) in
+    record {
+      setup = same_of (λ (x : OutboundValue). x.sender.setup) c s o keeps.setup t k ∙ was.setup;
+      format = same_of (λ (x : OutboundValue). x.queue.format) c s o keeps.format t k ∙ was.format;
+    }
+
+-- the outbound that was replaced is the new one
+outbound-stepped : (c : ControlValue) (s : ℕ) (o : OutboundValue) → current c < length c.peers → s < length (peer c).outbounds → outbound_of (stepped c s o) (current c) s ≡ o
+outbound-stepped c s o within there =
+    ap (λ (p : PeerValue). outbound_at p s) (get_or-set_same c.peers (current c) (with_outbound (peer c) s o) no_peer within) ∙ get_or-set_same (peer c).outbounds s o no_outbound there
+
+-- a fact about all phases but the one that is replaced holds of all phases once it holds of the new one
+phases-stepped : (P : ℕ → ℕ → Phase → Type 0) (c : ControlValue) (s : ℕ) (o : OutboundValue) → current c < length c.peers → s < length (peer c).outbounds
+    → P (current c) s o.sender.phase → ((t k : ℕ) → ((t ≡ current c) × (k ≡ s) → ⊥) → P t k (phase_of c t k))
+    → (t k : ℕ) → P t k (phase_of (stepped c s o) t k)
+phases-stepped P c s o within there new others t k =
+    holds_at (λ (j : ℕ) (p : PeerValue). (i : ℕ) → P j i (outbound_at p i).sender.phase) c.peers (current c) (with_outbound (peer c) s o) no_peer
+    (holds_at (λ (i : ℕ) (x : OutboundValue). P (current c) i x.sender.phase) (peer c).outbounds s o no_outbound new (λ le. absurd (omega (arith, le, there))) (λ i ne. others (current c) i (λ e. ne e.1)))
+    (λ le. absurd (omega (arith, le, within)))
+    (λ j ne i. others j i (λ e. ne e.0))
+    t k
+
+-- all senders but the one to a selection address of the present terminal are at rest
+pub record OthersRest (c : ControlValue) (s : ℕ) : Type 0 where
+  pub entries : HasEntries c
+  pub there : s < length (peer c).outbounds
+  pub rests : (t k : ℕ) → ((t ≡ current c) × (k ≡ s) → ⊥) → IsAtRest (phase_of c t k)
+  pub settings : (t k : ℕ) → k < length (peer_at c t).outbounds → HasSettings c (outbound_of c t k)
+
+current_within : (c : ControlValue) → HasEntries c → current c < length c.peers
+current_within c h = entry_within c c.place h h.place
+
+-- the sender has ended its bid
+pub calm-stepped : (c : ControlValue) (s : ℕ) (o : OutboundValue) → OthersRest c s → OutboundKeeps (outbound_of c (current c) s) o → IsAtRest o.sender.phase → IsCalm (stepped c s o)
+calm-stepped c s o h keeps rests =
+    record {
+      rests = phases-stepped (λ (t k : ℕ) (phase : Phase). IsAtRest phase) c s o (current_within c h.entries) h.there rests h.rests;
+      settings = settings-stepped c s o keeps h.settings;
+    }
+
+-- the sender goes on
+pub fares-goes_on : (c : ControlValue) (s : ℕ) (o : OutboundValue) → OthersRest c s → OutboundKeeps (outbound_of c (current c) s) o → IsGoing o.sender.phase → Fares c (record (stepped c s o) { task = Sending s })
+fares-goes_on c s o h keeps goes =
+    let within = current_within c h.entries in
+    let kept : Keeps c (stepped c s o) = keeps-stepped c s o keeps in
+    record {
+      keeps = record { setup = kept.setup; poll_list = kept.poll_list; terminals = kept.terminals; peers = kept.peers; outbounds = kept.outbounds; offered = kept.offered };
+      orderly =
+        record {
+          suits =
+            record {
+              there = subst (λ (n : ℕ). s < n) (sym (same_lengths c s o (current c))) h.there;
+              going = subst (λ (x : OutboundValue). IsGoing x.sender.phase) (sym (outbound-stepped c s o within h.there)) goes;
+            };
+          rests =
+            λ t k unused.
+              phases-stepped (λ (j i : ℕ) (phase : Phase). ((j ≡ current c) × (i ≡ s) → ⊥) → IsAtRest phase) c s o within h.there
+              (λ used. absurd (used (refl, refl)))
+              (λ j i other used. h.rests j i used)
+              t k (λ e. unused (e.0, ap Sending (sym e.1)));
+          settings =
+            λ t k there.
+              let was : HasSettings (stepped c s o) (outbound_of (stepped c s o) t k) = settings-stepped c s o keeps h.settings t k there in
+              record { setup = was.setup; format = was.format };
+        };
+      spools = same_spools c s o;
+    }
+
+pub fares_after : (a b c : ControlValue) → Keeps a b → ((t : ℕ) → (peer_at b t).spool ≡ (peer_at a t).spool) → Fares b c → Fares a c
+fares_after a b c k spools f =
+    let l : Keeps b c = f.keeps in
+    record {
+      keeps =
+        record {
+          setup = l.setup ∙ k.setup;
+          poll_list = l.poll_list ∙ k.poll_list;
+          terminals = l.terminals ∙ k.terminals;
+          peers = l.peers ∙ k.peers;
+          outbounds = λ t. l.outbounds t ∙ k.outbounds t;
+          offered = λ t s. l.offered t s ∙ k.offered t s;
+        };
+      orderly = f.orderly;
+      spools = λ t. f.spools t ∙ spools t;
+    }
+
+-- the sender acts, and after the bid the next call is made
+fares-performs : (c : ControlValue) (s : ℕ) (o : OutboundValue) (act : Act) (after : After) → OthersRest c s → OutboundKeeps (outbound_of c (current c) s) o → LeavesPhase act o.sender.phase
+    → (act ≡ a.Quiet → c.task ≡ Sending s) → Fares c (performs (stepped c s o) s act after).control
+fares-performs c s o (a.Send text) after h keeps phase quiet = fares-goes_on c s o h keeps phase
+fares-performs c s o a.Enq after h keeps phase quiet = fares-goes_on c s o h keeps phase
+fares-performs c s o a.Over after h keeps phase quiet =
+    fares_after c (stepped c s o) (performs (stepped c s o) s a.Over after).control (keeps-stepped c s o keeps) (same_spools c s o) (fares-calls_next (stepped c s o) after (calm-stepped c s o h keeps phase))
+fares-performs c s o a.Quiet after h keeps phase quiet =
+    subst (λ (task : Task). Fares c (record (stepped c s o) { task = task })) (sym (quiet refl)) (fares-goes_on c s o h keeps phase)
+
+pub outbound_keeps : (o : OutboundValue) (step : SenderStep) → StepKeeps o.sender o.queue step → OutboundKeeps o (outbound_after step)
+outbound_keeps o step k = record { setup = k.setup; format = k.format; offered = k.offered }
+
+pub fares-acted : (c : ControlValue) (s : ℕ) (step : SenderStep) (after : After) → OthersRest c s → StepKeeps (outbound_of c (current c) s).sender (outbound_of c (current c) s).queue step
+    → (step.act ≡ a.Quiet → c.task ≡ Sending s) → Fares c (acted c s step after).control
+fares-acted c s step after h keeps quiet = fares-performs c s (outbound_after step) step.act after h (outbound_keeps (outbound_of c (current c) s) step keeps) keeps.phase quiet

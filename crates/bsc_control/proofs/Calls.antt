@@ -1,0 +1,230 @@
+-- What a call keeps, and that it is the next one.
+use Rattle.std.proofs.Common.{◌≡◌, ◌≢◌, ℕ, zero, suc, ◌+◌, ◌≤◌, ◌<◌, Bool, true, false, not, nat_eq, List, length, drop, map, get_or, set, Option, option_map, None, Some, refl, sym, ◌∙◌, ap, subst, arith, length-drop, if◌then◌else◌}
+use Rattle.std.proofs.lemmas.List.{length-set, get_or-drop}
+use Rattle.std.proofs.lemmas.List.Quantifiers.{position-Some}
+use Rattle.std.proofs.lemmas.Bool.{eqb-false}
+use Rattle.std.proofs.lemmas.Option.{slice_get-get_or, slice_get-map}
+use Rattle.std.specs.List.{All, slice_get, position}
+use Rattle.bsc_frame.specs.declared.message.Message.{Message}
+use Rattle.bsc_frame.specs.declared.message.Message.TheVariants as m
+use Rattle.bsc_spool.specs.Queue.{waiting}
+use Rattle.bsc_spool.specs.Spool.{SpoolValue}
+use Rattle.bsc_text.specs.declared.phase.Phase.{Phase}
+use Rattle.bsc_text.specs.declared.phase.Phase.TheVariants.{Idle, Unanswered, Held, InDoubt}
+use Rattle.bsc_text.specs.Ready.{IsAtRest}
+use Rattle.bsc_text.specs.Receiver.{begun}
+use Rattle.bsc_text.specs.Sender.{is_in_doubt}
+use Rattle.bsc_text.specs.Terminal.{TerminalValue}
+use Rattle.bsc_control.specs.declared.task.Replied.TheVariants.{Nothing}
+use Rattle.bsc_control.specs.declared.task.Task.{Task}
+use Rattle.bsc_control.specs.declared.task.Task.TheVariants.{AtRest, Selecting, Sending, Polling}
+use Rattle.bsc_control.specs.declared.way.Way.{Way}
+use Rattle.bsc_control.specs.declared.way.Way.TheVariants.{FromTerminal, ToTerminal}
+use Rattle.bsc_control.specs.Addresses.{IsAddressOf, address_for}
+use Rattle.bsc_control.specs.CallOrder.{Call, After, Start, Selection, Interruption, Poll, way_at, way_from, next_place, next_call, first_call}
+use Rattle.bsc_control.specs.Control.{ControlValue, ControlStep, HasEntries, terminals, peer_at, peer, current, terminal_of_entry, with_peer}
+use Rattle.bsc_control.specs.Kept.{IsSelected, outbound_of, phase_of, IsInUse, HasSettings, IsOrderly, Keeps, IsCalled}
+use Rattle.bsc_control.specs.Peer.{OutboundValue, PeerValue, IsPeer, no_outbound, no_peer, outbound_at, is_selectable}
+use Rattle.bsc_control.specs.Table.{polls, selects, select_address, calls_by, calls, calls_next}
+use Rattle.bsc_control.proofs.PeerLists.{same_at, same_map, value_at}
+
+-- no bid goes on
+pub record IsCalm (c : ControlValue) : Type 0 where
+  pub rests : (t s : ℕ) → IsAtRest (phase_of c t s)
+  pub settings : (t s : ℕ) → s < length (peer_at c t).outbounds → HasSettings c (outbound_of c t s)
+
+-- what is kept by a step that leaves the spools alone
+pub record Fares (old new : ControlValue) : Type 0 where
+  pub keeps : Keeps old new
+  pub orderly : IsOrderly new
+  pub spools : (t : ℕ) → (peer_at new t).spool ≡ (peer_at old t).spool
+
+-- one terminal's part is replaced by one with the same addresses and outbounds, and the station's place, task
+-- and counters change
+abbrev pub moved : ControlValue → ℕ → PeerValue → ℕ → Task → ℕ → ℕ → ControlValue
+moved c t p place task tries waits = record (with_peer c t p) { place = place; task = task; tries = tries; waits = waits }
+
+pub record IsSamePeer (c : ControlValue) (t : ℕ) (p : PeerValue) : Type 0 where
+  pub terminal : p.terminal ≡ (peer_at c t).terminal
+  pub outbounds : p.outbounds ≡ (peer_at c t).outbounds
+
+pub same_outbounds : (c : ControlValue) (t : ℕ) (p : PeerValue) → IsSamePeer c t p → (j : ℕ) → (get_or (set c.peers t p) j no_peer).outbounds ≡ (peer_at c j).outbounds
+same_outbounds c t p same j = same_at (λ (x : PeerValue). x.outbounds) c.peers t j p no_peer same.outbounds
+
+pub keeps-moved : (c : ControlValue) (t : ℕ) (p : PeerValue) (place : ℕ) (task : Task) (tries waits : ℕ) → IsSamePeer c t p → Keeps c (moved c t p place task tries waits)
+keeps-moved c t p place task tries waits same =
+    record {
+      setup = refl;
+      poll_list = refl;
+      terminals = same_map (λ (x : PeerValue). x.terminal) c.peers t p no_peer same.terminal;
+      peers = length-set c.peers t p;
+      outbounds = λ j. ap length (same_outbounds c t p same j);
+      offered = λ j s. ap (λ (os : List OutboundValue). (get_or os s no_outbound).queue.offered) (same_outbounds c t p same j);
+    }
+
+pub rests-moved : (c : ControlValue) (t : ℕ) (p : PeerValue) → IsSamePeer c t p → (j s : ℕ) → IsAtRest (phase_of c j s) → IsAtRest (get_or (get_or (set c.peers t p) j no_peer).outbounds s no_outbound).sender.phase
+rests-moved c t p same j s h = subst (λ (os : List OutboundValue). IsAtRest (get_or os s no_outbound).sender.phase) (sym (same_outbounds c t p same j)) h
+
+pub settings-moved : (c : ControlValue) (t : ℕ) (p : PeerValue) (place : ℕ) (task : Task) (tries waits : ℕ) → IsSamePeer c t p
+    → ((j s : ℕ) → s < length (peer_at c j).outbounds → HasSettings c (outbound_of c j s))
+    → (j s : ℕ) → s < length (peer_at (moved c t p place task tries waits) j).outbounds → HasSettings (moved c t p place task tries waits) (outbound_of (moved c t p place task tries waits) j s)
+settings-moved c t p place task tries waits same h j s there =
+    let e = same_outbounds c t p same j in
+    let k : HasSettings c (outbound_of c j s) = h j s (subst (λ (os : List OutboundValue). s < length os) e there) in
+    record {
+      setup = ap (λ (os : List OutboundValue). (get_or os s no_outbound).sender.setup) e ∙ k.setup;
+      format = ap (λ (os : List OutboundValue). (get_or os s no_outbound).queue.format) e ∙ k.format;
+    }
+
+-- a polling address is called
+pub fares-polls : (c : ControlValue) (place tries : ℕ) → IsCalm c → Fares c (polls c place tries).control
+fares-polls c place tries calm =
+    let t : ℕ = terminal_of_entry c place in
+    let p : PeerValue = record (peer_at c t) { receiver = begun true } in
+    let same : IsSamePeer c t p = record { terminal = refl; outbounds = refl } in
+    record {
+      keeps = keeps-moved c t p place (Polling Nothing) tries 0 same;
+      orderly =
+        record {
+          suits = value_at (λ (x : PeerValue). x.receiver) c.peers t p no_peer refl;
+          rests = λ j s unused. rests-moved c t p same j s (calm.rests j s);
+          settings = settings-moved c t p place (Polling Nothing) tries 0 same calm.settings;
+        };
+      spools = λ j. same_at (λ (x : PeerValue). x.spool) c.peers t j p no_peer refl;
+    }
+
+-- IsSelected looks at the outbounds alone
+selected_in : (p q : PeerValue) (s : ℕ) → q.outbounds ≡ p.outbounds → IsSelected p s → IsSelected q s
+selected_in p q s e h =
+    record {
+      there = subst (λ (os : List OutboundValue). s < length os) (sym e) h.there;
+      idle = subst (λ (os : List OutboundValue). (get_or os s no_outbound).sender.phase ≡ Idle) (sym e) h.idle;
+      some = subst (λ (os : List OutboundValue). 1 ≤ length (waiting (get_or os s no_outbound).queue)) (sym e) h.some;
+    }
+
+-- a selection address is called for which records wait
+pub fares-selects : (c : ControlValue) (place s : ℕ) → IsCalm c → IsSelected (peer_at c (terminal_of_entry c place)) s → Fares c (selects c place s).control
+fares-selects c place s calm selected =
+    let t : ℕ = terminal_of_entry c place in
+    let p : PeerValue = record (peer_at c t) { urgent = false } in
+    let same : IsSamePeer c t p = record { terminal = refl; outbounds = refl } in
+    record {
+      keeps = keeps-moved c t p place (Selecting s false) 0 0 same;
+      orderly =
+        record {
+          suits = selected_in (peer_at c t) (get_or (set c.peers t p) t no_peer) s (same_outbounds c t p same t) selected;
+          rests = λ j k unused. rests-moved c t p same j k (calm.rests j k);
+          settings = settings-moved c t p place (Selecting s false) 0 0 same calm.settings;
+        };
+      spools = λ j. same_at (λ (x : PeerValue). x.spool) c.peers t j p no_peer refl;
+    }
+
+-- an address is selected only where records wait for it without doubt
+some_wait : (n : ℕ) → not (nat_eq n 0) ≡ true → 1 ≤ n
+some_wait zero h = absurd (cc)
+some_wait (suc n) h = omega arith
+
+idle_selectable : (o : OutboundValue) (phase : Phase) → IsAtRest phase → (if is_in_doubt phase then false else not (nat_eq (length (waiting o.queue)) 0)) ≡ true → (phase ≡ Idle) × (1 ≤ length (waiting o.queue))
+idle_selectable o Idle rests h = (refl, some_wait (length (waiting o.queue)) h)
+idle_selectable o (InDoubt count) rests h = absurd (cc)
+idle_selectable o (Unanswered b) rests h = absurd rests
+idle_selectable o (Held end parity) rests h = absurd rests
+
+selected_place : (p : PeerValue) (from i : ℕ) → ((s : ℕ) → IsAtRest (outbound_at p s).sender.phase) → position is_selectable (drop from p.outbounds) ≡ Some i → IsSelected p (from + i)
+selected_place p from i rests h =
+    let found = position-Some is_selectable (drop from p.outbounds) i no_outbound h in
+    let e : get_or (drop from p.outbounds) i no_outbound ≡ outbound_at p (from + i) = get_or-drop from p.outbounds i no_outbound in
+    let o : OutboundValue = outbound_at p (from + i) in
+    let w : is_selectable o ≡ true = subst (λ (x : OutboundValue). is_selectable x ≡ true) e found.1 in
+    let idle = idle_selectable o o.sender.phase (rests (from + i)) w in
+    record { there = omega (arith, found.0, length-drop from p.outbounds); idle = idle.0; some = idle.1 }
+
+selected_way : (p : PeerValue) (from s : ℕ) (found : Option ℕ) → ((s : ℕ) → IsAtRest (outbound_at p s).sender.phase) → position is_selectable (drop from p.outbounds) ≡ found → way_at from found ≡ ToTerminal s → IsSelected p s
+selected_way p from s None rests e h = absurd (cc)
+selected_way p from s (Some i) rests e h =
+    let at : from + i ≡ s = cc in
+    subst (λ (k : ℕ). IsSelected p k) at (selected_place p from i rests e)
+
+-- a call by a way that is the polling address or an address for which records wait
+fares-calls_by : (c : ControlValue) (place : ℕ) (way : Way) → IsCalm c → ((s : ℕ) → way ≡ ToTerminal s → IsSelected (peer_at c (terminal_of_entry c place)) s) → Fares c (calls_by c place way).control
+fares-calls_by c place FromTerminal calm selected = fares-polls c place 0 calm
+fares-calls_by c place (ToTerminal s) calm selected = fares-selects c place s calm (selected s refl)
+
+selected-from : (c : ControlValue) (t from : ℕ) → IsCalm c → (s : ℕ) → way_from (peer_at c t) from ≡ ToTerminal s → IsSelected (peer_at c t) s
+selected-from c t from calm s h = selected_way (peer_at c t) from s (position is_selectable (drop from (peer_at c t).outbounds)) (calm.rests t) refl h
+
+-- whatever it comes after, the way of the next call is the polling address or one for which records wait
+pub next-selected : (c : ControlValue) (after : After) → IsCalm c → (s : ℕ) → (next_call c after).way ≡ ToTerminal s → IsSelected (peer_at c (terminal_of_entry c (next_call c after).place)) s
+next-selected c Start calm s h = selected-from c (current c) 0 calm s h
+next-selected c (Selection k) calm s h = selected-from c (current c) (k + 1) calm s h
+next-selected c Interruption calm s h = absurd (cc)
+next-selected c (Poll true) calm s h = selected-from c (current c) 0 calm s h
+next-selected c (Poll false) calm s h = selected-from c (terminal_of_entry c (next_place c)) 0 calm s h
+
+pub fares-calls_next : (c : ControlValue) (after : After) → IsCalm c → Fares c (calls_next c after).control
+fares-calls_next c after calm = fares-calls_by c (next_call c after).place (next_call c after).way calm (next-selected c after calm)
+
+within_if : (b : Bool) (place n : ℕ) → place < n → nat_eq (place + 1) n ≡ b → (if b then 0 else place + 1) < n
+within_if true place n within e = omega arith
+within_if false place n within e = let ne : place + 1 ≢ n = eqb-false (place + 1) n e in omega arith
+
+-- the entry after the present one is an entry
+pub next_place_within : (c : ControlValue) → c.place < length c.poll_list → next_place c < length c.poll_list
+next_place_within c within = within_if (nat_eq (c.place + 1) (length c.poll_list)) c.place (length c.poll_list) within refl
+
+-- the place of the next call is an entry
+pub next_call_within : (c : ControlValue) (after : After) → c.place < length c.poll_list → (next_call c after).place < length c.poll_list
+next_call_within c Start within = within
+next_call_within c (Selection s) within = within
+next_call_within c Interruption within = within
+next_call_within c (Poll true) within = within
+next_call_within c (Poll false) within = next_place_within c within
+
+-- an entry names a terminal
+pub entry_within : (c : ControlValue) (place : ℕ) → HasEntries c → place < length c.poll_list → terminal_of_entry c place < length c.peers
+entry_within c place h within = h.entries place 0 within
+
+terminal_there : (c : ControlValue) (t : ℕ) → t < length c.peers → slice_get (terminals c) t ≡ Some (peer_at c t).terminal
+terminal_there c t within = slice_get-map (λ (x : PeerValue). x.terminal) c.peers t ∙ ap (option_map (λ (x : PeerValue). x.terminal)) (slice_get-get_or c.peers t no_peer within)
+
+selects_there : (t : TerminalValue) (s : ℕ) → s < length t.selects → slice_get t.selects s ≡ Some (select_address t s)
+selects_there t s within = slice_get-get_or t.selects s t.poll within
+
+-- a call calls the address that it names
+pub calls_it : (c : ControlValue) (place : ℕ) (way : Way) (address : List ℕ) → HasEntries c → place < length c.poll_list
+    → ((s : ℕ) → way ≡ ToTerminal s → IsSelected (peer_at c (terminal_of_entry c place)) s)
+    → (calls_by c place way).sent ≡ Some (m.Call address) → IsCalled (calls_by c place way).control (record { place = place; way = way }) address
+calls_it c place FromTerminal address entries within selected sent =
+    let t : ℕ = terminal_of_entry c place in
+    let p : PeerValue = record (peer_at c t) { receiver = begun true } in
+    record {
+      place = refl;
+      called =
+        record {
+          terminal = (peer_at c t).terminal;
+          there = rw (same_map (λ (x : PeerValue). x.terminal) c.peers t p no_peer refl) (terminal_there c t (entry_within c place entries within));
+          its_own = cc;
+        };
+      task = refl;
+      tries = refl;
+      waits = refl;
+    }
+calls_it c place (ToTerminal s) address entries within selected sent =
+    let t : ℕ = terminal_of_entry c place in
+    let p : PeerValue = record (peer_at c t) { urgent = false } in
+    let is : IsPeer (peer_at c t) = entries.peers t no_peer (entry_within c place entries within) in
+    let outbound : s < length (peer_at c t).outbounds = (selected s refl).there in
+    let select : s < length (peer_at c t).terminal.selects = subst (λ (n : ℕ). s < n) is.outbounds outbound in
+    let own : slice_get (peer_at c t).terminal.selects s ≡ Some (select_address (peer_at c t).terminal s) = selects_there (peer_at c t).terminal s select in
+    record {
+      place = refl;
+      called =
+        record {
+          terminal = (peer_at c t).terminal;
+          there = rw (same_map (λ (x : PeerValue). x.terminal) c.peers t p no_peer refl) (terminal_there c t (entry_within c place entries within));
+          its_own = cc;
+        };
+      task = refl;
+      tries = refl;
+      waits = refl;
+    }
