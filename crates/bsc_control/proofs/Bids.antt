@@ -1,6 +1,7 @@
 -- What a step of a sender keeps.
-use Rattle.std.proofs.Common.{◌≡◌, ◌≢◌, ℕ, ◌+◌, ◌≤◌, ◌<◌, List, length, drop, map, get_or, set, Option, None, Some, refl, sym, ◌∙◌, ap, subst, arith}
+use Rattle.std.proofs.Common.{◌≡◌, ◌⊎◌, inl, inr, ℕ, ◌+◌, ◌≤◌, ◌<◌, List, length, drop, map, get_or, set, Option, None, Some, refl, sym, ◌∙◌, ap, subst, arith}
 use Rattle.std.proofs.lemmas.List.{length-set, get_or-set_same, drop-set-lt}
+use Rattle.std.specs.List.{position}
 use Rattle.bsc_frame.specs.declared.message.Message.TheVariants as m
 use Rattle.bsc_spool.specs.Queue.{QueueValue}
 use Rattle.bsc_text.specs.declared.act.Act.{Act}
@@ -13,11 +14,11 @@ use Rattle.bsc_control.specs.declared.task.Task.{Task}
 use Rattle.bsc_control.specs.declared.task.Task.TheVariants.{AtRest, Selecting, Sending, Polling}
 use Rattle.bsc_control.specs.declared.way.Way.TheVariants.{FromTerminal, ToTerminal}
 use Rattle.bsc_control.specs.CallOrder.{Call, After, Start, Selection, Interruption, Poll, way_at, way_from, next_call}
-use Rattle.bsc_control.specs.Control.{ControlValue, ControlStep, HasEntries, terminals, peer_at, peer, current, with_current}
+use Rattle.bsc_control.specs.Control.{ControlValue, ControlStep, HasEntries, terminals, peer_at, peer, current, terminal_of_entry, with_current}
 use Rattle.bsc_control.specs.Kept.{IsInBid, outbound_of, phase_of, IsInUse, HasSettings, IsOrderly, Keeps, IsCalled}
 use Rattle.bsc_control.specs.Peer.{OutboundValue, PeerValue, no_outbound, no_peer, outbound_at, with_outbound, outbound_after, is_selectable}
-use Rattle.bsc_control.specs.Table.{performs, acted}
-use Rattle.bsc_control.proofs.Calls.{IsCalm, Fares, entry_within, fares-calls_next}
+use Rattle.bsc_control.specs.Table.{performs, acted, calls_next}
+use Rattle.bsc_control.proofs.Calls.{IsCalm, Fares, HasShape, shape, entry_within, fares-calls_next, next_is_called}
 use Rattle.bsc_control.proofs.PeerLists.{same_at, same_map, holds_at}
 use Rattle.bsc_control.proofs.SenderSteps.{LeavesPhase, StepKeeps}
 
@@ -158,3 +159,42 @@ outbound_keeps o step k = record { setup = k.setup; format = k.format; offered =
 pub fares-acted : (c : ControlValue) (s : ℕ) (step : SenderStep) (after : After) → OthersRest c s → StepKeeps (outbound_of c (current c) s).sender (outbound_of c (current c) s).queue step
     → (step.act ≡ a.Quiet → c.task ≡ Sending s) → Fares c (acted c s step after).control
 fares-acted c s step after h keeps quiet = fares-performs c s (outbound_after step) step.act after h (outbound_keeps (outbound_of c (current c) s) step keeps) keeps.phase quiet
+
+shape-stepped : (c : ControlValue) (s : ℕ) (o : OutboundValue) → HasShape c → HasShape (stepped c s o)
+shape-stepped c s o h =
+    let lengths : length (stepped c s o).peers ≡ length c.peers = length-set c.peers (current c) (with_outbound (peer c) s o) in
+    record {
+      place = h.place;
+      within = λ place within. subst (λ (n : ℕ). terminal_of_entry c place < n) (sym lengths) (h.within place within);
+      lengths =
+        λ t within.
+          same_lengths c s o t ∙ h.lengths t (subst (λ (n : ℕ). t < n) lengths within)
+          ∙ sym (same_at (λ (p : PeerValue). length p.terminal.selects) c.peers (current c) t (with_outbound (peer c) s o) no_peer refl);
+    }
+
+-- a bid to selection address s changes nothing of the addresses above it
+next-stepped : (c : ControlValue) (s : ℕ) (o : OutboundValue) (after : After) → (after ≡ Selection s) ⊎ (after ≡ Interruption) → next_call (stepped c s o) after ≡ next_call c after
+next-stepped c s o after (inl e) =
+    let above : drop (s + 1) (peer (stepped c s o)).outbounds ≡ drop (s + 1) (peer c).outbounds =
+        same_at (λ (p : PeerValue). drop (s + 1) p.outbounds) c.peers (current c) (current c) (with_outbound (peer c) s o) no_peer (drop-set-lt (s + 1) (peer c).outbounds s o (omega arith)) in
+    let same : next_call (stepped c s o) (Selection s) ≡ next_call c (Selection s) =
+        ap (λ (os : List OutboundValue). record { place = c.place; way = way_at (s + 1) (position is_selectable os) }) above in
+    subst (λ (x : After). next_call (stepped c s o) x ≡ next_call c x) (sym e) same
+next-stepped c s o after (inr e) = subst (λ (x : After). next_call (stepped c s o) x ≡ next_call c x) (sym e) refl
+
+-- a call after a bid is the next one
+calls-performs : (c : ControlValue) (s : ℕ) (o : OutboundValue) (act : Act) (after : After) (address : List ℕ) → OthersRest c s → OutboundKeeps (outbound_of c (current c) s) o → LeavesPhase act o.sender.phase
+    → (after ≡ Selection s) ⊎ (after ≡ Interruption)
+    → (performs (stepped c s o) s act after).sent ≡ Some (m.Call address) → IsCalled (performs (stepped c s o) s act after).control (next_call c after) address
+calls-performs c s o (a.Send text) after address h keeps phase which sent = absurd (cc)
+calls-performs c s o a.Enq after address h keeps phase which sent = absurd (cc)
+calls-performs c s o a.Over after address h keeps phase which sent =
+    subst (λ (call : Call). IsCalled (calls_next (stepped c s o) after).control call address) (next-stepped c s o after which)
+    (next_is_called (stepped c s o) after address (shape-stepped c s o (shape c h.entries)) (calm-stepped c s o h keeps phase) sent)
+calls-performs c s o a.Quiet after address h keeps phase which sent = absurd (cc)
+
+pub calls-acted : (c : ControlValue) (s : ℕ) (step : SenderStep) (after : After) (address : List ℕ) → OthersRest c s
+    → StepKeeps (outbound_of c (current c) s).sender (outbound_of c (current c) s).queue step → (after ≡ Selection s) ⊎ (after ≡ Interruption)
+    → (acted c s step after).sent ≡ Some (m.Call address) → IsCalled (acted c s step after).control (next_call c after) address
+calls-acted c s step after address h keeps which sent =
+    calls-performs c s (outbound_after step) step.act after address h (outbound_keeps (outbound_of c (current c) s) step keeps) keeps.phase which sent

@@ -184,17 +184,26 @@ next_call_within c (Poll false) within = next_place_within c within
 pub entry_within : (c : ControlValue) (place : ℕ) → HasEntries c → place < length c.poll_list → terminal_of_entry c place < length c.peers
 entry_within c place h within = h.entries place 0 within
 
-terminal_there : (c : ControlValue) (t : ℕ) → t < length c.peers → slice_get (terminals c) t ≡ Some (peer_at c t).terminal
+pub terminal_there : (c : ControlValue) (t : ℕ) → t < length c.peers → slice_get (terminals c) t ≡ Some (peer_at c t).terminal
 terminal_there c t within = slice_get-map (λ (x : PeerValue). x.terminal) c.peers t ∙ ap (option_map (λ (x : PeerValue). x.terminal)) (slice_get-get_or c.peers t no_peer within)
 
-selects_there : (t : TerminalValue) (s : ℕ) → s < length t.selects → slice_get t.selects s ≡ Some (select_address t s)
+pub selects_there : (t : TerminalValue) (s : ℕ) → s < length t.selects → slice_get t.selects s ≡ Some (select_address t s)
 selects_there t s within = slice_get-get_or t.selects s t.poll within
 
+-- each entry names a terminal, and each selection address of a terminal has its outbound
+pub record HasShape (c : ControlValue) : Type 0 where
+  pub place : c.place < length c.poll_list
+  pub within : (place : ℕ) → place < length c.poll_list → terminal_of_entry c place < length c.peers
+  pub lengths : (t : ℕ) → t < length c.peers → length (peer_at c t).outbounds ≡ length (peer_at c t).terminal.selects
+
+pub shape : (c : ControlValue) → HasEntries c → HasShape c
+shape c h = record { place = h.place; within = λ place within. entry_within c place h within; lengths = λ t within. (h.peers t no_peer within).outbounds }
+
 -- a call calls the address that it names
-pub calls_it : (c : ControlValue) (place : ℕ) (way : Way) (address : List ℕ) → HasEntries c → place < length c.poll_list
+pub calls_it : (c : ControlValue) (place : ℕ) (way : Way) (address : List ℕ) → HasShape c → place < length c.poll_list
     → ((s : ℕ) → way ≡ ToTerminal s → IsSelected (peer_at c (terminal_of_entry c place)) s)
     → (calls_by c place way).sent ≡ Some (m.Call address) → IsCalled (calls_by c place way).control (record { place = place; way = way }) address
-calls_it c place FromTerminal address entries within selected sent =
+calls_it c place FromTerminal address shaped within selected sent =
     let t : ℕ = terminal_of_entry c place in
     let p : PeerValue = record (peer_at c t) { receiver = begun true } in
     record {
@@ -202,29 +211,33 @@ calls_it c place FromTerminal address entries within selected sent =
       called =
         record {
           terminal = (peer_at c t).terminal;
-          there = rw (same_map (λ (x : PeerValue). x.terminal) c.peers t p no_peer refl) (terminal_there c t (entry_within c place entries within));
+          there = rw (same_map (λ (x : PeerValue). x.terminal) c.peers t p no_peer refl) (terminal_there c t (shaped.within place within));
           its_own = cc;
         };
       task = refl;
       tries = refl;
       waits = refl;
     }
-calls_it c place (ToTerminal s) address entries within selected sent =
+calls_it c place (ToTerminal s) address shaped within selected sent =
     let t : ℕ = terminal_of_entry c place in
     let p : PeerValue = record (peer_at c t) { urgent = false } in
-    let is : IsPeer (peer_at c t) = entries.peers t no_peer (entry_within c place entries within) in
     let outbound : s < length (peer_at c t).outbounds = (selected s refl).there in
-    let select : s < length (peer_at c t).terminal.selects = subst (λ (n : ℕ). s < n) is.outbounds outbound in
+    let select : s < length (peer_at c t).terminal.selects = subst (λ (n : ℕ). s < n) (shaped.lengths t (shaped.within place within)) outbound in
     let own : slice_get (peer_at c t).terminal.selects s ≡ Some (select_address (peer_at c t).terminal s) = selects_there (peer_at c t).terminal s select in
     record {
       place = refl;
       called =
         record {
           terminal = (peer_at c t).terminal;
-          there = rw (same_map (λ (x : PeerValue). x.terminal) c.peers t p no_peer refl) (terminal_there c t (entry_within c place entries within));
+          there = rw (same_map (λ (x : PeerValue). x.terminal) c.peers t p no_peer refl) (terminal_there c t (shaped.within place within));
           its_own = cc;
         };
       task = refl;
       tries = refl;
       waits = refl;
     }
+
+-- the next call calls the address that it names
+pub next_is_called : (c : ControlValue) (after : After) (address : List ℕ) → HasShape c → IsCalm c → (calls_next c after).sent ≡ Some (m.Call address) → IsCalled (calls_next c after).control (next_call c after) address
+next_is_called c after address shaped calm sent =
+    calls_it c (next_call c after).place (next_call c after).way address shaped (next_call_within c after shaped.place) (next-selected c after calm) sent

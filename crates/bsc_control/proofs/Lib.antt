@@ -3,3 +3,4 @@ pub mod PeerLists
 pub mod ReceiverSteps
 pub mod SenderSteps
 pub mod Bids
+pub mod Steps

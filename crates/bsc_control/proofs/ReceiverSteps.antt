@@ -1,5 +1,5 @@
 -- How the records of a spool grow when its receiver hears something.
-use Rattle.std.proofs.Common.{◌≡◌, ◌⊎◌, inl, inr, ℕ, Bool, true, false, List, ◌++◌, if◌then◌else◌, refl}
+use Rattle.std.proofs.Common.{◌≡◌, ◌⊎◌, inl, inr, ℕ, Bool, true, false, List, ◌++◌, Option, None, Some, if◌then◌else◌, refl}
 use Rattle.bsc_frame.specs.declared.message.Message.TheVariants as m
 use Rattle.bsc_frame.specs.declared.message.Heard.{Heard}
 use Rattle.bsc_frame.specs.declared.message.Heard.TheVariants.{Whole, Failed, Noise}
@@ -45,3 +45,27 @@ grows-heard_step r s (Whole m.Ack1) urgent rooms = inl refl
 grows-heard_step r s (Whole m.Nak) urgent rooms = inl refl
 grows-heard_step r s (Whole m.Wack) urgent rooms = inl refl
 grows-heard_step r s (Whole m.Rvi) urgent rooms = inl refl
+
+-- where nothing is replied the receiver stays as it is
+abbrev pub StaysSilent : ReceiverValue → ReceiverStep → Type 0
+StaysSilent r step = step.reply ≡ None → step.receiver ≡ r
+
+silent_if : (r : ReceiverValue) (b : Bool) (x y : ReceiverStep) → StaysSilent r x → StaysSilent r y → StaysSilent r (if b then x else y)
+silent_if r true x y p q = p
+silent_if r false x y p q = q
+
+pub silent-heard_step : (r : ReceiverValue) (s : SpoolValue) (h : Heard) (urgent : Bool) (rooms : Rooms) → StaysSilent r (heard_step r s h urgent rooms)
+silent-heard_step r s (Whole (m.Text t)) urgent rooms =
+    silent_if r rooms.first _ _
+    (silent_if r urgent _ _ (silent_if r (is_rvi r.last) _ _ (λ e. absurd (cc)) (λ e. absurd (cc))) (λ e. absurd (cc)))
+    (λ e. absurd (cc))
+silent-heard_step r s (Whole m.Enq) urgent rooms = silent_if r (is_wack r.last) _ _ (λ e. absurd (cc)) (λ e. absurd (cc))
+silent-heard_step r s Noise urgent rooms = λ e. refl
+silent-heard_step r s Failed urgent rooms = λ e. absurd (cc)
+silent-heard_step r s (Whole m.Eot) urgent rooms = λ e. refl
+silent-heard_step r s (Whole (m.Call x)) urgent rooms = λ e. refl
+silent-heard_step r s (Whole m.Ack0) urgent rooms = λ e. refl
+silent-heard_step r s (Whole m.Ack1) urgent rooms = λ e. refl
+silent-heard_step r s (Whole m.Nak) urgent rooms = λ e. refl
+silent-heard_step r s (Whole m.Wack) urgent rooms = λ e. refl
+silent-heard_step r s (Whole m.Rvi) urgent rooms = λ e. refl

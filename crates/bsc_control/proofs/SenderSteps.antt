@@ -39,6 +39,14 @@ keeps-sent_next : (s : SenderValue) (q : QueueValue) (parity : Parity) (next : O
 keeps-sent_next s q parity None = record { setup = refl; format = refl; offered = refl; phase = tt }
 keeps-sent_next s q parity (Some next) = record { setup = refl; format = refl; offered = refl; phase = tt }
 
+no_quiet-sent_next : (s : SenderValue) (q : QueueValue) (parity : Parity) (next : Option Next) → (sent_next s q parity next).act ≡ a.Quiet → ⊥
+no_quiet-sent_next s q parity None e = cc
+no_quiet-sent_next s q parity (Some next) e = cc
+
+-- a bid begins by a block
+pub no_quiet-begin_step : (s : SenderValue) (q : QueueValue) → (begin_step s q).act ≡ a.Quiet → ⊥
+no_quiet-begin_step s q = no_quiet-sent_next s q Odd (next_block q)
+
 pub keeps-begin_step : (s : SenderValue) (q : QueueValue) → StepKeeps s q (begin_step s q)
 keeps-begin_step s q = keeps-sent_next s q Odd (next_block q)
 
