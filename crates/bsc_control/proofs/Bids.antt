@@ -20,11 +20,12 @@ use Rattle.bsc_control.specs.Peer.{OutboundValue, PeerValue, no_outbound, no_pee
 use Rattle.bsc_control.specs.Table.{performs, acted, calls_next}
 use Rattle.bsc_control.proofs.Calls.{IsCalm, Fares, HasShape, shape, entry_within, fares-calls_next, next_is_called}
 use Rattle.bsc_control.proofs.PeerLists.{same_at, same_map, holds_at}
+use Rattle.bsc_control.proofs.Replacing.{replaced, same_of, same_lengths, settings-replaced}
 use Rattle.bsc_control.proofs.SenderSteps.{LeavesPhase, StepKeeps}
 
 -- the station once the sender to a selection address of the present terminal, and its queue, are these
 abbrev pub stepped : ControlValue → ℕ → OutboundValue → ControlValue
-stepped c s o = with_current c (with_outbound (peer c) s o)
+stepped c s o = replaced c (current c) s o
 
 -- the settings and the offered records stay
 pub record OutboundKeeps (old new : OutboundValue) : Type 0 where
@@ -32,13 +33,6 @@ pub record OutboundKeeps (old new : OutboundValue) : Type 0 where
   pub format : new.queue.format ≡ old.queue.format
   pub offered : new.queue.offered ≡ old.queue.offered
 
--- what is read of an outbound stays everywhere where it stays at the one that is replaced
-same_of : {B : Type 0} (f : OutboundValue → B) (c : ControlValue) (s : ℕ) (o : OutboundValue) → f o ≡ f (outbound_of c (current c) s) → (t k : ℕ) → f (outbound_of (stepped c s o) t k) ≡ f (outbound_of c t k)
-same_of f c s o same t k =
-    same_at (λ (p : PeerValue). f (outbound_at p k)) c.peers (current c) t (with_outbound (peer c) s o) no_peer (same_at f (peer c).outbounds s k o no_outbound same)
-
-same_lengths : (c : ControlValue) (s : ℕ) (o : OutboundValue) (t : ℕ) → length (peer_at (stepped c s o) t).outbounds ≡ length (peer_at c t).outbounds
-same_lengths c s o t = same_at (λ (p : PeerValue). length p.outbounds) c.peers (current c) t (with_outbound (peer c) s o) no_peer (length-set (peer c).outbounds s o)
 
 pub same_spools : (c : ControlValue) (s : ℕ) (o : OutboundValue) (t : ℕ) → (peer_at (stepped c s o) t).spool ≡ (peer_at c t).spool
 same_spools c s o t = same_at (λ (p : PeerValue). p.spool) c.peers (current c) t (with_outbound (peer c) s o) no_peer refl
@@ -50,19 +44,14 @@ keeps-stepped c s o k =
       poll_list = refl;
       terminals = same_map (λ (p : PeerValue). p.terminal) c.peers (current c) (with_outbound (peer c) s o) no_peer refl;
       peers = length-set c.peers (current c) (with_outbound (peer c) s o);
-      outbounds = same_lengths c s o;
-      offered = same_of (λ (x : OutboundValue). x.queue.offered) c s o k.offered;
+      outbounds = same_lengths c (current c) s o;
+      offered = same_of (λ (x : OutboundValue). x.queue.offered) c (current c) s o k.offered;
     }
 
 settings-stepped : (c : ControlValue) (s : ℕ) (o : OutboundValue) → OutboundKeeps (outbound_of c (current c) s) o
     → ((t k : ℕ) → k < length (peer_at c t).outbounds → HasSettings c (outbound_of c t k))
     → (t k : ℕ) → k < length (peer_at (stepped c s o) t).outbounds → HasSettings (stepped c s o) (outbound_of (stepped c s o) t k)
-settings-stepped c s o keeps h t k there =
-    let was : HasSettings c (outbound_of c t k) = h t k (subst (λ (n : ℕ). k < n) (same_lengths c s o t) there) in
-    record {
-      setup = same_of (λ (x : OutboundValue). x.sender.setup) c s o keeps.setup t k ∙ was.setup;
-      format = same_of (λ (x : OutboundValue). x.queue.format) c s o keeps.format t k ∙ was.format;
-    }
+settings-stepped c s o keeps h = settings-replaced c (current c) s o keeps.setup keeps.format h
 
 -- the outbound that was replaced is the new one
 outbound-stepped : (c : ControlValue) (s : ℕ) (o : OutboundValue) → current c < length c.peers → s < length (peer c).outbounds → outbound_of (stepped c s o) (current c) s ≡ o
@@ -109,7 +98,7 @@ fares-goes_on c s o h keeps goes =
         record {
           suits =
             record {
-              there = subst (λ (n : ℕ). s < n) (sym (same_lengths c s o (current c))) h.there;
+              there = subst (λ (n : ℕ). s < n) (sym (same_lengths c (current c) s o (current c))) h.there;
               going = subst (λ (x : OutboundValue). IsGoing x.sender.phase) (sym (outbound-stepped c s o within h.there)) goes;
             };
           rests =
@@ -168,7 +157,7 @@ shape-stepped c s o h =
       within = λ place within. subst (λ (n : ℕ). terminal_of_entry c place < n) (sym lengths) (h.within place within);
       lengths =
         λ t within.
-          same_lengths c s o t ∙ h.lengths t (subst (λ (n : ℕ). t < n) lengths within)
+          same_lengths c (current c) s o t ∙ h.lengths t (subst (λ (n : ℕ). t < n) lengths within)
           ∙ sym (same_at (λ (p : PeerValue). length p.terminal.selects) c.peers (current c) t (with_outbound (peer c) s o) no_peer refl);
     }
 

@@ -4,3 +4,5 @@ pub mod ReceiverSteps
 pub mod SenderSteps
 pub mod Bids
 pub mod Steps
+pub mod Replacing
+pub mod Controls

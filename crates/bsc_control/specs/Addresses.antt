@@ -5,11 +5,15 @@ use Rattle.bsc_text.specs.Terminal.{TerminalValue}
 use Rattle.bsc_control.specs.declared.way.Way.{Way}
 use Rattle.bsc_control.specs.declared.way.Way.TheVariants.{FromTerminal, ToTerminal}
 
+-- the addresses of a terminal: its polling address, then its selection addresses in order
+abbrev pub own_addresses : TerminalValue → List (List ℕ)
+own_addresses t = t.poll ∷ t.selects
+
 -- the addresses in the order of their numbers: terminal 0's polling address, its selection addresses in order,
 -- terminal 1's polling address, and so on
 abbrev pub addresses : List TerminalValue → List (List ℕ)
 addresses [] = []
-addresses (t ∷ ts) = (t.poll ∷ t.selects) ++ addresses ts
+addresses (t ∷ ts) = own_addresses t ++ addresses ts
 
 -- no two addresses are the same
 abbrev pub AreDistinct : List TerminalValue → Type 0
@@ -32,6 +36,9 @@ abbrev pub numbered_selects : ℕ → ℕ → List (List ℕ) → List (List ℕ
 numbered_selects t s [] = []
 numbered_selects t s (x ∷ xs) = (x, (t, ToTerminal s)) ∷ numbered_selects t (s + 1) xs
 
+abbrev pub owned : ℕ → TerminalValue → List (List ℕ × (ℕ × Way))
+owned t x = (x.poll, (t, FromTerminal)) ∷ numbered_selects t 0 x.selects
+
 abbrev pub numbered : ℕ → List TerminalValue → List (List ℕ × (ℕ × Way))
 numbered t [] = []
-numbered t (x ∷ xs) = ((x.poll, (t, FromTerminal)) ∷ numbered_selects t 0 x.selects) ++ numbered (t + 1) xs
+numbered t (x ∷ xs) = owned t x ++ numbered (t + 1) xs

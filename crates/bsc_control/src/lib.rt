@@ -6,6 +6,8 @@
 //! maker.
 #![tactic(auto)]
 
+mod control;
+mod directory;
 mod outbound;
 mod peer;
 mod procedure;
@@ -13,5 +15,6 @@ mod refusal;
 mod task;
 mod way;
 
+pub use control::Control;
 pub use refusal::SetupError;
 pub use way::Way;

@@ -68,6 +68,13 @@ impl<A: Allocator> Peer<A> {
         self.terminal
     }
 
+    /// How many selection addresses it has.
+    pub(crate) fn addresses(&self) -> usize
+        ensures { result ≡ length self.now.outbounds }
+    {
+        self.outbounds.len()
+    }
+
     /// The selection address of this number.
     pub(crate) fn select_address(&self, select: usize) -> Address
         requires { select < length self.now.outbounds }

@@ -1,6 +1,6 @@
 //! The line procedure of the control station: whom it calls next, and what it does with what it hears.
 
-ghost use Rattle.std.specs.Prelude.{if◌then◌else◌, ◌≡◌, ◌≤◌, ◌<◌, ◌+◌, [], length, true, false, Some, Option, None, slice_index, All};
+ghost use Rattle.std.specs.Prelude.{if◌then◌else◌, ◌≡◌, ◌≤◌, ◌<◌, ◌+◌, [], length, true, false, Some, Option, None, slice_index, OnOk, OnErr, IfErr};
 ghost use Rattle.bsc_spool.specs.Queue.{waiting};
 ghost use Rattle.bsc_text.specs.declared.phase.Phase.TheVariants.{Idle};
 ghost use Rattle.bsc_text.specs.Receiver.{heard_step};
@@ -15,8 +15,10 @@ ghost use Rattle.bsc_control.specs.Table.{polls, selects, calls_by, calls, calls
 use crate::peer::Peer;
 use crate::task::{Replied, Task};
 use crate::way::Way;
+use bsc_block::Record;
 use bsc_frame::{Heard, Message};
-use bsc_text::{Act, Reply, Setup};
+use bsc_spool::{Queue, Spool};
+use bsc_text::{Act, ReleaseError, Reply, Setup};
 use std::alloc::Allocator;
 use std::marker::Model;
 
@@ -306,5 +308,86 @@ impl<A: Allocator> Procedure<A> {
             Task::Sending { select } => self.send_on(select),
             Task::Polling { replied } => self.fail_poll(replied),
         }
+    }
+
+    /// How many terminals there are.
+    pub(crate) fn terminals(&self) -> usize
+        ensures { result ≡ length self.now.peers }
+    {
+        self.peers.len()
+    }
+
+    /// How many selection addresses a terminal has.
+    pub(crate) fn addresses(&self, terminal: usize) -> usize
+        requires { terminal < length self.now.peers }
+        ensures { result ≡ length (peer_at self.now terminal).outbounds }
+    {
+        let peer = &self.peers[terminal];
+        peer.addresses()
+    }
+
+    /// Adds a record for a selection address of a terminal. It comes back where memory is wanting.
+    pub(crate) fn offer(&mut self, terminal: usize, select: usize, record: Record) -> Result<(), Record>
+        requires terminal { terminal < length self.old.peers }
+        requires select { select < length (peer_at self.old terminal).outbounds }
+        requires short { length «record» ≤ (outbound_at (peer_at self.old terminal) select).queue.format.full }
+        ensures ok { OnOk result (self.new ≡ with_peer self.old terminal (offered_to (peer_at self.old terminal) select «record»)) }
+        ensures err { OnErr result (self.new ≡ self.old) }
+        ensures given_back { IfErr result (λ r. r ≡ «record») }
+        ensures entries { HasEntries self.new }
+    {
+        let peer = &mut self.peers[terminal];
+        peer.offer(select, record)
+    }
+
+    /// Sets the urgent flag of a terminal.
+    pub(crate) fn set_urgent(&mut self, terminal: usize)
+        requires { terminal < length self.old.peers }
+        ensures state { self.new ≡ with_peer self.old terminal (record (peer_at self.old terminal) { urgent = true }) }
+        ensures entries { HasEntries self.new }
+    {
+        let peer = &mut self.peers[terminal];
+        peer.set_urgent(true);
+    }
+
+    /// Whether it is not known if the last block for a selection address arrived.
+    pub(crate) fn in_doubt(&self, terminal: usize, select: usize) -> bool
+        requires terminal { terminal < length self.now.peers }
+        requires select { select < length (peer_at self.now terminal).outbounds }
+        ensures { result ≡ is_in_doubt (outbound_at (peer_at self.now terminal) select).sender.phase }
+    {
+        let peer = &self.peers[terminal];
+        peer.in_doubt(select)
+    }
+
+    /// Ends the doubt about a selection address.
+    pub(crate) fn release(&mut self, terminal: usize, select: usize, count: usize) -> Result<(), ReleaseError>
+        requires terminal { terminal < length self.old.peers }
+        requires select { select < length (peer_at self.old terminal).outbounds }
+        ensures state { self.new ≡ with_peer self.old terminal (with_outbound (peer_at self.old terminal) select (released (outbound_at (peer_at self.old terminal) select) count)) }
+        ensures answer { result ≡ (release_step (outbound_at (peer_at self.old terminal) select).sender (outbound_at (peer_at self.old terminal) select).queue count).answer }
+        ensures entries { HasEntries self.new }
+    {
+        let peer = &mut self.peers[terminal];
+        peer.release(select, count)
+    }
+
+    /// The records for a selection address.
+    pub(crate) fn queue(&self, terminal: usize, select: usize) -> &Queue<A>
+        requires terminal { terminal < length self.now.peers }
+        requires select { select < length (peer_at self.now terminal).outbounds }
+        ensures { result.now ≡ (outbound_at (peer_at self.now terminal) select).queue }
+    {
+        let peer = &self.peers[terminal];
+        peer.queue(select)
+    }
+
+    /// The records that arrived from a terminal.
+    pub(crate) fn spool(&self, terminal: usize) -> &Spool<A>
+        requires { terminal < length self.now.peers }
+        ensures { result.now ≡ (peer_at self.now terminal).spool }
+    {
+        let peer = &self.peers[terminal];
+        peer.spool()
     }
 }

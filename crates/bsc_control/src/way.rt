@@ -1,5 +1,8 @@
 //! Whether records go from a terminal or to it, and by which of its addresses.
 
+ghost use Rattle.std.specs.Prelude.{◌≡◌, ◌<◌, ℕ};
+ghost use Rattle.bsc_control.specs.Ways.{IsToTerminal, select_of};
+
 /// A way between the control station and a terminal: each of its addresses is one.
 #[derive(Clone, Copy, Debug, PartialEq, Eq)]
 pub enum Way {
@@ -8,4 +11,17 @@ pub enum Way {
 
     /// To the terminal, which is selected by its selection address of this number.
     ToTerminal(usize),
+}
+
+impl Way {
+    /// The number of the selection address. Condition: the way is to the terminal.
+    pub(crate) fn select(self) -> usize
+        requires { IsToTerminal self }
+        ensures { result ≡ select_of self }
+    {
+        match self {
+            Way::FromTerminal => 0,
+            Way::ToTerminal(select) => select,
+        }
+    }
 }

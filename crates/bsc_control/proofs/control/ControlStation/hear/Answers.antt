@@ -1,0 +1,19 @@
+use Rattle.std.proofs.Common.{◌≡◌, ◌↔◌, List, ℕ, refl}
+use Rattle.bsc_frame.specs.declared.message.Message.{Message}
+use Rattle.bsc_frame.specs.declared.message.Heard.{Heard}
+use Rattle.bsc_frame.specs.declared.message.Heard.TheVariants.{Whole, Failed, Noise}
+use Rattle.bsc_frame.specs.Spells.{Spells, IsFailed, IsNoise}
+use Rattle.bsc_text.specs.Station.{IsHeardAs}
+use Rattle.bsc_control.proofs.control.ControlStation.hear.Goals as goal
+
+-- what the decoder answers is what the octets are heard as
+heard_as : (octets : List ℕ) (h : Heard) → ((m : Message) → (h ≡ Whole m) ↔ Spells octets m) → ((h ≡ Failed) ↔ IsFailed octets) → ((h ≡ Noise) ↔ IsNoise octets) → IsHeardAs octets h
+heard_as octets (Whole m) whole failed noise = (whole m).0 refl
+heard_as octets Failed whole failed noise = failed.0 refl
+heard_as octets Noise whole failed noise = noise.0 refl
+
+pub returns-clause-row : goal.returns-clause-row
+returns-clause-row g c = (c.decode.result, (heard_as c.args.octets.now c.decode.result c.decode.ensures.whole c.decode.ensures.failed c.decode.ensures.noise, c.hear_message.ensures.row))
+
+pub returns-clause-after : goal.returns-clause-after
+returns-clause-after g c = (c.decode.result, (heard_as c.args.octets.now c.decode.result c.decode.ensures.whole c.decode.ensures.failed c.decode.ensures.noise, c.hear_message.ensures.after))

@@ -1,0 +1,51 @@
+-- Why a control station is not made (own).
+use Rattle.std.specs.Prelude.{◌≡◌, ◌≢◌, ◌⊎◌, ◌<◌, ◌≤◌, ℕ, List, [], ◌++◌, length, take, slice_get, slice_index}
+use Rattle.std.specs.List.{AllPairs, All}
+use Rattle.bsc_text.specs.Terminal.{TerminalValue}
+use Rattle.bsc_control.specs.declared.refusal.SetupError.{SetupError}
+use Rattle.bsc_control.specs.declared.refusal.SetupError.TheVariants.{NoTerminal, TooMany, SameAddress, EmptyPollList, PollList, Memory}
+use Rattle.bsc_control.specs.Addresses.{addresses, AreDistinct}
+
+-- j is the least place whose address came before, at i
+pub record IsFirstRepeat (xs : List (List ℕ)) (i j : ℕ) : Type 0 where
+  pub before : i < j
+  pub within : j < length xs
+  pub same : slice_get xs i ≡ slice_get xs j
+  pub first : AllPairs (λ a b. a ≢ b) (take j xs)
+
+-- memory was wanting, or behind the old addresses, which differ, one of more came before
+abbrev pub IsClash : List (List ℕ) → List (List ℕ) → SetupError → Type 0
+IsClash old more Memory = Unit {0}
+IsClash old more (SameAddress i j) = IsFirstRepeat (old ++ more) i j
+IsClash old more _ = ⊥
+
+-- an entry of a poll list of so many terminals is right at places below 255 alone
+abbrev pub IsRight : ℕ → List ℕ → ℕ → Type 0
+IsRight count poll_list place = (place < 255) × (slice_index poll_list place < count)
+
+-- 1 to 64 terminals
+pub record IsNumber (count : ℕ) : Type 0 where
+  pub some : 1 ≤ count
+  pub few : count ≤ 64
+
+-- the least place of the poll list that is 255 or more, or whose entry is no terminal
+pub record IsFirstWrong (count : ℕ) (poll_list : List ℕ) (place : ℕ) : Type 0 where
+  pub within : place < length poll_list
+  pub wrong : IsRight count poll_list place → ⊥
+  pub first : (k : ℕ) → k < place → IsRight count poll_list k
+
+-- what each refusal says; those before it, but for want of memory, don't hold
+abbrev pub IsRefused : List TerminalValue → List ℕ → SetupError → Type 0
+IsRefused terminals poll_list NoTerminal = length terminals ≡ 0
+IsRefused terminals poll_list TooMany = 64 < length terminals
+IsRefused terminals poll_list (SameAddress i j) = IsNumber (length terminals) × IsFirstRepeat (addresses terminals) i j
+IsRefused terminals poll_list EmptyPollList = IsNumber (length terminals) × AreDistinct terminals × (length poll_list ≡ 0)
+IsRefused terminals poll_list (PollList place) = IsNumber (length terminals) × AreDistinct terminals × IsFirstWrong (length terminals) poll_list place
+IsRefused terminals poll_list Memory = IsNumber (length terminals)
+
+-- there is nothing to refuse
+pub record IsAccepted (terminals : List TerminalValue) (poll_list : List ℕ) : Type 0 where
+  pub number : IsNumber (length terminals)
+  pub distinct : AreDistinct terminals
+  pub some : 1 ≤ length poll_list
+  pub right : (k : ℕ) → k < length poll_list → IsRight (length terminals) poll_list k

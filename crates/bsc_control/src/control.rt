@@ -1,0 +1,192 @@
+//! The control station.
+
+ghost use Rattle.std.specs.Prelude.{◌≡◌, ◌≤◌, ◌<◌, ◌++◌, ◌↔◌, ℕ, [], ◌∷◌, length, true, false, Some, Option, None, OnOk, OnErr, IfOk, IfErr};
+ghost use Rattle.bsc_frame.specs.declared.message.Message.{Message as MessageValue};
+ghost use Rattle.bsc_frame.specs.declared.message.Heard.{Heard as HeardValue};
+ghost use Rattle.bsc_text.specs.Sender.{is_in_doubt, release_step};
+ghost use Rattle.bsc_text.specs.Station.{IsSent, IsHeardAs};
+ghost use Rattle.bsc_control.specs.declared.way.Way.{Way as WayValue};
+ghost use Rattle.bsc_control.specs.Addresses.{IsAddressOf};
+ghost use Rattle.bsc_control.specs.Control.{ControlValue, terminals, peer_at, with_peer};
+ghost use Rattle.bsc_control.specs.Kept.{IsControl, AfterHearing, AfterSilence, outbound_of};
+ghost use Rattle.bsc_control.specs.Peer.{PeerValue, outbound_at, with_outbound, released, offered_to};
+ghost use Rattle.bsc_control.specs.Table.{Hears, IsSilent};
+ghost use Rattle.bsc_control.specs.Ways.{IsSelection, select_of};
+
+use crate::directory::Directory;
+use crate::procedure::Procedure;
+use crate::refusal::SetupError;
+use crate::way::Way;
+use bsc_block::Record;
+use bsc_frame::{Address, Heard, Wire, decode};
+use bsc_spool::{Queue, Spool};
+use bsc_text::{ReleaseError, Setup, Station, Terminal, transmit};
+use std::alloc::Allocator;
+use std::marker::Model;
+
+/// The control station of a line (GA27-3004, centralised multipoint operation).
+#[derive(Drop)]
+pub struct Control<A: Allocator> {
+    directory: Directory<A>,
+    procedure: Procedure<A>,
+}
+
+impl<A: Allocator> Model for Control<A> {
+    ghost use Rattle.std.specs.Prelude.{◌≡◌};
+    ghost use Rattle.bsc_control.specs.Addresses.{numbered};
+    ghost use Rattle.bsc_control.specs.Control.{ControlValue, terminals};
+    ghost use Rattle.bsc_control.specs.Kept.{IsControl};
+
+    ghost Value = { ControlValue };
+
+    ghost view = { λ c. c.procedure };
+
+    ghost invariant = { λ c. IsControl c.procedure × (c.directory ≡ numbered 0 (terminals c.procedure)) };
+}
+
+impl<A: Allocator> Control<A> {
+    /// How many terminals the line has: 1 to 64.
+    pub fn terminals(&self) -> usize
+        ensures value { result ≡ length self.now.peers }
+        ensures control { IsControl self.now }
+    {
+        self.procedure.terminals()
+    }
+
+    /// How many selection addresses a terminal has: 1 to 4. Condition: there is such a terminal.
+    pub fn addresses(&self, terminal: usize) -> usize
+        requires { terminal < length self.now.peers }
+        ensures value { result ≡ length (peer_at self.now terminal).outbounds }
+        ensures control { IsControl self.now }
+    {
+        self.procedure.addresses(terminal)
+    }
+
+    /// The terminal and the way whose address this is: a polling address is a way from its terminal. None
+    /// where it is nobody's. (GA27-3004, polling and selection addresses.)
+    pub fn find(&self, address: &Address) -> Option<(usize, Way)>
+        ensures exact { (t : ℕ) (way : WayValue) → (result ≡ Some (t, way)) ↔ IsAddressOf (terminals self.now) t way address.now }
+        ensures control { IsControl self.now }
+    {
+        self.directory.find(address)
+    }
+
+    /// Adds a record to those for a selection address of a terminal. It comes back where memory is wanting,
+    /// and then nothing changed. Condition: there is such an address, and the record is not longer than the
+    /// full length.
+    pub fn offer(&mut self, terminal: usize, select: usize, record: Record) -> Result<(), Record>
+        requires terminal { terminal < length self.old.peers }
+        requires select { select < length (peer_at self.old terminal).outbounds }
+        requires short { length «record» ≤ self.old.setup.format.full }
+        ensures ok { OnOk result (self.new ≡ with_peer self.old terminal (offered_to (peer_at self.old terminal) select «record»)) }
+        ensures err { OnErr result (self.new ≡ self.old) }
+        ensures given_back { IfErr result (λ r. r ≡ «record») }
+        ensures control { IsControl self.new }
+    {
+        self.procedure.offer(terminal, select, record)
+    }
+
+    /// Asks a terminal for the line: the next text of it that is taken is answered by RVI, unless it is
+    /// selected before. Condition: there is such a terminal. (GA27-3004, RVI; the flag is own.)
+    pub fn set_urgent(&mut self, terminal: usize)
+        requires { terminal < length self.old.peers }
+        ensures state { self.new ≡ with_peer self.old terminal (record (peer_at self.old terminal) { urgent = true }) }
+        ensures control { IsControl self.new }
+    {
+        self.procedure.set_urgent(terminal);
+    }
+
+    /// Whether it is not known if the last block for this address arrived. Condition: the way is to a
+    /// terminal, and there is such an address. (Own.)
+    pub fn in_doubt(&self, terminal: usize, way: Way) -> bool
+        requires terminal { terminal < length self.now.peers }
+        requires way { IsSelection way (length (peer_at self.now terminal).outbounds) }
+        ensures value { result ≡ is_in_doubt (outbound_of self.now terminal (select_of way)).sender.phase }
+        ensures control { IsControl self.now }
+    {
+        self.procedure.in_doubt(terminal, way.select())
+    }
+
+    /// Ends the doubt: the other end has `count` records. `NotInDoubt`, then `CountMismatch` where the
+    /// count is neither that of the known records nor that with the doubtful block; both change nothing.
+    /// Condition: the way is to a terminal, and there is such an address. (Own.)
+    pub fn release(&mut self, terminal: usize, way: Way, count: usize) -> Result<(), ReleaseError>
+        requires terminal { terminal < length self.old.peers }
+        requires way { IsSelection way (length (peer_at self.old terminal).outbounds) }
+        ensures state { self.new ≡ with_peer self.old terminal (with_outbound (peer_at self.old terminal) (select_of way) (released (outbound_of self.old terminal (select_of way)) count)) }
+        ensures answer { result ≡ (release_step (outbound_of self.old terminal (select_of way)).sender (outbound_of self.old terminal (select_of way)).queue count).answer }
+        ensures control { IsControl self.new }
+    {
+        self.procedure.release(terminal, way.select(), count)
+    }
+
+    /// The records for a selection address of a terminal, and how many of them are known to have arrived.
+    /// Condition: there is such an address.
+    pub fn queue(&self, terminal: usize, select: usize) -> &Queue<A>
+        requires terminal { terminal < length self.now.peers }
+        requires select { select < length (peer_at self.now terminal).outbounds }
+        ensures value { result.now ≡ (outbound_of self.now terminal select).queue }
+        ensures control { IsControl self.now }
+    {
+        self.procedure.queue(terminal, select)
+    }
+
+    /// The records that arrived from a terminal. Condition: there is such a terminal.
+    pub fn spool(&self, terminal: usize) -> &Spool<A>
+        requires { terminal < length self.now.peers }
+        ensures value { result.now ≡ (peer_at self.now terminal).spool }
+        ensures control { IsControl self.now }
+    {
+        self.procedure.spool(terminal)
+    }
+}
+
+impl<A: Allocator> Station for Control<A> {
+    ghost use Rattle.std.specs.Prelude.{false};
+    ghost use Rattle.bsc_control.specs.Table.{Hears, IsSilent};
+    ghost use Rattle.bsc_control.specs.Noise.{noise_changes_nothing};
+
+    ghost hears = { Hears };
+
+    ghost is_silent = { IsSilent };
+
+    ghost holds = { λ _. false };
+
+    /// Hears what octets were decoded as. True: the wire holds the one message to send. False: the wire is
+    /// empty. It may try to reserve memory; a refusal changes a reply alone.
+    fn hear_message(&mut self, heard: &Heard, wire: &mut Wire) -> bool
+        ensures row { (sent : Option MessageValue) × Hears self.old heard.now self.new sent × IsSent sent result wire.new.items }
+        ensures after { (sent : Option MessageValue) × AfterHearing self.old heard.now self.new sent × IsSent sent result wire.new.items }
+    {
+        transmit(self.procedure.hear(heard), wire)
+    }
+
+    /// Hears octets. True: the wire holds the one message to send. False: the wire is empty. It may try to
+    /// reserve memory; a refusal changes a reply alone.
+    fn hear(&mut self, octets: &[u8], wire: &mut Wire) -> bool
+        ensures row { (heard : HeardValue) × (IsHeardAs octets.now heard × ((sent : Option MessageValue) × Hears self.old heard self.new sent × IsSent sent result wire.new.items)) }
+        ensures after { (heard : HeardValue) × (IsHeardAs octets.now heard × ((sent : Option MessageValue) × AfterHearing self.old heard self.new sent × IsSent sent result wire.new.items)) }
+    {
+        self.hear_message(&decode(octets), wire)
+    }
+
+    /// Nothing was heard for the time of a time-out. True: the wire holds the one message to send. False:
+    /// the wire is empty.
+    fn silence(&mut self, wire: &mut Wire) -> bool
+        ensures row { (sent : Option MessageValue) × IsSilent self.old self.new sent × IsSent sent result wire.new.items }
+        ensures after { (sent : Option MessageValue) × AfterSilence self.old self.new sent × IsSent sent result wire.new.items }
+    {
+        transmit(self.procedure.act_on_silence(), wire)
+    }
+
+    /// Whether the control station acts on a silence before a terminal does: it doesn't.
+    fn holds_line(&self) -> bool
+        ensures holds { result ≡ false }
+        ensures control { IsControl self.now }
+    {
+        let _ = &self.procedure;
+        false
+    }
+
+    ghost ignores_noise = { noise_changes_nothing };
+}
