@@ -6,3 +6,5 @@ pub mod Bids
 pub mod Steps
 pub mod Replacing
 pub mod Controls
+pub mod Owners
+pub mod Repeats

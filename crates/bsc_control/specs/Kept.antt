@@ -12,6 +12,8 @@ use Rattle.bsc_text.specs.declared.phase.Phase.TheVariants.{Idle}
 use Rattle.bsc_text.specs.Ready.{IsGoing, IsAtRest}
 use Rattle.bsc_text.specs.Receiver.{begun}
 use Rattle.bsc_text.specs.Reply.{reply_heard}
+use Rattle.bsc_text.specs.Setup.{SetupValue}
+use Rattle.bsc_text.specs.Terminal.{TerminalValue}
 use Rattle.bsc_control.specs.declared.task.Replied.{Replied}
 use Rattle.bsc_control.specs.declared.task.Replied.TheVariants.{Nothing, WithoutRvi, WithRvi}
 use Rattle.bsc_control.specs.declared.task.Task.{Task}
@@ -20,7 +22,7 @@ use Rattle.bsc_control.specs.declared.way.Way.{Way}
 use Rattle.bsc_control.specs.declared.way.Way.TheVariants.{FromTerminal, ToTerminal}
 use Rattle.bsc_control.specs.Addresses.{IsAddressOf, AreDistinct}
 use Rattle.bsc_control.specs.CallOrder.{Call, After, Start, Selection, Interruption, Poll, next_call}
-use Rattle.bsc_control.specs.Peer.{OutboundValue, PeerValue, outbound_at}
+use Rattle.bsc_control.specs.Peer.{OutboundValue, PeerValue, IsNewPeer, outbound_at}
 use Rattle.bsc_control.specs.Control.{ControlValue, HasEntries, terminals, peer_at, peer, current}
 use Rattle.bsc_control.specs.Table.{after_bid, has_rvi}
 
@@ -75,6 +77,17 @@ pub record IsControl (c : ControlValue) : Type 0 where
   pub distinct : AreDistinct (terminals c)
   pub entries : HasEntries c
   pub orderly : IsOrderly c
+
+-- a new control station is at rest at the first entry, with nothing to send and nothing received
+pub record IsNewControl (setup : SetupValue) (ts : List TerminalValue) (poll_list : List ℕ) (c : ControlValue) : Type 0 where
+  pub setup_given : c.setup ≡ setup
+  pub poll_list_given : c.poll_list ≡ poll_list
+  pub terminals_given : terminals c ≡ ts
+  pub place : c.place ≡ 0
+  pub task : c.task ≡ AtRest
+  pub tries : c.tries ≡ 0
+  pub waits : c.waits ≡ 0
+  pub peers : All (λ (p : PeerValue). IsNewPeer setup p.terminal p) c.peers
 
 -- what stays: the settings, the poll list, the addresses, and the records that were offered
 pub record Keeps (old new : ControlValue) : Type 0 where

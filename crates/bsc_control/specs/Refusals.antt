@@ -23,6 +23,10 @@ IsClash old more _ = ⊥
 abbrev pub IsRight : ℕ → List ℕ → ℕ → Type 0
 IsRight count poll_list place = (place < 255) × (slice_index poll_list place < count)
 
+-- each entry of a poll list is right
+abbrev pub AreRight : ℕ → List ℕ → Type 0
+AreRight count poll_list = (k : ℕ) → k < length poll_list → IsRight count poll_list k
+
 -- 1 to 64 terminals
 pub record IsNumber (count : ℕ) : Type 0 where
   pub some : 1 ≤ count
@@ -48,4 +52,4 @@ pub record IsAccepted (terminals : List TerminalValue) (poll_list : List ℕ) : 
   pub number : IsNumber (length terminals)
   pub distinct : AreDistinct terminals
   pub some : 1 ≤ length poll_list
-  pub right : (k : ℕ) → k < length poll_list → IsRight (length terminals) poll_list k
+  pub right : AreRight (length terminals) poll_list

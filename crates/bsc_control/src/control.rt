@@ -8,14 +8,15 @@ ghost use Rattle.bsc_text.specs.Station.{IsSent, IsHeardAs};
 ghost use Rattle.bsc_control.specs.declared.way.Way.{Way as WayValue};
 ghost use Rattle.bsc_control.specs.Addresses.{IsAddressOf};
 ghost use Rattle.bsc_control.specs.Control.{ControlValue, terminals, peer_at, with_peer};
-ghost use Rattle.bsc_control.specs.Kept.{IsControl, AfterHearing, AfterSilence, outbound_of};
+ghost use Rattle.bsc_control.specs.Kept.{IsControl, IsNewControl, AfterHearing, AfterSilence, outbound_of};
+ghost use Rattle.bsc_control.specs.Refusals.{IsAccepted, IsRefused};
 ghost use Rattle.bsc_control.specs.Peer.{PeerValue, outbound_at, with_outbound, released, offered_to};
 ghost use Rattle.bsc_control.specs.Table.{Hears, IsSilent};
 ghost use Rattle.bsc_control.specs.Ways.{IsSelection, select_of};
 
 use crate::directory::Directory;
 use crate::procedure::Procedure;
-use crate::refusal::SetupError;
+use crate::refusal::{SetupError, wrong_entry};
 use crate::way::Way;
 use bsc_block::Record;
 use bsc_frame::{Address, Heard, Wire, decode};
@@ -23,6 +24,9 @@ use bsc_spool::{Queue, Spool};
 use bsc_text::{ReleaseError, Setup, Station, Terminal, transmit};
 use std::alloc::Allocator;
 use std::marker::Model;
+
+/// The most terminals of a line.
+const MAX_TERMINALS: usize = 64;
 
 /// The control station of a line (GA27-3004, centralised multipoint operation).
 #[derive(Drop)]
@@ -45,6 +49,44 @@ impl<A: Allocator> Model for Control<A> {
 }
 
 impl<A: Allocator> Control<A> {
+    /// A control station at rest: its first silence makes the first call. It has these settings, calls
+    /// these terminals (1 to 64, whose addresses differ), and goes through this poll list (1 to 255 entries,
+    /// each the number of a terminal). Refused, in this order: `NoTerminal`, `TooMany`, `SameAddress`,
+    /// `EmptyPollList`, `PollList`; `Memory` may come in place of any after `TooMany`. (GA27-3004, poll
+    /// list; the limits are own.)
+    pub fn new(
+        alloc: A,
+        setup: Setup,
+        terminals: &[Terminal],
+        poll_list: &[u8],
+    ) -> Result<Self, SetupError>
+    where
+        A: Copy,
+        ensures accepted { OnOk result (IsAccepted terminals.now poll_list.now) }
+        ensures refused { IfErr result (IsRefused terminals.now poll_list.now) }
+        ensures value { IfOk result (λ c. IsNewControl setup terminals.now poll_list.now c) }
+        ensures control { IfOk result IsControl }
+    {
+        if terminals.is_empty() {
+            return Err(SetupError::NoTerminal);
+        }
+        if terminals.len() > MAX_TERMINALS {
+            return Err(SetupError::TooMany);
+        }
+        let directory = Directory::new(alloc, terminals)?;
+        if poll_list.is_empty() {
+            return Err(SetupError::EmptyPollList);
+        }
+        if let Some(place) = wrong_entry(poll_list, terminals.len()) {
+            return Err(SetupError::PollList(place));
+        }
+        let procedure = Procedure::new(alloc, setup, terminals, poll_list)?;
+        Ok(Control {
+            directory,
+            procedure,
+        })
+    }
+
     /// How many terminals the line has: 1 to 64.
     pub fn terminals(&self) -> usize
         ensures value { result ≡ length self.now.peers }

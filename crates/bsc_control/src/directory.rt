@@ -23,12 +23,16 @@ pub(crate) struct Directory<A: Allocator> {
 }
 
 impl<A: Allocator> Model for Directory<A> {
-    ghost use Rattle.std.specs.Prelude.{ℕ, List};
+    ghost use Rattle.std.specs.Prelude.{ℕ, List, ◌==◌};
+    ghost use Rattle.indexmap.specs.IndexMap.{IsUnique};
+    ghost use lib.Pointwise.{pointwise};
     ghost use Rattle.bsc_control.specs.declared.way.Way.{Way as WayValue};
 
     ghost Value = { List (List ℕ × (ℕ × WayValue)) };
 
     ghost view = { λ d. d.owners.entries };
+
+    ghost invariant = { λ d. IsUnique (pointwise ◌==◌) d.owners };
 }
 
 impl<A: Allocator> Directory<A> {
@@ -47,6 +51,7 @@ impl<A: Allocator> Directory<A> {
         for (number, terminal) in terminals.iter().enumerate() {
             directory.enter_all(number, terminal)?;
         }
+        let _ = &directory.owners;
         Ok(directory)
     }
 

@@ -1,6 +1,6 @@
 //! The line procedure of the control station: whom it calls next, and what it does with what it hears.
 
-ghost use Rattle.std.specs.Prelude.{if◌then◌else◌, ◌≡◌, ◌≤◌, ◌<◌, ◌+◌, [], length, true, false, Some, Option, None, slice_index, OnOk, OnErr, IfErr};
+ghost use Rattle.std.specs.Prelude.{if◌then◌else◌, ◌≡◌, ◌≤◌, ◌<◌, ◌+◌, [], length, true, false, Some, Option, None, slice_index, OnOk, OnErr, IfOk, IfErr, All};
 ghost use Rattle.bsc_spool.specs.Queue.{waiting};
 ghost use Rattle.bsc_text.specs.declared.phase.Phase.TheVariants.{Idle};
 ghost use Rattle.bsc_text.specs.Receiver.{heard_step};
@@ -8,7 +8,7 @@ ghost use Rattle.bsc_text.specs.Reply.{reply_heard};
 ghost use Rattle.bsc_text.specs.Sender.{begin_step, reply_step, silence_step, is_in_doubt, release_step};
 ghost use Rattle.bsc_control.specs.CallOrder.{After, Start, Selection, Interruption, Poll, way_from};
 ghost use Rattle.bsc_control.specs.Control.{ControlValue, HasEntries, peer, peer_at, with_peer, with_current, current};
-ghost use Rattle.bsc_control.specs.Kept.{IsSelected, SuitsTask};
+ghost use Rattle.bsc_control.specs.Kept.{IsSelected, SuitsTask, IsNewControl};
 ghost use Rattle.bsc_control.specs.Peer.{PeerValue, IsPeer, outbound_at, with_outbound, released, offered_to};
 ghost use Rattle.bsc_control.specs.Table.{polls, selects, calls_by, calls, calls_next, performs, acted, after_bid, selecting_step, receives, polling_step, task_step, hear_step, repeated, silence_in, silent_step, rooms_after, Hears, IsSilent, has_rvi, IsReceived};
 
@@ -18,8 +18,8 @@ use crate::way::Way;
 use bsc_block::Record;
 use bsc_frame::{Heard, Message};
 use bsc_spool::{Queue, Spool};
-use bsc_text::{Act, ReleaseError, Reply, Setup};
-use std::alloc::Allocator;
+use bsc_text::{Act, ReleaseError, Reply, Setup, Terminal};
+use std::alloc::{AllocError, Allocator};
 use std::marker::Model;
 
 /// The procedure of a control station: its settings, its poll list, where it stands in it, and what it keeps
@@ -46,6 +46,35 @@ impl<A: Allocator> Model for Procedure<A> {
 }
 
 impl<A: Allocator> Procedure<A> {
+    /// At rest at the first entry, with nothing to send and nothing received. The error is want of memory.
+    pub(crate) fn new(
+        alloc: A,
+        setup: Setup,
+        terminals: &[Terminal],
+        poll_list: &[u8],
+    ) -> Result<Self, AllocError>
+    where
+        A: Copy,
+        requires some { 0 < length poll_list.now }
+        requires entries { All (λ t. t < length terminals.now) poll_list.now }
+        ensures value { IfOk result (λ c. IsNewControl setup terminals.now poll_list.now c) }
+        ensures entries { IfOk result HasEntries }
+    {
+        let mut peers = Vec::with_capacity(alloc, terminals.len())?;
+        for terminal in terminals {
+            peers.push(Peer::new(alloc, setup, *terminal)?)?;
+        }
+        Ok(Procedure {
+            setup,
+            poll_list: Vec::from_slice(alloc, poll_list)?,
+            place: 0,
+            task: Task::AtRest,
+            tries: 0,
+            waits: 0,
+            peers,
+        })
+    }
+
     /// Calls the polling address of an entry, after so many failures.
     fn poll(&mut self, place: usize, tries: u8) -> Option<Message>
         requires { place < length self.old.poll_list }

@@ -1,5 +1,8 @@
 //! Why a control station is not made.
 
+ghost use Rattle.std.specs.Prelude.{◌≡◌, None, IfSome};
+ghost use Rattle.bsc_control.specs.Refusals.{AreRight, IsFirstWrong};
+
 use std::alloc::{AllocError, AllocFailed};
 use thiserror::Error;
 
@@ -52,4 +55,20 @@ impl<T: Drop> From<AllocFailed<T>> for SetupError {
     fn from(_error: AllocFailed<T>) -> SetupError {
         SetupError::Memory
     }
+}
+
+/// The most entries of a poll list.
+const MAX_ENTRIES: usize = 255;
+
+/// The least place of the poll list that is 255 or more, or whose entry is none of so many terminals.
+pub(crate) fn wrong_entry(poll_list: &[u8], terminals: usize) -> Option<usize>
+    ensures right { result ≡ None → AreRight terminals poll_list.now }
+    ensures wrong { IfSome result (IsFirstWrong terminals poll_list.now) }
+{
+    for (place, entry) in poll_list.iter().enumerate() {
+        if place >= MAX_ENTRIES || usize::from(*entry) >= terminals {
+            return Some(place);
+        }
+    }
+    None
 }

@@ -1,17 +1,13 @@
-use Rattle.std.proofs.Common.{◌≡◌, ◌<◌, length, sym, ◌∙◌, ap}
+use Rattle.std.proofs.Common.{sym, ◌∙◌, ap}
 use Rattle.bsc_control.specs.Addresses.{numbered}
-use Rattle.bsc_control.specs.Control.{peer_at, with_peer}
-use Rattle.bsc_control.specs.Peer.{released, with_outbound}
-use Rattle.bsc_control.specs.Kept.{outbound_of}
-use Rattle.bsc_control.specs.Ways.{select_of}
 use Rattle.bsc_control.proofs.Controls.{StaysControl, stays-release, selection_there}
 use Rattle.bsc_control.proofs.control.Control.release.Given as given
 use Rattle.bsc_control.proofs.control.Control.release.Goals as goal
 
 stays : (g : given.Over) (c : goal.After-release g) → StaysControl c.self.inside.procedure c.release.new.self
 stays g c =
-    stays-release c.self.inside.procedure c.release.new.self c.args.terminal (select_of c.args.way) c.args.count c.self.invariant.0
-    (rw c.self.view_is c.requires.terminal) (rw c.self.view_is (selection_there c.args.way _ c.requires.way)) (rw c.select.ensures at c.release.ensures.state) c.release.ensures.entries
+    stays-release c.self.inside.procedure c.release.new.self c.args.terminal c.select.result c.args.count c.self.invariant.0
+    (rw c.self.view_is c.requires.terminal) (rw (c.select.ensures, c.self.view_is) (selection_there c.args.way _ c.requires.way)) c.release.ensures.state c.release.ensures.entries
 
 pub invariant_of-self : goal.invariant_of-self
 invariant_of-self g c = ((stays g c).control, c.self.invariant.1 ∙ ap (numbered 0) (sym (stays g c).same))
