@@ -8,3 +8,4 @@ pub mod Replacing
 pub mod Controls
 pub mod Owners
 pub mod Repeats
+pub mod NewControls

@@ -62,7 +62,8 @@ impl<A: Allocator> Procedure<A> {
     {
         let mut peers = Vec::with_capacity(alloc, terminals.len())?;
         for terminal in terminals {
-            peers.push(Peer::new(alloc, setup, *terminal)?)?;
+            let peer = Peer::new(alloc, setup, *terminal)?;
+            peers.push(peer)?;
         }
         Ok(Procedure {
             setup,
