@@ -33,7 +33,6 @@ pub record OutboundKeeps (old new : OutboundValue) : Type 0 where
   pub format : new.queue.format ≡ old.queue.format
   pub offered : new.queue.offered ≡ old.queue.offered
 
-
 pub same_spools : (c : ControlValue) (s : ℕ) (o : OutboundValue) (t : ℕ) → (peer_at (stepped c s o) t).spool ≡ (peer_at c t).spool
 same_spools c s o t = same_at (λ (p : PeerValue). p.spool) c.peers (current c) t (with_outbound (peer c) s o) no_peer refl
 
@@ -95,23 +94,23 @@ fares-goes_on c s o h keeps goes =
     record {
       keeps = record { setup = kept.setup; poll_list = kept.poll_list; terminals = kept.terminals; peers = kept.peers; outbounds = kept.outbounds; offered = kept.offered };
       orderly =
-        record {
-          suits =
-            record {
-              there = subst (λ (n : ℕ). s < n) (sym (same_lengths c (current c) s o (current c))) h.there;
-              going = subst (λ (x : OutboundValue). IsGoing x.sender.phase) (sym (outbound-stepped c s o within h.there)) goes;
-            };
-          rests =
-            λ t k unused.
-              phases-stepped (λ (j i : ℕ) (phase : Phase). ((j ≡ current c) × (i ≡ s) → ⊥) → IsAtRest phase) c s o within h.there
-              (λ used. absurd (used (refl, refl)))
-              (λ j i other used. h.rests j i used)
-              t k (λ e. unused (e.0, ap Sending (sym e.1)));
-          settings =
-            λ t k there.
-              let was : HasSettings (stepped c s o) (outbound_of (stepped c s o) t k) = settings-stepped c s o keeps h.settings t k there in
-              record { setup = was.setup; format = was.format };
-        };
+          record {
+            suits =
+                record {
+                  there = subst (λ (n : ℕ). s < n) (sym (same_lengths c (current c) s o (current c))) h.there;
+                  going = subst (λ (x : OutboundValue). IsGoing x.sender.phase) (sym (outbound-stepped c s o within h.there)) goes;
+                };
+            rests =
+                λ t k unused.
+                phases-stepped (λ (j i : ℕ) (phase : Phase). ((j ≡ current c) × (i ≡ s) → ⊥) → IsAtRest phase) c s o within h.there
+                (λ used. absurd (used (refl, refl)))
+                (λ j i other used. h.rests j i used)
+                t k (λ e. unused (e.0, ap Sending (sym e.1)));
+            settings =
+                λ t k there.
+                let was : HasSettings (stepped c s o) (outbound_of (stepped c s o) t k) = settings-stepped c s o keeps h.settings t k there in
+                record { setup = was.setup; format = was.format };
+          };
       spools = same_spools c s o;
     }
 
@@ -120,14 +119,14 @@ fares_after a b c k spools f =
     let l : Keeps b c = f.keeps in
     record {
       keeps =
-        record {
-          setup = l.setup ∙ k.setup;
-          poll_list = l.poll_list ∙ k.poll_list;
-          terminals = l.terminals ∙ k.terminals;
-          peers = l.peers ∙ k.peers;
-          outbounds = λ t. l.outbounds t ∙ k.outbounds t;
-          offered = λ t s. l.offered t s ∙ k.offered t s;
-        };
+          record {
+            setup = l.setup ∙ k.setup;
+            poll_list = l.poll_list ∙ k.poll_list;
+            terminals = l.terminals ∙ k.terminals;
+            peers = l.peers ∙ k.peers;
+            outbounds = λ t. l.outbounds t ∙ k.outbounds t;
+            offered = λ t s. l.offered t s ∙ k.offered t s;
+          };
       orderly = f.orderly;
       spools = λ t. f.spools t ∙ spools t;
     }
@@ -156,7 +155,7 @@ shape-stepped c s o h =
       place = h.place;
       within = λ place within. subst (λ (n : ℕ). terminal_of_entry c place < n) (sym lengths) (h.within place within);
       lengths =
-        λ t within.
+          λ t within.
           same_lengths c (current c) s o t ∙ h.lengths t (subst (λ (n : ℕ). t < n) lengths within)
           ∙ sym (same_at (λ (p : PeerValue). length p.terminal.selects) c.peers (current c) t (with_outbound (peer c) s o) no_peer refl);
     }
@@ -165,9 +164,9 @@ shape-stepped c s o h =
 next-stepped : (c : ControlValue) (s : ℕ) (o : OutboundValue) (after : After) → (after ≡ Selection s) ⊎ (after ≡ Interruption) → next_call (stepped c s o) after ≡ next_call c after
 next-stepped c s o after (inl e) =
     let above : drop (s + 1) (peer (stepped c s o)).outbounds ≡ drop (s + 1) (peer c).outbounds =
-        same_at (λ (p : PeerValue). drop (s + 1) p.outbounds) c.peers (current c) (current c) (with_outbound (peer c) s o) no_peer (drop-set-lt (s + 1) (peer c).outbounds s o (omega arith)) in
+    same_at (λ (p : PeerValue). drop (s + 1) p.outbounds) c.peers (current c) (current c) (with_outbound (peer c) s o) no_peer (drop-set-lt (s + 1) (peer c).outbounds s o (omega arith)) in
     let same : next_call (stepped c s o) (Selection s) ≡ next_call c (Selection s) =
-        ap (λ (os : List OutboundValue). record { place = c.place; way = way_at (s + 1) (position is_selectable os) }) above in
+    ap (λ (os : List OutboundValue). record { place = c.place; way = way_at (s + 1) (position is_selectable os) }) above in
     subst (λ (x : After). next_call (stepped c s o) x ≡ next_call c x) (sym e) same
 next-stepped c s o after (inr e) = subst (λ (x : After). next_call (stepped c s o) x ≡ next_call c x) (sym e) refl
 

@@ -85,11 +85,11 @@ fares-polls c place tries calm =
     record {
       keeps = keeps-moved c t p place (Polling Nothing) tries 0 same;
       orderly =
-        record {
-          suits = value_at (λ (x : PeerValue). x.receiver) c.peers t p no_peer refl;
-          rests = λ j s unused. rests-moved c t p same j s (calm.rests j s);
-          settings = settings-moved c t p place (Polling Nothing) tries 0 same calm.settings;
-        };
+          record {
+            suits = value_at (λ (x : PeerValue). x.receiver) c.peers t p no_peer refl;
+            rests = λ j s unused. rests-moved c t p same j s (calm.rests j s);
+            settings = settings-moved c t p place (Polling Nothing) tries 0 same calm.settings;
+          };
       spools = λ j. same_at (λ (x : PeerValue). x.spool) c.peers t j p no_peer refl;
     }
 
@@ -111,11 +111,11 @@ fares-selects c place s calm selected =
     record {
       keeps = keeps-moved c t p place (Selecting s false) 0 0 same;
       orderly =
-        record {
-          suits = selected_in (peer_at c t) (get_or (set c.peers t p) t no_peer) s (same_outbounds c t p same t) selected;
-          rests = λ j k unused. rests-moved c t p same j k (calm.rests j k);
-          settings = settings-moved c t p place (Selecting s false) 0 0 same calm.settings;
-        };
+          record {
+            suits = selected_in (peer_at c t) (get_or (set c.peers t p) t no_peer) s (same_outbounds c t p same t) selected;
+            rests = λ j k unused. rests-moved c t p same j k (calm.rests j k);
+            settings = settings-moved c t p place (Selecting s false) 0 0 same calm.settings;
+          };
       spools = λ j. same_at (λ (x : PeerValue). x.spool) c.peers t j p no_peer refl;
     }
 
@@ -209,11 +209,11 @@ calls_it c place FromTerminal address shaped within selected sent =
     record {
       place = refl;
       called =
-        record {
-          terminal = (peer_at c t).terminal;
-          there = rw (same_map (λ (x : PeerValue). x.terminal) c.peers t p no_peer refl) (terminal_there c t (shaped.within place within));
-          its_own = cc;
-        };
+          record {
+            terminal = (peer_at c t).terminal;
+            there = rw (same_map (λ (x : PeerValue). x.terminal) c.peers t p no_peer refl) (terminal_there c t (shaped.within place within));
+            its_own = cc;
+          };
       task = refl;
       tries = refl;
       waits = refl;
@@ -227,11 +227,11 @@ calls_it c place (ToTerminal s) address shaped within selected sent =
     record {
       place = refl;
       called =
-        record {
-          terminal = (peer_at c t).terminal;
-          there = rw (same_map (λ (x : PeerValue). x.terminal) c.peers t p no_peer refl) (terminal_there c t (shaped.within place within));
-          its_own = cc;
-        };
+          record {
+            terminal = (peer_at c t).terminal;
+            there = rw (same_map (λ (x : PeerValue). x.terminal) c.peers t p no_peer refl) (terminal_there c t (shaped.within place within));
+            its_own = cc;
+          };
       task = refl;
       tries = refl;
       waits = refl;

@@ -119,12 +119,12 @@ release-in o (InDoubt k) count e =
       setup = refl;
       format = refl;
       follows =
-        record {
-          rests = λ x. tt;
-          goes = λ x. absurd (subst IsGoing e x);
-          idle = λ x. refl;
-          some = λ idle x. absurd (cc);
-        };
+          record {
+            rests = λ x. tt;
+            goes = λ x. absurd (subst IsGoing e x);
+            idle = λ x. refl;
+            some = λ idle x. absurd (cc);
+          };
     })
     (unreleased o)
 

@@ -32,11 +32,11 @@ holds_of_new : (P : OutboundValue → Type 0) (setup : SetupValue) (c : ControlV
 holds_of_new P setup c all new t =
     holds_or (λ (p : PeerValue). (s : ℕ) → s < length p.outbounds → P (outbound_at p s)) c.peers no_peer
     (λ i e within s there.
-       let p : PeerValue = get_or c.peers i e in
-       let os : List OutboundValue = replicate (length p.terminal.selects) (new_outbound setup) in
-       let is : p.outbounds ≡ os = (all i e within).outbounds in
-       subst (λ (xs : List OutboundValue). P (get_or xs s no_outbound)) (sym is)
-       (holds_of_copies P (length p.terminal.selects) (new_outbound setup) no_outbound new s (subst (λ (xs : List OutboundValue). s < length xs) is there)))
+    let p : PeerValue = get_or c.peers i e in
+    let os : List OutboundValue = replicate (length p.terminal.selects) (new_outbound setup) in
+    let is : p.outbounds ≡ os = (all i e within).outbounds in
+    subst (λ (xs : List OutboundValue). P (get_or xs s no_outbound)) (sym is)
+    (holds_of_copies P (length p.terminal.selects) (new_outbound setup) no_outbound new s (subst (λ (xs : List OutboundValue). s < length xs) is there)))
     (λ s there. absurd (omega (arith, there)))
     t
 
@@ -60,9 +60,9 @@ new_control setup ts list c number distinct right entries new =
       distinct = subst AreDistinct (sym new.terminals_given) distinct;
       entries = entries;
       orderly =
-        record {
-          suits = subst (λ (task : Task). SuitsTask task (peer c)) (sym new.task) tt;
-          rests = λ t s unused. rests_at (peer_at c t).outbounds s (holds_of_new (λ (o : OutboundValue). IsAtRest o.sender.phase) setup c new.peers tt t s);
-          settings = holds_of_new (HasSettings c) setup c new.peers (record { setup = sym new.setup_given; format = ap (λ (x : SetupValue). x.format) (sym new.setup_given) });
-        };
+          record {
+            suits = subst (λ (task : Task). SuitsTask task (peer c)) (sym new.task) tt;
+            rests = λ t s unused. rests_at (peer_at c t).outbounds s (holds_of_new (λ (o : OutboundValue). IsAtRest o.sender.phase) setup c new.peers tt t s);
+            settings = holds_of_new (HasSettings c) setup c new.peers (record { setup = sym new.setup_given; format = ap (λ (x : SetupValue). x.format) (sym new.setup_given) });
+          };
     }

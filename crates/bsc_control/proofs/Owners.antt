@@ -34,11 +34,11 @@ selects-from : (t s : ℕ) (xs : List (List ℕ)) (z : Owner) → Contains (numb
 selects-from t s [] z h = absurd (omega (arith, h.1))
 selects-from t s (x ∷ xs) z h =
     elim (contains_cases (x, (t, ToTerminal s)) (numbered_selects t (s + 1) xs) z h) [
-      inl e ↦ record { place = 0; terminal = ap (λ (y : Owner). y.1.0) e; way = ap (λ (y : Owner). y.1.1) e ∙ ap ToTerminal (omega arith); address = ap (λ (y : Owner). Some y.0) (sym e) }
-    | inr k ↦
-        let i : IsSelectAt t (s + 1) xs z = selects-from t (s + 1) xs z k in
-        let far : s + 1 + i.place ≡ s + suc i.place = omega arith in
-        record { place = suc i.place; terminal = i.terminal; way = i.way ∙ ap ToTerminal far; address = i.address }
+      | inl e ↦ record { place = 0; terminal = ap (λ (y : Owner). y.1.0) e; way = ap (λ (y : Owner). y.1.1) e ∙ ap ToTerminal (omega arith); address = ap (λ (y : Owner). Some y.0) (sym e) }
+      | inr k ↦
+          let i : IsSelectAt t (s + 1) xs z = selects-from t (s + 1) xs z k in
+          let far : s + 1 + i.place ≡ s + suc i.place = omega arith in
+          record { place = suc i.place; terminal = i.terminal; way = i.way ∙ ap ToTerminal far; address = i.address }
     ]
 
 selects-to : (t s : ℕ) (xs : List (List ℕ)) (i : ℕ) (a : List ℕ) → slice_get xs i ≡ Some a → Contains (numbered_selects t s xs) (a, (t, ToTerminal (s + i)))
@@ -61,11 +61,11 @@ record IsOwn (t : ℕ) (x : TerminalValue) (z : Owner) : Type 0 where
 owned-from : (t : ℕ) (x : TerminalValue) (z : Owner) → Contains (owned t x) z → IsOwn t x z
 owned-from t x z h =
     elim (contains_cases (x.poll, (t, FromTerminal)) (numbered_selects t 0 x.selects) z h) [
-      inl e ↦ record { terminal = ap (λ (y : Owner). y.1.0) e; address = ap (λ (y : Owner). address_for x y.1.1) e ∙ ap (λ (y : Owner). Some y.0) (sym e) }
-    | inr k ↦
-        let i : IsSelectAt t 0 x.selects z = selects-from t 0 x.selects z k in
-        let place : 0 + i.place ≡ i.place = omega arith in
-        record { terminal = i.terminal; address = ap (address_for x) i.way ∙ ap (λ (n : ℕ). slice_get x.selects n) place ∙ i.address }
+      | inl e ↦ record { terminal = ap (λ (y : Owner). y.1.0) e; address = ap (λ (y : Owner). address_for x y.1.1) e ∙ ap (λ (y : Owner). Some y.0) (sym e) }
+      | inr k ↦
+          let i : IsSelectAt t 0 x.selects z = selects-from t 0 x.selects z k in
+          let place : 0 + i.place ≡ i.place = omega arith in
+          record { terminal = i.terminal; address = ap (address_for x) i.way ∙ ap (λ (n : ℕ). slice_get x.selects n) place ∙ i.address }
     ]
 
 owned-to : (t : ℕ) (x : TerminalValue) (way : Way) (a : List ℕ) → address_for x way ≡ Some a → Contains (owned t x) (a, (t, way))
@@ -87,13 +87,13 @@ numbered-from : (t : ℕ) (xs : List TerminalValue) (z : Owner) → Contains (nu
 numbered-from t [] z h = absurd (omega (arith, h.1))
 numbered-from t (x ∷ xs) z h =
     elim (Contains-append_cases (owned t x) (numbered (t + 1) xs) z h) [
-      inl k ↦
-        let o : IsOwn t x z = owned-from t x z k in
-        record { place = 0; terminal = o.terminal ∙ omega arith; own = record { terminal = x; there = refl; its_own = o.address } }
-    | inr k ↦
-        let i : IsOwnerAt (t + 1) xs z = numbered-from (t + 1) xs z k in
-        let far : t + 1 + i.place ≡ t + suc i.place = omega arith in
-        record { place = suc i.place; terminal = i.terminal ∙ far; own = record { terminal = i.own.terminal; there = i.own.there; its_own = i.own.its_own } }
+      | inl k ↦
+          let o : IsOwn t x z = owned-from t x z k in
+          record { place = 0; terminal = o.terminal ∙ omega arith; own = record { terminal = x; there = refl; its_own = o.address } }
+      | inr k ↦
+          let i : IsOwnerAt (t + 1) xs z = numbered-from (t + 1) xs z k in
+          let far : t + 1 + i.place ≡ t + suc i.place = omega arith in
+          record { place = suc i.place; terminal = i.terminal ∙ far; own = record { terminal = i.own.terminal; there = i.own.there; its_own = i.own.its_own } }
     ]
 
 numbered-to : (t : ℕ) (xs : List TerminalValue) (k : ℕ) (way : Way) (a : List ℕ) → IsAddressOf xs k way a → Contains (numbered t xs) (a, (t + k, way))
@@ -110,14 +110,15 @@ numbered-to t (x ∷ xs) (suc k) way a h =
 
 -- an address is among the numbered ones exactly with the terminal and the way whose it is
 pub owner_iff : (xs : List TerminalValue) (k : ℕ) (way : Way) (a : List ℕ) → Contains (numbered 0 xs) (a, (k, way)) ↔ IsAddressOf xs k way a
-owner_iff xs k way a =
-    (λ h.
-       let i : IsOwnerAt 0 xs (a, (k, way)) = numbered-from 0 xs (a, (k, way)) h in
-       let place : i.place ≡ k = (let e = i.terminal in omega (arith, e)) in
-       subst (λ (n : ℕ). IsAddressOf xs n way a) place i.own,
-     λ h.
-       let place : 0 + k ≡ k = omega arith in
-       subst (λ (n : ℕ). Contains (numbered 0 xs) (a, (n, way))) place (numbered-to 0 xs k way a h))
+owner_iff xs k way a = (
+  λ h.
+      let i : IsOwnerAt 0 xs (a, (k, way)) = numbered-from 0 xs (a, (k, way)) h in
+      let place : i.place ≡ k = (let e = i.terminal in omega (arith, e)) in
+      subst (λ (n : ℕ). IsAddressOf xs n way a) place i.own,
+  λ h.
+      let place : 0 + k ≡ k = omega arith in
+      subst (λ (n : ℕ). Contains (numbered 0 xs) (a, (n, way))) place (numbered-to 0 xs k way a h),
+)
 
 -- the numbered addresses are the addresses, in their order
 pub keys-selects : (t s : ℕ) (xs : List (List ℕ)) → keys_of (numbered_selects t s xs) ≡ xs

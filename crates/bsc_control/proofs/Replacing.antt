@@ -75,11 +75,11 @@ orderly-replaced c t s o within there setup format follows h =
     let all = follows_everywhere c t s o within there follows in
     record {
       suits =
-        suits_following c.task (peer c) (peer (replaced c t s o))
-        (same_at (λ (p : PeerValue). p.receiver) c.peers t (current c) (with_outbound (peer_at c t) s o) no_peer refl)
-        (same_lengths c t s o (current c))
-        (all (current c))
-        h.suits;
+          suits_following c.task (peer c) (peer (replaced c t s o))
+          (same_at (λ (p : PeerValue). p.receiver) c.peers t (current c) (with_outbound (peer_at c t) s o) no_peer refl)
+          (same_lengths c t s o (current c))
+          (all (current c))
+          h.suits;
       rests = λ j k unused. (all j k).rests (h.rests j k unused);
       settings = settings-replaced c t s o setup format h.settings;
     }
@@ -91,16 +91,16 @@ orderly-flags c t p receiver outbounds h =
     let follows = λ (j k : ℕ). subst (λ (os : List OutboundValue). Follows (outbound_of c j k) (get_or os k no_outbound)) (sym (same j)) (follows_same (outbound_of c j k)) in
     record {
       suits =
-        suits_following c.task (peer c) (peer (with_peer c t p))
-        (same_at (λ (x : PeerValue). x.receiver) c.peers t (current c) p no_peer receiver)
-        (ap length (same (current c)))
-        (follows (current c))
-        h.suits;
+          suits_following c.task (peer c) (peer (with_peer c t p))
+          (same_at (λ (x : PeerValue). x.receiver) c.peers t (current c) p no_peer receiver)
+          (ap length (same (current c)))
+          (follows (current c))
+          h.suits;
       rests = λ j k unused. (follows j k).rests (h.rests j k unused);
       settings = λ j k there.
-        let was : HasSettings c (outbound_of c j k) = h.settings j k (subst (λ (os : List OutboundValue). k < length os) (same j) there) in
-        record {
-          setup = ap (λ (os : List OutboundValue). (get_or os k no_outbound).sender.setup) (same j) ∙ was.setup;
-          format = ap (λ (os : List OutboundValue). (get_or os k no_outbound).queue.format) (same j) ∙ was.format;
-        };
+          let was : HasSettings c (outbound_of c j k) = h.settings j k (subst (λ (os : List OutboundValue). k < length os) (same j) there) in
+          record {
+            setup = ap (λ (os : List OutboundValue). (get_or os k no_outbound).sender.setup) (same j) ∙ was.setup;
+            format = ap (λ (os : List OutboundValue). (get_or os k no_outbound).queue.format) (same j) ∙ was.format;
+          };
     }

@@ -184,16 +184,16 @@ hears-receives c h replied step entries o calm e suits grows silent =
     record {
       keeps = keeps-moved c t p c.place task c.tries c.waits same;
       orderly =
-        record {
-          suits = suits_after c p replied step.reply silent suits;
-          rests = λ j k unused. rests-moved c t p same j k (calm.rests j k);
-          settings = settings-moved c t p c.place task c.tries c.waits same calm.settings;
-        };
+          record {
+            suits = suits_after c p replied step.reply silent suits;
+            rests = λ j k unused. rests-moved c t p same j k (calm.rests j k);
+            settings = settings-moved c t p c.place task c.tries c.waits same calm.settings;
+          };
       spools =
-        holds_at (λ (j : ℕ) (x : PeerValue). GrowsByText c h j (peer_at c j).spool.records x.spool.records) c.peers t p no_peer
-        (stores c h replied (peer c).spool.records step.spool.records e grows)
-        (λ le. absurd (omega (arith, le, entry_within c c.place entries entries.place)))
-        (λ j ne. inl refl);
+          holds_at (λ (j : ℕ) (x : PeerValue). GrowsByText c h j (peer_at c j).spool.records x.spool.records) c.peers t p no_peer
+          (stores c h replied (peer c).spool.records step.spool.records e grows)
+          (λ le. absurd (omega (arith, le, entry_within c c.place entries entries.place)))
+          (λ j ne. inl refl);
       calls = λ address sent. absurd (no_call step.reply address sent);
     }
 
@@ -245,7 +245,7 @@ repeats c s false address entries e selected sent =
     let select : s < length (peer c).terminal.selects = subst (λ (n : ℕ). s < n) (entries.peers (current c) no_peer within).outbounds selected.there in
     let own : slice_get (peer c).terminal.selects s ≡ Some (select_address (peer c).terminal s) = selects_there (peer c).terminal s select in
     let called : IsAddressOf (terminals c) (current c) (ToTerminal s) address =
-        record { terminal = (peer c).terminal; there = terminal_there c (current c) within; its_own = cc } in
+    record { terminal = (peer c).terminal; there = terminal_there c (current c) within; its_own = cc } in
     record { place = refl; task = refl; called = subst (λ (task : Task). IsAddressOf (terminals c) (current c) (way_of task) address) (sym e) called; tries = refl }
 
 repeats_poll : (c : ControlValue) (address : List ℕ) → HasEntries c → c.task ≡ Polling Nothing → (polls c c.place (c.tries + 1)).sent ≡ Some (m.Call address) → IsRepeated c (polls c c.place (c.tries + 1)).control address
@@ -256,11 +256,11 @@ repeats_poll c address entries e sent =
       place = refl;
       task = sym e;
       called =
-        record {
-          terminal = (peer c).terminal;
-          there = rw (same_map (λ (x : PeerValue). x.terminal) c.peers t p no_peer refl) (terminal_there c t (entry_within c c.place entries entries.place));
-          its_own = cc;
-        };
+          record {
+            terminal = (peer c).terminal;
+            there = rw (same_map (λ (x : PeerValue). x.terminal) c.peers t p no_peer refl) (terminal_there c t (entry_within c c.place entries entries.place));
+            its_own = cc;
+          };
       tries = refl;
     }
 
@@ -291,7 +291,7 @@ silent-task c (Sending s) entries o e =
       orderly = f.orderly;
       spools = f.spools;
       calls = λ address sent.
-        inl (subst (λ (x : After). IsCalled (acted c s step (Selection s)).control (next_call c x) address) (sym (ap after_silence e)) (calls-acted c s step (Selection s) address others keeps (inl refl) sent));
+          inl (subst (λ (x : After). IsCalled (acted c s step (Selection s)).control (next_call c x) address) (sym (ap after_silence e)) (calls-acted c s step (Selection s) address others keeps (inl refl) sent));
     }
 silent-task c (Polling Nothing) entries o e =
     let calm = calm_while c o (λ k used. absurd (cc)) in

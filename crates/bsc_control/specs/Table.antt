@@ -95,9 +95,9 @@ receives c replied step =
     let p : PeerValue = peer c in
     record {
       control =
-        record (with_current c (record p { receiver = step.receiver; spool = step.spool; urgent = if sends_rvi step.reply then false else p.urgent })) {
-          task = Polling (replied_after replied step.reply);
-        };
+          record (with_current c (record p { receiver = step.receiver; spool = step.spool; urgent = if sends_rvi step.reply then false else p.urgent })) {
+            task = Polling (replied_after replied step.reply);
+          };
       sent = option_map message_of step.reply;
     }
 

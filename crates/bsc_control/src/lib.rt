@@ -18,3 +18,6 @@ mod way;
 pub use control::Control;
 pub use refusal::SetupError;
 pub use way::Way;
+
+#[cfg(test)]
+mod tests;

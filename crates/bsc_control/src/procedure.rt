@@ -357,7 +357,12 @@ impl<A: Allocator> Procedure<A> {
     }
 
     /// Adds a record for a selection address of a terminal. It comes back where memory is wanting.
-    pub(crate) fn offer(&mut self, terminal: usize, select: usize, record: Record) -> Result<(), Record>
+    pub(crate) fn offer(
+        &mut self,
+        terminal: usize,
+        select: usize,
+        record: Record,
+    ) -> Result<(), Record>
         requires terminal { terminal < length self.old.peers }
         requires select { select < length (peer_at self.old terminal).outbounds }
         requires short { length «record» ≤ (outbound_at (peer_at self.old terminal) select).queue.format.full }
@@ -391,7 +396,12 @@ impl<A: Allocator> Procedure<A> {
     }
 
     /// Ends the doubt about a selection address.
-    pub(crate) fn release(&mut self, terminal: usize, select: usize, count: usize) -> Result<(), ReleaseError>
+    pub(crate) fn release(
+        &mut self,
+        terminal: usize,
+        select: usize,
+        count: usize,
+    ) -> Result<(), ReleaseError>
         requires terminal { terminal < length self.old.peers }
         requires select { select < length (peer_at self.old terminal).outbounds }
         ensures state { self.new ≡ with_peer self.old terminal (with_outbound (peer_at self.old terminal) select (released (outbound_at (peer_at self.old terminal) select) count)) }

@@ -31,8 +31,8 @@ entered-more t poll xs s x old h =
     let place : 0 + length (take s xs) ≡ s = omega (arith, length-take-le s xs upto) in
     let front : List Owner = (poll, (t, FromTerminal)) ∷ numbered_selects t 0 (take s xs) in
     let entries : front ++ (x, (t, ToTerminal s)) ∷ [] ≡ (poll, (t, FromTerminal)) ∷ numbered_selects t 0 (take (s + 1) xs) =
-        ap (λ zs. (poll, (t, FromTerminal)) ∷ zs)
-        (ap (λ n. numbered_selects t 0 (take s xs) ++ (x, (t, ToTerminal n)) ∷ []) (sym place) ∙ sym (selects-push t 0 (take s xs) x) ∙ ap (numbered_selects t 0) (sym (take_more xs s x h))) in
+    ap (λ zs. (poll, (t, FromTerminal)) ∷ zs)
+    (ap (λ n. numbered_selects t 0 (take s xs) ++ (x, (t, ToTerminal n)) ∷ []) (sym place) ∙ sym (selects-push t 0 (take s xs) x) ∙ ap (numbered_selects t 0) (sym (take_more xs s x h))) in
     append_assoc old front ((x, (t, ToTerminal s)) ∷ []) ∙ ap (λ zs. old ++ zs) entries
 
 -- a clash at a selection address is one of the terminal's addresses
@@ -41,7 +41,7 @@ clash-select : (t : ℕ) (terminal : TerminalValue) (s : ℕ) (x : List ℕ) (ol
 clash-select t terminal s x old e there h =
     let xs : List (List ℕ) = terminal.selects in
     let keys : keys_of (old ++ (terminal.poll, (t, FromTerminal)) ∷ numbered_selects t 0 (take s xs)) ≡ keys_of old ++ terminal.poll ∷ take s xs =
-        map-append (λ (z : Owner). z.0) old ((terminal.poll, (t, FromTerminal)) ∷ numbered_selects t 0 (take s xs)) ∙ ap (λ ys. keys_of old ++ terminal.poll ∷ ys) (keys-selects t 0 (take s xs)) in
+    map-append (λ (z : Owner). z.0) old ((terminal.poll, (t, FromTerminal)) ∷ numbered_selects t 0 (take s xs)) ∙ ap (λ ys. keys_of old ++ terminal.poll ∷ ys) (keys-selects t 0 (take s xs)) in
     let early : IsClash (keys_of old) ((terminal.poll ∷ take s xs) ++ x ∷ []) e = clash-earlier (keys_of old) (terminal.poll ∷ take s xs) (x ∷ []) e (subst (λ ks. IsClash ks (x ∷ []) e) keys h) in
     let upto : terminal.poll ∷ (take s xs ++ x ∷ []) ≡ terminal.poll ∷ take (s + 1) xs = ap (λ ys. terminal.poll ∷ ys) (sym (take_more xs s x there)) in
     let whole : (terminal.poll ∷ take (s + 1) xs) ++ drop (s + 1) xs ≡ own_addresses terminal = ap (λ ys. terminal.poll ∷ ys) (take-append-drop (s + 1) xs) in
@@ -49,18 +49,18 @@ clash-select t terminal s x old e there h =
     (clash-more (keys_of old) (terminal.poll ∷ take (s + 1) xs) (drop (s + 1) xs) e (subst (λ ys. IsClash (keys_of old) ys e) upto early))
 
 pub returns-in_err-enter-clause-refused : goal.returns-in_err-enter-clause-refused
-returns-in_err-enter-clause-refused g c = 
+returns-in_err-enter-clause-refused g c =
     let p = err_from_is_err_and c.from_residual.result c.from_residual.ensures.1 in
     rw (p.1, p.2)
     (clash-more (keys_of c.args.self.now) (c.args.terminal.now.poll ∷ []) c.args.terminal.now.selects c.in_err-enter.field-0.0
-     (subst (λ a. IsClash (keys_of c.args.self.now) (a ∷ []) c.in_err-enter.field-0.0) c.poll.ensures c.in_err-enter.ensures.refused))
+    (subst (λ a. IsClash (keys_of c.args.self.now) (a ∷ []) c.in_err-enter.field-0.0) c.poll.ensures c.in_err-enter.ensures.refused))
 
 pub returns-in_err-enter-2-clause-refused : goal.returns-in_err-enter-2-clause-refused
-returns-in_err-enter-2-clause-refused g c = 
+returns-in_err-enter-2-clause-refused g c =
     let p = err_from_is_err_and c.from_residual-in_err-enter-2.result c.from_residual-in_err-enter-2.ensures.1 in
     rw (p.1, p.2)
     (clash-select c.args.number c.args.terminal.now c.loop-select.select c.select.result c.args.self.now c.in_err-enter-2.field-0.0 c.select.ensures
-     (subst (λ (es : List Owner). IsClash (keys_of es) (c.select.result ∷ []) c.in_err-enter-2.field-0.0) c.loop-select.invariant c.in_err-enter-2.ensures.refused))
+    (subst (λ (es : List Owner). IsClash (keys_of es) (c.select.result ∷ []) c.in_err-enter-2.field-0.0) c.loop-select.invariant c.in_err-enter-2.ensures.refused))
 
 pub loop-select-preserved : goal.loop-select-preserved
 loop-select-preserved g c =

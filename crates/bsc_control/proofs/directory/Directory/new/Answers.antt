@@ -31,12 +31,12 @@ addresses-append (x ∷ xs) ys = ap (λ zs. own_addresses x ++ zs) (addresses-ap
 clash-terminal : (ts : List TerminalValue) (n : ℕ) (x : TerminalValue) (e : SetupError) → n < length ts → x ≡ get_or ts n x → IsClash (keys_of (numbered 0 (take n ts))) (own_addresses x) e → IsClash [] (addresses ts) e
 clash-terminal ts n x e within is h =
     let early : IsClash [] (addresses (take n ts) ++ own_addresses x) e =
-        clash-earlier [] (addresses (take n ts)) (own_addresses x) e (subst (λ ks. IsClash ks (own_addresses x) e) (keys-numbered 0 (take n ts)) h) in
+    clash-earlier [] (addresses (take n ts)) (own_addresses x) e (subst (λ ks. IsClash ks (own_addresses x) e) (keys-numbered 0 (take n ts)) h) in
     let one : addresses (x ∷ []) ≡ own_addresses x = append-nil (own_addresses x) in
     let upto : addresses (take n ts) ++ own_addresses x ≡ addresses (take (n + 1) ts) =
-        ap (λ zs. addresses (take n ts) ++ zs) (sym one) ∙ sym (addresses-append (take n ts) (x ∷ [])) ∙ ap addresses (sym (take_more ts n x within is)) in
+    ap (λ zs. addresses (take n ts) ++ zs) (sym one) ∙ sym (addresses-append (take n ts) (x ∷ [])) ∙ ap addresses (sym (take_more ts n x within is)) in
     let whole : addresses (take (n + 1) ts) ++ addresses (drop (n + 1) ts) ≡ addresses ts =
-        sym (addresses-append (take (n + 1) ts) (drop (n + 1) ts)) ∙ ap addresses (take-append-drop (n + 1) ts) in
+    sym (addresses-append (take (n + 1) ts) (drop (n + 1) ts)) ∙ ap addresses (take-append-drop (n + 1) ts) in
     subst (λ ys. IsClash [] ys e) whole
     (clash-more [] (addresses (take (n + 1) ts)) (addresses (drop (n + 1) ts)) e (subst (λ ys. IsClash [] ys e) upto early))
 
@@ -45,7 +45,7 @@ returns-in_err-enter_all-clause-refused g c =
     let p = err_from_is_err_and c.from_residual.result c.from_residual.ensures.1 in
     rw (p.1, p.2)
     (clash-terminal c.args.terminals.now c.loop-number.number c.index-terminals-number.result c.in_err-enter_all.field-0.0 c.loop-number-test.true c.index-terminals-number.is
-     (subst (λ (es : List Owner). IsClash (keys_of es) (own_addresses c.index-terminals-number.result) c.in_err-enter_all.field-0.0) c.loop-number.invariant c.in_err-enter_all.ensures.refused))
+    (subst (λ (es : List Owner). IsClash (keys_of es) (own_addresses c.index-terminals-number.result) c.in_err-enter_all.field-0.0) c.loop-number.invariant c.in_err-enter_all.ensures.refused))
 
 pub loop-number-preserved : goal.loop-number-preserved
 loop-number-preserved g c =
@@ -56,5 +56,5 @@ pub returns-clause-distinct : goal.returns-clause-distinct
 returns-clause-distinct g c =
     let all : take c.loop-number.number c.args.terminals.now ≡ c.args.terminals.now = take_all c.loop-number.number c.args.terminals.now c.loop-number-test.false in
     let keys : keys_of c.directory-2.inside.owners.entries ≡ addresses c.args.terminals.now =
-        ap keys_of (c.directory-2.view_is ∙ c.loop-number.invariant ∙ ap (numbered 0) all) ∙ keys-numbered 0 c.args.terminals.now in
+    ap keys_of (c.directory-2.view_is ∙ c.loop-number.invariant ∙ ap (numbered 0) all) ∙ keys-numbered 0 c.args.terminals.now in
     subst (AllPairs (λ a b. a ≢ b)) keys (all_differ (keys_of c.directory-2.inside.owners.entries) c.directory-2.invariant)

@@ -32,11 +32,11 @@ loop-terminal-preserved g c =
     let fresh = λ (p : PeerValue). IsNewPeer c.args.setup p.terminal p in
     record {
       made =
-        ap (map (λ (p : PeerValue). p.terminal)) items
-        ∙ made_more c.args.terminals.now c.loop-terminal.terminal-index c.terminal-item.result c.loop-terminal.peers.items c.in_ok-peer.peer c.loop-terminal-test.true c.terminal-item.is c.loop-terminal.invariant.made c.in_ok-peer.ensures.value.terminal_given;
+          ap (map (λ (p : PeerValue). p.terminal)) items
+          ∙ made_more c.args.terminals.now c.loop-terminal.terminal-index c.terminal-item.result c.loop-terminal.peers.items c.in_ok-peer.peer c.loop-terminal-test.true c.terminal-item.is c.loop-terminal.invariant.made c.in_ok-peer.ensures.value.terminal_given;
       fresh =
-        subst (All fresh) (sym items)
-        (All-push fresh c.loop-terminal.peers.items c.in_ok-peer.peer c.loop-terminal.invariant.fresh (new_peer-own c.args.setup c.terminal-item.result c.in_ok-peer.peer c.in_ok-peer.ensures.value));
+          subst (All fresh) (sym items)
+          (All-push fresh c.loop-terminal.peers.items c.in_ok-peer.peer c.loop-terminal.invariant.fresh (new_peer-own c.args.setup c.terminal-item.result c.in_ok-peer.peer c.in_ok-peer.ensures.value));
       peers = subst (All IsPeer) (sym items) (All-push IsPeer c.loop-terminal.peers.items c.in_ok-peer.peer c.loop-terminal.invariant.peers c.in_ok-peer.ensures.peer);
     }
 
@@ -50,8 +50,8 @@ invariant_of-result g c =
     record {
       place = subst (λ (xs : List ℕ). 0 < length xs) (sym c.in_ok-from_slice.ensures.items) c.requires.some;
       entries =
-        entries_of c.args.terminals.now c.loop-terminal.terminal-index c.loop-terminal.peers.items c.args.poll_list.now c.in_ok-from_slice.field-0.items c.loop-terminal.invariant.made c.loop-terminal-test.false
-        c.in_ok-from_slice.ensures.items c.requires.entries;
+          entries_of c.args.terminals.now c.loop-terminal.terminal-index c.loop-terminal.peers.items c.args.poll_list.now c.in_ok-from_slice.field-0.items c.loop-terminal.invariant.made c.loop-terminal-test.false
+          c.in_ok-from_slice.ensures.items c.requires.entries;
       peers = c.loop-terminal.invariant.peers;
     }
 
@@ -60,7 +60,7 @@ returns-clause-entries g c =
     record {
       place = subst (λ (xs : List ℕ). 0 < length xs) (sym c.in_ok-from_slice.ensures.items) c.requires.some;
       entries =
-        entries_of c.args.terminals.now c.loop-terminal.terminal-index c.loop-terminal.peers.items c.args.poll_list.now c.in_ok-from_slice.field-0.items c.loop-terminal.invariant.made c.loop-terminal-test.false
-        c.in_ok-from_slice.ensures.items c.requires.entries;
+          entries_of c.args.terminals.now c.loop-terminal.terminal-index c.loop-terminal.peers.items c.args.poll_list.now c.in_ok-from_slice.field-0.items c.loop-terminal.invariant.made c.loop-terminal-test.false
+          c.in_ok-from_slice.ensures.items c.requires.entries;
       peers = c.loop-terminal.invariant.peers;
     }

@@ -1,0 +1,384 @@
+//! What no clause says: worked exchanges in octets, and that each call can succeed.
+
+mod station;
+
+use crate::tests::station::{
+    control_of, given_back, has_spooled, in_doubt, known, offer, sent_after, setup, terminal,
+    two_terminals,
+};
+use crate::{Control, SetupError, Way};
+use bsc_frame::Address;
+use bsc_text::{ReleaseError, Station};
+use refusing_alloc::Refusing;
+use std::test::Fail;
+
+/// No octets stand for a silence, and for no answer.
+const SILENCE: &[u8] = &[];
+
+const QUIET: &[u8] = &[];
+
+const CALL_POLL_A: &[u8] = &[0x16, 0x16, 0x04, 0xff, 0x16, 0x16, 0xc1, 0x85, 0xff];
+
+const CALL_POLL_B: &[u8] = &[0x16, 0x16, 0x04, 0xff, 0x16, 0x16, 0xc2, 0x85, 0xff];
+
+const CALL_SELECT_A: &[u8] = &[0x16, 0x16, 0x04, 0xff, 0x16, 0x16, 0x61, 0x85, 0xff];
+
+const CALL_SELECT_B: &[u8] = &[0x16, 0x16, 0x04, 0xff, 0x16, 0x16, 0x62, 0x85, 0xff];
+
+const CALL_SELECT_C: &[u8] = &[0x16, 0x16, 0x04, 0xff, 0x16, 0x16, 0xe3, 0x85, 0xff];
+
+const EOT: &[u8] = &[0x16, 0x16, 0x04, 0xff];
+
+const ENQ: &[u8] = &[0x16, 0x16, 0x85, 0xff];
+
+const NAK: &[u8] = &[0x16, 0x16, 0x15, 0xff];
+
+const ACK0: &[u8] = &[0x16, 0x16, 0x10, 0xb0, 0xff];
+
+const ACK1: &[u8] = &[0x16, 0x16, 0x10, 0x31, 0xff];
+
+const WACK: &[u8] = &[0x16, 0x16, 0x10, 0x3b, 0xff];
+
+const RVI: &[u8] = &[0x16, 0x16, 0x10, 0xbc, 0xff];
+
+/// The text of the record HI.
+const TEXT_HI: &[u8] = &[0x16, 0x16, 0x02, 0xc8, 0x49, 0x19, 0x83, 0x9b, 0xff];
+
+/// The text of one empty record.
+const TEXT_EMPTY: &[u8] = &[0x16, 0x16, 0x02, 0x19, 0x83, 0x1a, 0xff];
+
+/// The text of seven empty records that ends with ETX.
+const TEXT_SEVEN: &[u8] = &[
+    0x16, 0x16, 0x02, 0x19, 0x1f, 0x86, 0x19, 0x1f, 0x86, 0x19, 0x1f, 0x86, 0x19, 0x1f, 0x86, 0x19,
+    0x1f, 0x86, 0x19, 0x1f, 0x86, 0x19, 0x83, 0x1a, 0xff,
+];
+
+/// The text of seven empty records that ends with ETB.
+const TEXT_SEVEN_MORE: &[u8] = &[
+    0x16, 0x16, 0x02, 0x19, 0x1f, 0x86, 0x19, 0x1f, 0x86, 0x19, 0x1f, 0x86, 0x19, 0x1f, 0x86, 0x19,
+    0x1f, 0x86, 0x19, 0x1f, 0x86, 0x19, 0x97, 0x0e, 0xff,
+];
+
+#[test]
+fn setups_are_refused_in_order(rt: HostRuntime) -> Result<(), Fail> {
+    let alloc = rt.alloc();
+    let setup = setup(3)?;
+    let [a, b] = two_terminals()?;
+    let same = terminal(b"A", &[Address::read(b"A")?])?;
+    let with_c = terminal(b"A", &[Address::read(b"a")?, Address::read(b"c")?])?;
+    let also_c = terminal(b"B", &[Address::read(b"c")?])?;
+    for (terminals, poll_list, error) in [
+        ([].as_slice(), [].as_slice(), SetupError::NoTerminal),
+        ([a; 65].as_slice(), [].as_slice(), SetupError::TooMany),
+        (
+            [same].as_slice(),
+            [].as_slice(),
+            SetupError::SameAddress(0, 1),
+        ),
+        (
+            [with_c, also_c].as_slice(),
+            [0].as_slice(),
+            SetupError::SameAddress(2, 4),
+        ),
+        ([a, b].as_slice(), [].as_slice(), SetupError::EmptyPollList),
+        (
+            [a, b].as_slice(),
+            [0, 2].as_slice(),
+            SetupError::PollList(1),
+        ),
+        (
+            [a, b].as_slice(),
+            [0; 256].as_slice(),
+            SetupError::PollList(255),
+        ),
+    ] {
+        let refused = Control::new(alloc, setup, terminals, poll_list).err();
+        assert_eq!(rt; refused, Some(error));
+    }
+    let control = Control::new(alloc, setup, &[a, b], &[0; 255])?;
+    assert_eq!(rt; control.terminals(), 2);
+    Ok(())
+}
+
+#[test]
+fn an_address_is_found_by_its_terminal_and_way(rt: HostRuntime) -> Result<(), Fail> {
+    let terminals = [
+        terminal(b"A", &[Address::read(b"a")?, Address::read(b"c")?])?,
+        terminal(b"B", &[Address::read(b"b")?])?,
+    ];
+    let control = control_of(rt.alloc(), &terminals, &[0, 1], 3)?;
+    for (address, owner) in [
+        (b"A", Some((0, Way::FromTerminal))),
+        (b"a", Some((0, Way::ToTerminal(0)))),
+        (b"c", Some((0, Way::ToTerminal(1)))),
+        (b"B", Some((1, Way::FromTerminal))),
+        (b"b", Some((1, Way::ToTerminal(0)))),
+        (b"C", None),
+    ] {
+        assert_eq!(rt; control.find(&Address::read(address)?), owner);
+    }
+    assert!(rt; !control.holds_line());
+    Ok(())
+}
+
+#[test]
+fn each_growth_of_a_new_station_is_refused_in_turn(rt: HostRuntime) -> Result<(), Fail> {
+    let alloc = Refusing::new(rt.alloc());
+    let setup = setup(3)?;
+    let terminals = two_terminals()?;
+    for request in 1..100 {
+        alloc.refuse_nth(request);
+        let made = Control::new(&alloc, setup, &terminals, &[0, 1]);
+        if alloc.refused() == 0 {
+            assert_eq!(rt; made?.terminals(), 2);
+            return Ok(());
+        }
+        assert_eq!(rt; made.err(), Some(SetupError::Memory));
+    }
+    Err("no end of growths".into())
+}
+
+#[test]
+fn the_poll_list_is_gone_through(rt: HostRuntime) -> Result<(), Fail> {
+    let mut control = control_of(rt.alloc(), &two_terminals()?, &[0, 1], 3)?;
+    for (heard, answer) in [
+        (ACK0, QUIET),
+        (SILENCE, CALL_POLL_A),
+        (EOT, CALL_POLL_B),
+        (SILENCE, CALL_POLL_B),
+        (SILENCE, CALL_POLL_B),
+        (SILENCE, CALL_POLL_B),
+        (SILENCE, CALL_POLL_A),
+    ] {
+        assert_eq!(rt; sent_after(&mut control, heard).as_slice(), answer);
+    }
+    Ok(())
+}
+
+#[test]
+fn an_urgent_station_polls_the_same_entry_again(rt: HostRuntime) -> Result<(), Fail> {
+    let mut control = control_of(rt.alloc(), &two_terminals()?, &[0, 1], 3)?;
+    if control.terminals() == 2 {
+        control.set_urgent(0);
+    }
+    for (heard, answer) in [
+        (SILENCE, CALL_POLL_A),
+        (TEXT_HI, RVI),
+        (EOT, CALL_POLL_A),
+        (TEXT_HI, ACK1),
+        (EOT, CALL_POLL_B),
+    ] {
+        assert_eq!(rt; sent_after(&mut control, heard).as_slice(), answer);
+    }
+    assert!(rt; has_spooled(&control, 0, &[b"HI", b"HI"]));
+    Ok(())
+}
+
+#[test]
+fn seven_records_go_in_one_block(rt: HostRuntime) -> Result<(), Fail> {
+    let mut control = control_of(rt.alloc(), &two_terminals()?, &[0, 1], 3)?;
+    for _ in 0..7 {
+        offer(&mut control, 0, 0, b"")?;
+    }
+    for (heard, answer) in [
+        (SILENCE, CALL_SELECT_A),
+        (ACK0, TEXT_SEVEN),
+        (ACK1, CALL_POLL_A),
+    ] {
+        assert_eq!(rt; sent_after(&mut control, heard).as_slice(), answer);
+    }
+    assert_eq!(rt; known(&control, 0, 0), Some(7));
+    Ok(())
+}
+
+#[test]
+fn an_eighth_record_goes_in_a_second_block(rt: HostRuntime) -> Result<(), Fail> {
+    let mut control = control_of(rt.alloc(), &two_terminals()?, &[0, 1], 3)?;
+    for _ in 0..8 {
+        offer(&mut control, 0, 0, b"")?;
+    }
+    for (heard, answer) in [
+        (SILENCE, CALL_SELECT_A),
+        (ACK0, TEXT_SEVEN_MORE),
+        (ACK1, TEXT_EMPTY),
+        (ACK0, CALL_POLL_A),
+    ] {
+        assert_eq!(rt; sent_after(&mut control, heard).as_slice(), answer);
+    }
+    assert_eq!(rt; known(&control, 0, 0), Some(8));
+    Ok(())
+}
+
+#[test]
+fn a_bid_that_is_interrupted_goes_on_in_the_next_round(rt: HostRuntime) -> Result<(), Fail> {
+    let mut control = control_of(rt.alloc(), &two_terminals()?, &[0, 1], 3)?;
+    for _ in 0..8 {
+        offer(&mut control, 0, 0, b"")?;
+    }
+    for (heard, answer) in [
+        (SILENCE, CALL_SELECT_A),
+        (ACK0, TEXT_SEVEN_MORE),
+        (RVI, CALL_POLL_A),
+        (TEXT_HI, ACK1),
+        (EOT, CALL_POLL_B),
+        (EOT, CALL_SELECT_A),
+        (ACK0, TEXT_EMPTY),
+    ] {
+        assert_eq!(rt; sent_after(&mut control, heard).as_slice(), answer);
+    }
+    assert_eq!(rt; known(&control, 0, 0), Some(7));
+    assert!(rt; has_spooled(&control, 0, &[b"HI"]));
+    Ok(())
+}
+
+#[test]
+fn a_terminal_that_does_not_answer_is_left(rt: HostRuntime) -> Result<(), Fail> {
+    let mut control = control_of(rt.alloc(), &two_terminals()?, &[1, 0], 1)?;
+    offer(&mut control, 1, 0, b"HI")?;
+    offer(&mut control, 0, 0, b"HI")?;
+    for (heard, answer) in [
+        (SILENCE, CALL_SELECT_B),
+        (ACK0, TEXT_HI),
+        (ACK1, CALL_POLL_B),
+        (SILENCE, CALL_POLL_B),
+        (SILENCE, CALL_SELECT_A),
+        (SILENCE, CALL_SELECT_A),
+        (ACK0, TEXT_HI),
+        (ACK1, CALL_POLL_A),
+    ] {
+        assert_eq!(rt; sent_after(&mut control, heard).as_slice(), answer);
+    }
+    Ok(())
+}
+
+#[test]
+fn a_refused_selection_leaves_no_doubt(rt: HostRuntime) -> Result<(), Fail> {
+    let mut control = control_of(rt.alloc(), &two_terminals()?, &[0, 1], 3)?;
+    offer(&mut control, 0, 0, b"HI")?;
+    for (heard, answer) in [
+        (SILENCE, CALL_SELECT_A),
+        (NAK, CALL_POLL_A),
+        (EOT, CALL_POLL_B),
+    ] {
+        assert_eq!(rt; sent_after(&mut control, heard).as_slice(), answer);
+    }
+    assert_eq!(rt; known(&control, 0, 0), Some(0));
+    assert_eq!(rt; in_doubt(&control, 0, 0), Some(false));
+    Ok(())
+}
+
+#[test]
+fn a_selection_waits_for_room(rt: HostRuntime) -> Result<(), Fail> {
+    let mut control = control_of(rt.alloc(), &two_terminals()?, &[0, 1], 3)?;
+    offer(&mut control, 0, 0, b"HI")?;
+    for (heard, answer) in [
+        (SILENCE, CALL_SELECT_A),
+        (WACK, ENQ),
+        (SILENCE, ENQ),
+        (ACK0, TEXT_HI),
+    ] {
+        assert_eq!(rt; sent_after(&mut control, heard).as_slice(), answer);
+    }
+    Ok(())
+}
+
+#[test]
+fn each_selection_address_is_called_in_turn(rt: HostRuntime) -> Result<(), Fail> {
+    let terminals = [
+        terminal(b"A", &[Address::read(b"a")?, Address::read(b"c")?])?,
+        terminal(b"B", &[Address::read(b"b")?])?,
+    ];
+    let mut control = control_of(rt.alloc(), &terminals, &[0, 1], 3)?;
+    offer(&mut control, 0, 0, b"HI")?;
+    offer(&mut control, 0, 1, b"")?;
+    for (heard, answer) in [
+        (SILENCE, CALL_SELECT_A),
+        (ACK0, TEXT_HI),
+        (ACK1, CALL_SELECT_C),
+        (ACK0, TEXT_EMPTY),
+        (ACK1, CALL_POLL_A),
+        (EOT, CALL_POLL_B),
+        (EOT, CALL_POLL_A),
+    ] {
+        assert_eq!(rt; sent_after(&mut control, heard).as_slice(), answer);
+    }
+    Ok(())
+}
+
+#[test]
+fn a_repeated_selection_keeps_the_urgent_flag(rt: HostRuntime) -> Result<(), Fail> {
+    let mut control = control_of(rt.alloc(), &two_terminals()?, &[0, 1], 3)?;
+    offer(&mut control, 0, 0, b"HI")?;
+    assert_eq!(rt; sent_after(&mut control, SILENCE).as_slice(), CALL_SELECT_A);
+    if control.terminals() == 2 {
+        control.set_urgent(0);
+    }
+    for (heard, answer) in [
+        (SILENCE, CALL_SELECT_A),
+        (ACK0, TEXT_HI),
+        (ACK1, CALL_POLL_A),
+        (TEXT_HI, RVI),
+    ] {
+        assert_eq!(rt; sent_after(&mut control, heard).as_slice(), answer);
+    }
+    Ok(())
+}
+
+#[test]
+fn a_doubtful_block_waits_for_its_release(rt: HostRuntime) -> Result<(), Fail> {
+    let mut control = control_of(rt.alloc(), &two_terminals()?, &[0, 1], 1)?;
+    offer(&mut control, 0, 0, b"HI")?;
+    for (heard, answer) in [
+        (SILENCE, CALL_SELECT_A),
+        (ACK0, TEXT_HI),
+        (SILENCE, ENQ),
+        (SILENCE, CALL_POLL_A),
+        (EOT, CALL_POLL_B),
+        (EOT, CALL_POLL_A),
+    ] {
+        assert_eq!(rt; sent_after(&mut control, heard).as_slice(), answer);
+    }
+    assert_eq!(rt; in_doubt(&control, 0, 0), Some(true));
+    if control.terminals() == 2 && control.addresses(0) == 1 {
+        let way = Way::ToTerminal(0);
+        assert_eq!(rt;
+            control.release(0, way, 2),
+            Err(ReleaseError::CountMismatch)
+        );
+        assert_eq!(rt; control.release(0, way, 1), Ok(()));
+        assert_eq!(rt; control.release(0, way, 1), Err(ReleaseError::NotInDoubt));
+    }
+    assert_eq!(rt; known(&control, 0, 0), Some(1));
+    Ok(())
+}
+
+#[test]
+fn a_refused_growth_delays_a_text(rt: HostRuntime) -> Result<(), Fail> {
+    let alloc = Refusing::new(rt.alloc());
+    let mut control = control_of(&alloc, &two_terminals()?, &[0, 1], 3)?;
+    alloc.refuse_nth(1);
+    for (heard, answer) in [
+        (SILENCE, CALL_POLL_A),
+        (TEXT_HI, NAK),
+        (TEXT_HI, ACK1),
+        (EOT, CALL_POLL_B),
+    ] {
+        assert_eq!(rt; sent_after(&mut control, heard).as_slice(), answer);
+    }
+    assert_eq!(rt; alloc.refused(), 1);
+    assert!(rt; has_spooled(&control, 0, &[b"HI"]));
+    Ok(())
+}
+
+#[test]
+fn an_offer_without_memory_changes_nothing(rt: HostRuntime) -> Result<(), Fail> {
+    let alloc = Refusing::new(rt.alloc());
+    let mut control = control_of(&alloc, &two_terminals()?, &[0, 1], 3)?;
+    alloc.refuse_nth(1);
+    assert_eq!(rt; given_back(&mut control, b"HI")?, Some(true));
+    assert_eq!(rt; alloc.refused(), 1);
+    assert_eq!(rt; sent_after(&mut control, SILENCE).as_slice(), CALL_POLL_A);
+    alloc.refuse_none();
+    offer(&mut control, 0, 0, b"HI")?;
+    Ok(())
+}

@@ -1,0 +1,140 @@
+//! Control stations for the tests, and their exchanges with terminals.
+
+ghost use Rattle.std.specs.Prelude.{◌≡◌, ◌≤◌, length, IfOk};
+
+use crate::{Control, Way};
+use bsc_block::{Record, RecordError};
+use bsc_frame::{Address, AddressError, Wire};
+use bsc_text::{SettingError, Setup, Station, Terminal, TerminalError};
+use std::alloc::Allocator;
+use std::test::Fail;
+
+/// Settings that bear so many failures in a row.
+pub(crate) fn setup(tries: u8) -> Result<Setup, SettingError>
+    ensures { IfOk result (λ s. s.format.full ≡ 80) }
+{
+    Setup::new(80, 400, tries, 10)
+}
+
+/// A terminal with a polling address and these selection addresses.
+pub(crate) fn terminal(poll: &[u8], selects: &[Address]) -> Result<Terminal, Fail> {
+    Ok(Terminal::new(Address::read(poll)?, selects)?)
+}
+
+/// Terminals A with a, and B with b.
+pub(crate) fn two_terminals() -> Result<[Terminal; 2], Fail> {
+    Ok([
+        terminal(b"A", &[Address::read(b"a")?])?,
+        terminal(b"B", &[Address::read(b"b")?])?,
+    ])
+}
+
+/// The control station of these terminals.
+pub(crate) fn control_of<A: Allocator + Copy>(
+    alloc: A,
+    terminals: &[Terminal],
+    poll_list: &[u8],
+    tries: u8,
+) -> Result<Control<A>, Fail>
+    ensures { IfOk result (λ c. c.setup.format.full ≡ 80) }
+{
+    let setup = setup(tries)?;
+    Ok(Control::new(alloc, setup, terminals, poll_list)?)
+}
+
+/// Offers a record of at most 80 characters for a selection address of a terminal.
+pub(crate) fn offer<A: Allocator>(
+    control: &mut Control<A>,
+    terminal: usize,
+    select: usize,
+    chars: &[u8],
+) -> Result<(), Fail>
+    requires { control.old.setup.format.full ≡ 80 }
+    ensures { control.new.setup ≡ control.old.setup }
+{
+    let record = Record::read(chars, 80)?;
+    if terminal >= control.terminals() || select >= control.addresses(terminal) {
+        return Err("no such address".into());
+    }
+    match control.offer(terminal, select, record) {
+        Ok(()) => Ok(()),
+        Err(_) => Err("out of memory".into()),
+    }
+}
+
+/// Whether a record that is offered for terminal 0 comes back as it was; None where it is taken.
+pub(crate) fn given_back<A: Allocator>(
+    control: &mut Control<A>,
+    chars: &[u8],
+) -> Result<Option<bool>, Fail>
+    requires { control.old.setup.format.full ≡ 80 }
+    ensures { control.new.setup ≡ control.old.setup }
+{
+    let record = Record::read(chars, 80)?;
+    if control.terminals() == 0 || control.addresses(0) == 0 {
+        return Err("no such address".into());
+    }
+    match control.offer(0, 0, record) {
+        Ok(()) => Ok(None),
+        Err(record) => Ok(Some(record.chars() == chars)),
+    }
+}
+
+/// What the control station sends once it has heard these octets, or at a silence where there are none;
+/// nothing where it is quiet.
+pub(crate) fn sent_after<A: Allocator>(control: &mut Control<A>, octets: &[u8]) -> Wire
+    ensures { control.new.setup ≡ control.old.setup }
+{
+    let mut wire = Wire::new();
+    if octets.is_empty() {
+        control.silence(&mut wire);
+    } else {
+        control.hear(octets, &mut wire);
+    }
+    wire
+}
+
+/// How many records for a selection address are known to have arrived; None where there is no such address.
+pub(crate) fn known<A: Allocator>(
+    control: &Control<A>,
+    terminal: usize,
+    select: usize,
+) -> Option<usize> {
+    if terminal >= control.terminals() || select >= control.addresses(terminal) {
+        return None;
+    }
+    Some(control.queue(terminal, select).known())
+}
+
+/// Whether a selection address is in doubt; None where there is no such address.
+pub(crate) fn in_doubt<A: Allocator>(
+    control: &Control<A>,
+    terminal: usize,
+    select: usize,
+) -> Option<bool> {
+    if terminal >= control.terminals() || select >= control.addresses(terminal) {
+        return None;
+    }
+    Some(control.in_doubt(terminal, Way::ToTerminal(select)))
+}
+
+/// Whether exactly these records arrived from a terminal.
+pub(crate) fn has_spooled<A: Allocator>(
+    control: &Control<A>,
+    terminal: usize,
+    expected: &[&[u8]],
+) -> bool {
+    if terminal >= control.terminals() {
+        return false;
+    }
+    let records = control.spool(terminal).records();
+    if records.len() != expected.len() {
+        return false;
+    }
+    for (record, chars) in records.iter().zip(expected) {
+        if record.chars() != *chars {
+            return false;
+        }
+    }
+    true
+}
