@@ -1,21 +1,18 @@
 -- What a step of a sender keeps.
-use Rattle.std.proofs.Common.{◌≡◌, ◌⊎◌, inl, inr, ℕ, ◌+◌, ◌≤◌, ◌<◌, List, length, drop, map, get_or, set, Option, None, Some, refl, sym, ◌∙◌, ap, subst, arith}
+use Rattle.std.proofs.Common.{◌≡◌, ◌⊎◌, inl, inr, ℕ, ◌+◌, ◌<◌, List, length, drop, Some, refl, sym, ◌∙◌, ap, subst, arith}
 use Rattle.std.proofs.lemmas.List.{length-set, get_or-set_same, drop-set-lt}
 use Rattle.std.specs.List.{position}
 use Rattle.bsc_frame.specs.declared.message.Message.TheVariants as m
-use Rattle.bsc_spool.specs.Queue.{QueueValue}
 use Rattle.bsc_text.specs.declared.act.Act.{Act}
 use Rattle.bsc_text.specs.declared.act.Act.TheVariants as a
 use Rattle.bsc_text.specs.declared.phase.Phase.{Phase}
-use Rattle.bsc_text.specs.declared.reply.Reply.{Reply}
 use Rattle.bsc_text.specs.Ready.{IsGoing, IsAtRest}
-use Rattle.bsc_text.specs.Sender.{SenderValue, SenderStep}
+use Rattle.bsc_text.specs.Sender.{SenderStep}
 use Rattle.bsc_control.specs.declared.task.Task.{Task}
-use Rattle.bsc_control.specs.declared.task.Task.TheVariants.{AtRest, Selecting, Sending, Polling}
-use Rattle.bsc_control.specs.declared.way.Way.TheVariants.{FromTerminal, ToTerminal}
-use Rattle.bsc_control.specs.CallOrder.{Call, After, Start, Selection, Interruption, Poll, way_at, way_from, next_call}
-use Rattle.bsc_control.specs.Control.{ControlValue, ControlStep, HasEntries, terminals, peer_at, peer, current, terminal_of_entry, with_current}
-use Rattle.bsc_control.specs.Kept.{IsInBid, outbound_of, phase_of, IsInUse, HasSettings, IsOrderly, Keeps, IsCalled}
+use Rattle.bsc_control.specs.declared.task.Task.TheVariants.{Sending}
+use Rattle.bsc_control.specs.CallOrder.{Call, After, Selection, Interruption, way_at, next_call}
+use Rattle.bsc_control.specs.Control.{ControlValue, HasEntries, peer_at, peer, current, terminal_of_entry}
+use Rattle.bsc_control.specs.Kept.{outbound_of, phase_of, HasSettings, Keeps, IsCalled}
 use Rattle.bsc_control.specs.Peer.{OutboundValue, PeerValue, no_outbound, no_peer, outbound_at, with_outbound, outbound_after, is_selectable}
 use Rattle.bsc_control.specs.Table.{performs, acted, calls_next}
 use Rattle.bsc_control.proofs.Calls.{IsCalm, Fares, HasShape, shape, entry_within, fares-calls_next, next_is_called}

@@ -1,14 +1,12 @@
 -- What a call keeps, and that it is the next one.
-use Rattle.std.proofs.Common.{◌≡◌, ◌≢◌, ℕ, zero, suc, ◌+◌, ◌≤◌, ◌<◌, Bool, true, false, not, nat_eq, List, length, drop, map, get_or, set, Option, option_map, None, Some, refl, sym, ◌∙◌, ap, subst, arith, length-drop, if◌then◌else◌}
+use Rattle.std.proofs.Common.{◌≡◌, ◌≢◌, ℕ, zero, suc, ◌+◌, ◌≤◌, ◌<◌, Bool, true, false, not, nat_eq, List, length, drop, get_or, set, Option, option_map, None, Some, refl, sym, ◌∙◌, ap, subst, arith, length-drop, if◌then◌else◌}
 use Rattle.std.proofs.lemmas.List.{length-set, get_or-drop}
 use Rattle.std.proofs.lemmas.List.Quantifiers.{position-Some}
 use Rattle.std.proofs.lemmas.Bool.{eqb-false}
 use Rattle.std.proofs.lemmas.Option.{slice_get-get_or, slice_get-map}
-use Rattle.std.specs.List.{All, slice_get, position}
-use Rattle.bsc_frame.specs.declared.message.Message.{Message}
+use Rattle.std.specs.List.{slice_get, position}
 use Rattle.bsc_frame.specs.declared.message.Message.TheVariants as m
 use Rattle.bsc_spool.specs.Queue.{waiting}
-use Rattle.bsc_spool.specs.Spool.{SpoolValue}
 use Rattle.bsc_text.specs.declared.phase.Phase.{Phase}
 use Rattle.bsc_text.specs.declared.phase.Phase.TheVariants.{Idle, Unanswered, Held, InDoubt}
 use Rattle.bsc_text.specs.Ready.{IsAtRest}
@@ -17,15 +15,14 @@ use Rattle.bsc_text.specs.Sender.{is_in_doubt}
 use Rattle.bsc_text.specs.Terminal.{TerminalValue}
 use Rattle.bsc_control.specs.declared.task.Replied.TheVariants.{Nothing}
 use Rattle.bsc_control.specs.declared.task.Task.{Task}
-use Rattle.bsc_control.specs.declared.task.Task.TheVariants.{AtRest, Selecting, Sending, Polling}
+use Rattle.bsc_control.specs.declared.task.Task.TheVariants.{Selecting, Polling}
 use Rattle.bsc_control.specs.declared.way.Way.{Way}
 use Rattle.bsc_control.specs.declared.way.Way.TheVariants.{FromTerminal, ToTerminal}
-use Rattle.bsc_control.specs.Addresses.{IsAddressOf, address_for}
-use Rattle.bsc_control.specs.CallOrder.{Call, After, Start, Selection, Interruption, Poll, way_at, way_from, next_place, next_call, first_call}
-use Rattle.bsc_control.specs.Control.{ControlValue, ControlStep, HasEntries, terminals, peer_at, peer, current, terminal_of_entry, with_peer}
-use Rattle.bsc_control.specs.Kept.{IsSelected, outbound_of, phase_of, IsInUse, HasSettings, IsOrderly, Keeps, IsCalled}
-use Rattle.bsc_control.specs.Peer.{OutboundValue, PeerValue, IsPeer, no_outbound, no_peer, outbound_at, is_selectable}
-use Rattle.bsc_control.specs.Table.{polls, selects, select_address, calls_by, calls, calls_next}
+use Rattle.bsc_control.specs.CallOrder.{After, Start, Selection, Interruption, Poll, way_at, way_from, next_place, next_call}
+use Rattle.bsc_control.specs.Control.{ControlValue, HasEntries, terminals, peer_at, current, terminal_of_entry, with_peer}
+use Rattle.bsc_control.specs.Kept.{IsSelected, outbound_of, phase_of, HasSettings, IsOrderly, Keeps, IsCalled}
+use Rattle.bsc_control.specs.Peer.{OutboundValue, PeerValue, no_outbound, no_peer, outbound_at, is_selectable}
+use Rattle.bsc_control.specs.Table.{polls, selects, select_address, calls_by, calls_next}
 use Rattle.bsc_control.proofs.PeerLists.{same_at, same_map, value_at}
 
 -- no bid goes on

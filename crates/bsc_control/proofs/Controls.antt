@@ -1,15 +1,13 @@
 -- A control station stays one.
-use Rattle.std.proofs.Common.{◌≡◌, ℕ, ◌+◌, ◌≤◌, ◌<◌, ◌==◌, ◌||◌, Bool, true, false, List, [], ◌∷◌, ◌++◌, length, map, drop, get_or, set, Option, None, Some, refl, sym, ◌∙◌, ap, subst, arith, length-drop, length-append, if◌then◌else◌}
+use Rattle.std.proofs.Common.{◌≡◌, ℕ, ◌+◌, ◌≤◌, ◌<◌, ◌==◌, ◌||◌, Bool, true, false, List, [], ◌∷◌, ◌++◌, length, drop, Option, refl, sym, ◌∙◌, ap, subst, arith, length-drop, length-append, if◌then◌else◌}
 use Rattle.std.proofs.lemmas.List.{length-set}
 use Rattle.bsc_frame.specs.declared.message.Message.{Message}
 use Rattle.bsc_frame.specs.declared.message.Heard.{Heard}
-use Rattle.bsc_frame.specs.declared.message.Heard.TheVariants.{Noise}
 use Rattle.bsc_spool.specs.Queue.{QueueValue, waiting}
 use Rattle.bsc_text.specs.declared.phase.Phase.{Phase}
 use Rattle.bsc_text.specs.declared.phase.Phase.TheVariants.{Idle, Unanswered, Held, InDoubt}
-use Rattle.bsc_text.specs.Ready.{IsGoing, IsAtRest}
-use Rattle.bsc_text.specs.Sender.{SenderValue, ReleaseStep, released_in}
-use Rattle.bsc_text.specs.Terminal.{TerminalValue}
+use Rattle.bsc_text.specs.Ready.{IsGoing}
+use Rattle.bsc_text.specs.Sender.{ReleaseStep, release_in}
 use Rattle.std.specs.Result.{OnOk, OnErr}
 use Rattle.std.specs.Prelude.{Result, Ok, Err}
 use Rattle.bsc_control.specs.declared.way.Way.{Way}
@@ -109,7 +107,7 @@ release_if o false x y p q = q
 unreleased : (o : OutboundValue) → IsRelease o o
 unreleased o = record { setup = refl; format = refl; follows = record { rests = λ x. x; goes = λ x. x; idle = λ x. x; some = λ e x. x } }
 
-release-in : (o : OutboundValue) (phase : Phase) (count : ℕ) → o.sender.phase ≡ phase → IsRelease o (after_release (released_in o.sender o.queue phase count))
+release-in : (o : OutboundValue) (phase : Phase) (count : ℕ) → o.sender.phase ≡ phase → IsRelease o (after_release (release_in o.sender o.queue phase count))
 release-in o Idle count e = unreleased o
 release-in o (Unanswered b) count e = unreleased o
 release-in o (Held end parity) count e = unreleased o

@@ -1,16 +1,14 @@
 -- What is made is a control station.
-use Rattle.std.proofs.Common.{◌≡◌, ◌⊎◌, inl, inr, ℕ, zero, suc, ◌≤◌, ◌<◌, List, [], ◌∷◌, length, map, get_or, replicate, refl, sym, ◌∙◌, ap, subst, arith}
+use Rattle.std.proofs.Common.{◌≡◌, ℕ, zero, suc, ◌≤◌, ◌<◌, List, [], ◌∷◌, length, get_or, replicate, sym, ◌∙◌, ap, subst, arith}
 use Rattle.std.proofs.lemmas.List.{length-map}
 use Rattle.std.specs.List.{All}
-use Rattle.bsc_text.specs.declared.phase.Phase.TheVariants.{Idle}
 use Rattle.bsc_text.specs.Ready.{IsAtRest}
 use Rattle.bsc_text.specs.Setup.{SetupValue}
 use Rattle.bsc_text.specs.Terminal.{TerminalValue}
 use Rattle.bsc_control.specs.declared.task.Task.{Task}
-use Rattle.bsc_control.specs.declared.task.Task.TheVariants.{AtRest}
 use Rattle.bsc_control.specs.Addresses.{AreDistinct}
-use Rattle.bsc_control.specs.Control.{ControlValue, HasEntries, terminals, peer, peer_at}
-use Rattle.bsc_control.specs.Kept.{SuitsTask, HasSettings, IsOrderly, IsControl, IsNewControl}
+use Rattle.bsc_control.specs.Control.{ControlValue, HasEntries, peer, peer_at}
+use Rattle.bsc_control.specs.Kept.{SuitsTask, HasSettings, IsControl, IsNewControl}
 use Rattle.bsc_control.specs.Peer.{OutboundValue, PeerValue, IsNewPeer, no_outbound, no_peer, outbound_at, new_outbound}
 use Rattle.bsc_control.specs.Refusals.{IsNumber, AreRight}
 

@@ -1,12 +1,12 @@
 -- How the records of a spool grow when its receiver hears something.
-use Rattle.std.proofs.Common.{◌≡◌, ◌⊎◌, inl, inr, ℕ, Bool, true, false, List, ◌++◌, Option, None, Some, if◌then◌else◌, refl}
+use Rattle.std.proofs.Common.{◌≡◌, ◌⊎◌, inl, inr, ℕ, Bool, true, false, List, ◌++◌, None, if◌then◌else◌, refl}
 use Rattle.bsc_frame.specs.declared.message.Message.TheVariants as m
 use Rattle.bsc_frame.specs.declared.message.Heard.{Heard}
 use Rattle.bsc_frame.specs.declared.message.Heard.TheVariants.{Whole, Failed, Noise}
 use Rattle.bsc_frame.specs.Texts.{TextValue}
 use Rattle.bsc_block.specs.Blocks.{records_in}
 use Rattle.bsc_spool.specs.Spool.{SpoolValue}
-use Rattle.bsc_text.specs.Receiver.{ReceiverValue, ReceiverStep, Rooms, is_rvi, is_wack, taken, taken_urgently, text_step, enq_step, heard_step, replied, tried}
+use Rattle.bsc_text.specs.Receiver.{ReceiverValue, ReceiverStep, Rooms, is_rvi, is_wack, taken, taken_urgently, text_step, enq_step, heard_step}
 
 -- the records are the old ones, or a whole text was heard and they are the old ones and all of its
 pub record TakesText (h : Heard) (old new : List (List ℕ)) : Type 0 where

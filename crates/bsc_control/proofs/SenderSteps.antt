@@ -3,7 +3,7 @@ use Rattle.std.proofs.Common.{◌≡◌, ℕ, ◌+◌, nat_lt, Bool, true, false
 use Rattle.bsc_frame.specs.declared.text.End.{End}
 use Rattle.bsc_frame.specs.declared.text.End.TheVariants.{Etb, Etx}
 use Rattle.bsc_spool.specs.declared.queue.Next.{Next}
-use Rattle.bsc_spool.specs.Queue.{QueueValue, next_block}
+use Rattle.bsc_spool.specs.Queue.{with_known, QueueValue, next_block}
 use Rattle.bsc_text.specs.declared.act.Act.{Act}
 use Rattle.bsc_text.specs.declared.act.Act.TheVariants as a
 use Rattle.bsc_text.specs.declared.parity.Parity.{Parity}
@@ -15,7 +15,7 @@ use Rattle.bsc_text.specs.declared.reply.Reply.{Reply}
 use Rattle.bsc_text.specs.declared.reply.Reply.TheVariants.{Ack0, Ack1, Nak, Wack, Rvi}
 use Rattle.bsc_text.specs.Ready.{IsGoing, IsAtRest}
 use Rattle.bsc_text.specs.Reply.{other, answer_of}
-use Rattle.bsc_text.specs.Sender.{SenderValue, SenderStep, with_phase, with_counts, marked, over, text_of, sent_next, begin_step, accepted, failed, delayed, unanswered_step, held_step, answered_step, reply_step, silent_in, silence_step}
+use Rattle.bsc_text.specs.Sender.{SenderValue, SenderStep, with_phase, with_counts, over, text_of, sent_next, begin_step, accepted, failed, delayed, unanswered_step, held_step, answered_step, reply_step, silent_in, silence_step}
 
 -- a bid goes on after each act but the one that says that it is over
 abbrev pub LeavesPhase : Act → Phase → Type 0
@@ -50,8 +50,8 @@ no_quiet-begin_step s q = no_quiet-sent_next s q Odd (next_block q)
 pub keeps-begin_step : (s : SenderValue) (q : QueueValue) → StepKeeps s q (begin_step s q)
 keeps-begin_step s q = keeps-sent_next s q Odd (next_block q)
 
-keeps-marked : (s : SenderValue) (q : QueueValue) (k : ℕ) (step : SenderStep) → StepKeeps s (marked q k) step → StepKeeps s q step
-keeps-marked s q k step h = record { setup = h.setup; format = h.format; offered = h.offered; phase = h.phase }
+keeps-with_known : (s : SenderValue) (q : QueueValue) (k : ℕ) (step : SenderStep) → StepKeeps s (with_known q k) step → StepKeeps s q step
+keeps-with_known s q k step h = record { setup = h.setup; format = h.format; offered = h.offered; phase = h.phase }
 
 keeps-accepted : (s : SenderValue) (q : QueueValue) (end : End) (parity : Parity) → StepKeeps s q (accepted s q end parity)
 keeps-accepted s q Etx parity = record { setup = refl; format = refl; offered = refl; phase = tt }
@@ -73,16 +73,16 @@ keeps-delayed s q end parity =
     (record { setup = refl; format = refl; offered = refl; phase = tt })
 
 keeps-unanswered_step : (s : SenderValue) (q : QueueValue) (b : SentBlock) (expected : Parity) (r : Reply) → IsGoing s.phase → StepKeeps s q (unanswered_step s q b (answer_of expected r))
-keeps-unanswered_step s q b Odd Ack1 goes = keeps-marked s q b.count (accepted s (marked q b.count) b.end b.parity) (keeps-accepted s (marked q b.count) b.end b.parity)
+keeps-unanswered_step s q b Odd Ack1 goes = keeps-with_known s q b.count (accepted s (with_known q b.count) b.end b.parity) (keeps-accepted s (with_known q b.count) b.end b.parity)
 keeps-unanswered_step s q b Odd Ack0 goes = keeps-failed s q Idle (a.Send (text_of q b)) tt goes
 keeps-unanswered_step s q b Even Ack1 goes = keeps-failed s q Idle (a.Send (text_of q b)) tt goes
-keeps-unanswered_step s q b Even Ack0 goes = keeps-marked s q b.count (accepted s (marked q b.count) b.end b.parity) (keeps-accepted s (marked q b.count) b.end b.parity)
+keeps-unanswered_step s q b Even Ack0 goes = keeps-with_known s q b.count (accepted s (with_known q b.count) b.end b.parity) (keeps-accepted s (with_known q b.count) b.end b.parity)
 keeps-unanswered_step s q b Odd Nak goes = keeps-failed s q Idle (a.Send (text_of q b)) tt goes
 keeps-unanswered_step s q b Even Nak goes = keeps-failed s q Idle (a.Send (text_of q b)) tt goes
-keeps-unanswered_step s q b Odd Wack goes = keeps-marked s q b.count (delayed s (marked q b.count) b.end b.parity) (keeps-delayed s (marked q b.count) b.end b.parity)
-keeps-unanswered_step s q b Even Wack goes = keeps-marked s q b.count (delayed s (marked q b.count) b.end b.parity) (keeps-delayed s (marked q b.count) b.end b.parity)
-keeps-unanswered_step s q b Odd Rvi goes = keeps-marked s q b.count (over s (marked q b.count) Idle) (keeps-over s (marked q b.count))
-keeps-unanswered_step s q b Even Rvi goes = keeps-marked s q b.count (over s (marked q b.count) Idle) (keeps-over s (marked q b.count))
+keeps-unanswered_step s q b Odd Wack goes = keeps-with_known s q b.count (delayed s (with_known q b.count) b.end b.parity) (keeps-delayed s (with_known q b.count) b.end b.parity)
+keeps-unanswered_step s q b Even Wack goes = keeps-with_known s q b.count (delayed s (with_known q b.count) b.end b.parity) (keeps-delayed s (with_known q b.count) b.end b.parity)
+keeps-unanswered_step s q b Odd Rvi goes = keeps-with_known s q b.count (over s (with_known q b.count) Idle) (keeps-over s (with_known q b.count))
+keeps-unanswered_step s q b Even Rvi goes = keeps-with_known s q b.count (over s (with_known q b.count) Idle) (keeps-over s (with_known q b.count))
 
 keeps-held_step : (s : SenderValue) (q : QueueValue) (end : End) (parity expected : Parity) (r : Reply) → IsGoing s.phase → StepKeeps s q (held_step s q end parity (answer_of expected r))
 keeps-held_step s q end parity Odd Ack1 goes = keeps-accepted s q end parity

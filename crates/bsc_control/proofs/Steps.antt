@@ -1,15 +1,12 @@
 -- What each row of the table keeps.
-use Rattle.std.proofs.Common.{◌≡◌, ◌⊎◌, inl, inr, ℕ, ◌+◌, ◌≤◌, ◌<◌, nat_lt, Bool, true, false, List, length, get_or, set, Option, option_map, None, Some, refl, sym, ◌∙◌, ap, subst, arith, if◌then◌else◌}
-use Rattle.std.proofs.lemmas.List.{length-set}
+use Rattle.std.proofs.Common.{◌≡◌, ◌⊎◌, inl, inr, ℕ, ◌+◌, ◌<◌, nat_lt, Bool, true, false, List, length, get_or, set, Option, option_map, None, Some, refl, sym, ◌∙◌, ap, subst, arith, if◌then◌else◌}
 use Rattle.bsc_frame.specs.declared.message.Message.{Message}
 use Rattle.bsc_frame.specs.declared.message.Message.TheVariants as m
 use Rattle.bsc_frame.specs.declared.message.Heard.{Heard}
 use Rattle.bsc_frame.specs.declared.message.Heard.TheVariants.{Whole, Failed, Noise}
-use Rattle.bsc_text.specs.declared.act.Act.{Act}
 use Rattle.bsc_text.specs.declared.act.Act.TheVariants as a
 use Rattle.bsc_text.specs.declared.reply.Reply.{Reply}
 use Rattle.bsc_text.specs.declared.reply.Reply.TheVariants.{Ack0, Ack1, Nak, Wack, Rvi}
-use Rattle.bsc_text.specs.Ready.{IsGoing, IsAtRest}
 use Rattle.bsc_text.specs.Receiver.{ReceiverStep, Rooms, begun, heard_step, sends_rvi}
 use Rattle.bsc_text.specs.Reply.{message_of, reply_heard}
 use Rattle.bsc_text.specs.Sender.{SenderStep, begin_step, reply_step, silence_step}
@@ -18,16 +15,16 @@ use Rattle.bsc_control.specs.declared.task.Replied.TheVariants.{Nothing, Without
 use Rattle.bsc_control.specs.declared.task.Task.{Task}
 use Rattle.bsc_control.specs.declared.task.Task.TheVariants.{AtRest, Selecting, Sending, Polling}
 use Rattle.std.specs.List.{slice_get}
-use Rattle.bsc_control.specs.declared.way.Way.TheVariants.{FromTerminal, ToTerminal}
+use Rattle.bsc_control.specs.declared.way.Way.TheVariants.{ToTerminal}
 use Rattle.bsc_control.specs.Addresses.{IsAddressOf}
-use Rattle.bsc_control.specs.CallOrder.{Call, After, Start, Selection, Interruption, Poll, next_call}
-use Rattle.bsc_control.specs.Control.{ControlValue, ControlStep, HasEntries, terminals, peer_at, peer, current, with_current, quiet, sends}
-use Rattle.bsc_control.specs.Kept.{SuitsTask, IsSelected, IsInBid, outbound_of, phase_of, IsInUse, HasSettings, IsOrderly, Keeps, IsCalled, IsRepeated, GrowsByText, Stores, after_hearing, after_silence, way_of}
-use Rattle.bsc_control.specs.Peer.{OutboundValue, PeerValue, no_outbound, no_peer, outbound_at}
-use Rattle.bsc_control.specs.Table.{polls, calls_next, acted, after_bid, selecting_step, receives, replied_after, has_rvi, polling_step, task_step, hear_step, repeated, silence_in, silent_step, rooms_after, Hears, IsSilent, select_address}
+use Rattle.bsc_control.specs.CallOrder.{After, Start, Selection, Interruption, Poll, next_call}
+use Rattle.bsc_control.specs.Control.{ControlValue, ControlStep, HasEntries, terminals, peer_at, peer, current, quiet, sends}
+use Rattle.bsc_control.specs.Kept.{SuitsTask, IsSelected, IsInBid, outbound_of, IsOrderly, Keeps, IsCalled, IsRepeated, GrowsByText, after_hearing, after_silence, way_of}
+use Rattle.bsc_control.specs.Peer.{PeerValue, no_peer}
+use Rattle.bsc_control.specs.Table.{polls, calls_next, acted, after_bid, selecting_step, receives, replied_after, has_rvi, polling_step, task_step, repeated, silence_in, rooms_after, Hears, IsSilent, select_address}
 use Rattle.bsc_control.proofs.Bids.{OthersRest, fares-acted, calls-acted}
-use Rattle.bsc_control.proofs.Calls.{IsCalm, Fares, IsSamePeer, HasShape, shape, entry_within, keeps-moved, rests-moved, settings-moved, fares-polls, fares-calls_next, next_is_called, terminal_there, selects_there}
-use Rattle.bsc_control.proofs.PeerLists.{same_at, same_map, value_at, holds_at}
+use Rattle.bsc_control.proofs.Calls.{IsCalm, Fares, IsSamePeer, shape, entry_within, keeps-moved, rests-moved, settings-moved, fares-polls, fares-calls_next, next_is_called, terminal_there, selects_there}
+use Rattle.bsc_control.proofs.PeerLists.{same_map, value_at, holds_at}
 use Rattle.bsc_control.proofs.ReceiverSteps.{TakesText, Grows, grows-heard_step, silent-heard_step}
 use Rattle.bsc_control.proofs.SenderSteps.{StepKeeps, keeps-begin_step, no_quiet-begin_step, keeps-reply_step, keeps-silence_step}
 

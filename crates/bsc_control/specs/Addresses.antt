@@ -1,6 +1,6 @@
 -- The addresses of a line, and their numbers (GA27-3004: polling and selection addresses; the numbering is own).
-use Rattle.std.specs.Prelude.{◌≡◌, ◌≢◌, ◌<◌, ◌≤◌, ◌⊎◌, ◌+◌, ℕ, List, [], ◌∷◌, ◌++◌, length, Option, None, Some, slice_get, take}
-use Rattle.std.specs.List.{AllPairs, Contains}
+use Rattle.std.specs.Prelude.{◌≡◌, ◌≢◌, ◌+◌, ℕ, List, [], ◌∷◌, ◌++◌, Option, Some, slice_get}
+use Rattle.std.specs.List.{AllPairs}
 use Rattle.bsc_text.specs.Terminal.{TerminalValue}
 use Rattle.bsc_control.specs.declared.way.Way.{Way}
 use Rattle.bsc_control.specs.declared.way.Way.TheVariants.{FromTerminal, ToTerminal}

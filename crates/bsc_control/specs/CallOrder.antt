@@ -1,9 +1,9 @@
 -- The call order (GA27-3004: polling and selection by a poll list; the order of selections and polls, and that
 -- an entry comes again after RVI, are own).
-use Rattle.std.specs.Prelude.{ℕ, ◌+◌, Bool, true, false, nat_eq, List, length, drop, position, Option, None, Some, if◌then◌else◌}
+use Rattle.std.specs.Prelude.{ℕ, ◌+◌, Bool, true, false, nat_eq, length, drop, position, Option, None, Some, if◌then◌else◌}
 use Rattle.bsc_control.specs.declared.way.Way.{Way}
 use Rattle.bsc_control.specs.declared.way.Way.TheVariants.{FromTerminal, ToTerminal}
-use Rattle.bsc_control.specs.Peer.{OutboundValue, PeerValue, is_selectable}
+use Rattle.bsc_control.specs.Peer.{PeerValue, is_selectable}
 use Rattle.bsc_control.specs.Control.{ControlValue, peer_at, terminal_of_entry, current}
 
 -- a call: an entry of the poll list, and the address of its terminal

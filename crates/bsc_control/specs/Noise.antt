@@ -5,7 +5,6 @@ use Rattle.std.proofs.lemmas.List.{set-get_or}
 use Rattle.bsc_frame.specs.declared.message.Message.{Message}
 use Rattle.bsc_frame.specs.declared.message.Heard.TheVariants.{Noise}
 use Rattle.bsc_text.specs.Receiver.{Rooms}
-use Rattle.bsc_control.specs.declared.task.Replied.{Replied}
 use Rattle.bsc_control.specs.declared.task.Task.{Task}
 use Rattle.bsc_control.specs.declared.task.Task.TheVariants.{AtRest, Selecting, Sending, Polling}
 use Rattle.bsc_control.specs.Peer.{OutboundValue, PeerValue, no_outbound, no_peer, outbound_at, with_outbound}

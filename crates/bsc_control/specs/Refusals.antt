@@ -1,6 +1,6 @@
 -- Why a control station is not made (own).
-use Rattle.std.specs.Prelude.{◌≡◌, ◌≢◌, ◌⊎◌, ◌<◌, ◌≤◌, ℕ, List, [], ◌++◌, length, take, slice_get, slice_index}
-use Rattle.std.specs.List.{AllPairs, All}
+use Rattle.std.specs.Prelude.{◌≡◌, ◌≢◌, ◌<◌, ◌≤◌, ℕ, List, ◌++◌, length, take, slice_get, slice_index}
+use Rattle.std.specs.List.{AllPairs}
 use Rattle.bsc_text.specs.Terminal.{TerminalValue}
 use Rattle.bsc_control.specs.declared.refusal.SetupError.{SetupError}
 use Rattle.bsc_control.specs.declared.refusal.SetupError.TheVariants.{NoTerminal, TooMany, SameAddress, EmptyPollList, PollList, Memory}

@@ -190,7 +190,7 @@ impl<A: Allocator> Station for Control<A> {
 
     ghost hears = { Hears };
 
-    ghost is_silent = { IsSilent };
+    ghost acts = { IsSilent };
 
     ghost holds = { λ _. false };
 

@@ -1,6 +1,6 @@
-use Rattle.std.proofs.Common.{◌≡◌, ◌↔◌, ℕ, List, sym, ◌∙◌, ap, subst, Some}
+use Rattle.std.proofs.Common.{List, sym, ◌∙◌, ap, subst}
 use Rattle.std.specs.List.{Contains}
-use Rattle.bsc_control.specs.Addresses.{numbered, IsAddressOf}
+use Rattle.bsc_control.specs.Addresses.{numbered}
 use Rattle.bsc_control.specs.Control.{ControlValue, terminals}
 use Rattle.bsc_control.proofs.Owners.{Owner, owner_iff}
 use Rattle.bsc_control.proofs.control.Control.find.Goals as goal

@@ -1,7 +1,7 @@
-use Rattle.std.proofs.Common.{◌≡◌, length, refl, sym, ◌∙◌, ap, arith, rules}
+use Rattle.std.proofs.Common.{refl, sym, ◌∙◌, ap, rules}
 use Rattle.bsc_control.specs.Addresses.{numbered}
 use Rattle.bsc_control.specs.Kept.{IsControl}
-use Rattle.bsc_control.specs.Refusals.{IsNumber, IsAccepted}
+use Rattle.bsc_control.specs.Refusals.{IsAccepted}
 use Rattle.bsc_control.proofs.NewControls.{new_control}
 use Rattle.bsc_control.proofs.control.Control.new.Given as given
 use Rattle.bsc_control.proofs.control.Control.new.Goals as goal

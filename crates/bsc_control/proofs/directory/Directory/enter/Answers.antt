@@ -1,4 +1,4 @@
-use Rattle.std.proofs.Common.{◌≡◌, ◌==◌, ℕ, Bool, false, true, List, ◌++◌, ◌∷◌, [], Option, None, Some, is_some, refl, sym, ◌∙◌, ap, subst}
+use Rattle.std.proofs.Common.{◌≡◌, ◌==◌, false, List, ◌++◌, ◌∷◌, [], Option, None, Some, is_some, refl, sym, ◌∙◌, ap, subst}
 use Rattle.indexmap.proofs.CallerLemmas.{insert_entry-new}
 use Rattle.std.specs.Map.{keys_of}
 use lib.Pointwise.{pointwise}

@@ -1,5 +1,5 @@
-use Rattle.std.proofs.Common.{◌≡◌, ◌≢◌, ◌++◌, ◌∷◌, List, [], ℕ, ◌+◌, ◌<◌, ◌≤◌, length, take, drop, get_or, map, Some, refl, sym, ◌∙◌, ap, subst, arith, append_assoc, add-one, take_all}
-use Rattle.std.proofs.lemmas.List.{map-append, length-take-le, take-append-drop, append-nil}
+use Rattle.std.proofs.Common.{◌≡◌, ◌≢◌, ◌++◌, ◌∷◌, List, [], ℕ, ◌+◌, ◌<◌, ◌≤◌, length, take, drop, get_or, refl, sym, ◌∙◌, ap, subst, arith, append_assoc, add-one, take_all}
+use Rattle.std.proofs.lemmas.List.{length-take-le, take-append-drop, append-nil}
 use Rattle.std.proofs.Math.Seq.{take-suc}
 use Rattle.std.proofs.lemmas.Result.{err_from_is_err_and}
 use Rattle.std.specs.List.{AllPairs}
