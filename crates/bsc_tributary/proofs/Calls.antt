@@ -6,14 +6,14 @@ use Rattle.bsc_frame.specs.declared.message.Message.{Message}
 use Rattle.bsc_frame.specs.declared.message.Message.TheVariants as m
 use Rattle.bsc_block.specs.Format.{FormatValue}
 use Rattle.bsc_spool.specs.Queue.{waiting, next_after, next_block}
-use Rattle.bsc_spool.specs.Spool.{SpoolValue}
+use Rattle.bsc_spool.specs.Spool.{SpoolValue, room_asked}
 use Rattle.bsc_text.specs.declared.parity.Parity.TheVariants.{Odd}
 use Rattle.bsc_text.specs.declared.phase.Phase.{Phase}
 use Rattle.bsc_text.specs.declared.phase.Phase.TheVariants.{Idle, Unanswered, Held, InDoubt}
 use Rattle.bsc_text.specs.declared.reply.Reply.{Reply}
 use Rattle.bsc_text.specs.Ready.{IsReady, IsAtRest}
 use Rattle.bsc_text.specs.Reply.{message_of}
-use Rattle.bsc_text.specs.Receiver.{ReceiverValue, begun, first_reply, tried}
+use Rattle.bsc_text.specs.Receiver.{ReceiverValue, begun, first_reply}
 use Rattle.bsc_text.specs.Sender.{SenderStep, begin_step, is_in_doubt}
 use Rattle.bsc_tributary.specs.declared.mode.Mode.{Mode}
 use Rattle.bsc_tributary.specs.declared.mode.Mode.TheVariants.{Receiving}
@@ -89,22 +89,22 @@ stays-begun t step mode is row mode_is ready =
 abbrev selection_from : TributaryValue → ℕ → Bool → TributaryStep
 selection_from d s room =
     if d.ready
-    then answer_step (record d { mode = Receiving s; receiver = begun room; spools = slice_set d.spools s (tried (spool_at d.spools s) room) }) (message_of (first_reply room))
+    then answer_step (record d { mode = Receiving s; receiver = begun room; spools = slice_set d.spools s (room_asked (spool_at d.spools s) room) }) (message_of (first_reply room))
     else answer_step d m.Nak
 
 pub selection_step-ready : (t old : TributaryValue) (s : ℕ) (room : Bool) (receiver : ReceiverValue) (spools : List SpoolValue) (reply : Reply) (message : Message) → t ≡ without_line old → t.ready ≡ true → s < length t.spools →
-    spools ≡ slice_set t.spools s (tried (spool_at t.spools s) room) → receiver ≡ begun room → reply ≡ first_reply room → message ≡ message_of reply →
+    spools ≡ slice_set t.spools s (room_asked (spool_at t.spools s) room) → receiver ≡ begun room → reply ≡ first_reply room → message ≡ message_of reply →
     answer_step (record t { mode = Receiving s; receiver = receiver; spools = spools }) message ≡ selection_step old s (spool_at spools s).room
 selection_step-ready t old s room receiver spools reply message e ready within spools_is receiver_is reply_is message_is =
-    let there : spool_at (slice_set t.spools s (tried (spool_at t.spools s) room)) s ≡ tried (spool_at t.spools s) room = get_or-set_same t.spools s (tried (spool_at t.spools s) room) empty_spool within in
+    let there : spool_at (slice_set t.spools s (room_asked (spool_at t.spools s) room)) s ≡ room_asked (spool_at t.spools s) room = get_or-set_same t.spools s (room_asked (spool_at t.spools s) room) empty_spool within in
     let same : (spool_at spools s).room ≡ room = ap (λ (xs : List SpoolValue). (spool_at xs s).room) spools_is ∙ ap (λ (x : SpoolValue). x.room) there in
     let here : answer_step (record t { mode = Receiving s; receiver = receiver; spools = spools }) message ≡ selection_from t s room = rw (spools_is, receiver_is, message_is, reply_is, ready) refl in
     here ∙ ap (λ (v : TributaryValue). selection_from v s room) e ∙ ap (selection_step old s) (sym same)
 
-pub selection_step-room : (t old : TributaryValue) (s : ℕ) (room : Bool) (spools : List SpoolValue) → t ≡ without_line old → s < length t.spools → spools ≡ slice_set t.spools s (tried (spool_at t.spools s) room) →
+pub selection_step-room : (t old : TributaryValue) (s : ℕ) (room : Bool) (spools : List SpoolValue) → t ≡ without_line old → s < length t.spools → spools ≡ slice_set t.spools s (room_asked (spool_at t.spools s) room) →
     ((spool_at t.spools s).room ≡ true → room ≡ true) → (spool_at old.spools s).room ≡ true → (spool_at spools s).room ≡ true
 selection_step-room t old s room spools e within spools_is there had =
-    let now : spool_at (slice_set t.spools s (tried (spool_at t.spools s) room)) s ≡ tried (spool_at t.spools s) room = get_or-set_same t.spools s (tried (spool_at t.spools s) room) empty_spool within in
+    let now : spool_at (slice_set t.spools s (room_asked (spool_at t.spools s) room)) s ≡ room_asked (spool_at t.spools s) room = get_or-set_same t.spools s (room_asked (spool_at t.spools s) room) empty_spool within in
     ap (λ (xs : List SpoolValue). (spool_at xs s).room) spools_is ∙ ap (λ (x : SpoolValue). x.room) now ∙ there (ap (λ (v : TributaryValue). (spool_at v.spools s).room) e ∙ had)
 
 pub stays-selection_step : (t old : TributaryValue) (s : ℕ) (receiver : ReceiverValue) (spools : List SpoolValue) (spool : SpoolValue) → IsTributary t → t ≡ without_line old → s < length t.spools → spools ≡ slice_set t.spools s spool →

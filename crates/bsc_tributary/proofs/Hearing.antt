@@ -9,10 +9,10 @@ use Rattle.bsc_frame.specs.declared.message.Heard.TheVariants.{Whole, Failed, No
 use Rattle.bsc_frame.specs.Texts.{TextValue}
 use Rattle.bsc_block.specs.Blocks.{records_in}
 use Rattle.bsc_spool.specs.Queue.{waiting, next_block}
-use Rattle.bsc_spool.specs.Spool.{SpoolValue}
+use Rattle.bsc_spool.specs.Spool.{SpoolValue, room_asked}
 use Rattle.bsc_text.specs.declared.parity.Parity.TheVariants.{Odd}
 use Rattle.bsc_text.specs.Reply.{reply_heard}
-use Rattle.bsc_text.specs.Receiver.{ReceiverValue, ReceiverStep, Rooms, tried, heard_step, text_step, taken, taken_urgently, enq_step, is_rvi, is_wack}
+use Rattle.bsc_text.specs.Receiver.{ReceiverValue, ReceiverStep, Rooms, heard_step, text_step, taken, taken_urgently, enq_step, is_rvi, is_wack}
 use Rattle.bsc_text.specs.Ready.{IsReady}
 use Rattle.bsc_text.specs.Sender.{SenderValue, SenderStep, with_phase, cut_phase, begin_step, reply_step, silence_step, is_in_doubt}
 use Rattle.bsc_tributary.specs.declared.called.Called.{Called}
@@ -87,10 +87,10 @@ polled_changes t =
 selected_changes : (t : TributaryValue) (s : ℕ) (room ready : Bool) → s < length t.spools → CallChanges (record t { ready = ready }) (Selection s) (selection_step (record t { ready = ready }) s room)
 selected_changes t s room true within =
     record {
-      keeps = record { terminal = refl; setup = refl; ready = refl; format = refl; offered = refl; spools = length-set t.spools s (tried (spool_at t.spools s) room) };
+      keeps = record { terminal = refl; setup = refl; ready = refl; format = refl; offered = refl; spools = length-set t.spools s (room_asked (spool_at t.spools s) room) };
       mode = inr refl;
-      other_spools = λ r ne. get_or-set_other t.spools s r (tried (spool_at t.spools s) room) empty_spool (λ same. ne (ap (λ n. Receiving n) (sym same)));
-      same_records = λ r. elim (written t.spools s r (tried (spool_at t.spools s) room) within) [
+      other_spools = λ r ne. get_or-set_other t.spools s r (room_asked (spool_at t.spools s) room) empty_spool (λ same. ne (ap (λ n. Receiving n) (sym same)));
+      same_records = λ r. elim (written t.spools s r (room_asked (spool_at t.spools s) room) within) [
         | inl at ↦ ap (λ (x : SpoolValue). x.records) at.is ∙ ap (λ n. (spool_at t.spools n).records) (sym at.same)
         | inr beside ↦ ap (λ (x : SpoolValue). x.records) beside.is
       ];

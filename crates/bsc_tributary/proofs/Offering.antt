@@ -11,7 +11,7 @@ use Rattle.bsc_text.specs.declared.phase.Phase.{Phase}
 use Rattle.bsc_text.specs.declared.phase.Phase.TheVariants.{Idle, Unanswered, Held, InDoubt}
 use Rattle.bsc_text.specs.Ready.{IsReady, CountsOn, AreWaiting}
 use Rattle.bsc_text.specs.Setup.{SetupValue}
-use Rattle.bsc_text.specs.Sender.{SenderValue, ReleaseStep, released_in, release_step}
+use Rattle.bsc_text.specs.Sender.{SenderValue, ReleaseStep, release_in, release_step}
 use Rattle.bsc_tributary.specs.declared.mode.Mode.{Mode}
 use Rattle.bsc_tributary.specs.declared.mode.Mode.TheVariants.{Control, Receiving, Sending}
 use Rattle.bsc_tributary.specs.Tributary.{TributaryValue, after_release}
@@ -62,7 +62,7 @@ idle_suits Control k n suits = tt
 idle_suits (Receiving s) k n suits = (tt, suits.1)
 idle_suits Sending k n suits = absurd suits
 
-releases-in : (mode : Mode) (n : ℕ) (s : SenderValue) (q : QueueValue) (p : Phase) (count : ℕ) → SuitsMode mode p n → SuitsMode mode s.phase n → Releases mode n s.setup q.format (released_in s q p count)
+releases-in : (mode : Mode) (n : ℕ) (s : SenderValue) (q : QueueValue) (p : Phase) (count : ℕ) → SuitsMode mode p n → SuitsMode mode s.phase n → Releases mode n s.setup q.format (release_in s q p count)
 releases-in mode n s q (InDoubt k) count suits now =
     choose (Releases mode n s.setup q.format) ((count == q.known) || (count == (q.known + k))) _ _
     (record { suits = idle_suits mode k n suits; setup_is = refl; format_is = refl })

@@ -7,12 +7,12 @@ use Rattle.bsc_frame.specs.declared.message.Message.TheVariants as m
 use Rattle.bsc_frame.specs.declared.message.Heard.{Heard}
 use Rattle.bsc_frame.specs.declared.message.Heard.TheVariants.{Whole}
 use Rattle.bsc_spool.specs.Queue.{QueueValue, waiting}
-use Rattle.bsc_spool.specs.Spool.{SpoolValue}
+use Rattle.bsc_spool.specs.Spool.{SpoolValue, room_asked}
 use Rattle.bsc_text.specs.declared.act.Act.{Act}
 use Rattle.bsc_text.specs.declared.act.Act.TheVariants as a
 use Rattle.bsc_text.specs.Terminal.{TerminalValue}
 use Rattle.bsc_text.specs.Reply.{message_of, reply_heard}
-use Rattle.bsc_text.specs.Receiver.{ReceiverValue, ReceiverStep, Rooms, begun, first_reply, tried, heard_step, rooms_left, sends_rvi}
+use Rattle.bsc_text.specs.Receiver.{ReceiverValue, ReceiverStep, Rooms, begun, first_reply, heard_step, rooms_left, sends_rvi}
 use Rattle.bsc_text.specs.Sender.{SenderValue, SenderStep, with_phase, begin_step, reply_step, silence_step, cut_phase, is_in_doubt, release_step}
 use Rattle.bsc_tributary.specs.declared.called.Called.{Called}
 use Rattle.bsc_tributary.specs.declared.called.Called.TheVariants.{Polling, Selection, Other}
@@ -98,7 +98,7 @@ abbrev pub selection_step : TributaryValue → ℕ → Bool → TributaryStep
 selection_step t s room =
     let d : TributaryValue = without_line t in
     if t.ready
-    then answer_step (record d { mode = Receiving s; receiver = begun room; spools = slice_set t.spools s (tried (spool_at t.spools s) room) }) (message_of (first_reply room))
+    then answer_step (record d { mode = Receiving s; receiver = begun room; spools = slice_set t.spools s (room_asked (spool_at t.spools s) room) }) (message_of (first_reply room))
     else answer_step d m.Nak
 
 -- a call

@@ -1,7 +1,8 @@
 //! The spools of a terminal: one for each selection address.
 
 ghost use Rattle.std.specs.Prelude.{◌≡◌, ◌<◌, ◌≤◌, [], true, length, slice_set, All};
-ghost use Rattle.bsc_text.specs.Receiver.{Receives, tried};
+ghost use Rattle.bsc_text.specs.Receiver.{Receives};
+ghost use Rattle.bsc_spool.specs.Spool.{room_asked};
 ghost use Rattle.bsc_tributary.specs.Tributary.{spool_at};
 
 use arrayvec::ArrayVec;
@@ -64,7 +65,7 @@ impl<A: Allocator> Spools<A> {
     /// Makes room in the spool of this number; true where there is room.
     pub(crate) fn make_room(&mut self, select: usize) -> bool
         requires { select < length self.old }
-        ensures spool { self.new ≡ slice_set self.old select (tried (spool_at self.old select) result) }
+        ensures spool { self.new ≡ slice_set self.old select (room_asked (spool_at self.old select) result) }
         ensures there { (spool_at self.old select).room ≡ true → result ≡ true }
     {
         let spool = self.table.get_mut(select).unwrap();
