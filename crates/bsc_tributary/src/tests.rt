@@ -39,11 +39,17 @@ const TEXT_HI: &[u8] = &[0x16, 0x16, 0x02, 0xc8, 0x49, 0x19, 0x83, 0x9b, 0xff];
 /// The text of one empty record.
 const TEXT_EMPTY: &[u8] = &[0x16, 0x16, 0x02, 0x19, 0x83, 0x1a, 0xff];
 
+/// The text of seven empty records.
+const TEXT_SEVEN: &[u8] = &[
+    0x16, 0x16, 0x02, 0x19, 0x1f, 0x86, 0x19, 0x1f, 0x86, 0x19, 0x1f, 0x86, 0x19, 0x1f, 0x86, 0x19,
+    0x1f, 0x86, 0x19, 0x1f, 0x86, 0x19, 0x83, 0x1a, 0xff,
+];
+
 /// No answer.
 const QUIET: &[u8] = &[];
 
 #[test]
-fn a_polled_terminal_sends_its_records(rt: HostRuntime) -> Result<(), Fail> {
+fn a_terminal_is_polled_and_then_selected(rt: HostRuntime) -> Result<(), Fail> {
     let mut tributary = terminal_a(rt.alloc(), &[Address::read(b"a")?], 3)?;
     tributary.offer(hi()?)?;
     assert_eq!(rt; answer_to(&mut tributary, CALL_POLL_A).as_slice(), TEXT_HI);
@@ -51,15 +57,8 @@ fn a_polled_terminal_sends_its_records(rt: HostRuntime) -> Result<(), Fail> {
     assert_eq!(rt; answer_to(&mut tributary, ACK1).as_slice(), EOT);
     assert!(rt; !tributary.holds_line());
     assert_eq!(rt; tributary.queue().known(), 1);
-    assert_eq!(rt; answer_to(&mut tributary, CALL_POLL_A).as_slice(), EOT);
-    Ok(())
-}
-
-#[test]
-fn a_selected_terminal_stores_what_it_takes(rt: HostRuntime) -> Result<(), Fail> {
-    let mut tributary = terminal_a(rt.alloc(), &[Address::read(b"a")?], 3)?;
     for (heard, answer) in [
-        (BROKEN, QUIET),
+        (CALL_POLL_A, EOT),
         (CALL_SELECT_A, ACK0),
         (BROKEN, NAK),
         (TEXT_HI, ACK1),
@@ -70,6 +69,22 @@ fn a_selected_terminal_stores_what_it_takes(rt: HostRuntime) -> Result<(), Fail>
         assert_eq!(rt; answer_to(&mut tributary, heard).as_slice(), answer);
     }
     assert!(rt; has_spooled(&tributary, 0, &[b"HI"]));
+    Ok(())
+}
+
+#[test]
+fn a_broken_text_is_refused_while_receiving_alone(rt: HostRuntime) -> Result<(), Fail> {
+    let mut tributary = terminal_a(rt.alloc(), &[Address::read(b"a")?], 3)?;
+    for (heard, answer) in [
+        (BROKEN, QUIET),
+        (CALL_SELECT_A, ACK0),
+        (BROKEN, NAK),
+        (EOT, QUIET),
+        (BROKEN, QUIET),
+    ] {
+        assert_eq!(rt; answer_to(&mut tributary, heard).as_slice(), answer);
+    }
+    assert!(rt; has_spooled(&tributary, 0, &[]));
     Ok(())
 }
 
@@ -91,16 +106,11 @@ fn a_refused_growth_delays_a_selection(rt: HostRuntime) -> Result<(), Fail> {
     let mut tributary = terminal_a(&alloc, &[Address::read(b"a")?], 3)?;
     assert_eq!(rt; alloc.requests(), 0);
     alloc.refuse_nth(1);
-    for (heard, answer) in [
-        (CALL_SELECT_A, WACK),
-        (ENQ, ACK0),
-        (TEXT_HI, ACK1),
-        (TEXT_EMPTY, ACK0),
-    ] {
+    for (heard, answer) in [(CALL_SELECT_A, WACK), (ENQ, ACK0), (TEXT_SEVEN, ACK1)] {
         assert_eq!(rt; answer_to(&mut tributary, heard).as_slice(), answer);
     }
     assert_eq!(rt; alloc.refused(), 1);
-    assert!(rt; has_spooled(&tributary, 0, &[b"HI", b""]));
+    assert!(rt; has_spooled(&tributary, 0, &[b"".as_slice(); 7]));
     Ok(())
 }
 
