@@ -77,3 +77,8 @@ hears-other t new address called row =
 -- the address of a selection is one of the terminal's
 pub within-selects : (t : TerminalValue) (address : List ℕ) (s : ℕ) → Selection s ≡ called_as t address → s < length t.selects
 within-selects t address s called = slice_get_within t.selects s address (selection-is t address s (sym called))
+
+-- which address the code found, seen from the terminal as it was passed
+pub called_from : (t old : TributaryValue) (address : List ℕ) (found called : Called) → t ≡ old → found ≡ called → found ≡ called_as t.terminal address → called ≡ called_as old.terminal address
+called_from t old address found called view is found_is =
+    sym is ∙ found_is ∙ ap (λ (v : TributaryValue). called_as v.terminal address) view

@@ -32,6 +32,19 @@ pub record TributaryValue : Type 0 where
   pub queue : QueueValue
   pub spools : List SpoolValue
 
+abbrev pub tributary_of : TerminalValue → Mode → Bool → Bool → SenderValue → ReceiverValue → QueueValue → List SpoolValue → TributaryValue
+tributary_of terminal mode ready urgent sender receiver queue spools =
+    record {
+      terminal = terminal;
+      mode = mode;
+      ready = ready;
+      urgent = urgent;
+      sender = sender;
+      receiver = receiver;
+      queue = queue;
+      spools = spools;
+    }
+
 -- what is left of the terminal, and the message that it sends
 pub record TributaryStep : Type 0 where
   pub tributary : TributaryValue

@@ -38,7 +38,8 @@ pub(crate) fn called_address(terminal: &Terminal, address: &Address) -> Called
 /// is the same.
 fn is_first(terminal: &Terminal, select: usize) -> bool
     requires { select < length terminal.now.selects }
-    ensures { IsTrue result ↔ (called_as terminal.now (slice_index_or terminal.now.selects select []) ≡ Called.Selection select) }
+    ensures { let address = slice_index_or terminal.now.selects select [] in
+        IsTrue result ↔ (called_as terminal.now address ≡ Called.Selection select) }
 {
     match called_address(terminal, &terminal.select(select)) {
         Called::Selection { select: first } => first == select,

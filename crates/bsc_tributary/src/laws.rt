@@ -9,6 +9,8 @@ ghost use Rattle.bsc_tributary.specs.declared.called.Called.{Called};
 /// address at this place, or none of them.
 pub fn own_addresses()
     ensures polling { (t : TerminalValue) (address : List ℕ) → (called_as t address ≡ Called.Polling) ↔ (address ≡ t.poll) }
-    ensures selection { (t : TerminalValue) (address : List ℕ) (s : ℕ) → AreDistinct t → (called_as t address ≡ Called.Selection s) ↔ (slice_get t.selects s ≡ Some address) }
-    ensures other { (t : TerminalValue) (address : List ℕ) → (called_as t address ≡ Called.Other) ↔ (¬ Contains (addresses t) address) }
+    ensures selection { (t : TerminalValue) (address : List ℕ) (s : ℕ) → AreDistinct t
+        → (called_as t address ≡ Called.Selection s) ↔ (slice_get t.selects s ≡ Some address) }
+    ensures other { (t : TerminalValue) (address : List ℕ)
+        → (called_as t address ≡ Called.Other) ↔ (¬ Contains (addresses t) address) }
 {}

@@ -37,14 +37,14 @@ pub struct Tributary<A: Allocator> {
 }
 
 impl<A: Allocator> Model for Tributary<A> {
-    ghost use Rattle.bsc_tributary.specs.Tributary.{TributaryValue};
+    ghost use Rattle.bsc_tributary.specs.Tributary.{TributaryValue, tributary_of};
     ghost use Rattle.bsc_tributary.specs.Kept.{IsTributary};
 
     ghost Value = { TributaryValue };
 
-    ghost view = { λ t. record { terminal = t.terminal; mode = t.mode; ready = t.ready; urgent = t.urgent; sender = t.sender; receiver = t.receiver; queue = t.queue; spools = t.spools } };
+    ghost view = { λ t. tributary_of t.terminal t.mode t.ready t.urgent t.sender t.receiver t.queue t.spools };
 
-    ghost invariant = { λ t. IsTributary (record { terminal = t.terminal; mode = t.mode; ready = t.ready; urgent = t.urgent; sender = t.sender; receiver = t.receiver; queue = t.queue; spools = t.spools }) };
+    ghost invariant = { λ t. IsTributary (tributary_of t.terminal t.mode t.ready t.urgent t.sender t.receiver t.queue t.spools) };
 }
 
 impl<A: Allocator> Tributary<A> {
@@ -168,7 +168,8 @@ impl<A: Allocator> Tributary<A> {
     /// A call of the selection address of this number.
     fn answer_selection(&mut self, select: usize) -> Option<Message>
         requires { select < length self.old.terminal.selects }
-        ensures row { record { tributary = self.new; sent = result } ≡ selection_step self.old select (spool_at self.new.spools select).room }
+        ensures row { let room = (spool_at self.new.spools select).room in
+            record { tributary = self.new; sent = result } ≡ selection_step self.old select room }
         ensures room { (spool_at self.old.spools select).room ≡ true → (spool_at self.new.spools select).room ≡ true }
         ensures tributary { IsTributary self.new }
     {
@@ -261,7 +262,8 @@ impl<A: Allocator> Station for Tributary<A> {
     /// Hears what octets were decoded as. True: the wire holds the one message to send. False: the wire is
     /// empty. It may try to reserve memory; a refusal changes a reply alone.
     fn hear_message(&mut self, heard: &Heard, wire: &mut Wire) -> bool
-        ensures row { (sent : Option MessageValue) × Hears self.old heard.now self.new sent × IsSent sent result wire.new.items }
+        ensures row { (sent : Option MessageValue)
+            × Hears self.old heard.now self.new sent × IsSent sent result wire.new.items }
         ensures after { AfterHearing self.old heard.now self.new result }
     {
         transmit(self.answer(heard), wire)
@@ -280,7 +282,8 @@ impl<A: Allocator> Station for Tributary<A> {
     /// Nothing was heard for the time of a time-out. True: the wire holds the one message to send. False:
     /// the wire is empty.
     fn silence(&mut self, wire: &mut Wire) -> bool
-        ensures row { (sent : Option MessageValue) × ActsOnSilence self.old self.new sent × IsSent sent result wire.new.items }
+        ensures row { (sent : Option MessageValue)
+            × ActsOnSilence self.old self.new sent × IsSent sent result wire.new.items }
         ensures after { AfterSilence self.old self.new result }
     {
         transmit(self.act_on_silence(), wire)

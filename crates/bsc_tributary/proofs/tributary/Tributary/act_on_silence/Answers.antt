@@ -1,20 +1,29 @@
+use Rattle.bsc_tributary.specs.Kept.{IsTributary}
 use Rattle.bsc_tributary.proofs.Hearing.{after_silence, after_stillness}
 use Rattle.bsc_tributary.proofs.InMode.{silent-sending, silent-still, stays-silent}
 use Rattle.bsc_tributary.proofs.tributary.Tributary.act_on_silence.Goals as goal
 
 pub invariant_of-self : goal.invariant_of-self
-invariant_of-self g c = stays-silent _ c.perform.new.mode _ c.self.invariant c.in-Sending.is (c.silence-act.ensures.row _) c.perform.ensures.mode (c.silence-act.ensures.ready _ c.self.invariant.ready)
+invariant_of-self g c =
+    stays-silent _ c.perform.new.mode _ c.self.invariant c.in-Sending.is (c.silence-act.ensures.row _) c.perform.ensures.mode
+    (c.silence-act.ensures.ready _ c.self.invariant.ready)
 
-pub returns-in-Control-clause-row : goal.returns-in-Control-clause-row
-returns-in-Control-clause-row g c = silent-still _ c.args.self.now c.self.view_is c.in-Control.is
+pub returns-in-Control : goal.returns-in-Control
+returns-in-Control g c =
+    record {
+      row = silent-still _ c.args.self.now c.self.view_is c.in-Control.is;
+      after = after_stillness _ c.args.self.now c.self.view_is c.self.invariant;
+    }
 
-pub returns-in-Control-clause-after : goal.returns-in-Control-clause-after
-returns-in-Control-clause-after g c = after_stillness _ c.args.self.now c.self.view_is c.self.invariant
-
-pub returns-in-Sending-clause-row : goal.returns-in-Sending-clause-row
-returns-in-Sending-clause-row g c = silent-sending _ c.args.self.now c.perform.new.mode _ c.perform.result c.self.view_is c.in-Sending.is (c.silence-act.ensures.row _) c.perform.ensures.mode c.perform.ensures.sent
-
-pub returns-in-Sending-clause-after : goal.returns-in-Sending-clause-after
-returns-in-Sending-clause-after g c =
-    after_silence _ c.args.self.now c.perform.new.mode _ c.perform.result c.self.view_is c.self.invariant c.in-Sending.is (c.silence-act.ensures.row _) c.perform.ensures.mode
-    (stays-silent _ c.perform.new.mode _ c.self.invariant c.in-Sending.is (c.silence-act.ensures.row _) c.perform.ensures.mode (c.silence-act.ensures.ready _ c.self.invariant.ready))
+pub returns-in-Sending : goal.returns-in-Sending
+returns-in-Sending g c =
+    record {
+      row =
+          silent-sending _ c.args.self.now c.perform.new.mode _ c.perform.result c.self.view_is c.in-Sending.is
+          (c.silence-act.ensures.row _) c.perform.ensures.mode c.perform.ensures.sent;
+      after =
+          after_silence _ c.args.self.now c.perform.new.mode _ c.perform.result c.self.view_is c.self.invariant c.in-Sending.is
+          (c.silence-act.ensures.row _) c.perform.ensures.mode
+          (stays-silent _ c.perform.new.mode _ c.self.invariant c.in-Sending.is (c.silence-act.ensures.row _)
+          c.perform.ensures.mode (c.silence-act.ensures.ready _ c.self.invariant.ready));
+    }

@@ -12,8 +12,11 @@ heard_as octets (Whole m) whole failed noise = (whole m).0 refl
 heard_as octets Failed whole failed noise = failed.0 refl
 heard_as octets Noise whole failed noise = noise.0 refl
 
-pub returns-clause-row : goal.returns-clause-row
-returns-clause-row g c = (c.decode.result, (heard_as c.args.octets.now c.decode.result c.decode.ensures.whole c.decode.ensures.failed c.decode.ensures.noise, c.hear_message.ensures.row))
-
-pub returns-clause-after : goal.returns-clause-after
-returns-clause-after g c = (c.decode.result, (heard_as c.args.octets.now c.decode.result c.decode.ensures.whole c.decode.ensures.failed c.decode.ensures.noise, c.hear_message.ensures.after))
+pub returns : goal.returns
+returns g c =
+    let heard : IsHeardAs c.args.octets.now c.decode.result =
+    heard_as c.args.octets.now c.decode.result c.decode.ensures.whole c.decode.ensures.failed c.decode.ensures.noise in
+    record {
+      row = (c.decode.result, (heard, c.hear_message.ensures.row));
+      after = (c.decode.result, (heard, c.hear_message.ensures.after));
+    }
