@@ -39,7 +39,8 @@ mode_after-Sending a.Quiet = inr refl
 
 -- A step of the sender: the mode that its act makes suits the phase that it leaves, and the settings, the format
 -- and the offered records are these.
-pub record Follows (mode : Mode) (n : ℕ) (setup : SetupValue) (format : FormatValue) (offered : List (List ℕ)) (step : SenderStep) : Type 0 where
+pub record Follows (mode : Mode) (n : ℕ) (setup : SetupValue) (format : FormatValue) (offered : List (List ℕ))
+    (step : SenderStep) : Type 0 where
   pub suits : SuitsMode (mode_after step.act mode) step.sender.phase n
   pub setup_is : step.sender.setup ≡ setup
   pub format_is : step.queue.format ≡ format
@@ -53,30 +54,39 @@ choose : (P : SenderStep → Type 0) (b : Bool) (x y : SenderStep) → P x → P
 choose P true x y p q = p
 choose P false x y p q = q
 
-pub follows-sent_next : (mode : Mode) (n : ℕ) (s : SenderValue) (q : QueueValue) (parity : Parity) (next : Option Next) → FollowsFrom mode n s q (sent_next s q parity next)
+pub follows-sent_next : (mode : Mode) (n : ℕ) (s : SenderValue) (q : QueueValue) (parity : Parity)
+    (next : Option Next) → FollowsFrom mode n s q (sent_next s q parity next)
 follows-sent_next mode n s q parity None = record { suits = tt; setup_is = refl; format_is = refl; offered_is = refl }
-follows-sent_next mode n s q parity (Some next) = record { suits = tt; setup_is = refl; format_is = refl; offered_is = refl }
+follows-sent_next mode n s q parity
+    (Some next) = record { suits = tt; setup_is = refl; format_is = refl; offered_is = refl }
 
-follows-over : (n : ℕ) (s : SenderValue) (q : QueueValue) (left : Phase) → IsAtRest left → FollowsFrom Sending n s q (over s q left)
+follows-over : (n : ℕ) (s : SenderValue) (q : QueueValue) (left : Phase) → IsAtRest left →
+    FollowsFrom Sending n s q (over s q left)
 follows-over n s q left rests = record { suits = rests; setup_is = refl; format_is = refl; offered_is = refl }
 
-follows-accepted : (n : ℕ) (s : SenderValue) (q : QueueValue) (end : End) (parity : Parity) → FollowsFrom Sending n s q (accepted s q end parity)
+follows-accepted : (n : ℕ) (s : SenderValue) (q : QueueValue) (end : End) (parity : Parity) →
+    FollowsFrom Sending n s q (accepted s q end parity)
 follows-accepted n s q Etx parity = follows-over n (with_counts s 0 0) q Idle tt
 follows-accepted n s q Etb parity = follows-sent_next Sending n s q (other parity) (next_block q)
 
-follows-failed : (n : ℕ) (s : SenderValue) (q : QueueValue) (left : Phase) (act : Act) → IsAtRest left → SuitsMode (mode_after act Sending) s.phase n → FollowsFrom Sending n s q (failed s q left act)
+follows-failed : (n : ℕ) (s : SenderValue) (q : QueueValue) (left : Phase) (act : Act) → IsAtRest left →
+    SuitsMode (mode_after act Sending) s.phase n → FollowsFrom Sending n s q (failed s q left act)
 follows-failed n s q left act rests goes =
     let t : SenderValue = with_counts s (s.tries + 1) s.waits in
-    choose (FollowsFrom Sending n s q) (nat_lt s.setup.tries (s.tries + 1)) (over t q left) (record { sender = t; queue = q; act = act })
+    choose (FollowsFrom Sending n s q) (nat_lt s.setup.tries (s.tries + 1)) (over t q left)
+    (record { sender = t; queue = q; act = act })
     (follows-over n t q left rests) (record { suits = goes; setup_is = refl; format_is = refl; offered_is = refl })
 
-follows-delayed : (n : ℕ) (s : SenderValue) (q : QueueValue) (end : End) (parity : Parity) → FollowsFrom Sending n s q (delayed s q end parity)
+follows-delayed : (n : ℕ) (s : SenderValue) (q : QueueValue) (end : End) (parity : Parity) →
+    FollowsFrom Sending n s q (delayed s q end parity)
 follows-delayed n s q end parity =
     let t : SenderValue = with_counts s 0 (s.waits + 1) in
-    choose (FollowsFrom Sending n s q) (nat_lt s.setup.waits (s.waits + 1)) (over t q Idle) (record { sender = with_phase t (Held end parity); queue = q; act = a.Enq })
+    choose (FollowsFrom Sending n s q) (nat_lt s.setup.waits (s.waits + 1)) (over t q Idle)
+    (record { sender = with_phase t (Held end parity); queue = q; act = a.Enq })
     (follows-over n t q Idle tt) (record { suits = tt; setup_is = refl; format_is = refl; offered_is = refl })
 
-follows-unanswered_step : (n : ℕ) (s : SenderValue) (q : QueueValue) (b : SentBlock) (expected : Parity) (r : Reply) → IsGoing s.phase → FollowsFrom Sending n s q (unanswered_step s q b (answer_of expected r))
+follows-unanswered_step : (n : ℕ) (s : SenderValue) (q : QueueValue) (b : SentBlock) (expected : Parity) (r : Reply) →
+    IsGoing s.phase → FollowsFrom Sending n s q (unanswered_step s q b (answer_of expected r))
 follows-unanswered_step n s q b Odd Ack1 goes = follows-accepted n s (with_known q b.count) b.end b.parity
 follows-unanswered_step n s q b Odd Ack0 goes = follows-failed n s q Idle (a.Send (text_of q b)) tt goes
 follows-unanswered_step n s q b Even Ack1 goes = follows-failed n s q Idle (a.Send (text_of q b)) tt goes
@@ -88,7 +98,8 @@ follows-unanswered_step n s q b Odd Wack goes = follows-delayed n s (with_known 
 follows-unanswered_step n s q b Even Rvi goes = follows-over n s (with_known q b.count) Idle tt
 follows-unanswered_step n s q b Odd Rvi goes = follows-over n s (with_known q b.count) Idle tt
 
-follows-held_step : (n : ℕ) (s : SenderValue) (q : QueueValue) (end : End) (parity expected : Parity) (r : Reply) → IsGoing s.phase → FollowsFrom Sending n s q (held_step s q end parity (answer_of expected r))
+follows-held_step : (n : ℕ) (s : SenderValue) (q : QueueValue) (end : End) (parity expected : Parity) (r : Reply) →
+    IsGoing s.phase → FollowsFrom Sending n s q (held_step s q end parity (answer_of expected r))
 follows-held_step n s q end parity Odd Ack1 goes = follows-accepted n s q end parity
 follows-held_step n s q end parity Odd Ack0 goes = follows-failed n s q Idle a.Enq tt goes
 follows-held_step n s q end parity Even Ack1 goes = follows-failed n s q Idle a.Enq tt goes
@@ -100,23 +111,27 @@ follows-held_step n s q end parity Odd Wack goes = follows-delayed n s q end par
 follows-held_step n s q end parity Even Rvi goes = follows-over n s q Idle tt
 follows-held_step n s q end parity Odd Rvi goes = follows-over n s q Idle tt
 
-follows-answered_step : (n : ℕ) (s : SenderValue) (q : QueueValue) (p : Phase) (r : Reply) → IsGoing p → IsGoing s.phase → FollowsFrom Sending n s q (answered_step s q p r)
+follows-answered_step : (n : ℕ) (s : SenderValue) (q : QueueValue) (p : Phase) (r : Reply) → IsGoing p →
+    IsGoing s.phase → FollowsFrom Sending n s q (answered_step s q p r)
 follows-answered_step n s q Idle r going goes = absurd going
 follows-answered_step n s q (InDoubt count) r going goes = absurd going
 follows-answered_step n s q (Unanswered b) r going goes = follows-unanswered_step n s q b b.parity r goes
 follows-answered_step n s q (Held end parity) r going goes = follows-held_step n s q end parity parity r goes
 
 -- a reply, or something else, is heard while a bid goes on
-pub follows-reply_step : (n : ℕ) (s : SenderValue) (q : QueueValue) (r : Option Reply) → IsGoing s.phase → FollowsFrom Sending n s q (reply_step s q r)
+pub follows-reply_step : (n : ℕ) (s : SenderValue) (q : QueueValue) (r : Option Reply) → IsGoing s.phase →
+    FollowsFrom Sending n s q (reply_step s q r)
 follows-reply_step n s q None goes = record { suits = goes; setup_is = refl; format_is = refl; offered_is = refl }
 follows-reply_step n s q (Some r) goes = follows-answered_step n s q s.phase r goes goes
 
-follows-silent_in : (n : ℕ) (s : SenderValue) (q : QueueValue) (p : Phase) → IsGoing p → IsGoing s.phase → FollowsFrom Sending n s q (silent_in s q p)
+follows-silent_in : (n : ℕ) (s : SenderValue) (q : QueueValue) (p : Phase) → IsGoing p → IsGoing s.phase →
+    FollowsFrom Sending n s q (silent_in s q p)
 follows-silent_in n s q Idle going goes = absurd going
 follows-silent_in n s q (InDoubt count) going goes = absurd going
 follows-silent_in n s q (Unanswered b) going goes = follows-failed n s q (InDoubt b.count) a.Enq tt goes
 follows-silent_in n s q (Held end parity) going goes = follows-failed n s q Idle a.Enq tt goes
 
 -- a silence while a bid goes on
-pub follows-silence_step : (n : ℕ) (s : SenderValue) (q : QueueValue) → IsGoing s.phase → FollowsFrom Sending n s q (silence_step s q)
+pub follows-silence_step : (n : ℕ) (s : SenderValue) (q : QueueValue) → IsGoing s.phase →
+    FollowsFrom Sending n s q (silence_step s q)
 follows-silence_step n s q goes = follows-silent_in n s q s.phase goes goes

@@ -14,7 +14,8 @@ use Rattle.bsc_tributary.specs.Called.{is_same, addresses, AreDistinct, selectio
 pub is_same-≡ : (a b : List ℕ) → is_same a b ≡ true → a ≡ b
 is_same-≡ a b e = same_text a b (sym e)
 
-is_same-told : (a b : List ℕ) (told : Bool) → is_same a b ≡ told → ((a ≡ b) × (told ≡ true)) ⊎ ((a ≢ b) × (told ≡ false))
+is_same-told : (a b : List ℕ) (told : Bool) → is_same a b ≡ told →
+    ((a ≡ b) × (told ≡ true)) ⊎ ((a ≢ b) × (told ≡ false))
 is_same-told a b true e = inl (same_text a b (sym e), refl)
 is_same-told a b false e = inr (other_text a b (sym e), refl)
 
@@ -25,68 +26,89 @@ pub is_same-≢ : (a b : List ℕ) → a ≢ b → is_same a b ≡ false
 is_same-≢ a b ne = elim (is_same-told a b (is_same a b) refl) [ inl same ↦ absurd (ne same.0) | inr differ ↦ differ.1 ]
 
 -- the first place that passes
-pub position-at : (p : List ℕ → Bool) (xs : List (List ℕ)) (i : ℕ) → i < length xs → ((k : ℕ) → k < i → p (get_or xs k []) ≡ false) → p (get_or xs i []) ≡ true → position p xs ≡ Some i
+pub position-at : (p : List ℕ → Bool) (xs : List (List ℕ)) (i : ℕ) → i < length xs →
+    ((k : ℕ) → k < i → p (get_or xs k []) ≡ false) → p (get_or xs i []) ≡ true → position p xs ≡ Some i
 position-at p xs i within before here =
     let first : position_or_len p xs ≡ i = position_or_len_is p xs i [] (omega arith) before (λ _. here) in
     let less : nat_lt i (length xs) ≡ true = grind (arith, nat_tests) in
     rw (first, less) refl
 
-pub position-nowhere : (p : List ℕ → Bool) (xs : List (List ℕ)) → ((k : ℕ) → k < length xs → p (get_or xs k []) ≡ false) → position p xs ≡ None
+pub position-nowhere : (p : List ℕ → Bool) (xs : List (List ℕ)) →
+    ((k : ℕ) → k < length xs → p (get_or xs k []) ≡ false) → position p xs ≡ None
 position-nowhere p xs each =
-    let all : position_or_len p xs ≡ length xs = position_or_len_is p xs (length xs) [] (omega arith) each (λ less. absurd (omega arith)) in
+    let all : position_or_len p xs ≡ length xs = position_or_len_is p xs (length xs) [] (omega arith) each
+    (λ less. absurd (omega arith)) in
     let none : nat_lt (length xs) (length xs) ≡ false = grind (arith, nat_tests) in
     rw (all, none) refl
 
-none_before : (p : List ℕ → Bool) (xs : List (List ℕ)) (k : ℕ) (less : Bool) → nat_lt (position_or_len p xs) (length xs) ≡ less → (if less then Some (position_or_len p xs) else None) ≡ None → k < length xs → p (get_or xs k []) ≡ false
+none_before : (p : List ℕ → Bool) (xs : List (List ℕ)) (k : ℕ) (less : Bool) →
+    nat_lt (position_or_len p xs) (length xs) ≡ less → (if less then Some (position_or_len p xs) else None) ≡ None →
+    k < length xs → p (get_or xs k []) ≡ false
 none_before p xs k true e none within = absurd (cc)
-none_before p xs k false e none within = let far : length xs ≤ position_or_len p xs = grind (arith, nat_tests) in fails_before_first p xs k [] (omega arith)
+none_before p xs k false e none within = let far : length xs ≤ position_or_len p xs = grind
+    (arith, nat_tests) in fails_before_first p xs k [] (omega arith)
 
-pub position-None : (p : List ℕ → Bool) (xs : List (List ℕ)) (k : ℕ) → position p xs ≡ None → k < length xs → p (get_or xs k []) ≡ false
+pub position-None : (p : List ℕ → Bool) (xs : List (List ℕ)) (k : ℕ) → position p xs ≡ None → k < length xs →
+    p (get_or xs k []) ≡ false
 position-None p xs k none within = none_before p xs k (nat_lt (position_or_len p xs) (length xs)) refl none within
 
 -- what the answers to both questions say of the address
-pub called_as-Selection : (t : TerminalValue) (address : List ℕ) (s : ℕ) → is_same address t.poll ≡ false → position (is_same address) t.selects ≡ Some s → called_as t address ≡ Selection s
+pub called_as-Selection : (t : TerminalValue) (address : List ℕ) (s : ℕ) → is_same address t.poll ≡ false →
+    position (is_same address) t.selects ≡ Some s → called_as t address ≡ Selection s
 called_as-Selection t address s poll at = rw poll (ap selection at)
 
-pub called_as-Other : (t : TerminalValue) (address : List ℕ) → is_same address t.poll ≡ false → position (is_same address) t.selects ≡ None → called_as t address ≡ Other
+pub called_as-Other : (t : TerminalValue) (address : List ℕ) → is_same address t.poll ≡ false →
+    position (is_same address) t.selects ≡ None → called_as t address ≡ Other
 called_as-Other t address poll nowhere = rw poll (ap selection nowhere)
 
-from_Selection : (poll_step : Bool) (at : Option ℕ) (s : ℕ) → (if poll_step then Polling else selection at) ≡ Selection s → (poll_step ≡ false) × (at ≡ Some s)
+from_Selection : (poll_step : Bool) (at : Option ℕ) (s : ℕ) →
+    (if poll_step then Polling else selection at) ≡ Selection s → (poll_step ≡ false) × (at ≡ Some s)
 from_Selection true at s e = absurd (cc)
 from_Selection false None s e = absurd (cc)
 from_Selection false (Some k) s e = (refl, let same : k ≡ s = cc in ap (λ n. Some n) same)
 
-from_Other : (poll_step : Bool) (at : Option ℕ) → (if poll_step then Polling else selection at) ≡ Other → (poll_step ≡ false) × (at ≡ None)
+from_Other : (poll_step : Bool) (at : Option ℕ) → (if poll_step then Polling else selection at) ≡ Other →
+    (poll_step ≡ false) × (at ≡ None)
 from_Other true at e = absurd (cc)
 from_Other false None e = (refl, refl)
 from_Other false (Some k) e = absurd (cc)
 
 -- a call that names the selection address of this number is a call of it
-pub selection-is : (t : TerminalValue) (address : List ℕ) (s : ℕ) → called_as t address ≡ Selection s → slice_get t.selects s ≡ Some address
+pub selection-is : (t : TerminalValue) (address : List ℕ) (s : ℕ) → called_as t address ≡ Selection s →
+    slice_get t.selects s ≡ Some address
 selection-is t address s e =
     let f = from_Selection (is_same address t.poll) (position (is_same address) t.selects) s e in
     let p = position-Some (is_same address) t.selects s [] f.1 in
-    slice_get-get_or t.selects s [] p.0 ∙ ap (λ (a : List ℕ). Some a) (sym (is_same-≡ address (get_or t.selects s []) p.1))
+    slice_get-get_or t.selects s [] p.0 ∙ ap (λ (a : List ℕ). Some a)
+    (sym (is_same-≡ address (get_or t.selects s []) p.1))
 
 -- and the other way round, where the addresses differ
-pub is-selection : (t : TerminalValue) (address : List ℕ) (s : ℕ) → AreDistinct t → slice_get t.selects s ≡ Some address → called_as t address ≡ Selection s
+pub is-selection : (t : TerminalValue) (address : List ℕ) (s : ℕ) → AreDistinct t →
+    slice_get t.selects s ≡ Some address → called_as t address ≡ Selection s
 is-selection t address s distinct at =
     let within : s < length t.selects = slice_get_within t.selects s address at in
     let here : get_or t.selects s [] ≡ address = get_or_from_slice_get t.selects s address [] at in
     called_as-Selection t address s
     (is_same-≢ address t.poll (λ e. distinct zero (suc s) [] (omega arith) (omega arith) (sym (here ∙ e))))
     (position-at (is_same address) t.selects s within
-    (λ k less. is_same-≢ address (get_or t.selects k []) (λ e. distinct (suc k) (suc s) [] (omega arith) (omega arith) (sym e ∙ sym here)))
+    (λ k less. is_same-≢ address (get_or t.selects k [])
+    (λ e. distinct (suc k) (suc s) [] (omega arith) (omega arith) (sym e ∙ sym here)))
     (is_same-refl address (get_or t.selects s []) (sym here)))
 
 -- a call that names no address of the terminal is a call of none of them
-place_is_none : (t : TerminalValue) (address : List ℕ) (k : ℕ) → is_same address t.poll ≡ false → position (is_same address) t.selects ≡ None → k < length (addresses t) → get_or (addresses t) k address ≡ address → ⊥
-place_is_none t address zero poll nowhere within here = let yes : is_same address t.poll ≡ true = is_same-refl address t.poll (sym here) in cc
+place_is_none : (t : TerminalValue) (address : List ℕ) (k : ℕ) → is_same address t.poll ≡ false →
+    position (is_same address) t.selects ≡ None → k < length (addresses t) →
+    get_or (addresses t) k address ≡ address → ⊥
+place_is_none t address zero poll nowhere within here = let yes : is_same address t.poll ≡
+    true = is_same-refl address t.poll (sym here) in cc
 place_is_none t address (suc k) poll nowhere within here =
     let less : k < length t.selects = omega arith in
-    let there : get_or t.selects k [] ≡ address = get_or_from_slice_get t.selects k address [] (slice_get-get_or t.selects k address less ∙ ap (λ (a : List ℕ). Some a) here) in
-    let yes : is_same address (get_or t.selects k []) ≡ true = is_same-refl address (get_or t.selects k []) (sym there) in
-    let no : is_same address (get_or t.selects k []) ≡ false = position-None (is_same address) t.selects k nowhere less in
+    let there : get_or t.selects k [] ≡ address = get_or_from_slice_get t.selects k address []
+    (slice_get-get_or t.selects k address less ∙ ap (λ (a : List ℕ). Some a) here) in
+    let yes : is_same address (get_or t.selects k []) ≡ true = is_same-refl address (get_or t.selects k [])
+    (sym there) in
+    let no : is_same address (get_or t.selects k []) ≡ false = position-None
+    (is_same address) t.selects k nowhere less in
     cc
 
 pub other-is : (t : TerminalValue) (address : List ℕ) → called_as t address ≡ Other → Contains (addresses t) address → ⊥
@@ -94,36 +116,54 @@ other-is t address e there =
     let f = from_Other (is_same address t.poll) (position (is_same address) t.selects) e in
     place_is_none t address there.0 f.0 f.1 there.1 there.2
 
-pub is-other : (t : TerminalValue) (address : List ℕ) → (Contains (addresses t) address → ⊥) → called_as t address ≡ Other
+pub is-other : (t : TerminalValue) (address : List ℕ) → (Contains (addresses t) address → ⊥) →
+    called_as t address ≡ Other
 is-other t address none =
     called_as-Other t address
     (is_same-≢ address t.poll (λ e. none (zero, omega arith, sym e)))
     (position-nowhere (is_same address) t.selects (λ k within. is_same-≢ address (get_or t.selects k [])
-    (λ e. none (suc k, omega arith, get_or_from_slice_get t.selects k (get_or t.selects k []) address (slice_get-get_or t.selects k [] within) ∙ sym e))))
+    (λ e. none (
+      suc k,
+      omega arith,
+      get_or_from_slice_get t.selects k (get_or t.selects k []) address
+          (slice_get-get_or t.selects k [] within) ∙ sym e,
+    ))))
 
 -- where each selection address is the first that it equals, the addresses differ
-distinct_at : (t : TerminalValue) → ((k : ℕ) → k < length t.selects → called_as t (get_or t.selects k []) ≡ Selection k) → (i j : ℕ) (d : List ℕ) → i < j → j < length (addresses t) → get_or (addresses t) i d ≢ get_or (addresses t) j d
+distinct_at : (t : TerminalValue) → ((k : ℕ) → k < length t.selects → called_as t (get_or t.selects k []) ≡
+    Selection k) → (i j : ℕ) (d : List ℕ) → i < j → j < length (addresses t) →
+    get_or (addresses t) i d ≢ get_or (addresses t) j d
 distinct_at t each i zero d less within e = absurd (omega arith)
 distinct_at t each zero (suc j) d less within e =
     let there : j < length t.selects = omega arith in
-    let f = from_Selection (is_same (get_or t.selects j []) t.poll) (position (is_same (get_or t.selects j [])) t.selects) j (each j there) in
-    let here : get_or t.selects j d ≡ get_or t.selects j [] = get_or_from_slice_get t.selects j (get_or t.selects j []) d (slice_get-get_or t.selects j [] there) in
-    let same : is_same (get_or t.selects j []) t.poll ≡ true = is_same-refl (get_or t.selects j []) t.poll (sym (e ∙ here)) in
+    let f = from_Selection (is_same (get_or t.selects j []) t.poll)
+    (position (is_same (get_or t.selects j [])) t.selects) j (each j there) in
+    let here : get_or t.selects j d ≡ get_or t.selects j [] = get_or_from_slice_get t.selects j
+    (get_or t.selects j []) d (slice_get-get_or t.selects j [] there) in
+    let same : is_same (get_or t.selects j []) t.poll ≡ true = is_same-refl (get_or t.selects j []) t.poll
+    (sym (e ∙ here)) in
     cc
 distinct_at t each (suc i) (suc j) d less within e =
     let there : j < length t.selects = omega arith in
     let before : i < j = omega arith in
     let also : i < length t.selects = omega arith in
-    let f = from_Selection (is_same (get_or t.selects j []) t.poll) (position (is_same (get_or t.selects j [])) t.selects) j (each j there) in
+    let f = from_Selection (is_same (get_or t.selects j []) t.poll)
+    (position (is_same (get_or t.selects j [])) t.selects) j (each j there) in
     let p = position-Some (is_same (get_or t.selects j [])) t.selects j [] f.1 in
-    let here : get_or t.selects j d ≡ get_or t.selects j [] = get_or_from_slice_get t.selects j (get_or t.selects j []) d (slice_get-get_or t.selects j [] there) in
-    let first : get_or t.selects i d ≡ get_or t.selects i [] = get_or_from_slice_get t.selects i (get_or t.selects i []) d (slice_get-get_or t.selects i [] also) in
-    let same : is_same (get_or t.selects j []) (get_or t.selects i []) ≡ true = is_same-refl (get_or t.selects j []) (get_or t.selects i []) (sym here ∙ sym e ∙ first) in
+    let here : get_or t.selects j d ≡ get_or t.selects j [] = get_or_from_slice_get t.selects j
+    (get_or t.selects j []) d (slice_get-get_or t.selects j [] there) in
+    let first : get_or t.selects i d ≡ get_or t.selects i [] = get_or_from_slice_get t.selects i
+    (get_or t.selects i []) d (slice_get-get_or t.selects i [] also) in
+    let same : is_same (get_or t.selects j []) (get_or t.selects i []) ≡ true = is_same-refl (get_or t.selects j [])
+    (get_or t.selects i []) (sym here ∙ sym e ∙ first) in
     let other : is_same (get_or t.selects j []) (get_or t.selects i []) ≡ false = p.2 i before in
     cc
 
-pub are_distinct : (t : TerminalValue) → ((k : ℕ) → k < length t.selects → called_as t (get_or t.selects k []) ≡ Selection k) → AreDistinct t
+pub are_distinct : (t : TerminalValue) → ((k : ℕ) → k < length t.selects → called_as t (get_or t.selects k []) ≡
+    Selection k) → AreDistinct t
 are_distinct t each = λ i j d less within. distinct_at t each i j d less within
 
-pub is-selection_at : (t : TerminalValue) (s : ℕ) → AreDistinct t → s < length t.selects → called_as t (get_or t.selects s []) ≡ Selection s
-is-selection_at t s distinct within = is-selection t (get_or t.selects s []) s distinct (slice_get-get_or t.selects s [] within)
+pub is-selection_at : (t : TerminalValue) (s : ℕ) → AreDistinct t → s < length t.selects →
+    called_as t (get_or t.selects s []) ≡ Selection s
+is-selection_at t s distinct within = is-selection t (get_or t.selects s []) s distinct
+    (slice_get-get_or t.selects s [] within)

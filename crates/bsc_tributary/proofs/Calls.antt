@@ -29,7 +29,8 @@ poll_from d =
     else if nat_eq (length (waiting d.queue)) 0 then answer_step d m.Eot
     else act_step d (begin_step d.sender d.queue)
 
-poll_from-poll_step : (t old : TributaryValue) → t ≡ without_line old → poll_from (record t { urgent = false }) ≡ poll_step old
+poll_from-poll_step : (t old : TributaryValue) → t ≡ without_line old →
+    poll_from (record t { urgent = false }) ≡ poll_step old
 poll_from-poll_step t old e = ap (λ (v : TributaryValue). poll_from (record v { urgent = false })) e
 
 none_waits : (f : FormatValue) (rs : List (List ℕ)) → next_after f rs ≡ None → nat_eq (length rs) 0 ≡ true
@@ -45,20 +46,26 @@ none_of None e = refl
 none_of (Some x) e = absurd (cc)
 
 -- EOT, in doubt
-pub poll_step-in_doubt : (t old : TributaryValue) → t ≡ without_line old → is_in_doubt t.sender.phase ≡ true → answer_step (record t { urgent = false }) m.Eot ≡ poll_step old
+pub poll_step-in_doubt : (t old : TributaryValue) → t ≡ without_line old → is_in_doubt t.sender.phase ≡ true →
+    answer_step (record t { urgent = false }) m.Eot ≡ poll_step old
 poll_step-in_doubt t old e doubt =
-    let here : answer_step (record t { urgent = false }) m.Eot ≡ poll_from (record t { urgent = false }) = rw doubt refl in
+    let here : answer_step (record t { urgent = false }) m.Eot ≡ poll_from
+    (record t { urgent = false }) = rw doubt refl in
     here ∙ poll_from-poll_step t old e
 
 -- EOT, with nothing to send
-pub poll_step-empty : (t old : TributaryValue) → t ≡ without_line old → is_in_doubt t.sender.phase ≡ false → is_some (next_block t.queue) ≡ false → answer_step (record t { urgent = false }) m.Eot ≡ poll_step old
+pub poll_step-empty : (t old : TributaryValue) → t ≡ without_line old → is_in_doubt t.sender.phase ≡ false →
+    is_some (next_block t.queue) ≡ false → answer_step (record t { urgent = false }) m.Eot ≡ poll_step old
 poll_step-empty t old e sure none =
-    let empty : nat_eq (length (waiting t.queue)) 0 ≡ true = none_waits t.queue.format (waiting t.queue) (none_of (next_block t.queue) none) in
-    let here : answer_step (record t { urgent = false }) m.Eot ≡ poll_from (record t { urgent = false }) = rw (sure, empty) refl in
+    let empty : nat_eq (length (waiting t.queue)) 0 ≡ true = none_waits t.queue.format (waiting t.queue)
+    (none_of (next_block t.queue) none) in
+    let here : answer_step (record t { urgent = false }) m.Eot ≡ poll_from (record t { urgent = false }) = rw
+    (sure, empty) refl in
     here ∙ poll_from-poll_step t old e
 
 -- the first block
-pub poll_step-begins : (t old : TributaryValue) (step : SenderStep) (mode : Mode) (sent : Option Message) → t ≡ without_line old → is_in_doubt t.sender.phase ≡ false → is_some (next_block t.queue) ≡ true →
+pub poll_step-begins : (t old : TributaryValue) (step : SenderStep) (mode : Mode) (sent : Option Message) →
+    t ≡ without_line old → is_in_doubt t.sender.phase ≡ false → is_some (next_block t.queue) ≡ true →
     step ≡ begin_step t.sender t.queue → mode ≡ mode_after step.act t.mode → sent ≡ message_for step.act →
     record { tributary = record t { urgent = false; mode = mode; sender = step.sender; queue = step.queue }; sent = sent } ≡ poll_step old
 poll_step-begins t old step mode sent e sure some row mode_is sent_is =
@@ -75,53 +82,86 @@ at_rest_idle (InDoubt k) rests sure = absurd (cc)
 at_rest_idle (Unanswered b) rests sure = absurd rests
 at_rest_idle (Held end parity) rests sure = absurd rests
 
-pub without_line-idle : (t old : TributaryValue) → t ≡ without_line old → is_in_doubt t.sender.phase ≡ false → t.sender.phase ≡ Idle
+pub without_line-idle : (t old : TributaryValue) → t ≡ without_line old → is_in_doubt t.sender.phase ≡ false →
+    t.sender.phase ≡ Idle
 without_line-idle t old e sure =
-    at_rest_idle t.sender.phase (subst (λ (v : TributaryValue). IsAtRest v.sender.phase) (sym e) (IsAtRest-cut_phase old.sender.phase)) sure
+    at_rest_idle t.sender.phase (subst (λ (v : TributaryValue). IsAtRest v.sender.phase) (sym e)
+    (IsAtRest-cut_phase old.sender.phase)) sure
 
-pub stays-begun : (t : TributaryValue) (step : SenderStep) (mode : Mode) → IsTributary t → step ≡ begin_step t.sender t.queue → mode ≡ mode_after step.act t.mode → IsReady step.sender step.queue →
+pub stays-begun : (t : TributaryValue) (step : SenderStep) (mode : Mode) → IsTributary t →
+    step ≡ begin_step t.sender t.queue → mode ≡ mode_after step.act t.mode → IsReady step.sender step.queue →
     IsTributary (record t { urgent = false; mode = mode; sender = step.sender; queue = step.queue })
 stays-begun t step mode is row mode_is ready =
     stays-act_step (record t { urgent = false }) mode t.mode step (stays-flags t t.ready false t.receiver is) mode_is
-    (subst (FollowsFrom t.mode (length t.spools) t.sender t.queue) (sym row) (follows-sent_next t.mode (length t.spools) t.sender t.queue Odd (next_block t.queue))) ready
+    (subst (FollowsFrom t.mode (length t.spools) t.sender t.queue) (sym row)
+    (follows-sent_next t.mode (length t.spools) t.sender t.queue Odd (next_block t.queue))) ready
 
 -- the answer to a selection, of a terminal from which the line was taken
 abbrev selection_from : TributaryValue → ℕ → Bool → TributaryStep
 selection_from d s room =
     if d.ready
-    then answer_step (record d { mode = Receiving s; receiver = begun room; spools = slice_set d.spools s (room_asked (spool_at d.spools s) room) }) (message_of (first_reply room))
+    then answer_step
+    (record d {
+      mode = Receiving s;
+      receiver = begun room;
+      spools = slice_set d.spools s
+          (room_asked (spool_at d.spools s) room);
+    }) (message_of (first_reply room))
     else answer_step d m.Nak
 
-pub selection_step-ready : (t old : TributaryValue) (s : ℕ) (room : Bool) (receiver : ReceiverValue) (spools : List SpoolValue) (reply : Reply) (message : Message) → t ≡ without_line old → t.ready ≡ true → s < length t.spools →
-    spools ≡ slice_set t.spools s (room_asked (spool_at t.spools s) room) → receiver ≡ begun room → reply ≡ first_reply room → message ≡ message_of reply →
-    answer_step (record t { mode = Receiving s; receiver = receiver; spools = spools }) message ≡ selection_step old s (spool_at spools s).room
+pub selection_step-ready : (t old : TributaryValue) (s : ℕ) (room : Bool) (receiver : ReceiverValue)
+    (spools : List SpoolValue) (reply : Reply) (message : Message) → t ≡ without_line old → t.ready ≡ true →
+    s < length t.spools →
+    spools ≡ slice_set t.spools s (room_asked (spool_at t.spools s) room) → receiver ≡ begun room →
+    reply ≡ first_reply room → message ≡ message_of reply →
+    answer_step (record t { mode = Receiving s; receiver = receiver; spools = spools }) message ≡ selection_step old s
+    (spool_at spools s).room
 selection_step-ready t old s room receiver spools reply message e ready within spools_is receiver_is reply_is message_is =
-    let there : spool_at (slice_set t.spools s (room_asked (spool_at t.spools s) room)) s ≡ room_asked (spool_at t.spools s) room = get_or-set_same t.spools s (room_asked (spool_at t.spools s) room) empty_spool within in
-    let same : (spool_at spools s).room ≡ room = ap (λ (xs : List SpoolValue). (spool_at xs s).room) spools_is ∙ ap (λ (x : SpoolValue). x.room) there in
-    let here : answer_step (record t { mode = Receiving s; receiver = receiver; spools = spools }) message ≡ selection_from t s room = rw (spools_is, receiver_is, message_is, reply_is, ready) refl in
+    let there : spool_at (slice_set t.spools s (room_asked (spool_at t.spools s) room)) s ≡ room_asked
+    (spool_at t.spools s) room = get_or-set_same t.spools s
+    (room_asked (spool_at t.spools s) room) empty_spool within in
+    let same : (spool_at spools s).room ≡ room = ap (λ (xs : List SpoolValue). (spool_at xs s).room) spools_is
+    ∙ ap (λ (x : SpoolValue). x.room) there in
+    let here : answer_step (record t { mode = Receiving s; receiver = receiver; spools = spools }) message ≡
+    selection_from t s room = rw (spools_is, receiver_is, message_is, reply_is, ready) refl in
     here ∙ ap (λ (v : TributaryValue). selection_from v s room) e ∙ ap (selection_step old s) (sym same)
 
-pub selection_step-room : (t old : TributaryValue) (s : ℕ) (room : Bool) (spools : List SpoolValue) → t ≡ without_line old → s < length t.spools → spools ≡ slice_set t.spools s (room_asked (spool_at t.spools s) room) →
-    ((spool_at t.spools s).room ≡ true → room ≡ true) → (spool_at old.spools s).room ≡ true → (spool_at spools s).room ≡ true
+pub selection_step-room : (t old : TributaryValue) (s : ℕ) (room : Bool) (spools : List SpoolValue) →
+    t ≡ without_line old → s < length t.spools → spools ≡ slice_set t.spools s (room_asked
+    (spool_at t.spools s) room) →
+    ((spool_at t.spools s).room ≡ true → room ≡ true) → (spool_at old.spools s).room ≡ true →
+    (spool_at spools s).room ≡ true
 selection_step-room t old s room spools e within spools_is there had =
-    let now : spool_at (slice_set t.spools s (room_asked (spool_at t.spools s) room)) s ≡ room_asked (spool_at t.spools s) room = get_or-set_same t.spools s (room_asked (spool_at t.spools s) room) empty_spool within in
-    ap (λ (xs : List SpoolValue). (spool_at xs s).room) spools_is ∙ ap (λ (x : SpoolValue). x.room) now ∙ there (ap (λ (v : TributaryValue). (spool_at v.spools s).room) e ∙ had)
+    let now : spool_at (slice_set t.spools s (room_asked (spool_at t.spools s) room)) s ≡ room_asked
+    (spool_at t.spools s) room = get_or-set_same t.spools s
+    (room_asked (spool_at t.spools s) room) empty_spool within in
+    ap (λ (xs : List SpoolValue). (spool_at xs s).room) spools_is ∙ ap (λ (x : SpoolValue). x.room) now
+    ∙ there (ap (λ (v : TributaryValue). (spool_at v.spools s).room) e ∙ had)
 
-pub stays-selection_step : (t old : TributaryValue) (s : ℕ) (receiver : ReceiverValue) (spools : List SpoolValue) (spool : SpoolValue) → IsTributary t → t ≡ without_line old → s < length t.spools → spools ≡ slice_set t.spools s spool →
+pub stays-selection_step : (t old : TributaryValue) (s : ℕ) (receiver : ReceiverValue) (spools : List SpoolValue)
+    (spool : SpoolValue) → IsTributary t → t ≡ without_line old → s < length t.spools →
+    spools ≡ slice_set t.spools s spool →
     IsTributary (record t { mode = Receiving s; receiver = receiver; spools = spools })
 stays-selection_step t old s receiver spools spool is e within spools_is =
-    let same : length spools ≡ length t.spools = ap (λ (xs : List SpoolValue). length xs) spools_is ∙ length-set t.spools s spool in
+    let same : length spools ≡ length t.spools = ap (λ (xs : List SpoolValue). length xs) spools_is
+    ∙ length-set t.spools s spool in
     record {
       distinct = is.distinct;
       terminal = is.terminal;
       spools = same ∙ is.spools;
       format = is.format;
       ready = is.ready;
-      bid = (subst (λ (v : TributaryValue). IsAtRest v.sender.phase) (sym e) (IsAtRest-cut_phase old.sender.phase), omega (arith, same));
+      bid = (
+        subst (λ (v : TributaryValue). IsAtRest v.sender.phase) (sym e)
+            (IsAtRest-cut_phase old.sender.phase),
+        omega (arith, same),
+      );
     }
 
 -- the spools of a terminal are those of its selection addresses
-pub within-spools : (t old : TributaryValue) (s : ℕ) → IsTributary t → t ≡ without_line old → s < length old.terminal.selects → s < length t.spools
+pub within-spools : (t old : TributaryValue) (s : ℕ) → IsTributary t → t ≡ without_line old →
+    s < length old.terminal.selects → s < length t.spools
 within-spools t old s is e within =
-    let addresses : length t.terminal.selects ≡ length old.terminal.selects = ap (λ (v : TributaryValue). length v.terminal.selects) e in
+    let addresses : length t.terminal.selects ≡ length old.terminal.selects = ap
+    (λ (v : TributaryValue). length v.terminal.selects) e in
     omega (arith, addresses, is.spools)

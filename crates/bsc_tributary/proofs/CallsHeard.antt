@@ -23,51 +23,69 @@ choose_step P true x y p q = p
 choose_step P false x y p q = q
 
 -- after a poll the terminal is in control mode or sends
-pub begun_mode : (s : SenderValue) (q : QueueValue) (parity : Parity) (next : Option Next) → (mode_after (sent_next s q parity next).act Control ≡ Control) ⊎ (mode_after (sent_next s q parity next).act Control ≡ Sending)
+pub begun_mode : (s : SenderValue) (q : QueueValue) (parity : Parity) (next : Option Next) →
+    (mode_after (sent_next s q parity next).act Control ≡ Control) ⊎ (mode_after
+    (sent_next s q parity next).act Control ≡ Sending)
 begun_mode s q parity None = inl refl
 begun_mode s q parity (Some n) = inr refl
 
-pub mode-poll_step : (t : TributaryValue) → ((poll_step t).tributary.mode ≡ Control) ⊎ ((poll_step t).tributary.mode ≡ Sending)
+pub mode-poll_step : (t : TributaryValue) → ((poll_step t).tributary.mode ≡ Control) ⊎ ((poll_step t).tributary.mode ≡
+    Sending)
 mode-poll_step t =
     let d : TributaryValue = record (without_line t) { urgent = false } in
     let P : TributaryStep → Type 0 = λ o. (o.tributary.mode ≡ Control) ⊎ (o.tributary.mode ≡ Sending) in
     choose_step P (is_in_doubt d.sender.phase) (answer_step d m.Eot) _ (inl refl)
-    (choose_step P (nat_eq (length (waiting d.queue)) 0) (answer_step d m.Eot) (act_step d (begin_step d.sender d.queue)) (inl refl) (begun_mode d.sender d.queue Odd (next_block d.queue)))
+    (choose_step P (nat_eq (length (waiting d.queue)) 0) (answer_step d m.Eot)
+    (act_step d (begin_step d.sender d.queue)) (inl refl) (begun_mode d.sender d.queue Odd (next_block d.queue)))
 
 not_receiving : (mode : Mode) (s : ℕ) → (mode ≡ Control) ⊎ (mode ≡ Sending) → mode ≡ Receiving s → ⊥
 not_receiving mode s (inl e) is = cc
 not_receiving mode s (inr e) is = cc
 
-pub hears-polling : (t new : TributaryValue) (address : List ℕ) (sent : Option Message) → Polling ≡ called_as t.terminal address → record { tributary = new; sent = sent } ≡ poll_step t → Hears t (Whole (m.Call address)) new sent
+pub hears-polling : (t new : TributaryValue) (address : List ℕ) (sent : Option Message) →
+    Polling ≡ called_as t.terminal address → record { tributary = new; sent = sent } ≡ poll_step t →
+    Hears t (Whole (m.Call address)) new sent
 hears-polling t new address sent called row =
     record {
       row = row ∙ ap (λ (c : Called). call_step t c (rooms_after (Whole (m.Call address)) new)) called;
-      room = λ s is had. absurd (not_receiving (poll_step t).tributary.mode s (mode-poll_step t) (sym (ap (λ (o : TributaryStep). o.tributary.mode) row) ∙ is));
+      room = λ s is had. absurd (not_receiving (poll_step t).tributary.mode s (mode-poll_step t)
+          (sym (ap (λ (o : TributaryStep). o.tributary.mode) row) ∙ is));
     }
 
 -- a terminal that is not ready is left in control mode, and the tries for room are not looked at
-selected_row : (t new : TributaryValue) (s : ℕ) (sent : Option Message) (ready : Bool) → record { tributary = new; sent = sent } ≡ selection_step (record t { ready = ready }) s (spool_at new.spools s).room →
-    record { tributary = new; sent = sent } ≡ selection_step (record t { ready = ready }) s (spool_in new.mode new.spools).room
+selected_row : (t new : TributaryValue) (s : ℕ) (sent : Option Message) (ready : Bool) →
+    record { tributary = new; sent = sent } ≡ selection_step (record t { ready = ready }) s
+    (spool_at new.spools s).room →
+    record { tributary = new; sent = sent } ≡ selection_step (record t { ready = ready }) s
+    (spool_in new.mode new.spools).room
 selected_row t new s sent true row =
     let mode : new.mode ≡ Receiving s = ap (λ (o : TributaryStep). o.tributary.mode) row in
     row ∙ ap (λ (mode : Mode). selection_step (record t { ready = true }) s (spool_in mode new.spools).room) (sym mode)
 selected_row t new s sent false row = row
 
-selected_mode : (t new : TributaryValue) (s r : ℕ) (room ready : Bool) → new.mode ≡ (selection_step (record t { ready = ready }) s room).tributary.mode → new.mode ≡ Receiving r → r ≡ s
+selected_mode : (t new : TributaryValue) (s r : ℕ) (room ready : Bool) →
+    new.mode ≡ (selection_step (record t { ready = ready }) s room).tributary.mode → new.mode ≡ Receiving r → r ≡ s
 selected_mode t new s r room true e is = cc
 selected_mode t new s r room false e is = absurd (cc)
 
-pub hears-selection : (t new : TributaryValue) (address : List ℕ) (s : ℕ) (sent : Option Message) → Selection s ≡ called_as t.terminal address → record { tributary = new; sent = sent } ≡ selection_step t s (spool_at new.spools s).room →
-    ((spool_at t.spools s).room ≡ true → (spool_at new.spools s).room ≡ true) → Hears t (Whole (m.Call address)) new sent
+pub hears-selection : (t new : TributaryValue) (address : List ℕ) (s : ℕ) (sent : Option Message) →
+    Selection s ≡ called_as t.terminal address → record { tributary = new; sent = sent } ≡ selection_step t s
+    (spool_at new.spools s).room →
+    ((spool_at t.spools s).room ≡ true → (spool_at new.spools s).room ≡ true) →
+    Hears t (Whole (m.Call address)) new sent
 hears-selection t new address s sent called row room =
     record {
-      row = selected_row t new s sent t.ready row ∙ ap (λ (c : Called). call_step t c (rooms_after (Whole (m.Call address)) new)) called;
+      row = selected_row t new s sent t.ready row ∙ ap (λ (c : Called). call_step t c
+          (rooms_after (Whole (m.Call address)) new)) called;
       room = λ r is had.
-          let same : r ≡ s = selected_mode t new s r (spool_at new.spools s).room t.ready (ap (λ (o : TributaryStep). o.tributary.mode) row) is in
-          ap (λ (mode : Mode). (spool_in mode new.spools).room) is ∙ ap (λ n. (spool_at new.spools n).room) same ∙ room (ap (λ n. (spool_at t.spools n).room) (sym same) ∙ had);
+          let same : r ≡ s = selected_mode t new s r (spool_at new.spools s).room t.ready
+          (ap (λ (o : TributaryStep). o.tributary.mode) row) is in
+          ap (λ (mode : Mode). (spool_in mode new.spools).room) is ∙ ap (λ n. (spool_at new.spools n).room) same
+          ∙ room (ap (λ n. (spool_at t.spools n).room) (sym same) ∙ had);
     }
 
-pub hears-other : (t new : TributaryValue) (address : List ℕ) → Other ≡ called_as t.terminal address → new ≡ without_line t → Hears t (Whole (m.Call address)) new None
+pub hears-other : (t new : TributaryValue) (address : List ℕ) → Other ≡ called_as t.terminal address →
+    new ≡ without_line t → Hears t (Whole (m.Call address)) new None
 hears-other t new address called row =
     record {
       row = ap quiet_step row ∙ ap (λ (c : Called). call_step t c (rooms_after (Whole (m.Call address)) new)) called;
@@ -75,10 +93,12 @@ hears-other t new address called row =
     }
 
 -- the address of a selection is one of the terminal's
-pub within-selects : (t : TerminalValue) (address : List ℕ) (s : ℕ) → Selection s ≡ called_as t address → s < length t.selects
+pub within-selects : (t : TerminalValue) (address : List ℕ) (s : ℕ) → Selection s ≡ called_as t address →
+    s < length t.selects
 within-selects t address s called = slice_get_within t.selects s address (selection-is t address s (sym called))
 
 -- which address the code found, seen from the terminal as it was passed
-pub called_from : (t old : TributaryValue) (address : List ℕ) (found called : Called) → t ≡ old → found ≡ called → found ≡ called_as t.terminal address → called ≡ called_as old.terminal address
+pub called_from : (t old : TributaryValue) (address : List ℕ) (found called : Called) → t ≡ old → found ≡ called →
+    found ≡ called_as t.terminal address → called ≡ called_as old.terminal address
 called_from t old address found called view is found_is =
     sym is ∙ found_is ∙ ap (λ (v : TributaryValue). called_as v.terminal address) view

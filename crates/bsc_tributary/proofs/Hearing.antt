@@ -47,15 +47,21 @@ record Beside (spools : List SpoolValue) (s r : ℕ) (spool : SpoolValue) : Type
   other : r ≢ s
   is : spool_at (slice_set spools s spool) r ≡ spool_at spools r
 
-place : (spools : List SpoolValue) (s r : ℕ) (spool : SpoolValue) (same : Bool) → nat_eq r s ≡ same → s < length spools → At spools s r spool ⊎ Beside spools s r spool
+place : (spools : List SpoolValue) (s r : ℕ) (spool : SpoolValue) (same : Bool) → nat_eq r s ≡ same →
+    s < length spools → At spools s r spool ⊎ Beside spools s r spool
 place spools s r spool true e within =
     let same : r ≡ s = grind (arith, nat_tests) in
-    inl (record { same = same; is = ap (spool_at (slice_set spools s spool)) same ∙ get_or-set_same spools s spool empty_spool within })
+    inl (record {
+      same = same;
+      is = ap (spool_at (slice_set spools s spool)) same
+          ∙ get_or-set_same spools s spool empty_spool within;
+    })
 place spools s r spool false e within =
     let other : r ≢ s = grind (arith, nat_tests) in
     inr (record { other = other; is = get_or-set_other spools s r spool empty_spool other })
 
-written : (spools : List SpoolValue) (s r : ℕ) (spool : SpoolValue) → s < length spools → At spools s r spool ⊎ Beside spools s r spool
+written : (spools : List SpoolValue) (s r : ℕ) (spool : SpoolValue) → s < length spools →
+    At spools s r spool ⊎ Beside spools s r spool
 written spools s r spool within = place spools s r spool (nat_eq r s) refl within
 
 -- a row of a call
@@ -72,10 +78,14 @@ keeps_all t urgent = record { terminal = refl; setup = refl; ready = refl; forma
 polled_changes : (t : TributaryValue) → CallChanges t Polling (poll_step t)
 polled_changes t =
     let d : TributaryValue = record (without_line t) { urgent = false } in
-    let f : FollowsFrom Control (length t.spools) d.sender d.queue (begin_step d.sender d.queue) = follows-sent_next Control (length t.spools) d.sender d.queue Odd (next_block d.queue) in
-    let eot : CallChanges t Polling (answer_step d m.Eot) = record { keeps = keeps_all t false; mode = inl refl; other_spools = λ s ne. refl; same_records = λ s. refl; taken = λ e. absurd (cc) } in
+    let f : FollowsFrom Control (length t.spools) d.sender d.queue
+    (begin_step d.sender d.queue) = follows-sent_next Control (length t.spools) d.sender d.queue Odd
+    (next_block d.queue) in
+    let eot : CallChanges t Polling
+    (answer_step d m.Eot) = record { keeps = keeps_all t false; mode = inl refl; other_spools = λ s ne. refl; same_records = λ s. refl; taken = λ e. absurd (cc) } in
     choose_step (CallChanges t Polling) (is_in_doubt d.sender.phase) (answer_step d m.Eot) _ eot
-    (choose_step (CallChanges t Polling) (nat_eq (length (waiting d.queue)) 0) (answer_step d m.Eot) (act_step d (begin_step d.sender d.queue)) eot
+    (choose_step (CallChanges t Polling) (nat_eq (length (waiting d.queue)) 0) (answer_step d m.Eot)
+    (act_step d (begin_step d.sender d.queue)) eot
     (record {
       keeps = record { terminal = refl; setup = f.setup_is; ready = refl; format = f.format_is; offered = f.offered_is; spools = refl };
       mode = begun_mode d.sender d.queue Odd (next_block d.queue);
@@ -84,12 +94,14 @@ polled_changes t =
       taken = λ e. absurd (cc);
     }))
 
-selected_changes : (t : TributaryValue) (s : ℕ) (room ready : Bool) → s < length t.spools → CallChanges (record t { ready = ready }) (Selection s) (selection_step (record t { ready = ready }) s room)
+selected_changes : (t : TributaryValue) (s : ℕ) (room ready : Bool) → s < length t.spools →
+    CallChanges (record t { ready = ready }) (Selection s) (selection_step (record t { ready = ready }) s room)
 selected_changes t s room true within =
     record {
       keeps = record { terminal = refl; setup = refl; ready = refl; format = refl; offered = refl; spools = length-set t.spools s (room_asked (spool_at t.spools s) room) };
       mode = inr refl;
-      other_spools = λ r ne. get_or-set_other t.spools s r (room_asked (spool_at t.spools s) room) empty_spool (λ same. ne (ap (λ n. Receiving n) (sym same)));
+      other_spools = λ r ne. get_or-set_other t.spools s r (room_asked (spool_at t.spools s) room) empty_spool
+          (λ same. ne (ap (λ n. Receiving n) (sym same)));
       same_records = λ r. elim (written t.spools s r (room_asked (spool_at t.spools s) room) within) [
         | inl at ↦ ap (λ (x : SpoolValue). x.records) at.is ∙ ap (λ n. (spool_at t.spools n).records) (sym at.same)
         | inr beside ↦ ap (λ (x : SpoolValue). x.records) beside.is
@@ -97,19 +109,28 @@ selected_changes t s room true within =
       taken = λ e. absurd (cc);
     }
 selected_changes t s room false within =
-    record { keeps = keeps_all (record t { ready = false }) t.urgent; mode = inl refl; other_spools = λ r ne. refl; same_records = λ r. refl; taken = λ e. absurd (cc) }
+    record {
+      keeps = keeps_all
+          (record t { ready = false }) t.urgent;
+      mode = inl refl;
+      other_spools = λ r ne. refl;
+      same_records = λ r. refl;
+      taken = λ e. absurd (cc);
+    }
 
 other_changes : (t : TributaryValue) → CallChanges t Other (quiet_step (without_line t))
 other_changes t = record { keeps = keeps_all t t.urgent; mode = refl; other_spools = λ s ne. refl; same_records = λ s. refl; taken = λ e. (refl, refl) }
 
-call_changes : (t : TributaryValue) (address : List ℕ) (called : Called) (rooms : Rooms) → called ≡ called_as t.terminal address → IsTributary t → CallChanges t called (call_step t called rooms)
+call_changes : (t : TributaryValue) (address : List ℕ) (called : Called) (rooms : Rooms) →
+    called ≡ called_as t.terminal address → IsTributary t → CallChanges t called (call_step t called rooms)
 call_changes t address Polling rooms e is = polled_changes t
 call_changes t address (Selection s) rooms e is =
     let within : s < length t.terminal.selects = within-selects t.terminal address s e in
     selected_changes t s rooms.first t.ready (omega (arith, is.spools))
 call_changes t address Other rooms e is = other_changes t
 
-from_call : (t : TributaryValue) (address : List ℕ) (step : TributaryStep) → CallChanges t (called_as t.terminal address) step → Changes t (Whole (m.Call address)) step
+from_call : (t : TributaryValue) (address : List ℕ) (step : TributaryStep) →
+    CallChanges t (called_as t.terminal address) step → Changes t (Whole (m.Call address)) step
 from_call t address step c =
     record {
       keeps = c.keeps;
@@ -134,17 +155,21 @@ choose_receiver : (P : ReceiverStep → Type 0) (b : Bool) (x y : ReceiverStep) 
 choose_receiver P true x y p q = p
 choose_receiver P false x y p q = q
 
-text_grows : (r : ReceiverValue) (s : SpoolValue) (text : TextValue) (urgent : Bool) (rooms : Rooms) → Grows (Whole (m.Text text)) s (text_step r s text urgent rooms)
+text_grows : (r : ReceiverValue) (s : SpoolValue) (text : TextValue) (urgent : Bool) (rooms : Rooms) →
+    Grows (Whole (m.Text text)) s (text_step r s text urgent rooms)
 text_grows r s text urgent rooms =
     let P : ReceiverStep → Type 0 = Grows (Whole (m.Text text)) s in
     let stored : P (taken r s text rooms) = inr (record { text = text; heard = refl; becomes = refl }) in
-    let stored_urgently : P (taken_urgently r s text rooms) = inr (record { text = text; heard = refl; becomes = refl }) in
-    choose_receiver P rooms.first _ _ (choose_receiver P urgent _ _ (choose_receiver P (is_rvi r.last) _ _ stored stored_urgently) stored) (inl refl)
+    let stored_urgently : P (taken_urgently r s text rooms) = inr
+    (record { text = text; heard = refl; becomes = refl }) in
+    choose_receiver P rooms.first _ _ (choose_receiver P urgent _ _
+    (choose_receiver P (is_rvi r.last) _ _ stored stored_urgently) stored) (inl refl)
 
 enq_grows : (r : ReceiverValue) (s : SpoolValue) (rooms : Rooms) → Grows (Whole m.Enq) s (enq_step r s rooms)
 enq_grows r s rooms = choose_receiver (Grows (Whole m.Enq) s) (is_wack r.last) _ _ (inl refl) (inl refl)
 
-heard_grows : (r : ReceiverValue) (s : SpoolValue) (h : Heard) (urgent : Bool) (rooms : Rooms) → Grows h s (heard_step r s h urgent rooms)
+heard_grows : (r : ReceiverValue) (s : SpoolValue) (h : Heard) (urgent : Bool) (rooms : Rooms) →
+    Grows h s (heard_step r s h urgent rooms)
 heard_grows r s (Whole (m.Text text)) urgent rooms = text_grows r s text urgent rooms
 heard_grows r s (Whole m.Enq) urgent rooms = enq_grows r s rooms
 heard_grows r s (Whole m.Eot) urgent rooms = inl refl
@@ -175,47 +200,60 @@ control_changes t h =
       control = λ e. (refl, refl);
     }
 
-grows_at : (mode : Mode) (h : Heard) (s r : ℕ) (spools : List SpoolValue) (step : ReceiverStep) → mode ≡ Receiving s → s < length spools → Grows h (spool_at spools s) step → GrowsByText mode h r (spool_at spools r).records (spool_at (slice_set spools s step.spool) r).records
+grows_at : (mode : Mode) (h : Heard) (s r : ℕ) (spools : List SpoolValue) (step : ReceiverStep) → mode ≡ Receiving s →
+    s < length spools → Grows h (spool_at spools s) step →
+    GrowsByText mode h r (spool_at spools r).records (spool_at (slice_set spools s step.spool) r).records
 grows_at mode h s r spools step is within grows =
     elim (written spools s r step.spool within) [
       | inr beside ↦ inl (ap (λ (x : SpoolValue). x.records) beside.is)
       | inl at ↦ elim grows [
-        | inl same ↦ inl (ap (λ (x : SpoolValue). x.records) at.is ∙ same ∙ ap (λ n. (spool_at spools n).records) (sym at.same))
+        | inl same ↦ inl (ap (λ (x : SpoolValue). x.records) at.is ∙ same ∙ ap (λ n. (spool_at spools n).records)
+            (sym at.same))
         | inr grown ↦ inr (record {
           text = grown.text;
           heard = grown.heard;
           receiving = is ∙ ap (λ n. Receiving n) (sym at.same);
-          becomes = ap (λ (x : SpoolValue). x.records) at.is ∙ grown.becomes ∙ ap (λ n. (spool_at spools n).records ++ records_in grown.text.units) (sym at.same);
+          becomes = ap (λ (x : SpoolValue). x.records) at.is ∙ grown.becomes
+              ∙ ap (λ n. (spool_at spools n).records ++ records_in grown.text.units) (sym at.same);
         })
       ]
     ]
 
-receiving_changes : (t : TributaryValue) (h : Heard) (s : ℕ) (step : ReceiverStep) → t.mode ≡ Receiving s → s < length t.spools → Grows h (spool_at t.spools s) step → ModeChanges t h (receive_step t s step)
+receiving_changes : (t : TributaryValue) (h : Heard) (s : ℕ) (step : ReceiverStep) → t.mode ≡ Receiving s →
+    s < length t.spools → Grows h (spool_at t.spools s) step → ModeChanges t h (receive_step t s step)
 receiving_changes t h s step is within grows =
     record {
       keeps = record { terminal = refl; setup = refl; ready = refl; format = refl; offered = refl; spools = length-set t.spools s step.spool };
       mode = inr refl;
-      other_spools = λ r ne. get_or-set_other t.spools s r step.spool empty_spool (λ same. ne (is ∙ ap (λ n. Receiving n) (sym same)));
+      other_spools = λ r ne. get_or-set_other t.spools s r step.spool empty_spool
+          (λ same. ne (is ∙ ap (λ n. Receiving n) (sym same)));
       grows = λ r. grows_at t.mode h s r t.spools step is within grows;
       control = λ e. absurd (cc);
     }
 
-sending_changes : (t : TributaryValue) (h : Heard) (step : SenderStep) → t.mode ≡ Sending → FollowsFrom Sending (length t.spools) t.sender t.queue step → ModeChanges t h (act_step t step)
+sending_changes : (t : TributaryValue) (h : Heard) (step : SenderStep) → t.mode ≡ Sending →
+    FollowsFrom Sending (length t.spools) t.sender t.queue step → ModeChanges t h (act_step t step)
 sending_changes t h step is f =
     record {
       keeps = record { terminal = refl; setup = f.setup_is; ready = refl; format = f.format_is; offered = f.offered_is; spools = refl };
-      mode = subst (λ (x : Mode). (mode_after step.act x ≡ Control) ⊎ (mode_after step.act x ≡ x)) (sym is) (mode_after-Sending step.act);
+      mode = subst (λ (x : Mode). (mode_after step.act x ≡ Control) ⊎ (mode_after step.act x ≡ x)) (sym is)
+          (mode_after-Sending step.act);
       other_spools = λ s ne. refl;
       grows = λ s. inl refl;
       control = λ e. absurd (cc);
     }
 
-mode_changes : (t : TributaryValue) (h : Heard) (mode : Mode) (rooms : Rooms) → t.mode ≡ mode → SuitsMode mode t.sender.phase (length t.spools) → ModeChanges t h (mode_step t mode h rooms)
+mode_changes : (t : TributaryValue) (h : Heard) (mode : Mode) (rooms : Rooms) → t.mode ≡ mode →
+    SuitsMode mode t.sender.phase (length t.spools) → ModeChanges t h (mode_step t mode h rooms)
 mode_changes t h Control rooms is suits = control_changes t h
-mode_changes t h (Receiving s) rooms is suits = receiving_changes t h s (heard_step t.receiver (spool_at t.spools s) h t.urgent rooms) is suits.1 (heard_grows t.receiver (spool_at t.spools s) h t.urgent rooms)
-mode_changes t h Sending rooms is suits = sending_changes t h (reply_step t.sender t.queue (reply_heard h)) is (follows-reply_step (length t.spools) t.sender t.queue (reply_heard h) suits)
+mode_changes t h (Receiving s) rooms is suits = receiving_changes t h s
+    (heard_step t.receiver (spool_at t.spools s) h t.urgent rooms) is suits.1
+    (heard_grows t.receiver (spool_at t.spools s) h t.urgent rooms)
+mode_changes t h Sending rooms is suits = sending_changes t h (reply_step t.sender t.queue (reply_heard h)) is
+    (follows-reply_step (length t.spools) t.sender t.queue (reply_heard h) suits)
 
-mode_is_after : (t : TributaryValue) (h : Heard) (mode : Mode) → IsNoCall h → (mode ≡ Control) ⊎ (mode ≡ t.mode) → IsModeAfter t h mode
+mode_is_after : (t : TributaryValue) (h : Heard) (mode : Mode) → IsNoCall h → (mode ≡ Control) ⊎ (mode ≡ t.mode) →
+    IsModeAfter t h mode
 mode_is_after t (Whole m.Eot) mode plain either = absurd plain
 mode_is_after t (Whole (m.Call address)) mode plain either = absurd plain
 mode_is_after t Failed mode plain either = either
@@ -241,12 +279,15 @@ takes_none t (Whole m.Nak) plain takes = takes
 takes_none t (Whole m.Wack) plain takes = takes
 takes_none t (Whole m.Rvi) plain takes = takes
 
-noise_quiet : (t : TributaryValue) (h : Heard) (mode : Mode) (rooms : Rooms) → h ≡ Noise → StaysQuiet t (mode_step t mode h rooms).tributary (is_some (mode_step t mode h rooms).sent)
+noise_quiet : (t : TributaryValue) (h : Heard) (mode : Mode) (rooms : Rooms) → h ≡ Noise →
+    StaysQuiet t (mode_step t mode h rooms).tributary (is_some (mode_step t mode h rooms).sent)
 noise_quiet t h mode rooms e =
-    let same : mode_step t mode h rooms ≡ quiet_step t = ap (λ (x : Heard). mode_step t mode x rooms) e ∙ quiet_in t mode rooms in
+    let same : mode_step t mode h rooms ≡ quiet_step t = ap (λ (x : Heard). mode_step t mode x rooms) e
+    ∙ quiet_in t mode rooms in
     (ap (λ (o : TributaryStep). o.tributary) same, ap (λ (o : TributaryStep). is_some o.sent) same)
 
-from_mode : (t : TributaryValue) (h : Heard) (rooms : Rooms) → IsNoCall h → IsTributary t → Changes t h (hear_step t h rooms)
+from_mode : (t : TributaryValue) (h : Heard) (rooms : Rooms) → IsNoCall h → IsTributary t →
+    Changes t h (hear_step t h rooms)
 from_mode t h rooms plain is =
     let c : ModeChanges t h (mode_step t t.mode h rooms) = mode_changes t h t.mode rooms refl is.bid in
     subst (Changes t h) (sym (hear_step-no_call t h rooms plain))
@@ -271,7 +312,8 @@ changes t (Whole m.Eot) rooms is =
       control = λ e plain. absurd plain;
       noise = λ e. absurd (cc);
     }
-changes t (Whole (m.Call address)) rooms is = from_call t address (call_step t (called_as t.terminal address) rooms) (call_changes t address (called_as t.terminal address) rooms refl is)
+changes t (Whole (m.Call address)) rooms is = from_call t address (call_step t (called_as t.terminal address) rooms)
+    (call_changes t address (called_as t.terminal address) rooms refl is)
 changes t Failed rooms is = from_mode t Failed rooms tt is
 changes t Noise rooms is = from_mode t Noise rooms tt is
 changes t (Whole (m.Text text)) rooms is = from_mode t (Whole (m.Text text)) rooms tt is
@@ -283,30 +325,44 @@ changes t (Whole m.Wack) rooms is = from_mode t (Whole m.Wack) rooms tt is
 changes t (Whole m.Rvi) rooms is = from_mode t (Whole m.Rvi) rooms tt is
 
 -- what holds of a terminal that has heard a transmission
-pub after_hearing : (old : TributaryValue) (h : Heard) (new : TributaryValue) (sent : Option Message) → IsTributary old → IsTributary new → Hears old h new sent → AfterHearing old h new (is_some sent)
+pub after_hearing : (old : TributaryValue) (h : Heard) (new : TributaryValue) (sent : Option Message) →
+    IsTributary old → IsTributary new → Hears old h new sent → AfterHearing old h new (is_some sent)
 after_hearing old h new sent was is hears =
-    let c : Changes old h (record { tributary = new; sent = sent }) = subst (Changes old h) (sym hears.row) (changes old h (rooms_after h new) was) in
+    let c : Changes old h (record { tributary = new; sent = sent }) = subst (Changes old h) (sym hears.row)
+    (changes old h (rooms_after h new) was) in
     record { tributary = is; keeps = c.keeps; mode = c.mode; other_spools = c.other_spools; grows = c.grows; taken = c.taken; control = c.control; noise = c.noise }
 
 -- what EOT leaves
-pub after_drop : (t old : TributaryValue) (sender : SenderValue) → t ≡ old → IsTributary t → sender ≡ with_phase t.sender (cut_phase t.sender.phase) → IsReady sender t.queue →
+pub after_drop : (t old : TributaryValue) (sender : SenderValue) → t ≡ old → IsTributary t →
+    sender ≡ with_phase t.sender (cut_phase t.sender.phase) → IsReady sender t.queue →
     AfterHearing old (Whole m.Eot) (record t { mode = Control; sender = sender }) false
 after_drop t old sender view is cut ready =
     let new : TributaryValue = record t { mode = Control; sender = sender } in
-    let row : record { tributary = new; sent = None } ≡ hear_step t (Whole m.Eot) (rooms_after (Whole m.Eot) new) = ap (λ (s : SenderValue). quiet_step (record t { mode = Control; sender = s })) cut in
-    subst (λ (v : TributaryValue). AfterHearing v (Whole m.Eot) (record t { mode = Control; sender = sender }) false) view
-    (after_hearing t (Whole m.Eot) new None is (stays-without_line t sender is cut ready) (record { row = row; room = λ s e had. absurd (cc) }))
+    let row : record { tributary = new; sent = None } ≡ hear_step t (Whole m.Eot) (rooms_after (Whole m.Eot) new) = ap
+    (λ (s : SenderValue). quiet_step (record t { mode = Control; sender = s })) cut in
+    subst (λ (v : TributaryValue). AfterHearing v (Whole m.Eot)
+    (record t { mode = Control; sender = sender }) false) view
+    (after_hearing t (Whole m.Eot) new None is (stays-without_line t sender is cut ready)
+    (record { row = row; room = λ s e had. absurd (cc) }))
 
 -- and after a silence
-pub after_silence : (t old : TributaryValue) (mode : Mode) (step : SenderStep) (sent : Option Message) → t ≡ old → IsTributary t → t.mode ≡ Sending → step ≡ silence_step t.sender t.queue → mode ≡ mode_after step.act t.mode →
-    IsTributary (record t { mode = mode; sender = step.sender; queue = step.queue }) → AfterSilence old (record t { mode = mode; sender = step.sender; queue = step.queue }) (is_some sent)
+pub after_silence : (t old : TributaryValue) (mode : Mode) (step : SenderStep) (sent : Option Message) → t ≡ old →
+    IsTributary t → t.mode ≡ Sending → step ≡ silence_step t.sender t.queue → mode ≡ mode_after step.act t.mode →
+    IsTributary (record t { mode = mode; sender = step.sender; queue = step.queue }) →
+    AfterSilence old (record t { mode = mode; sender = step.sender; queue = step.queue }) (is_some sent)
 after_silence t old mode step sent view was sending row mode_is is =
-    let f : FollowsFrom Sending (length t.spools) t.sender t.queue step = subst (FollowsFrom Sending (length t.spools) t.sender t.queue) (sym row) (follows-silence_step (length t.spools) t.sender t.queue (subst (λ (x : Mode). SuitsMode x t.sender.phase (length t.spools)) sending was.bid)) in
-    subst (λ (v : TributaryValue). AfterSilence v (record t { mode = mode; sender = step.sender; queue = step.queue }) (is_some sent)) view
+    let f : FollowsFrom Sending (length t.spools) t.sender t.queue step = subst
+    (FollowsFrom Sending (length t.spools) t.sender t.queue) (sym row)
+    (follows-silence_step (length t.spools) t.sender t.queue
+    (subst (λ (x : Mode). SuitsMode x t.sender.phase (length t.spools)) sending was.bid)) in
+    subst (λ (v : TributaryValue). AfterSilence v (record t { mode = mode; sender = step.sender; queue = step.queue })
+    (is_some sent)) view
     (record {
       tributary = is;
       keeps = record { terminal = refl; setup = f.setup_is; ready = refl; format = f.format_is; offered = f.offered_is; spools = refl };
-      mode = subst (λ (x : Mode). (x ≡ Control) ⊎ (x ≡ t.mode)) (sym mode_is) (subst (λ (x : Mode). (mode_after step.act x ≡ Control) ⊎ (mode_after step.act x ≡ x)) (sym sending) (mode_after-Sending step.act));
+      mode = subst (λ (x : Mode). (x ≡ Control) ⊎ (x ≡ t.mode)) (sym mode_is)
+          (subst (λ (x : Mode). (mode_after step.act x ≡ Control) ⊎ (mode_after step.act x ≡ x)) (sym sending)
+          (mode_after-Sending step.act));
       spools = refl;
       still = λ ne. absurd (ne sending);
     })

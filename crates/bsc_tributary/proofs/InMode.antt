@@ -19,7 +19,8 @@ use Rattle.bsc_tributary.proofs.Acts.{FollowsFrom, follows-reply_step, follows-s
 use Rattle.bsc_tributary.proofs.Stays.{stays-act_step}
 
 -- what is no call and no EOT is heard by the mode
-pub hear_step-no_call : (t : TributaryValue) (h : Heard) (rooms : Rooms) → IsNoCall h → hear_step t h rooms ≡ mode_step t t.mode h rooms
+pub hear_step-no_call : (t : TributaryValue) (h : Heard) (rooms : Rooms) → IsNoCall h →
+    hear_step t h rooms ≡ mode_step t t.mode h rooms
 hear_step-no_call t (Whole m.Eot) rooms plain = absurd plain
 hear_step-no_call t (Whole (m.Call address)) rooms plain = absurd plain
 hear_step-no_call t Failed rooms plain = refl
@@ -32,11 +33,13 @@ hear_step-no_call t (Whole m.Nak) rooms plain = refl
 hear_step-no_call t (Whole m.Wack) rooms plain = refl
 hear_step-no_call t (Whole m.Rvi) rooms plain = refl
 
-pub hears-control : (t old : TributaryValue) (h : Heard) → IsNoCall h → t ≡ old → t.mode ≡ Control → Hears old h old None
+pub hears-control : (t old : TributaryValue) (h : Heard) → IsNoCall h → t ≡ old → t.mode ≡ Control →
+    Hears old h old None
 hears-control t old h plain view control =
     let mode : old.mode ≡ Control = ap (λ (v : TributaryValue). v.mode) (sym view) ∙ control in
     record {
-      row = ap (λ (mode : Mode). mode_step old mode h (rooms_after h old)) (sym mode) ∙ sym (hear_step-no_call old h (rooms_after h old) plain);
+      row = ap (λ (mode : Mode). mode_step old mode h (rooms_after h old)) (sym mode)
+          ∙ sym (hear_step-no_call old h (rooms_after h old) plain);
       room = λ s is had. absurd (cc);
     }
 
@@ -44,29 +47,45 @@ hears-control t old h plain view control =
 abbrev pub with_receiver : TributaryValue → Bool → ReceiverValue → List SpoolValue → TributaryValue
 with_receiver t urgent receiver spools = record t { urgent = urgent; receiver = receiver; spools = spools }
 
-pub hears-receiving : (t old : TributaryValue) (h : Heard) (s : ℕ) (urgent : Bool) (receiver : ReceiverValue) (spools : List SpoolValue) (reply : Option Reply) (sent : Option Message) → IsNoCall h → t ≡ old → t.mode ≡ Receiving s →
-    Receives t.receiver (spool_at t.spools s) h t.urgent (record { receiver = receiver; spool = spool_at spools s; reply = reply }) → spools ≡ slice_set t.spools s (spool_at spools s) →
-    urgent ≡ (if sends_rvi reply then false else t.urgent) → sent ≡ option_map message_of reply → Hears old h (with_receiver t urgent receiver spools) sent
+pub hears-receiving : (t old : TributaryValue) (h : Heard) (s : ℕ) (urgent : Bool) (receiver : ReceiverValue)
+    (spools : List SpoolValue) (reply : Option Reply) (sent : Option Message) → IsNoCall h → t ≡ old →
+    t.mode ≡ Receiving s →
+    Receives t.receiver (spool_at t.spools s) h t.urgent
+    (record { receiver = receiver; spool = spool_at spools s; reply = reply }) →
+    spools ≡ slice_set t.spools s (spool_at spools s) →
+    urgent ≡ (if sends_rvi reply then false else t.urgent) → sent ≡ option_map message_of reply →
+    Hears old h (with_receiver t urgent receiver spools) sent
 hears-receiving t old h s urgent receiver spools reply sent plain view mode r spools_is urgent_is sent_is =
     let out : ReceiverStep = record { receiver = receiver; spool = spool_at spools s; reply = reply } in
     let done : record { tributary = with_receiver t urgent receiver spools; sent = sent } ≡ receive_step t s out =
     ap (λ (xs : List SpoolValue). record { tributary = with_receiver t urgent receiver xs; sent = sent }) spools_is
-    ∙ ap (λ (b : Bool). record { tributary = with_receiver t b receiver (slice_set t.spools s (spool_at spools s)); sent = sent }) urgent_is
+    ∙ ap (λ (b : Bool). record {
+      tributary = with_receiver t b receiver
+          (slice_set t.spools s (spool_at spools s));
+      sent = sent;
+    }) urgent_is
     ∙ ap (λ (o : Option Message). record { tributary = (receive_step t s out).tributary; sent = o }) sent_is in
-    let row : record { tributary = with_receiver t urgent receiver spools; sent = sent } ≡ hear_step t h (rooms_after h (with_receiver t urgent receiver spools)) =
-    done ∙ ap (receive_step t s) r.row ∙ ap (λ (mode : Mode). mode_step t mode h (rooms_left h receiver.last (spool_in mode spools))) (sym mode) ∙ sym (hear_step-no_call t h (rooms_after h (with_receiver t urgent receiver spools)) plain) in
+    let row : record { tributary = with_receiver t urgent receiver spools; sent = sent } ≡ hear_step t h
+    (rooms_after h (with_receiver t urgent receiver spools)) =
+    done ∙ ap (receive_step t s) r.row ∙ ap (λ (mode : Mode). mode_step t mode h
+    (rooms_left h receiver.last (spool_in mode spools))) (sym mode)
+    ∙ sym (hear_step-no_call t h (rooms_after h (with_receiver t urgent receiver spools)) plain) in
     let heard : Hears t h (with_receiver t urgent receiver spools) sent =
     record {
       row = row;
       room = λ k is had.
           let same : k ≡ s = cc in
-          ap (λ (mode : Mode). (rooms_left h receiver.last (spool_in mode spools)).first) mode ∙ r.room (ap (λ n. (spool_at t.spools n).room) (sym same) ∙ had);
+          ap (λ (mode : Mode). (rooms_left h receiver.last (spool_in mode spools)).first) mode
+          ∙ r.room (ap (λ n. (spool_at t.spools n).room) (sym same) ∙ had);
     } in
     subst (λ (v : TributaryValue). Hears v h (with_receiver t urgent receiver spools) sent) view heard
 
-pub stays-receive_step : (t : TributaryValue) (s : ℕ) (urgent : Bool) (receiver : ReceiverValue) (spools : List SpoolValue) → IsTributary t → spools ≡ slice_set t.spools s (spool_at spools s) → IsTributary (with_receiver t urgent receiver spools)
+pub stays-receive_step : (t : TributaryValue) (s : ℕ) (urgent : Bool) (receiver : ReceiverValue)
+    (spools : List SpoolValue) → IsTributary t → spools ≡ slice_set t.spools s (spool_at spools s) →
+    IsTributary (with_receiver t urgent receiver spools)
 stays-receive_step t s urgent receiver spools is spools_is =
-    let same : length spools ≡ length t.spools = ap (λ (xs : List SpoolValue). length xs) spools_is ∙ length-set t.spools s (spool_at spools s) in
+    let same : length spools ≡ length t.spools = ap (λ (xs : List SpoolValue). length xs) spools_is
+    ∙ length-set t.spools s (spool_at spools s) in
     record {
       distinct = is.distinct;
       terminal = is.terminal;
@@ -80,39 +99,60 @@ stays-receive_step t s urgent receiver spools is spools_is =
 abbrev pub with_sender : TributaryValue → Mode → SenderStep → TributaryValue
 with_sender t mode step = record t { mode = mode; sender = step.sender; queue = step.queue }
 
-act_step_is : (t : TributaryValue) (mode : Mode) (step : SenderStep) (sent : Option Message) → mode ≡ mode_after step.act t.mode → sent ≡ message_for step.act → record { tributary = with_sender t mode step; sent = sent } ≡ act_step t step
+act_step_is : (t : TributaryValue) (mode : Mode) (step : SenderStep) (sent : Option Message) →
+    mode ≡ mode_after step.act t.mode → sent ≡ message_for step.act →
+    record { tributary = with_sender t mode step; sent = sent } ≡ act_step t step
 act_step_is t mode step sent mode_is sent_is = rw (mode_is, sent_is) refl
 
 not_receiving : (mode : Mode) (s : ℕ) → (mode ≡ Control) ⊎ (mode ≡ Sending) → mode ≡ Receiving s → ⊥
 not_receiving mode s (inl e) is = cc
 not_receiving mode s (inr e) is = cc
 
-pub hears-sending : (t old : TributaryValue) (h : Heard) (mode : Mode) (step : SenderStep) (sent : Option Message) → IsNoCall h → t ≡ old → t.mode ≡ Sending → step ≡ reply_step t.sender t.queue (reply_heard h) →
+pub hears-sending : (t old : TributaryValue) (h : Heard) (mode : Mode) (step : SenderStep) (sent : Option Message) →
+    IsNoCall h → t ≡ old → t.mode ≡ Sending → step ≡ reply_step t.sender t.queue (reply_heard h) →
     mode ≡ mode_after step.act t.mode → sent ≡ message_for step.act → Hears old h (with_sender t mode step) sent
 hears-sending t old h mode step sent plain view sending row mode_is sent_is =
     let new : TributaryValue = with_sender t mode step in
     let heard : Hears t h (with_sender t mode step) sent =
     record {
-      row = act_step_is t mode step sent mode_is sent_is ∙ ap (act_step t) row ∙ ap (λ (mode : Mode). mode_step t mode h (rooms_after h new)) (sym sending) ∙ sym (hear_step-no_call t h (rooms_after h new) plain);
-      room = λ s is had. absurd (not_receiving mode s (subst (λ (x : Mode). (x ≡ Control) ⊎ (x ≡ Sending)) (ap (mode_after step.act) (sym sending) ∙ sym mode_is) (mode_after-Sending step.act)) is);
+      row = act_step_is t mode step sent mode_is sent_is ∙ ap (act_step t) row
+          ∙ ap (λ (mode : Mode). mode_step t mode h (rooms_after h new)) (sym sending)
+          ∙ sym (hear_step-no_call t h (rooms_after h new) plain);
+      room = λ s is had. absurd (not_receiving mode s
+          (subst (λ (x : Mode). (x ≡ Control) ⊎ (x ≡ Sending)) (ap (mode_after step.act) (sym sending) ∙ sym mode_is)
+          (mode_after-Sending step.act)) is);
     } in
     subst (λ (v : TributaryValue). Hears v h (with_sender t mode step) sent) view heard
 
-pub stays-replied : (t : TributaryValue) (h : Heard) (mode : Mode) (step : SenderStep) → IsTributary t → t.mode ≡ Sending → step ≡ reply_step t.sender t.queue (reply_heard h) → mode ≡ mode_after step.act t.mode → IsReady step.sender step.queue → IsTributary (with_sender t mode step)
+pub stays-replied : (t : TributaryValue) (h : Heard) (mode : Mode) (step : SenderStep) → IsTributary t →
+    t.mode ≡ Sending → step ≡ reply_step t.sender t.queue (reply_heard h) → mode ≡ mode_after step.act t.mode →
+    IsReady step.sender step.queue → IsTributary (with_sender t mode step)
 stays-replied t h mode step is sending row mode_is ready =
     stays-act_step t mode Sending step is (mode_is ∙ ap (mode_after step.act) sending)
-    (subst (FollowsFrom Sending (length t.spools) t.sender t.queue) (sym row) (follows-reply_step (length t.spools) t.sender t.queue (reply_heard h) (subst (λ (x : Mode). SuitsMode x t.sender.phase (length t.spools)) sending is.bid))) ready
+    (subst (FollowsFrom Sending (length t.spools) t.sender t.queue) (sym row)
+    (follows-reply_step (length t.spools) t.sender t.queue (reply_heard h)
+    (subst (λ (x : Mode). SuitsMode x t.sender.phase (length t.spools)) sending is.bid))) ready
 
 -- a silence
-pub silent-sending : (t old : TributaryValue) (mode : Mode) (step : SenderStep) (sent : Option Message) → t ≡ old → t.mode ≡ Sending → step ≡ silence_step t.sender t.queue → mode ≡ mode_after step.act t.mode → sent ≡ message_for step.act → ActsOnSilence old (with_sender t mode step) sent
+pub silent-sending : (t old : TributaryValue) (mode : Mode) (step : SenderStep) (sent : Option Message) → t ≡ old →
+    t.mode ≡ Sending → step ≡ silence_step t.sender t.queue → mode ≡ mode_after step.act t.mode →
+    sent ≡ message_for step.act → ActsOnSilence old (with_sender t mode step) sent
 silent-sending t old mode step sent view sending row mode_is sent_is =
-    act_step_is t mode step sent mode_is sent_is ∙ ap (act_step t) row ∙ ap (silence_in t) (sym sending) ∙ ap (λ (v : TributaryValue). silence_in v v.mode) view
+    act_step_is t mode step sent mode_is sent_is ∙ ap (act_step t) row ∙ ap (silence_in t) (sym sending)
+    ∙ ap (λ (v : TributaryValue). silence_in v v.mode) view
 
-pub stays-silent : (t : TributaryValue) (mode : Mode) (step : SenderStep) → IsTributary t → t.mode ≡ Sending → step ≡ silence_step t.sender t.queue → mode ≡ mode_after step.act t.mode → IsReady step.sender step.queue → IsTributary (with_sender t mode step)
+pub stays-silent : (t : TributaryValue) (mode : Mode) (step : SenderStep) → IsTributary t → t.mode ≡ Sending →
+    step ≡ silence_step t.sender t.queue → mode ≡ mode_after step.act t.mode → IsReady step.sender step.queue →
+    IsTributary (with_sender t mode step)
 stays-silent t mode step is sending row mode_is ready =
     stays-act_step t mode Sending step is (mode_is ∙ ap (mode_after step.act) sending)
-    (subst (FollowsFrom Sending (length t.spools) t.sender t.queue) (sym row) (follows-silence_step (length t.spools) t.sender t.queue (subst (λ (x : Mode). SuitsMode x t.sender.phase (length t.spools)) sending is.bid))) ready
+    (subst (FollowsFrom Sending (length t.spools) t.sender t.queue) (sym row)
+    (follows-silence_step (length t.spools) t.sender t.queue
+    (subst (λ (x : Mode). SuitsMode x t.sender.phase (length t.spools)) sending is.bid))) ready
 
-pub silent-still : (t old : TributaryValue) → t ≡ old → (t.mode ≡ Control) ⊎ ((s : ℕ) × (t.mode ≡ Receiving s)) → ActsOnSilence old old None
-silent-still t old view (inl control) = ap (silence_in old) (sym (ap (λ (v : TributaryValue). v.mode) (sym view) ∙ control))
-silent-still t old view (inr receiving) = ap (silence_in old) (sym (ap (λ (v : TributaryValue). v.mode) (sym view) ∙ receiving.1))
+pub silent-still : (t old : TributaryValue) → t ≡ old → (t.mode ≡ Control) ⊎ ((s : ℕ) × (t.mode ≡ Receiving s)) →
+    ActsOnSilence old old None
+silent-still t old view (inl control) = ap (silence_in old)
+    (sym (ap (λ (v : TributaryValue). v.mode) (sym view) ∙ control))
+silent-still t old view (inr receiving) = ap (silence_in old)
+    (sym (ap (λ (v : TributaryValue). v.mode) (sym view) ∙ receiving.1))

@@ -28,22 +28,31 @@ counts_more (InDoubt k) m n more counts = omega arith
 counts_more (Unanswered b) m n more counts = (counts.0, counts.1, waiting_more b.count b.end m n more counts.2)
 counts_more (Held end parity) m n more counts = waiting_more 0 end m n more counts
 
-all_more : (full : ℕ) (rs : List (List ℕ)) (r : List ℕ) → AllByRecursion (λ x. length x ≤ full) rs → length r ≤ full → AllByRecursion (λ x. length x ≤ full) (rs ++ r ∷ [])
+all_more : (full : ℕ) (rs : List (List ℕ)) (r : List ℕ) → AllByRecursion (λ x. length x ≤ full) rs → length r ≤ full →
+    AllByRecursion (λ x. length x ≤ full) (rs ++ r ∷ [])
 all_more full [] r all short = (short, tt)
 all_more full (x ∷ xs) r all short = (all.0, all_more full xs r all.1 short)
 
 -- an offer
-pub ready-offered : (s : SenderValue) (q : QueueValue) (r : List ℕ) → IsReady s q → length r ≤ q.format.full → IsReady s (record q { offered = q.offered ++ r ∷ [] })
+pub ready-offered : (s : SenderValue) (q : QueueValue) (r : List ℕ) → IsReady s q → length r ≤ q.format.full →
+    IsReady s (record q { offered = q.offered ++ r ∷ [] })
 ready-offered s q r ready short =
     let longer : length (q.offered ++ r ∷ []) ≡ length q.offered + 1 = length-append q.offered (r ∷ []) in
     let known : q.known ≤ length q.offered = ready.queue.known in
-    let more : length (drop q.known q.offered) ≤ length (drop q.known (q.offered ++ r ∷ [])) = omega (arith, longer, length-drop q.known q.offered, length-drop q.known (q.offered ++ r ∷ [])) in
+    let more : length (drop q.known q.offered) ≤ length (drop q.known (q.offered ++ r ∷ [])) = omega
+    (arith, longer, length-drop q.known q.offered, length-drop q.known (q.offered ++ r ∷ [])) in
     record {
-      queue = record { format = ready.queue.format; known = omega (arith, longer); short = all_more q.format.full q.offered r ready.queue.short short };
+      queue = record {
+        format = ready.queue.format;
+        known = omega
+            (arith, longer);
+        short = all_more q.format.full q.offered r ready.queue.short short;
+      };
       counts = counts_more s.phase (length (waiting q)) (length (drop q.known (q.offered ++ r ∷ []))) more ready.counts;
     }
 
-pub stays-offered : (t : TributaryValue) (r : List ℕ) → IsTributary t → length r ≤ t.queue.format.full → IsTributary (record t { queue = record t.queue { offered = t.queue.offered ++ r ∷ [] } })
+pub stays-offered : (t : TributaryValue) (r : List ℕ) → IsTributary t → length r ≤ t.queue.format.full →
+    IsTributary (record t { queue = record t.queue { offered = t.queue.offered ++ r ∷ [] } })
 stays-offered t r is short =
     record { distinct = is.distinct; terminal = is.terminal; spools = is.spools; format = is.format; ready = ready-offered t.sender t.queue r is.ready short; bid = is.bid }
 
@@ -62,7 +71,8 @@ idle_suits Control k n suits = tt
 idle_suits (Receiving s) k n suits = (tt, suits.1)
 idle_suits Sending k n suits = absurd suits
 
-releases-in : (mode : Mode) (n : ℕ) (s : SenderValue) (q : QueueValue) (p : Phase) (count : ℕ) → SuitsMode mode p n → SuitsMode mode s.phase n → Releases mode n s.setup q.format (release_in s q p count)
+releases-in : (mode : Mode) (n : ℕ) (s : SenderValue) (q : QueueValue) (p : Phase) (count : ℕ) → SuitsMode mode p n →
+    SuitsMode mode s.phase n → Releases mode n s.setup q.format (release_in s q p count)
 releases-in mode n s q (InDoubt k) count suits now =
     choose (Releases mode n s.setup q.format) ((count == q.known) || (count == (q.known + k))) _ _
     (record { suits = idle_suits mode k n suits; setup_is = refl; format_is = refl })
@@ -71,13 +81,26 @@ releases-in mode n s q Idle count suits now = record { suits = now; setup_is = r
 releases-in mode n s q (Unanswered b) count suits now = record { suits = now; setup_is = refl; format_is = refl }
 releases-in mode n s q (Held end parity) count suits now = record { suits = now; setup_is = refl; format_is = refl }
 
-pub stays-release : (t : TributaryValue) (count : ℕ) (step : ReleaseStep) → IsTributary t → step ≡ release_step t.sender t.queue count → IsReady step.sender step.queue → IsTributary (record t { sender = step.sender; queue = step.queue })
+pub stays-release : (t : TributaryValue) (count : ℕ) (step : ReleaseStep) → IsTributary t →
+    step ≡ release_step t.sender t.queue count → IsReady step.sender step.queue →
+    IsTributary (record t { sender = step.sender; queue = step.queue })
 stays-release t count step is row ready =
-    let r : Releases t.mode (length t.spools) t.sender.setup t.queue.format step = subst (Releases t.mode (length t.spools) t.sender.setup t.queue.format) (sym row) (releases-in t.mode (length t.spools) t.sender t.queue t.sender.phase count is.bid is.bid) in
-    record { distinct = is.distinct; terminal = is.terminal; spools = is.spools; format = r.format_is ∙ is.format ∙ ap (λ (s : SetupValue). s.format) (sym r.setup_is); ready = ready; bid = r.suits }
+    let r : Releases t.mode (length t.spools) t.sender.setup t.queue.format step = subst
+    (Releases t.mode (length t.spools) t.sender.setup t.queue.format) (sym row)
+    (releases-in t.mode (length t.spools) t.sender t.queue t.sender.phase count is.bid is.bid) in
+    record {
+      distinct = is.distinct;
+      terminal = is.terminal;
+      spools = is.spools;
+      format = r.format_is ∙ is.format
+          ∙ ap (λ (s : SetupValue). s.format) (sym r.setup_is);
+      ready = ready;
+      bid = r.suits;
+    }
 
 -- an offer that was accepted, or came back
-pub offered-either : {E : Type 0} (r : Result (Unit {0}) E) (queue old more : QueueValue) → OnOk r (queue ≡ more) → OnErr r (queue ≡ old) → (queue ≡ more) ⊎ (queue ≡ old)
+pub offered-either : {E : Type 0} (r : Result (Unit {0}) E) (queue old more : QueueValue) → OnOk r (queue ≡ more) →
+    OnErr r (queue ≡ old) → (queue ≡ more) ⊎ (queue ≡ old)
 offered-either (Ok done) queue old more ok err = inl ok
 offered-either (Err e) queue old more ok err = inr err
 
@@ -85,24 +108,37 @@ offered-either (Err e) queue old more ok err = inr err
 abbrev pub with_queue : TributaryValue → QueueValue → TributaryValue
 with_queue t queue = record t { queue = queue }
 
-pub stays-offer : (t old : TributaryValue) (r : List ℕ) (queue : QueueValue) → IsTributary t → t ≡ old → length r ≤ old.queue.format.full →
-    (queue ≡ record t.queue { offered = t.queue.offered ++ r ∷ [] }) ⊎ (queue ≡ t.queue) → IsTributary (with_queue t queue)
+pub stays-offer : (t old : TributaryValue) (r : List ℕ) (queue : QueueValue) → IsTributary t → t ≡ old →
+    length r ≤ old.queue.format.full →
+    (queue ≡ record t.queue { offered = t.queue.offered ++ r ∷ [] }) ⊎ (queue ≡ t.queue) →
+    IsTributary (with_queue t queue)
 stays-offer t old r queue is view short (inl more) =
-    subst (λ (q : QueueValue). IsTributary (with_queue t q)) (sym more) (stays-offered t r is (subst (λ (v : TributaryValue). length r ≤ v.queue.format.full) (sym view) short))
-stays-offer t old r queue is view short (inr same) = subst (λ (q : QueueValue). IsTributary (with_queue t q)) (sym same) is
+    subst (λ (q : QueueValue). IsTributary (with_queue t q)) (sym more)
+    (stays-offered t r is (subst (λ (v : TributaryValue). length r ≤ v.queue.format.full) (sym view) short))
+stays-offer t old r queue is view short (inr same) = subst (λ (q : QueueValue). IsTributary (with_queue t q))
+    (sym same) is
 
 -- what the terminal is, seen from the one before
-pub offer-ok : {E : Type 0} (res : Result (Unit {0}) E) (t old : TributaryValue) (r : List ℕ) (queue : QueueValue) → t ≡ old → OnOk res (queue ≡ record t.queue { offered = t.queue.offered ++ r ∷ [] }) →
+pub offer-ok : {E : Type 0} (res : Result (Unit {0}) E) (t old : TributaryValue) (r : List ℕ) (queue : QueueValue) →
+    t ≡ old → OnOk res (queue ≡ record t.queue { offered = t.queue.offered ++ r ∷ [] }) →
     OnOk res (with_queue t queue ≡ with_queue old (record old.queue { offered = old.queue.offered ++ r ∷ [] }))
-offer-ok (Ok done) t old r queue view more = ap (with_queue t) more ∙ ap (λ (v : TributaryValue). with_queue v (record v.queue { offered = v.queue.offered ++ r ∷ [] })) view
+offer-ok (Ok done) t old r queue view more = ap (with_queue t) more
+    ∙ ap (λ (v : TributaryValue). with_queue v (record v.queue { offered = v.queue.offered ++ r ∷ [] })) view
 offer-ok (Err e) t old r queue view more = tt
 
-pub offer-err : {E : Type 0} (res : Result (Unit {0}) E) (t old : TributaryValue) (queue : QueueValue) → t ≡ old → OnErr res (queue ≡ t.queue) → OnErr res (with_queue t queue ≡ old)
+pub offer-err : {E : Type 0} (res : Result (Unit {0}) E) (t old : TributaryValue) (queue : QueueValue) → t ≡ old →
+    OnErr res (queue ≡ t.queue) → OnErr res (with_queue t queue ≡ old)
 offer-err (Ok done) t old queue view same = tt
 offer-err (Err e) t old queue view same = ap (with_queue t) same ∙ view
 
-pub release-state : (t old : TributaryValue) (count : ℕ) (step : ReleaseStep) → t ≡ old → step ≡ release_step t.sender t.queue count → record t { sender = step.sender; queue = step.queue } ≡ after_release old count
-release-state t old count step view row = ap (λ (s : ReleaseStep). record t { sender = s.sender; queue = s.queue }) row ∙ ap (λ (v : TributaryValue). after_release v count) view
+pub release-state : (t old : TributaryValue) (count : ℕ) (step : ReleaseStep) → t ≡ old →
+    step ≡ release_step t.sender t.queue count → record t { sender = step.sender; queue = step.queue } ≡
+    after_release old count
+release-state t old count step view row = ap (λ
+    (s : ReleaseStep). record t { sender = s.sender; queue = s.queue }) row
+    ∙ ap (λ (v : TributaryValue). after_release v count) view
 
-pub release-answer : (t old : TributaryValue) (count : ℕ) (step : ReleaseStep) → t ≡ old → step ≡ release_step t.sender t.queue count → step.answer ≡ (release_step old.sender old.queue count).answer
-release-answer t old count step view row = ap (λ (s : ReleaseStep). s.answer) row ∙ ap (λ (v : TributaryValue). (release_step v.sender v.queue count).answer) view
+pub release-answer : (t old : TributaryValue) (count : ℕ) (step : ReleaseStep) → t ≡ old →
+    step ≡ release_step t.sender t.queue count → step.answer ≡ (release_step old.sender old.queue count).answer
+release-answer t old count step view row = ap (λ (s : ReleaseStep). s.answer) row
+    ∙ ap (λ (v : TributaryValue). (release_step v.sender v.queue count).answer) view

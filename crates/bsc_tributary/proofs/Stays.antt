@@ -16,7 +16,8 @@ use Rattle.bsc_tributary.specs.Kept.{IsTributary, SuitsMode}
 use Rattle.bsc_tributary.proofs.Acts.{FollowsFrom, IsAtRest-cut_phase}
 
 -- the line is taken from it
-pub stays-without_line : (t : TributaryValue) (sender : SenderValue) → IsTributary t → sender ≡ with_phase t.sender (cut_phase t.sender.phase) → IsReady sender t.queue →
+pub stays-without_line : (t : TributaryValue) (sender : SenderValue) → IsTributary t →
+    sender ≡ with_phase t.sender (cut_phase t.sender.phase) → IsReady sender t.queue →
     IsTributary (record t { mode = Control; sender = sender })
 stays-without_line t sender is cut ready =
     record {
@@ -25,11 +26,14 @@ stays-without_line t sender is cut ready =
       spools = is.spools;
       format = is.format ∙ ap (λ (s : SenderValue). s.setup.format) (sym cut);
       ready = ready;
-      bid = subst (λ (s : SenderValue). SuitsMode Control s.phase (length t.spools)) (sym cut) (IsAtRest-cut_phase t.sender.phase);
+      bid = subst (λ (s : SenderValue). SuitsMode Control s.phase (length t.spools)) (sym cut)
+          (IsAtRest-cut_phase t.sender.phase);
     }
 
 -- its sender acts
-pub stays-act_step : (t : TributaryValue) (mode from : Mode) (step : SenderStep) → IsTributary t → mode ≡ mode_after step.act from → FollowsFrom from (length t.spools) t.sender t.queue step → IsReady step.sender step.queue →
+pub stays-act_step : (t : TributaryValue) (mode from : Mode) (step : SenderStep) → IsTributary t →
+    mode ≡ mode_after step.act from → FollowsFrom from (length t.spools) t.sender t.queue step →
+    IsReady step.sender step.queue →
     IsTributary (record t { mode = mode; sender = step.sender; queue = step.queue })
 stays-act_step t mode from step is e follows ready =
     record {
@@ -42,9 +46,12 @@ stays-act_step t mode from step is e follows ready =
     }
 
 -- a new one
-pub new_is : (terminal : TerminalValue) (setup : SetupValue) (sender : SenderValue) (receiver : ReceiverValue) (queue : QueueValue) (spools : List SpoolValue) → AreDistinct terminal → IsTerminal terminal → IsSetup setup →
-    sender ≡ record { setup = setup; phase = Idle; tries = 0; waits = 0 } → queue ≡ record { format = setup.format; offered = []; known = 0 } → length spools ≡ length terminal.selects →
-    IsTributary (record { terminal = terminal; mode = Control; ready = true; urgent = false; sender = sender; receiver = receiver; queue = queue; spools = spools })
+pub new_is : (terminal : TerminalValue) (setup : SetupValue) (sender : SenderValue) (receiver : ReceiverValue)
+    (queue : QueueValue) (spools : List SpoolValue) → AreDistinct terminal → IsTerminal terminal → IsSetup setup →
+    sender ≡ record { setup = setup; phase = Idle; tries = 0; waits = 0 } →
+    queue ≡ record { format = setup.format; offered = []; known = 0 } → length spools ≡ length terminal.selects →
+    IsTributary
+    (record { terminal = terminal; mode = Control; ready = true; urgent = false; sender = sender; receiver = receiver; queue = queue; spools = spools })
 new_is terminal setup sender receiver queue spools distinct is limits s q count =
     rw (s, q) (record {
       distinct = distinct;
@@ -56,6 +63,7 @@ new_is terminal setup sender receiver queue spools distinct is limits s q count 
     })
 
 -- its flags and its receiver change
-pub stays-flags : (t : TributaryValue) (ready urgent : Bool) (receiver : ReceiverValue) → IsTributary t → IsTributary (record t { ready = ready; urgent = urgent; receiver = receiver })
+pub stays-flags : (t : TributaryValue) (ready urgent : Bool) (receiver : ReceiverValue) → IsTributary t →
+    IsTributary (record t { ready = ready; urgent = urgent; receiver = receiver })
 stays-flags t ready urgent receiver is =
     record { distinct = is.distinct; terminal = is.terminal; spools = is.spools; format = is.format; ready = is.ready; bid = is.bid }

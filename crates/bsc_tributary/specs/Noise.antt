@@ -12,10 +12,12 @@ use Rattle.bsc_tributary.specs.Tributary.{TributaryValue, TributaryStep, Hears, 
 
 pub quiet_in : (t : TributaryValue) (mode : Mode) (rooms : Rooms) → mode_step t mode Noise rooms ≡ quiet_step t
 quiet_in t Control rooms = refl
-quiet_in t (Receiving s) rooms = ap (λ (spools : List SpoolValue). quiet_step (record t { spools = spools })) (set-get_or t.spools s empty_spool)
+quiet_in t (Receiving s) rooms = ap (λ (spools : List SpoolValue). quiet_step (record t { spools = spools }))
+    (set-get_or t.spools s empty_spool)
 quiet_in t Sending rooms = refl
 
-pub noise_changes_nothing : (old new : TributaryValue) (sent : Option Message) → Hears old Noise new sent → (new ≡ old) × (sent ≡ None)
+pub noise_changes_nothing : (old new : TributaryValue) (sent : Option Message) → Hears old Noise new sent →
+    (new ≡ old) × (sent ≡ None)
 noise_changes_nothing old new sent h =
     let same : record { tributary = new; sent = sent } ≡ quiet_step old = h.row ∙ quiet_in old old.mode _ in
     (ap (λ (o : TributaryStep). o.tributary) same, ap (λ (o : TributaryStep). o.sent) same)

@@ -32,7 +32,8 @@ pub record TributaryValue : Type 0 where
   pub queue : QueueValue
   pub spools : List SpoolValue
 
-abbrev pub tributary_of : TerminalValue → Mode → Bool → Bool → SenderValue → ReceiverValue → QueueValue → List SpoolValue → TributaryValue
+abbrev pub tributary_of : TerminalValue → Mode → Bool → Bool → SenderValue → ReceiverValue → QueueValue →
+    List SpoolValue → TributaryValue
 tributary_of terminal mode ready urgent sender receiver queue spools =
     record {
       terminal = terminal;
@@ -110,8 +111,10 @@ poll_step t =
 abbrev pub selection_step : TributaryValue → ℕ → Bool → TributaryStep
 selection_step t s room =
     let d : TributaryValue = without_line t in
+    let spools : List SpoolValue = slice_set t.spools s (room_asked (spool_at t.spools s) room) in
     if t.ready
-    then answer_step (record d { mode = Receiving s; receiver = begun room; spools = slice_set t.spools s (room_asked (spool_at t.spools s) room) }) (message_of (first_reply room))
+    then answer_step (record d { mode = Receiving s; receiver = begun room; spools = spools })
+    (message_of (first_reply room))
     else answer_step d m.Nak
 
 -- a call

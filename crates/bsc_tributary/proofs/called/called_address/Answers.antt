@@ -8,15 +8,20 @@ pub returns-then-eq-2 : goal.returns-then-eq-2
 returns-then-eq-2 c =
     let a : List ℕ = c.args.address.now in
     let selects : List (List ℕ) = c.args.terminal.now.selects in
-    let poll : is_same a c.args.terminal.now.poll ≡ false = ap (is_same a) (sym c.poll.ensures) ∙ sym c.eq.ensures ∙ c.if-eq.false in
-    let here : get_or selects c.loop-select.select [] ≡ c.select.result = get_or_from_slice_get selects c.loop-select.select c.select.result [] c.select.ensures in
+    let poll : is_same a c.args.terminal.now.poll ≡ false = ap (is_same a) (sym c.poll.ensures) ∙ sym c.eq.ensures
+    ∙ c.if-eq.false in
+    let here : get_or selects c.loop-select.select [] ≡
+    c.select.result = get_or_from_slice_get selects c.loop-select.select c.select.result [] c.select.ensures in
     sym (called_as-Selection c.args.terminal.now a c.loop-select.select poll
-    (position-at (is_same a) selects c.loop-select.select (slice_get_within selects c.loop-select.select c.select.result c.select.ensures) c.loop-select.invariant
+    (position-at (is_same a) selects c.loop-select.select
+    (slice_get_within selects c.loop-select.select c.select.result c.select.ensures) c.loop-select.invariant
     (ap (is_same a) here ∙ sym c.eq-in-loop-select.ensures ∙ c.if-eq-2.true)))
 
 pub returns : goal.returns
 returns c =
     let a : List ℕ = c.args.address.now in
     let selects : List (List ℕ) = c.args.terminal.now.selects in
-    let poll : is_same a c.args.terminal.now.poll ≡ false = ap (is_same a) (sym c.poll.ensures) ∙ sym c.eq.ensures ∙ c.if-eq.false in
-    sym (called_as-Other c.args.terminal.now a poll (position-nowhere (is_same a) selects (λ k within. c.loop-select.invariant k (omega arith))))
+    let poll : is_same a c.args.terminal.now.poll ≡ false = ap (is_same a) (sym c.poll.ensures) ∙ sym c.eq.ensures
+    ∙ c.if-eq.false in
+    sym (called_as-Other c.args.terminal.now a poll
+    (position-nowhere (is_same a) selects (λ k within. c.loop-select.invariant k (omega arith))))

@@ -5,7 +5,8 @@ use Rattle.bsc_tributary.proofs.tributary.Tributary.act_on_silence.Goals as goal
 
 pub invariant_of-self : goal.invariant_of-self
 invariant_of-self g c =
-    stays-silent _ c.perform.new.mode _ c.self.invariant c.in-Sending.is (c.silence-act.ensures.row _) c.perform.ensures.mode
+    stays-silent _ c.perform.new.mode _ c.self.invariant c.in-Sending.is
+    (c.silence-act.ensures.row _) c.perform.ensures.mode
     (c.silence-act.ensures.ready _ c.self.invariant.ready)
 
 pub returns-in-Control : goal.returns-in-Control

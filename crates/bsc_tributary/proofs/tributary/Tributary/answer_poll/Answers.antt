@@ -7,18 +7,25 @@ use Rattle.bsc_tributary.proofs.tributary.Tributary.answer_poll.Goals.{then-in_d
 pub returns-then-in_doubt-clause-row : goal.returns-then-in_doubt-clause-row
 returns-then-in_doubt-clause-row g c =
     elim c.then-in_doubt.branch [
-      | then-in_doubt-via-then-in_doubt w ↦ poll_step-in_doubt _ c.args.self.now (c.self.view_is ∙ c.drop_line.ensures.state) (sym c.in_doubt.ensures ∙ w.if-in_doubt.true)
-      | then-in_doubt-via-else-in_doubt+then-is_none w ↦ poll_step-empty _ c.args.self.now (c.self.view_is ∙ c.drop_line.ensures.state) (sym c.in_doubt.ensures ∙ w.if-in_doubt.false) (ap is_some (sym w.next.ensures.value) ∙ w.if-is_none.ensures)
+      | then-in_doubt-via-then-in_doubt w ↦ poll_step-in_doubt _ c.args.self.now
+          (c.self.view_is ∙ c.drop_line.ensures.state) (sym c.in_doubt.ensures ∙ w.if-in_doubt.true)
+      | then-in_doubt-via-else-in_doubt+then-is_none w ↦ poll_step-empty _ c.args.self.now
+          (c.self.view_is ∙ c.drop_line.ensures.state) (sym c.in_doubt.ensures ∙ w.if-in_doubt.false)
+          (ap is_some (sym w.next.ensures.value) ∙ w.if-is_none.ensures)
     ]
 
 pub begin-act-requires-clause-idle : goal.begin-act-requires-clause-idle
-begin-act-requires-clause-idle g c = without_line-idle _ c.args.self.now (c.self.view_is ∙ c.drop_line.ensures.state) (sym c.in_doubt.ensures ∙ c.if-in_doubt.false)
+begin-act-requires-clause-idle g c = without_line-idle _ c.args.self.now (c.self.view_is ∙ c.drop_line.ensures.state)
+    (sym c.in_doubt.ensures ∙ c.if-in_doubt.false)
 
 pub invariant_of-self-2 : goal.invariant_of-self-2
 invariant_of-self-2 g c = stays-begun _ _ c.perform.new.mode c.self.invariant c.begin-act.ensures.row c.perform.ensures.mode (c.begin-act.ensures.ready c.self.invariant.ready)
 
 pub returns-clause-row : goal.returns-clause-row
-returns-clause-row g c = poll_step-begins _ c.args.self.now _ c.perform.new.mode c.perform.result (c.self.view_is ∙ c.drop_line.ensures.state) (sym c.in_doubt.ensures ∙ c.if-in_doubt.false) (ap is_some (sym c.next.ensures.value) ∙ c.if-is_none.ensures) c.begin-act.ensures.row c.perform.ensures.mode c.perform.ensures.sent
+returns-clause-row g c = poll_step-begins _ c.args.self.now _ c.perform.new.mode c.perform.result
+    (c.self.view_is ∙ c.drop_line.ensures.state) (sym c.in_doubt.ensures ∙ c.if-in_doubt.false)
+    (ap is_some (sym c.next.ensures.value)
+    ∙ c.if-is_none.ensures) c.begin-act.ensures.row c.perform.ensures.mode c.perform.ensures.sent
 
 pub returns-then-in_doubt-clause-tributary : goal.returns-then-in_doubt-clause-tributary
 returns-then-in_doubt-clause-tributary g c = stays-flags _ c.self.inside.ready false c.self.inside.receiver c.self.invariant

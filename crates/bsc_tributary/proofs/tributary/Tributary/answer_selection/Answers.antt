@@ -4,20 +4,29 @@ use Rattle.bsc_tributary.proofs.tributary.Tributary.answer_selection.Goals as go
 
 pub invariant_of-self : goal.invariant_of-self
 invariant_of-self g c =
-    stays-selection_step _ c.args.self.now c.args.select c.begin.new.self c.make_room-room.new.self _ c.self.invariant (c.self.view_is ∙ c.drop_line.ensures.state)
-    (within-spools _ c.args.self.now c.args.select c.self.invariant (c.self.view_is ∙ c.drop_line.ensures.state) c.requires) c.make_room-room.ensures.spool
+    stays-selection_step _ c.args.self.now c.args.select c.begin.new.self c.make_room-room.new.self _ c.self.invariant
+    (c.self.view_is ∙ c.drop_line.ensures.state)
+    (within-spools _ c.args.self.now c.args.select c.self.invariant
+    (c.self.view_is ∙ c.drop_line.ensures.state) c.requires) c.make_room-room.ensures.spool
 
 pub returns-clause-row : goal.returns-clause-row
 returns-clause-row g c =
     selection_step-ready _ c.args.self.now c.args.select c.make_room-room.result c.begin.new.self c.make_room-room.new.self c.begin.result c.message.result (c.self.view_is ∙ c.drop_line.ensures.state) c.if-not-self.false
-    (within-spools _ c.args.self.now c.args.select c.self.invariant (c.self.view_is ∙ c.drop_line.ensures.state) c.requires) c.make_room-room.ensures.spool c.begin.ensures.state c.begin.ensures.reply c.message.ensures
+    (within-spools _ c.args.self.now c.args.select c.self.invariant
+    (c.self.view_is
+    ∙ c.drop_line.ensures.state) c.requires) c.make_room-room.ensures.spool c.begin.ensures.state c.begin.ensures.reply c.message.ensures
 
 pub returns-clause-room : goal.returns-clause-room
 returns-clause-room g c =
-    selection_step-room _ c.args.self.now c.args.select c.make_room-room.result c.make_room-room.new.self (c.self.view_is ∙ c.drop_line.ensures.state)
-    (within-spools _ c.args.self.now c.args.select c.self.invariant (c.self.view_is ∙ c.drop_line.ensures.state) c.requires) c.make_room-room.ensures.spool c.make_room-room.ensures.there
+    selection_step-room _ c.args.self.now c.args.select c.make_room-room.result c.make_room-room.new.self
+    (c.self.view_is ∙ c.drop_line.ensures.state)
+    (within-spools _ c.args.self.now c.args.select c.self.invariant
+    (c.self.view_is
+    ∙ c.drop_line.ensures.state) c.requires) c.make_room-room.ensures.spool c.make_room-room.ensures.there
 
 pub returns-clause-tributary : goal.returns-clause-tributary
 returns-clause-tributary g c =
-    stays-selection_step _ c.args.self.now c.args.select c.begin.new.self c.make_room-room.new.self _ c.self.invariant (c.self.view_is ∙ c.drop_line.ensures.state)
-    (within-spools _ c.args.self.now c.args.select c.self.invariant (c.self.view_is ∙ c.drop_line.ensures.state) c.requires) c.make_room-room.ensures.spool
+    stays-selection_step _ c.args.self.now c.args.select c.begin.new.self c.make_room-room.new.self _ c.self.invariant
+    (c.self.view_is ∙ c.drop_line.ensures.state)
+    (within-spools _ c.args.self.now c.args.select c.self.invariant
+    (c.self.view_is ∙ c.drop_line.ensures.state) c.requires) c.make_room-room.ensures.spool

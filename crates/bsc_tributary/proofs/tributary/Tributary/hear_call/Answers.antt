@@ -24,18 +24,21 @@ returns-in-Polling g c =
     (called_from _ c.args.self.now _ _ _ c.self.view_is c.in-Polling.is c.called_address.ensures) c.answer_poll.ensures.row in
     record {
       row = hears;
-      after = after_hearing _ _ _ _ (subst IsTributary c.self.view_is c.self.invariant) c.answer_poll.ensures.tributary hears;
+      after = after_hearing _ _ _ _
+          (subst IsTributary c.self.view_is c.self.invariant) c.answer_poll.ensures.tributary hears;
     }
 
 pub returns-in-Selection : goal.returns-in-Selection
 returns-in-Selection g c =
-    let hears : Hears c.args.self.now (Whole (Call c.args.address.now)) c.answer_selection.new.self c.answer_selection.result =
+    let hears : Hears c.args.self.now (Whole
+    (Call c.args.address.now)) c.answer_selection.new.self c.answer_selection.result =
     hears-selection c.args.self.now c.answer_selection.new.self c.args.address.now c.in-Selection.select c.answer_selection.result
     (called_from _ c.args.self.now _ _ _ c.self.view_is c.in-Selection.is c.called_address.ensures)
     c.answer_selection.ensures.row c.answer_selection.ensures.room in
     record {
       row = hears;
-      after = after_hearing _ _ _ _ (subst IsTributary c.self.view_is c.self.invariant) c.answer_selection.ensures.tributary hears;
+      after = after_hearing _ _ _ _
+          (subst IsTributary c.self.view_is c.self.invariant) c.answer_selection.ensures.tributary hears;
     }
 
 pub returns-in-Other : goal.returns-in-Other
@@ -45,5 +48,6 @@ returns-in-Other g c =
     (called_from _ c.args.self.now _ _ _ c.self.view_is c.in-Other.is c.called_address.ensures) c.drop_line.ensures.state in
     record {
       row = hears;
-      after = after_hearing _ _ _ _ (subst IsTributary c.self.view_is c.self.invariant) c.drop_line.ensures.after.tributary hears;
+      after = after_hearing _ _ _ _
+          (subst IsTributary c.self.view_is c.self.invariant) c.drop_line.ensures.after.tributary hears;
     }

@@ -2,7 +2,8 @@ use Rattle.bsc_tributary.proofs.Offering.{stays-release, release-state, release-
 use Rattle.bsc_tributary.proofs.tributary.Tributary.release.Goals as goal
 
 pub invariant_of-self : goal.invariant_of-self
-invariant_of-self g c = stays-release _ c.args.count _ c.self.invariant c.release.ensures.row (c.release.ensures.ready c.self.invariant.ready)
+invariant_of-self g c = stays-release _ c.args.count _ c.self.invariant c.release.ensures.row
+    (c.release.ensures.ready c.self.invariant.ready)
 
 pub returns-clause-state : goal.returns-clause-state
 returns-clause-state g c = release-state _ _ c.args.count _ c.self.view_is c.release.ensures.row
@@ -11,4 +12,5 @@ pub returns-clause-answer : goal.returns-clause-answer
 returns-clause-answer g c = release-answer _ _ c.args.count _ c.self.view_is c.release.ensures.row
 
 pub returns-clause-tributary : goal.returns-clause-tributary
-returns-clause-tributary g c = stays-release _ c.args.count _ c.self.invariant c.release.ensures.row (c.release.ensures.ready c.self.invariant.ready)
+returns-clause-tributary g c = stays-release _ c.args.count _ c.self.invariant c.release.ensures.row
+    (c.release.ensures.ready c.self.invariant.ready)

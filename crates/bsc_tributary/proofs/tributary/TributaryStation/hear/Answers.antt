@@ -7,7 +7,8 @@ use Rattle.bsc_text.specs.Station.{IsHeardAs}
 use Rattle.bsc_tributary.proofs.tributary.TributaryStation.hear.Goals as goal
 
 -- what the decoder answers is what the octets are heard as
-heard_as : (octets : List ℕ) (h : Heard) → ((m : Message) → (h ≡ Whole m) ↔ Spells octets m) → ((h ≡ Failed) ↔ IsFailed octets) → ((h ≡ Noise) ↔ IsNoise octets) → IsHeardAs octets h
+heard_as : (octets : List ℕ) (h : Heard) → ((m : Message) → (h ≡ Whole m) ↔ Spells octets m) →
+    ((h ≡ Failed) ↔ IsFailed octets) → ((h ≡ Noise) ↔ IsNoise octets) → IsHeardAs octets h
 heard_as octets (Whole m) whole failed noise = (whole m).0 refl
 heard_as octets Failed whole failed noise = failed.0 refl
 heard_as octets Noise whole failed noise = noise.0 refl
