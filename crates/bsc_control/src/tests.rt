@@ -3,8 +3,8 @@
 mod station;
 
 use crate::tests::station::{
-    control_of, given_back, has_spooled, in_doubt, known, offer, sent_after, setup, terminal,
-    two_terminals,
+    control_of, given_back, has_spooled, in_doubt, known, offer, offer_empty, refusal, sent_after,
+    setup, terminal, two_terminals,
 };
 use crate::{Control, SetupError, Way};
 use bsc_frame::Address;
@@ -62,41 +62,34 @@ const TEXT_SEVEN_MORE: &[u8] = &[
 #[test]
 fn setups_are_refused_in_order(rt: HostRuntime) -> Result<(), Fail> {
     let alloc = rt.alloc();
-    let setup = setup(3)?;
-    let [a, b] = two_terminals()?;
-    let same = terminal(b"A", &[Address::read(b"A")?])?;
-    let with_c = terminal(b"A", &[Address::read(b"a")?, Address::read(b"c")?])?;
-    let also_c = terminal(b"B", &[Address::read(b"c")?])?;
-    for (terminals, poll_list, error) in [
-        ([].as_slice(), [].as_slice(), SetupError::NoTerminal),
-        ([a; 65].as_slice(), [].as_slice(), SetupError::TooMany),
-        (
-            [same].as_slice(),
-            [].as_slice(),
-            SetupError::SameAddress(0, 1),
-        ),
-        (
-            [with_c, also_c].as_slice(),
-            [0].as_slice(),
-            SetupError::SameAddress(2, 4),
-        ),
-        ([a, b].as_slice(), [].as_slice(), SetupError::EmptyPollList),
-        (
-            [a, b].as_slice(),
-            [0, 2].as_slice(),
-            SetupError::PollList(1),
-        ),
-        (
-            [a, b].as_slice(),
-            [0; 256].as_slice(),
-            SetupError::PollList(255),
-        ),
-    ] {
-        let refused = Control::new(alloc, setup, terminals, poll_list).err();
-        assert_eq!(rt; refused, Some(error));
-    }
-    let control = Control::new(alloc, setup, &[a, b], &[0; 255])?;
-    assert_eq!(rt; control.terminals(), 2);
+    let two = two_terminals()?;
+    let many = [two[0]; 65];
+    let same = [terminal(b"A", &[Address::read(b"A")?])?];
+    let shared = [
+        terminal(b"A", &[Address::read(b"a")?, Address::read(b"c")?])?,
+        terminal(b"B", &[Address::read(b"c")?])?,
+    ];
+    let long = [0; 256];
+    assert_eq!(rt; refusal(alloc, &[], &[])?, Some(SetupError::NoTerminal));
+    assert_eq!(rt; refusal(alloc, &many, &[])?, Some(SetupError::TooMany));
+    assert_eq!(rt;
+        refusal(alloc, &same, &[])?,
+        Some(SetupError::SameAddress(0, 1))
+    );
+    assert_eq!(rt;
+        refusal(alloc, &shared, &[0])?,
+        Some(SetupError::SameAddress(2, 4))
+    );
+    assert_eq!(rt; refusal(alloc, &two, &[])?, Some(SetupError::EmptyPollList));
+    assert_eq!(rt;
+        refusal(alloc, &two, &[0, 2])?,
+        Some(SetupError::PollList(1))
+    );
+    assert_eq!(rt;
+        refusal(alloc, &two, &long)?,
+        Some(SetupError::PollList(255))
+    );
+    assert_eq!(rt; refusal(alloc, &two, &long[1..])?, None);
     Ok(())
 }
 
@@ -177,9 +170,7 @@ fn an_urgent_station_polls_the_same_entry_again(rt: HostRuntime) -> Result<(), F
 #[test]
 fn seven_records_go_in_one_block(rt: HostRuntime) -> Result<(), Fail> {
     let mut control = control_of(rt.alloc(), &two_terminals()?, &[0, 1], 3)?;
-    for _ in 0..7 {
-        offer(&mut control, 0, 0, b"")?;
-    }
+    offer_empty(&mut control, 7)?;
     for (heard, answer) in [
         (SILENCE, CALL_SELECT_A),
         (ACK0, TEXT_SEVEN),
@@ -194,9 +185,7 @@ fn seven_records_go_in_one_block(rt: HostRuntime) -> Result<(), Fail> {
 #[test]
 fn an_eighth_record_goes_in_a_second_block(rt: HostRuntime) -> Result<(), Fail> {
     let mut control = control_of(rt.alloc(), &two_terminals()?, &[0, 1], 3)?;
-    for _ in 0..8 {
-        offer(&mut control, 0, 0, b"")?;
-    }
+    offer_empty(&mut control, 8)?;
     for (heard, answer) in [
         (SILENCE, CALL_SELECT_A),
         (ACK0, TEXT_SEVEN_MORE),
@@ -212,9 +201,7 @@ fn an_eighth_record_goes_in_a_second_block(rt: HostRuntime) -> Result<(), Fail> 
 #[test]
 fn a_bid_that_is_interrupted_goes_on_in_the_next_round(rt: HostRuntime) -> Result<(), Fail> {
     let mut control = control_of(rt.alloc(), &two_terminals()?, &[0, 1], 3)?;
-    for _ in 0..8 {
-        offer(&mut control, 0, 0, b"")?;
-    }
+    offer_empty(&mut control, 8)?;
     for (heard, answer) in [
         (SILENCE, CALL_SELECT_A),
         (ACK0, TEXT_SEVEN_MORE),

@@ -2,7 +2,7 @@
 
 ghost use Rattle.std.specs.Prelude.{◌≡◌, ◌≤◌, length, IfOk};
 
-use crate::{Control, Way};
+use crate::{Control, SetupError, Way};
 use bsc_block::{Record, RecordError};
 use bsc_frame::{Address, AddressError, Wire};
 use bsc_text::{SettingError, Setup, Station, Terminal, TerminalError};
@@ -42,6 +42,15 @@ pub(crate) fn control_of<A: Allocator + Copy>(
     Ok(Control::new(alloc, setup, terminals, poll_list)?)
 }
 
+/// Why these terminals and this poll list are refused; None where they are not.
+pub(crate) fn refusal<A: Allocator + Copy>(
+    alloc: A,
+    terminals: &[Terminal],
+    poll_list: &[u8],
+) -> Result<Option<SetupError>, SettingError> {
+    Ok(Control::new(alloc, setup(3)?, terminals, poll_list).err())
+}
+
 /// Offers a record of at most 80 characters for a selection address of a terminal.
 pub(crate) fn offer<A: Allocator>(
     control: &mut Control<A>,
@@ -60,6 +69,17 @@ pub(crate) fn offer<A: Allocator>(
         Ok(()) => Ok(()),
         Err(_) => Err("out of memory".into()),
     }
+}
+
+/// Offers so many empty records for the first selection address of terminal 0.
+pub(crate) fn offer_empty<A: Allocator>(control: &mut Control<A>, count: usize) -> Result<(), Fail>
+    requires { control.old.setup.format.full ≡ 80 }
+    ensures { control.new.setup ≡ control.old.setup }
+{
+    for _ in 0..count {
+        offer(control, 0, 0, b"")?;
+    }
+    Ok(())
 }
 
 /// Whether a record that is offered for terminal 0 comes back as it was; None where it is taken.
