@@ -36,12 +36,12 @@ entered-more t poll xs s x old h =
     append_assoc old front ((x, (t, ToTerminal s)) ∷ []) ∙ ap (λ zs. old ++ zs) entries
 
 -- a clash at a selection address is one of the terminal's addresses
-clash-select : (t : ℕ) (terminal : TerminalValue) (s : ℕ) (x : List ℕ) (old : List Owner) (e : SetupError) → slice_get terminal.selects s ≡ Some x
-    → IsClash (keys_of (old ++ (terminal.poll, (t, FromTerminal)) ∷ numbered_selects t 0 (take s terminal.selects))) (x ∷ []) e → IsClash (keys_of old) (own_addresses terminal) e
-clash-select t terminal s x old e there h =
+clash-select : (t : ℕ) (terminal : TerminalValue) (s : ℕ) (x : List ℕ) (old now : List Owner) (e : SetupError) → slice_get terminal.selects s ≡ Some x
+    → now ≡ old ++ (terminal.poll, (t, FromTerminal)) ∷ numbered_selects t 0 (take s terminal.selects) → IsClash (keys_of now) (x ∷ []) e → IsClash (keys_of old) (own_addresses terminal) e
+clash-select t terminal s x old now e there is h =
     let xs : List (List ℕ) = terminal.selects in
-    let keys : keys_of (old ++ (terminal.poll, (t, FromTerminal)) ∷ numbered_selects t 0 (take s xs)) ≡ keys_of old ++ terminal.poll ∷ take s xs =
-    map-append (λ (z : Owner). z.0) old ((terminal.poll, (t, FromTerminal)) ∷ numbered_selects t 0 (take s xs)) ∙ ap (λ ys. keys_of old ++ terminal.poll ∷ ys) (keys-selects t 0 (take s xs)) in
+    let keys : keys_of now ≡ keys_of old ++ terminal.poll ∷ take s xs =
+    ap keys_of is ∙ map-append (λ (z : Owner). z.0) old ((terminal.poll, (t, FromTerminal)) ∷ numbered_selects t 0 (take s xs)) ∙ ap (λ ys. keys_of old ++ terminal.poll ∷ ys) (keys-selects t 0 (take s xs)) in
     let early : IsClash (keys_of old) ((terminal.poll ∷ take s xs) ++ x ∷ []) e = clash-earlier (keys_of old) (terminal.poll ∷ take s xs) (x ∷ []) e (subst (λ ks. IsClash ks (x ∷ []) e) keys h) in
     let upto : terminal.poll ∷ (take s xs ++ x ∷ []) ≡ terminal.poll ∷ take (s + 1) xs = ap (λ ys. terminal.poll ∷ ys) (sym (take_more xs s x there)) in
     let whole : (terminal.poll ∷ take (s + 1) xs) ++ drop (s + 1) xs ≡ own_addresses terminal = ap (λ ys. terminal.poll ∷ ys) (take-append-drop (s + 1) xs) in
@@ -59,8 +59,8 @@ pub returns-in_err-enter-2-clause-refused : goal.returns-in_err-enter-2-clause-r
 returns-in_err-enter-2-clause-refused g c =
     let p = err_from_is_err_and c.from_residual-in_err-enter-2.result c.from_residual-in_err-enter-2.ensures.1 in
     rw (p.1, p.2)
-    (clash-select c.args.number c.args.terminal.now c.loop-select.select c.select.result c.args.self.now c.in_err-enter-2.field-0.0 c.select.ensures
-    (subst (λ (es : List Owner). IsClash (keys_of es) (c.select.result ∷ []) c.in_err-enter-2.field-0.0) c.loop-select.invariant c.in_err-enter-2.ensures.refused))
+    (clash-select c.args.number c.args.terminal.now c.loop-select.select c.select.result c.args.self.now c.loop-select.self c.in_err-enter-2.field-0.0 c.select.ensures c.loop-select.invariant
+    c.in_err-enter-2.ensures.refused)
 
 pub loop-select-preserved : goal.loop-select-preserved
 loop-select-preserved g c =
