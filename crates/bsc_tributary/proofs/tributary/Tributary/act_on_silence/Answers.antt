@@ -1,4 +1,3 @@
-use Rattle.bsc_tributary.specs.Kept.{IsTributary}
 use Rattle.bsc_tributary.proofs.Hearing.{after_silence, after_stillness}
 use Rattle.bsc_tributary.proofs.InMode.{silent-sending, silent-still, stays-silent}
 use Rattle.bsc_tributary.proofs.tributary.Tributary.act_on_silence.Goals as goal

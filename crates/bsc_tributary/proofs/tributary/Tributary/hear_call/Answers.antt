@@ -1,10 +1,7 @@
-use Rattle.std.proofs.Common.{◌≡◌, ◌∙◌, sym, ap, subst, None, rules}
+use Rattle.std.proofs.Common.{subst, None, rules}
 use Rattle.bsc_frame.specs.declared.message.Message.TheVariants.{Call}
 use Rattle.bsc_frame.specs.declared.message.Heard.TheVariants.{Whole}
-use Rattle.bsc_tributary.specs.declared.called.Called.{Called}
-use Rattle.bsc_tributary.specs.declared.called.Called.TheVariants.{Polling, Selection, Other}
-use Rattle.bsc_tributary.specs.Called.{called_as}
-use Rattle.bsc_tributary.specs.Tributary.{TributaryValue, Hears}
+use Rattle.bsc_tributary.specs.Tributary.{Hears}
 use Rattle.bsc_tributary.specs.Kept.{IsTributary}
 use Rattle.bsc_tributary.proofs.Hearing.{after_hearing}
 use Rattle.bsc_tributary.proofs.CallsHeard.{called_from, hears-polling, hears-selection, hears-other, within-selects}

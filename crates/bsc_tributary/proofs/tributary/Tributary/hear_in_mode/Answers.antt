@@ -2,7 +2,7 @@ use Rattle.std.proofs.Common.{subst, None}
 use Rattle.bsc_tributary.specs.Tributary.{Hears}
 use Rattle.bsc_tributary.specs.Kept.{IsTributary}
 use Rattle.bsc_tributary.proofs.Hearing.{after_hearing}
-use Rattle.bsc_tributary.proofs.InMode.{hears-control, hears-receiving, hears-sending, stays-receive_step, stays-replied, with_receiver, with_sender}
+use Rattle.bsc_tributary.proofs.InMode.{hears-control, hears-receiving, hears-sending, stays-receive_step, stays-replied}
 use Rattle.bsc_tributary.proofs.tributary.Tributary.hear_in_mode.Goals as goal
 
 pub invariant_of-self : goal.invariant_of-self
