@@ -11,7 +11,7 @@ use Rattle.bsc_text.specs.declared.phase.Phase.{Phase}
 use Rattle.bsc_text.specs.declared.phase.Phase.TheVariants.{Idle, Unanswered, Held, InDoubt}
 use Rattle.bsc_text.specs.Ready.{IsReady, CountsOn, AreWaiting}
 use Rattle.bsc_text.specs.Setup.{SetupValue}
-use Rattle.bsc_text.specs.Sender.{SenderValue, ReleaseStep, release_in, release_step}
+use Rattle.bsc_text.specs.Sender.{SenderValue, ReleaseStep, release_step, with_phase}
 use Rattle.bsc_tributary.specs.declared.mode.Mode.{Mode}
 use Rattle.bsc_tributary.specs.declared.mode.Mode.TheVariants.{Control, Receiving, Sending}
 use Rattle.bsc_tributary.specs.Tributary.{TributaryValue, after_release}
@@ -72,14 +72,14 @@ idle_suits (Receiving s) k n suits = (tt, suits.1)
 idle_suits Sending k n suits = absurd suits
 
 releases-in : (mode : Mode) (n : ℕ) (s : SenderValue) (q : QueueValue) (p : Phase) (count : ℕ) → SuitsMode mode p n →
-    SuitsMode mode s.phase n → Releases mode n s.setup q.format (release_in s q p count)
-releases-in mode n s q (InDoubt k) count suits now =
+    Releases mode n s.setup q.format (release_step (with_phase s p) q count)
+releases-in mode n s q (InDoubt k) count suits =
     choose (Releases mode n s.setup q.format) ((count == q.known) || (count == (q.known + k))) _ _
     (record { suits = idle_suits mode k n suits; setup_is = refl; format_is = refl })
-    (record { suits = now; setup_is = refl; format_is = refl })
-releases-in mode n s q Idle count suits now = record { suits = now; setup_is = refl; format_is = refl }
-releases-in mode n s q (Unanswered b) count suits now = record { suits = now; setup_is = refl; format_is = refl }
-releases-in mode n s q (Held end parity) count suits now = record { suits = now; setup_is = refl; format_is = refl }
+    (record { suits = suits; setup_is = refl; format_is = refl })
+releases-in mode n s q Idle count suits = record { suits = suits; setup_is = refl; format_is = refl }
+releases-in mode n s q (Unanswered b) count suits = record { suits = suits; setup_is = refl; format_is = refl }
+releases-in mode n s q (Held end parity) count suits = record { suits = suits; setup_is = refl; format_is = refl }
 
 pub stays-release : (t : TributaryValue) (count : ℕ) (step : ReleaseStep) → IsTributary t →
     step ≡ release_step t.sender t.queue count → IsReady step.sender step.queue →
@@ -87,7 +87,7 @@ pub stays-release : (t : TributaryValue) (count : ℕ) (step : ReleaseStep) → 
 stays-release t count step is row ready =
     let r : Releases t.mode (length t.spools) t.sender.setup t.queue.format step = subst
     (Releases t.mode (length t.spools) t.sender.setup t.queue.format) (sym row)
-    (releases-in t.mode (length t.spools) t.sender t.queue t.sender.phase count is.bid is.bid) in
+    (releases-in t.mode (length t.spools) t.sender t.queue t.sender.phase count is.bid) in
     record {
       distinct = is.distinct;
       terminal = is.terminal;
