@@ -1,4 +1,4 @@
-//! From messages to octets.
+//! From messages to octets: the one form in which each message is sent.
 ghost use Rattle.std.specs.Prelude.{◌≡◌, ◌≤◌, ◌<◌, ◌+◌, [], ◌∷◌, ◌++◌, length, take, drop, map, All, if◌then◌else◌};
 ghost use Rattle.bsc_octet.specs.Octet.{odd_octet};
 ghost use Rattle.bsc_frame.specs.Texts.{IsUnit, IsText};
@@ -11,7 +11,7 @@ use crate::unit_decoder::check_of;
 use crate::{End, Message, Text, Unit};
 use arrayvec::ArrayVec;
 
-/// The octets of one transmission.
+/// The octets of one transmission that is sent.
 pub type Wire = ArrayVec<u8, 1100>;
 
 const EM: u8 = 0x19;
@@ -143,7 +143,9 @@ fn append_units(wire: &mut Wire, text: &Text)
     }
 }
 
-/// Puts the octets of the message into the wire, in place of what it had.
+/// Puts the octets of the message into the wire, in place of what it had: two SYN, the body, one PAD. They are
+/// at most 1,033, so there is always room (GA27-3004: control sequences, polling and selection, text blocks,
+/// VRC and LRC checking).
 pub fn encode(message: &Message, wire: &mut Wire)
     ensures wire { wire.new.items ≡ wire_of message.now }
     ensures message { IsMessage message.now }
