@@ -1,6 +1,6 @@
 //! The control station.
 
-ghost use Rattle.std.specs.Prelude.{◌≡◌, ◌≤◌, ◌<◌, ◌++◌, ◌↔◌, ℕ, [], ◌∷◌, length, true, false, Some, Option, None, OnOk, OnErr, IfOk, IfErr};
+ghost use Rattle.std.specs.Prelude.{◌≡◌, ◌≤◌, ◌<◌, ◌↔◌, ℕ, length, true, false, Some, Option, None, OnOk, OnErr, IfOk, IfErr};
 ghost use Rattle.bsc_frame.specs.declared.message.Message.{Message as MessageValue};
 ghost use Rattle.bsc_frame.specs.declared.message.Heard.{Heard as HeardValue};
 ghost use Rattle.bsc_text.specs.Sender.{is_in_doubt, release_step};
@@ -10,7 +10,7 @@ ghost use Rattle.bsc_control.specs.Addresses.{IsAddressOf};
 ghost use Rattle.bsc_control.specs.Control.{ControlValue, terminals, peer_at, with_peer};
 ghost use Rattle.bsc_control.specs.Kept.{IsControl, IsNewControl, AfterHearing, AfterSilence, outbound_of};
 ghost use Rattle.bsc_control.specs.Refusals.{IsAccepted, IsRefused};
-ghost use Rattle.bsc_control.specs.Peer.{PeerValue, outbound_at, with_outbound, released, offered_to};
+ghost use Rattle.bsc_control.specs.Peer.{with_outbound, released, offered_to};
 ghost use Rattle.bsc_control.specs.Table.{Hears, IsSilent};
 ghost use Rattle.bsc_control.specs.Ways.{IsSelection, select_of};
 

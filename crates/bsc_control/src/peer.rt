@@ -1,13 +1,13 @@
 //! What the control station keeps for one terminal.
 
-ghost use Rattle.std.specs.Prelude.{◌≡◌, ◌≤◌, ◌<◌, ◌++◌, [], ◌∷◌, true, false, Some, length, OnOk, OnErr, IfOk, IfErr, position};
+ghost use Rattle.std.specs.Prelude.{◌≡◌, ◌≤◌, ◌<◌, true, false, Some, length, OnOk, OnErr, IfOk, IfErr, position};
 ghost use Rattle.bsc_spool.specs.Queue.{waiting};
 ghost use Rattle.bsc_text.specs.declared.phase.Phase.TheVariants.{Idle};
 ghost use Rattle.bsc_text.specs.Receiver.{begun};
 ghost use Rattle.bsc_text.specs.Reply.{reply_heard};
 ghost use Rattle.bsc_text.specs.Sender.{begin_step, reply_step, silence_step, is_in_doubt, release_step};
 ghost use Rattle.bsc_control.specs.CallOrder.{way_from};
-ghost use Rattle.bsc_control.specs.Peer.{OutboundValue, PeerValue, IsPeer, PeerReceives, outbound_at, with_outbound, outbound_after, IsNewPeer, is_selectable, offered_to, released};
+ghost use Rattle.bsc_control.specs.Peer.{PeerValue, IsPeer, PeerReceives, outbound_at, with_outbound, outbound_after, IsNewPeer, is_selectable, offered_to, released};
 ghost use Rattle.bsc_control.specs.Table.{select_address};
 
 use crate::outbound::Outbound;

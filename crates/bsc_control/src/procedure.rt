@@ -1,16 +1,13 @@
 //! The line procedure of the control station: whom it calls next, and what it does with what it hears.
 
-ghost use Rattle.std.specs.Prelude.{if◌then◌else◌, ◌≡◌, ◌≤◌, ◌<◌, ◌+◌, [], length, true, false, Some, Option, None, slice_index, OnOk, OnErr, IfOk, IfErr, All};
-ghost use Rattle.bsc_spool.specs.Queue.{waiting};
-ghost use Rattle.bsc_text.specs.declared.phase.Phase.TheVariants.{Idle};
-ghost use Rattle.bsc_text.specs.Receiver.{heard_step};
+ghost use Rattle.std.specs.Prelude.{if◌then◌else◌, ◌≡◌, ◌≤◌, ◌<◌, ◌+◌, length, true, false, Some, Option, None, slice_index, OnOk, OnErr, IfOk, IfErr, All};
 ghost use Rattle.bsc_text.specs.Reply.{reply_heard};
-ghost use Rattle.bsc_text.specs.Sender.{begin_step, reply_step, silence_step, is_in_doubt, release_step};
-ghost use Rattle.bsc_control.specs.CallOrder.{After, Start, Selection, Interruption, Poll, way_from};
-ghost use Rattle.bsc_control.specs.Control.{ControlValue, HasEntries, peer, peer_at, with_peer, with_current, current};
+ghost use Rattle.bsc_text.specs.Sender.{reply_step, is_in_doubt, release_step};
+ghost use Rattle.bsc_control.specs.CallOrder.{Start, Selection, Interruption, Poll, way_from};
+ghost use Rattle.bsc_control.specs.Control.{ControlValue, HasEntries, peer, peer_at, with_peer};
 ghost use Rattle.bsc_control.specs.Kept.{IsSelected, SuitsTask, IsNewControl};
-ghost use Rattle.bsc_control.specs.Peer.{PeerValue, IsPeer, outbound_at, with_outbound, released, offered_to};
-ghost use Rattle.bsc_control.specs.Table.{polls, selects, calls_by, calls, calls_next, performs, acted, after_bid, selecting_step, receives, polling_step, task_step, hear_step, repeated, silence_in, silent_step, rooms_after, Hears, IsSilent, has_rvi, IsReceived};
+ghost use Rattle.bsc_control.specs.Peer.{outbound_at, with_outbound, released, offered_to};
+ghost use Rattle.bsc_control.specs.Table.{polls, selects, calls_by, calls, calls_next, performs, acted, after_bid, selecting_step, polling_step, silence_in, rooms_after, Hears, IsSilent, IsReceived};
 
 use crate::peer::Peer;
 use crate::task::{Replied, Task};

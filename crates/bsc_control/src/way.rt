@@ -1,6 +1,6 @@
 //! Whether records go from a terminal or to it, and by which of its addresses.
 
-ghost use Rattle.std.specs.Prelude.{◌≡◌, ◌<◌, ℕ};
+ghost use Rattle.std.specs.Prelude.{◌≡◌};
 ghost use Rattle.bsc_control.specs.Ways.{IsToTerminal, select_of};
 
 /// A way between the control station and a terminal: each of its addresses is one.

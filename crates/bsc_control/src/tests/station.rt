@@ -1,6 +1,6 @@
 //! Control stations for the tests, and their exchanges with terminals.
 
-ghost use Rattle.std.specs.Prelude.{◌≡◌, ◌≤◌, length, IfOk};
+ghost use Rattle.std.specs.Prelude.{◌≡◌, IfOk};
 
 use crate::{Control, SetupError, Way};
 use bsc_block::{Record, RecordError};
