@@ -18,8 +18,9 @@ use Rattle.bsc_text.specs.Ready.{IsGoing, IsAtRest}
 use Rattle.bsc_text.specs.Reply.{other, answer_of}
 use Rattle.bsc_text.specs.Setup.{SetupValue}
 use Rattle.bsc_text.specs.Sender.{SenderValue, SenderStep, with_phase, with_counts, over, text_of, sent_next, accepted, failed, delayed, unanswered_step, held_step, answered_step, reply_step, silent_in, silence_step, cut_phase}
+use Rattle.bsc_tributary.proofs.Choice.{choose}
 use Rattle.bsc_tributary.specs.declared.mode.Mode.{Mode}
-use Rattle.bsc_tributary.specs.declared.mode.Mode.TheVariants.{Control, Sending}
+use Rattle.bsc_tributary.specs.declared.mode.Mode.TheVariants.{Control, Receiving, Sending}
 use Rattle.bsc_tributary.specs.Tributary.{mode_after}
 use Rattle.bsc_tributary.specs.Kept.{SuitsMode}
 
@@ -37,6 +38,11 @@ mode_after-Sending a.Enq = inr refl
 mode_after-Sending a.Over = inl refl
 mode_after-Sending a.Quiet = inr refl
 
+-- and so it does not receive
+pub not_receiving : (mode : Mode) (s : ℕ) → (mode ≡ Control) ⊎ (mode ≡ Sending) → mode ≡ Receiving s → ⊥
+not_receiving mode s (inl e) is = cc
+not_receiving mode s (inr e) is = cc
+
 -- A step of the sender: the mode that its act makes suits the phase that it leaves, and the settings, the format
 -- and the offered records are these.
 pub record Follows (mode : Mode) (n : ℕ) (setup : SetupValue) (format : FormatValue) (offered : List (List ℕ))
@@ -49,10 +55,6 @@ pub record Follows (mode : Mode) (n : ℕ) (setup : SetupValue) (format : Format
 -- that of a sender with this queue
 abbrev pub FollowsFrom : Mode → ℕ → SenderValue → QueueValue → SenderStep → Type 0
 FollowsFrom mode n s q step = Follows mode n s.setup q.format q.offered step
-
-choose : (P : SenderStep → Type 0) (b : Bool) (x y : SenderStep) → P x → P y → P (if b then x else y)
-choose P true x y p q = p
-choose P false x y p q = q
 
 pub follows-sent_next : (mode : Mode) (n : ℕ) (s : SenderValue) (q : QueueValue) (parity : Parity)
     (next : Option Next) → FollowsFrom mode n s q (sent_next s q parity next)

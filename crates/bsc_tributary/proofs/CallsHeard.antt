@@ -10,17 +10,15 @@ use Rattle.bsc_text.specs.declared.parity.Parity.{Parity}
 use Rattle.bsc_text.specs.declared.parity.Parity.TheVariants.{Odd}
 use Rattle.bsc_text.specs.Sender.{SenderValue, begin_step, sent_next, is_in_doubt}
 use Rattle.bsc_text.specs.Terminal.{TerminalValue}
+use Rattle.bsc_tributary.proofs.Choice.{choose}
 use Rattle.bsc_tributary.specs.declared.called.Called.{Called}
 use Rattle.bsc_tributary.specs.declared.called.Called.TheVariants.{Polling, Selection, Other}
 use Rattle.bsc_tributary.specs.declared.mode.Mode.{Mode}
 use Rattle.bsc_tributary.specs.declared.mode.Mode.TheVariants.{Control, Receiving, Sending}
 use Rattle.bsc_tributary.specs.Called.{called_as}
 use Rattle.bsc_tributary.specs.Tributary.{TributaryValue, TributaryStep, spool_at, spool_in, rooms_after, quiet_step, answer_step, without_line, mode_after, act_step, poll_step, selection_step, call_step, Hears}
+use Rattle.bsc_tributary.proofs.Acts.{not_receiving}
 use Rattle.bsc_tributary.proofs.Addresses.{selection-is}
-
-pub choose_step : (P : TributaryStep → Type 0) (b : Bool) (x y : TributaryStep) → P x → P y → P (if b then x else y)
-choose_step P true x y p q = p
-choose_step P false x y p q = q
 
 -- after a poll the terminal is in control mode or sends
 pub begun_mode : (s : SenderValue) (q : QueueValue) (parity : Parity) (next : Option Next) →
@@ -34,13 +32,9 @@ pub mode-poll_step : (t : TributaryValue) → ((poll_step t).tributary.mode ≡ 
 mode-poll_step t =
     let d : TributaryValue = record (without_line t) { urgent = false } in
     let P : TributaryStep → Type 0 = λ o. (o.tributary.mode ≡ Control) ⊎ (o.tributary.mode ≡ Sending) in
-    choose_step P (is_in_doubt d.sender.phase) (answer_step d m.Eot) _ (inl refl)
-    (choose_step P (nat_eq (length (waiting d.queue)) 0) (answer_step d m.Eot)
+    choose P (is_in_doubt d.sender.phase) (answer_step d m.Eot) _ (inl refl)
+    (choose P (nat_eq (length (waiting d.queue)) 0) (answer_step d m.Eot)
     (act_step d (begin_step d.sender d.queue)) (inl refl) (begun_mode d.sender d.queue Odd (next_block d.queue)))
-
-not_receiving : (mode : Mode) (s : ℕ) → (mode ≡ Control) ⊎ (mode ≡ Sending) → mode ≡ Receiving s → ⊥
-not_receiving mode s (inl e) is = cc
-not_receiving mode s (inr e) is = cc
 
 pub hears-polling : (t new : TributaryValue) (address : List ℕ) (sent : Option Message) →
     Polling ≡ called_as t.terminal address → record { tributary = new; sent = sent } ≡ poll_step t →

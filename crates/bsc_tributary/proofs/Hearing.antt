@@ -15,6 +15,7 @@ use Rattle.bsc_text.specs.Reply.{reply_heard}
 use Rattle.bsc_text.specs.Receiver.{ReceiverValue, ReceiverStep, Rooms, heard_step, text_step, taken, taken_urgently, enq_step, is_rvi, is_wack}
 use Rattle.bsc_text.specs.Ready.{IsReady}
 use Rattle.bsc_text.specs.Sender.{SenderValue, SenderStep, with_phase, cut_phase, begin_step, reply_step, silence_step, is_in_doubt}
+use Rattle.bsc_tributary.proofs.Choice.{choose}
 use Rattle.bsc_tributary.specs.declared.called.Called.{Called}
 use Rattle.bsc_tributary.specs.declared.called.Called.TheVariants.{Polling, Selection, Other}
 use Rattle.bsc_tributary.specs.declared.mode.Mode.{Mode}
@@ -24,7 +25,7 @@ use Rattle.bsc_tributary.specs.Tributary.{TributaryValue, TributaryStep, spool_a
 use Rattle.bsc_tributary.specs.Kept.{IsTributary, SuitsMode, Keeps, GrowsByText, IsModeCalled, IsModeAfter, TakesLine, IsNoCall, StaysQuiet, AfterHearing, AfterSilence}
 use Rattle.bsc_tributary.specs.Noise.{quiet_in}
 use Rattle.bsc_tributary.proofs.Acts.{FollowsFrom, follows-sent_next, follows-reply_step, follows-silence_step, mode_after-Sending}
-use Rattle.bsc_tributary.proofs.CallsHeard.{choose_step, begun_mode, within-selects}
+use Rattle.bsc_tributary.proofs.CallsHeard.{begun_mode, within-selects}
 use Rattle.bsc_tributary.proofs.InMode.{hear_step-no_call}
 use Rattle.bsc_tributary.proofs.Stays.{stays-without_line}
 
@@ -83,8 +84,8 @@ polled_changes t =
     (next_block d.queue) in
     let eot : CallChanges t Polling
     (answer_step d m.Eot) = record { keeps = keeps_all t false; mode = inl refl; other_spools = λ s ne. refl; same_records = λ s. refl; taken = λ e. absurd (cc) } in
-    choose_step (CallChanges t Polling) (is_in_doubt d.sender.phase) (answer_step d m.Eot) _ eot
-    (choose_step (CallChanges t Polling) (nat_eq (length (waiting d.queue)) 0) (answer_step d m.Eot)
+    choose (CallChanges t Polling) (is_in_doubt d.sender.phase) (answer_step d m.Eot) _ eot
+    (choose (CallChanges t Polling) (nat_eq (length (waiting d.queue)) 0) (answer_step d m.Eot)
     (act_step d (begin_step d.sender d.queue)) eot
     (record {
       keeps = record { terminal = refl; setup = f.setup_is; ready = refl; format = f.format_is; offered = f.offered_is; spools = refl };
@@ -151,10 +152,6 @@ record Grown (h : Heard) (old new : List (List ℕ)) : Type 0 where
 abbrev Grows : Heard → SpoolValue → ReceiverStep → Type 0
 Grows h s step = (step.spool.records ≡ s.records) ⊎ Grown h s.records step.spool.records
 
-choose_receiver : (P : ReceiverStep → Type 0) (b : Bool) (x y : ReceiverStep) → P x → P y → P (if b then x else y)
-choose_receiver P true x y p q = p
-choose_receiver P false x y p q = q
-
 text_grows : (r : ReceiverValue) (s : SpoolValue) (text : TextValue) (urgent : Bool) (rooms : Rooms) →
     Grows (Whole (m.Text text)) s (text_step r s text urgent rooms)
 text_grows r s text urgent rooms =
@@ -162,11 +159,11 @@ text_grows r s text urgent rooms =
     let stored : P (taken r s text rooms) = inr (record { text = text; heard = refl; becomes = refl }) in
     let stored_urgently : P (taken_urgently r s text rooms) = inr
     (record { text = text; heard = refl; becomes = refl }) in
-    choose_receiver P rooms.first _ _ (choose_receiver P urgent _ _
-    (choose_receiver P (is_rvi r.last) _ _ stored stored_urgently) stored) (inl refl)
+    choose P rooms.first _ _ (choose P urgent _ _
+    (choose P (is_rvi r.last) _ _ stored stored_urgently) stored) (inl refl)
 
 enq_grows : (r : ReceiverValue) (s : SpoolValue) (rooms : Rooms) → Grows (Whole m.Enq) s (enq_step r s rooms)
-enq_grows r s rooms = choose_receiver (Grows (Whole m.Enq) s) (is_wack r.last) _ _ (inl refl) (inl refl)
+enq_grows r s rooms = choose (Grows (Whole m.Enq) s) (is_wack r.last) _ _ (inl refl) (inl refl)
 
 heard_grows : (r : ReceiverValue) (s : SpoolValue) (h : Heard) (urgent : Bool) (rooms : Rooms) →
     Grows h s (heard_step r s h urgent rooms)

@@ -15,7 +15,7 @@ use Rattle.bsc_tributary.specs.declared.mode.Mode.{Mode}
 use Rattle.bsc_tributary.specs.declared.mode.Mode.TheVariants.{Control, Receiving, Sending}
 use Rattle.bsc_tributary.specs.Tributary.{TributaryValue, spool_at, spool_in, rooms_after, mode_after, message_for, act_step, receive_step, mode_step, hear_step, silence_in, Hears, ActsOnSilence}
 use Rattle.bsc_tributary.specs.Kept.{IsTributary, SuitsMode, IsNoCall}
-use Rattle.bsc_tributary.proofs.Acts.{FollowsFrom, follows-reply_step, follows-silence_step, mode_after-Sending}
+use Rattle.bsc_tributary.proofs.Acts.{FollowsFrom, follows-reply_step, follows-silence_step, mode_after-Sending, not_receiving}
 use Rattle.bsc_tributary.proofs.Stays.{stays-act_step}
 
 -- what is no call and no EOT is heard by the mode
@@ -103,10 +103,6 @@ act_step_is : (t : TributaryValue) (mode : Mode) (step : SenderStep) (sent : Opt
     mode ≡ mode_after step.act t.mode → sent ≡ message_for step.act →
     record { tributary = with_sender t mode step; sent = sent } ≡ act_step t step
 act_step_is t mode step sent mode_is sent_is = rw (mode_is, sent_is) refl
-
-not_receiving : (mode : Mode) (s : ℕ) → (mode ≡ Control) ⊎ (mode ≡ Sending) → mode ≡ Receiving s → ⊥
-not_receiving mode s (inl e) is = cc
-not_receiving mode s (inr e) is = cc
 
 pub hears-sending : (t old : TributaryValue) (h : Heard) (mode : Mode) (step : SenderStep) (sent : Option Message) →
     IsNoCall h → t ≡ old → t.mode ≡ Sending → step ≡ reply_step t.sender t.queue (reply_heard h) →

@@ -12,6 +12,7 @@ use Rattle.bsc_text.specs.declared.phase.Phase.TheVariants.{Idle, Unanswered, He
 use Rattle.bsc_text.specs.Ready.{IsReady, CountsOn, AreWaiting}
 use Rattle.bsc_text.specs.Setup.{SetupValue}
 use Rattle.bsc_text.specs.Sender.{SenderValue, ReleaseStep, release_step, with_phase}
+use Rattle.bsc_tributary.proofs.Choice.{choose}
 use Rattle.bsc_tributary.specs.declared.mode.Mode.{Mode}
 use Rattle.bsc_tributary.specs.declared.mode.Mode.TheVariants.{Control, Receiving, Sending}
 use Rattle.bsc_tributary.specs.Tributary.{TributaryValue, after_release}
@@ -61,10 +62,6 @@ record Releases (mode : Mode) (n : ℕ) (setup : SetupValue) (format : FormatVal
   suits : SuitsMode mode step.sender.phase n
   setup_is : step.sender.setup ≡ setup
   format_is : step.queue.format ≡ format
-
-choose : (P : ReleaseStep → Type 0) (b : Bool) (x y : ReleaseStep) → P x → P y → P (if b then x else y)
-choose P true x y p q = p
-choose P false x y p q = q
 
 idle_suits : (mode : Mode) (k n : ℕ) → SuitsMode mode (InDoubt k) n → SuitsMode mode Idle n
 idle_suits Control k n suits = tt
