@@ -1,5 +1,5 @@
 -- What a transmission changes of a terminal, row by row of the table.
-use Rattle.std.proofs.Common.{◌≡◌, ◌≢◌, ◌∙◌, ◌⊎◌, inl, inr, ◌<◌, ℕ, sym, ap, subst, refl, Bool, true, false, List, ◌++◌, length, nat_eq, slice_set, Option, None, is_some, if◌then◌else◌, arith}
+use Rattle.std.proofs.Common.{◌≡◌, ◌≢◌, ◌∙◌, ◌⊎◌, inl, inr, ◌<◌, ℕ, sym, ap, subst, refl, Bool, true, false, List, ◌++◌, length, nat_eq, slice_set, Option, None, is_some, arith}
 use Rattle.std.proofs.lemmas.Bool.Decides.{nat_tests}
 use Rattle.std.proofs.lemmas.List.{get_or-set_same, get_or-set_other, length-set}
 use Rattle.bsc_frame.specs.declared.message.Message.{Message}
