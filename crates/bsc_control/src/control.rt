@@ -226,6 +226,7 @@ impl<A: Allocator> Station for Control<A> {
         ensures holds { result ≡ false }
         ensures control { IsControl self.now }
     {
+        // A field is read, so that the invariant is known here.
         let _ = &self.procedure;
         false
     }

@@ -51,6 +51,7 @@ impl<A: Allocator> Directory<A> {
         for (number, terminal) in terminals.iter().enumerate() {
             directory.enter_all(number, terminal)?;
         }
+        // A field is read, so that the invariant is known here.
         let _ = &directory.owners;
         Ok(directory)
     }

@@ -164,6 +164,7 @@ impl<A: Allocator> Procedure<A> {
         ensures row { record { control = self.new; sent = result } ≡ performs self.old select act (if interrupted then Interruption else Selection select) }
         ensures entries { HasEntries self.new }
     {
+        // A field is read, so that the invariant is known here.
         let _ = &self.task;
         match act {
             Act::Send(text) => {
@@ -198,6 +199,7 @@ impl<A: Allocator> Procedure<A> {
         ensures row { record { control = self.new; sent = result } ≡ selecting_step self.old select (reply_heard heard.now) }
         ensures entries { HasEntries self.new }
     {
+        // A field is read, so that the invariant is known here.
         let _ = &self.task;
         match Reply::heard(heard) {
             Some(Reply::Ack0) => self.begin_bid(select),
