@@ -17,7 +17,7 @@ use Rattle.bsc_control.specs.Control.{ControlValue, HasEntries, terminals, peer_
 use Rattle.bsc_control.specs.Kept.{IsOrderly, IsControl, Keeps, AfterHearing, AfterSilence, outbound_of}
 use Rattle.bsc_control.specs.Noise.{noise_changes_nothing}
 use Rattle.bsc_control.specs.Peer.{OutboundValue, PeerValue, no_peer, with_outbound, offered, offered_to, released}
-use Rattle.bsc_control.specs.Table.{Hears, IsSilent}
+use Rattle.bsc_control.specs.Table.{Hears, ActsOnSilence}
 use Rattle.bsc_control.specs.Ways.{IsSelection, select_of}
 use Rattle.bsc_control.proofs.PeerLists.{same_map}
 use Rattle.bsc_control.proofs.Replacing.{replaced, Follows, orderly-replaced, orderly-flags}
@@ -56,7 +56,7 @@ after_hearing_is old h new sent is entries heard =
     }
 
 -- and after a silence
-pub after_silence_is : (old new : ControlValue) (sent : Option Message) → IsControl old → HasEntries new → IsSilent old new sent → AfterSilence old new sent
+pub after_silence_is : (old new : ControlValue) (sent : Option Message) → IsControl old → HasEntries new → ActsOnSilence old new sent → AfterSilence old new sent
 after_silence_is old new sent is entries row =
     let well : SilentWell old (record { control = new; sent = sent }) = silent_well old new sent is.entries is.orderly row in
     record {

@@ -21,7 +21,7 @@ use Rattle.bsc_control.specs.CallOrder.{After, Start, Selection, Interruption, P
 use Rattle.bsc_control.specs.Control.{ControlValue, ControlStep, HasEntries, terminals, peer_at, peer, current, quiet, sends}
 use Rattle.bsc_control.specs.Kept.{SuitsTask, IsSelected, IsInBid, outbound_of, IsOrderly, Keeps, IsCalled, IsRepeated, GrowsByText, after_hearing, after_silence, way_of}
 use Rattle.bsc_control.specs.Peer.{PeerValue, no_peer}
-use Rattle.bsc_control.specs.Table.{polls, calls_next, acted, after_bid, selecting_step, receives, replied_after, has_rvi, polling_step, task_step, repeated, silence_in, rooms_after, Hears, IsSilent, select_address}
+use Rattle.bsc_control.specs.Table.{polls, calls_next, acted, after_bid, selecting_step, receives, replied_after, has_rvi, polling_step, task_step, repeated, silence_in, rooms_after, Hears, ActsOnSilence, select_address}
 use Rattle.bsc_control.proofs.Bids.{OthersRest, fares-acted, calls-acted}
 use Rattle.bsc_control.proofs.Calls.{IsCalm, Fares, IsSamePeer, shape, entry_within, keeps-moved, rests-moved, settings-moved, fares-polls, fares-calls_next, next_is_called, terminal_there, selects_there}
 use Rattle.bsc_control.proofs.PeerLists.{same_map, value_at, holds_at}
@@ -300,5 +300,5 @@ silent-task c (Polling WithoutRvi) entries o e = silent-next c (Poll false) entr
 silent-task c (Polling WithRvi) entries o e = silent-next c (Poll true) entries (calm_while c o (λ k used. absurd (cc))) (ap after_silence e)
 
 -- what a control station is after a silence
-pub silent_well : (old new : ControlValue) (sent : Option Message) → HasEntries old → IsOrderly old → IsSilent old new sent → SilentWell old (record { control = new; sent = sent })
+pub silent_well : (old new : ControlValue) (sent : Option Message) → HasEntries old → IsOrderly old → ActsOnSilence old new sent → SilentWell old (record { control = new; sent = sent })
 silent_well old new sent entries o row = subst (SilentWell old) (sym row) (silent-task old old.task entries o refl)

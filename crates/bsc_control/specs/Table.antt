@@ -153,6 +153,6 @@ pub record Hears (old : ControlValue) (h : Heard) (new : ControlValue) (sent : O
   pub row : record { control = new; sent = sent } ≡ hear_step old h (rooms_after old h new)
   pub room : IsReceived old.task h → (peer old).spool.room ≡ true → (rooms_after old h new).first ≡ true
 
--- at a silence
-abbrev pub IsSilent : ControlValue → ControlValue → Option Message → Type 0
-IsSilent old new sent = record { control = new; sent = sent } ≡ silent_step old
+-- at a silence the control station and what it sends are those of the table
+abbrev pub ActsOnSilence : ControlValue → ControlValue → Option Message → Type 0
+ActsOnSilence old new sent = record { control = new; sent = sent } ≡ silent_step old

@@ -11,7 +11,7 @@ ghost use Rattle.bsc_control.specs.Control.{ControlValue, terminals, peer_at, wi
 ghost use Rattle.bsc_control.specs.Kept.{IsControl, IsNewControl, AfterHearing, AfterSilence, outbound_of};
 ghost use Rattle.bsc_control.specs.Refusals.{IsAccepted, IsRefused};
 ghost use Rattle.bsc_control.specs.Peer.{with_outbound, released, offered_to};
-ghost use Rattle.bsc_control.specs.Table.{Hears, IsSilent};
+ghost use Rattle.bsc_control.specs.Table.{Hears, ActsOnSilence};
 ghost use Rattle.bsc_control.specs.Ways.{IsSelection, select_of};
 
 use crate::directory::Directory;
@@ -185,12 +185,12 @@ impl<A: Allocator> Control<A> {
 
 impl<A: Allocator> Station for Control<A> {
     ghost use Rattle.std.specs.Prelude.{false};
-    ghost use Rattle.bsc_control.specs.Table.{Hears, IsSilent};
+    ghost use Rattle.bsc_control.specs.Table.{Hears, ActsOnSilence};
     ghost use Rattle.bsc_control.specs.Noise.{noise_changes_nothing};
 
     ghost hears = { Hears };
 
-    ghost acts = { IsSilent };
+    ghost acts = { ActsOnSilence };
 
     ghost holds = { λ _. false };
 
@@ -215,7 +215,7 @@ impl<A: Allocator> Station for Control<A> {
     /// Nothing was heard for the time of a time-out. True: the wire holds the one message to send. False:
     /// the wire is empty.
     fn silence(&mut self, wire: &mut Wire) -> bool
-        ensures row { (sent : Option MessageValue) × IsSilent self.old self.new sent × IsSent sent result wire.new.items }
+        ensures row { (sent : Option MessageValue) × ActsOnSilence self.old self.new sent × IsSent sent result wire.new.items }
         ensures after { (sent : Option MessageValue) × AfterSilence self.old self.new sent × IsSent sent result wire.new.items }
     {
         transmit(self.procedure.act_on_silence(), wire)

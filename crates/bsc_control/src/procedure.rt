@@ -7,7 +7,7 @@ ghost use Rattle.bsc_control.specs.CallOrder.{Start, Selection, Interruption, Po
 ghost use Rattle.bsc_control.specs.Control.{ControlValue, HasEntries, peer, peer_at, with_peer};
 ghost use Rattle.bsc_control.specs.Kept.{IsSelected, SuitsTask, IsNewControl};
 ghost use Rattle.bsc_control.specs.Peer.{outbound_at, with_outbound, released, offered_to};
-ghost use Rattle.bsc_control.specs.Table.{polls, selects, calls_by, calls, calls_next, performs, acted, after_bid, selecting_step, polling_step, silence_in, rooms_after, Hears, IsSilent, IsReceived};
+ghost use Rattle.bsc_control.specs.Table.{polls, selects, calls_by, calls, calls_next, performs, acted, after_bid, selecting_step, polling_step, silence_in, rooms_after, Hears, ActsOnSilence, IsReceived};
 
 use crate::peer::Peer;
 use crate::task::{Replied, Task};
@@ -328,7 +328,7 @@ impl<A: Allocator> Procedure<A> {
     /// Nothing was heard; gives the message to send.
     pub(crate) fn act_on_silence(&mut self) -> Option<Message>
         requires { SuitsTask self.old.task (peer self.old) }
-        ensures row { IsSilent self.old self.new result }
+        ensures row { ActsOnSilence self.old self.new result }
         ensures entries { HasEntries self.new }
     {
         match self.task {
