@@ -32,6 +32,7 @@ fn text_heard(units: &[u8]) -> Heard
 /// `Noise`. More than 2,048 octets are `Noise` (GA27-3004: control sequences, polling and selection, text
 /// blocks, VRC and LRC checking; how far pads and fills are accepted is own).
 pub fn decode(octets: &[u8]) -> Heard
+    ensures reading { result ≡ heard octets.now }
     ensures whole { (m : Message) → (result ≡ Heard.Whole m) ↔ Spells octets.now m }
     ensures failed { (result ≡ Heard.Failed) ↔ IsFailed octets.now }
     ensures noise { (result ≡ Heard.Noise) ↔ IsNoise octets.now }
