@@ -5,7 +5,6 @@ ghost use Rattle.bsc_text.specs.Receiver.{Receives};
 ghost use Rattle.bsc_spool.specs.Spool.{room_asked};
 ghost use Rattle.bsc_tributary.specs.Tributary.{spool_at};
 
-use arrayvec::ArrayVec;
 use bsc_frame::Heard;
 use bsc_spool::Spool;
 use bsc_text::{Receiver, Reply};
@@ -13,22 +12,26 @@ use std::alloc::Allocator;
 use std::marker::Model;
 
 /// A spool for each selection address, in their order. They lie in the terminal itself, so that a new
-/// terminal takes no memory: every place of the table has a spool, and the first `count` are in use.
+/// terminal takes no memory: each place has a spool, and the first `count` are in use. They are no array, for
+/// an array of them would have callers show that a terminal fits into memory.
 #[derive(Drop)]
 pub(crate) struct Spools<A: Allocator> {
-    table: ArrayVec<Spool<A>, 4, A>,
+    first: Spool<A>,
+    second: Spool<A>,
+    third: Spool<A>,
+    fourth: Spool<A>,
     count: usize,
 }
 
 impl<A: Allocator> Model for Spools<A> {
-    ghost use Rattle.std.specs.Prelude.{◌≡◌, ◌≤◌, List, length, take};
+    ghost use Rattle.std.specs.Prelude.{◌≤◌, List, [], ◌∷◌, take};
     ghost use Rattle.bsc_spool.specs.Spool.{SpoolValue};
 
     ghost Value = { List SpoolValue };
 
-    ghost view = { λ s. take s.count s.table.items };
+    ghost view = { λ s. take s.count (s.first ∷ s.second ∷ s.third ∷ s.fourth ∷ []) };
 
-    ghost invariant = { λ s. (s.count ≤ 4) × (length s.table.items ≡ 4) };
+    ghost invariant = { λ s. s.count ≤ 4 };
 }
 
 impl<A: Allocator> Spools<A> {
@@ -41,15 +44,10 @@ impl<A: Allocator> Spools<A> {
         ensures empty { All (λ s. (s.records ≡ []) × (s.delays ≡ 0)) result }
     {
         Spools {
-            table: ArrayVec::from_array_in(
-                alloc,
-                [
-                    Spool::new(alloc),
-                    Spool::new(alloc),
-                    Spool::new(alloc),
-                    Spool::new(alloc),
-                ],
-            ),
+            first: Spool::new(alloc),
+            second: Spool::new(alloc),
+            third: Spool::new(alloc),
+            fourth: Spool::new(alloc),
             count,
         }
     }
@@ -59,7 +57,12 @@ impl<A: Allocator> Spools<A> {
         requires { select < length self.now }
         ensures { result.now ≡ spool_at self.now select }
     {
-        &self.table[select]
+        match select {
+            0 => &self.first,
+            1 => &self.second,
+            2 => &self.third,
+            _ => &self.fourth,
+        }
     }
 
     /// Makes room in the spool of this number; true where there is room.
@@ -68,8 +71,12 @@ impl<A: Allocator> Spools<A> {
         ensures spool { self.new ≡ slice_set self.old select (room_asked (spool_at self.old select) result) }
         ensures there { (spool_at self.old select).room ≡ true → result ≡ true }
     {
-        let spool = self.table.get_mut(select).unwrap();
-        spool.make_room()
+        match select {
+            0 => self.first.make_room(),
+            1 => self.second.make_room(),
+            2 => self.third.make_room(),
+            _ => self.fourth.make_room(),
+        }
     }
 
     /// The receiver hears a transmission, and stores in the spool of this number what it takes.
@@ -85,7 +92,11 @@ impl<A: Allocator> Spools<A> {
             (record { receiver = receiver.new; spool = spool_at self.new select; reply = result }) }
         ensures spools { self.new ≡ slice_set self.old select (spool_at self.new select) }
     {
-        let spool = self.table.get_mut(select).unwrap();
-        receiver.heard(heard, urgent, spool)
+        match select {
+            0 => receiver.heard(heard, urgent, &mut self.first),
+            1 => receiver.heard(heard, urgent, &mut self.second),
+            2 => receiver.heard(heard, urgent, &mut self.third),
+            _ => receiver.heard(heard, urgent, &mut self.fourth),
+        }
     }
 }

@@ -1,4 +1,4 @@
-use Rattle.std.proofs.Common.{subst, None, rules}
+use Rattle.std.proofs.Common.{subst, None}
 use Rattle.bsc_frame.specs.declared.message.Message.TheVariants.{Call}
 use Rattle.bsc_frame.specs.declared.message.Heard.TheVariants.{Whole}
 use Rattle.bsc_tributary.specs.Tributary.{Hears}
@@ -8,11 +8,9 @@ use Rattle.bsc_tributary.proofs.CallsHeard.{called_from, hears-polling, hears-se
 use Rattle.bsc_tributary.proofs.tributary.Tributary.hear_call.Goals as goal
 
 pub answer_selection-requires : goal.answer_selection-requires
-answer_selection-requires g c = (
-  search rules,
-  within-selects c.args.self.now.terminal c.args.address.now c.in-Selection.select
-      (called_from _ c.args.self.now _ _ _ c.self.view_is c.in-Selection.is c.called_address.ensures),
-)
+answer_selection-requires g c =
+    within-selects c.args.self.now.terminal c.args.address.now c.in-Selection.select
+    (called_from _ c.args.self.now _ _ _ c.self.view_is c.in-Selection.is c.called_address.ensures)
 
 pub returns-in-Polling : goal.returns-in-Polling
 returns-in-Polling g c =
