@@ -24,7 +24,7 @@ use Rattle.bsc_control.specs.Addresses.{IsAddressOf, AreDistinct}
 use Rattle.bsc_control.specs.CallOrder.{Call, After, Start, Selection, Poll, next_call}
 use Rattle.bsc_control.specs.Peer.{OutboundValue, PeerValue, IsNewPeer, outbound_at}
 use Rattle.bsc_control.specs.Control.{ControlValue, HasEntries, terminals, peer_at, peer, current}
-use Rattle.bsc_control.specs.Table.{after_bid, has_rvi}
+use Rattle.bsc_control.specs.Table.{Hears, ActsOnSilence, after_bid, has_rvi}
 
 -- a selection address was called: records wait for it, and there is no doubt and no bid
 pub record IsSelected (p : PeerValue) (s : ℕ) : Type 0 where
@@ -166,3 +166,13 @@ pub record AfterSilence (old new : ControlValue) (sent : Option Message) : Type 
   pub keeps : Keeps old new
   pub calls : (address : List ℕ) → sent ≡ Some (m.Call address) → IsCalled new (next_call old (after_silence old.task)) address ⊎ IsRepeated old new address
   pub spools : (t : ℕ) → (peer_at new t).spool ≡ (peer_at old t).spool
+
+-- a control station hears a transmission: by the row of its table, and with what that keeps
+pub record IsHearing (old : ControlValue) (h : Heard) (new : ControlValue) (sent : Option Message) : Type 0 where
+  pub row : Hears old h new sent
+  pub after : AfterHearing old h new sent
+
+-- a silence passes at a control station: by the row of its table, and with what that keeps
+pub record IsSilence (old new : ControlValue) (sent : Option Message) : Type 0 where
+  pub row : ActsOnSilence old new sent
+  pub after : AfterSilence old new sent

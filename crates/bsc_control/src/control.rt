@@ -1,17 +1,13 @@
 //! The control station.
 
-ghost use Rattle.std.specs.Prelude.{◌≡◌, ◌≤◌, ◌<◌, ◌↔◌, ℕ, length, true, false, Some, Option, None, OnOk, OnErr, IfOk, IfErr};
-ghost use Rattle.bsc_frame.specs.declared.message.Message.{Message as MessageValue};
-ghost use Rattle.bsc_frame.specs.declared.message.Heard.{Heard as HeardValue};
+ghost use Rattle.std.specs.Prelude.{◌≡◌, ◌≤◌, ◌<◌, ◌↔◌, ℕ, length, true, false, Some, OnOk, OnErr, IfOk, IfErr};
 ghost use Rattle.bsc_text.specs.Sender.{is_in_doubt, release_step};
-ghost use Rattle.bsc_text.specs.Station.{IsSent, IsHeardAs};
 ghost use Rattle.bsc_control.specs.declared.way.Way.{Way as WayValue};
 ghost use Rattle.bsc_control.specs.Addresses.{IsAddressOf};
 ghost use Rattle.bsc_control.specs.Control.{ControlValue, terminals, peer_at, with_peer};
-ghost use Rattle.bsc_control.specs.Kept.{IsControl, IsNewControl, AfterHearing, AfterSilence, outbound_of};
+ghost use Rattle.bsc_control.specs.Kept.{IsControl, IsNewControl, outbound_of};
 ghost use Rattle.bsc_control.specs.Refusals.{IsAccepted, IsRefused};
 ghost use Rattle.bsc_control.specs.Peer.{with_outbound, released, offered_to};
-ghost use Rattle.bsc_control.specs.Table.{Hears, ActsOnSilence};
 ghost use Rattle.bsc_control.specs.Ways.{IsSelection, select_of};
 
 use crate::directory::Directory;
@@ -19,9 +15,9 @@ use crate::procedure::Procedure;
 use crate::refusal::{SetupError, wrong_entry};
 use crate::way::Way;
 use bsc_block::Record;
-use bsc_frame::{Address, Heard, Wire, decode};
+use bsc_frame::{Address, Heard, Message};
 use bsc_spool::{Queue, Spool};
-use bsc_text::{ReleaseError, Setup, Station, Terminal, transmit};
+use bsc_text::{ReleaseError, Setup, Station, Terminal};
 use std::alloc::Allocator;
 use std::marker::Model;
 
@@ -185,40 +181,21 @@ impl<A: Allocator> Control<A> {
 
 impl<A: Allocator> Station for Control<A> {
     ghost use Rattle.std.specs.Prelude.{false};
-    ghost use Rattle.bsc_control.specs.Table.{Hears, ActsOnSilence};
+    ghost use Rattle.bsc_control.specs.Kept.{IsHearing, IsSilence};
     ghost use Rattle.bsc_control.specs.Noise.{noise_changes_nothing};
 
-    ghost hears = { Hears };
+    ghost hears = { IsHearing };
 
-    ghost acts = { ActsOnSilence };
+    ghost acts = { IsSilence };
 
     ghost holds = { λ _. false };
 
-    /// Hears what octets were decoded as. True: the wire holds the one message to send. False: the wire is
-    /// empty. It may try to reserve memory; a refusal changes a reply alone.
-    fn hear_message(&mut self, heard: &Heard, wire: &mut Wire) -> bool
-        ensures row { (sent : Option MessageValue) × Hears self.old heard.now self.new sent × IsSent sent result wire.new.items }
-        ensures after { (sent : Option MessageValue) × AfterHearing self.old heard.now self.new sent × IsSent sent result wire.new.items }
-    {
-        transmit(self.procedure.hear(heard), wire)
+    fn answer(&mut self, heard: &Heard) -> Option<Message> {
+        self.procedure.hear(heard)
     }
 
-    /// Hears octets. True: the wire holds the one message to send. False: the wire is empty. It may try to
-    /// reserve memory; a refusal changes a reply alone.
-    fn hear(&mut self, octets: &[u8], wire: &mut Wire) -> bool
-        ensures row { (heard : HeardValue) × (IsHeardAs octets.now heard × ((sent : Option MessageValue) × Hears self.old heard self.new sent × IsSent sent result wire.new.items)) }
-        ensures after { (heard : HeardValue) × (IsHeardAs octets.now heard × ((sent : Option MessageValue) × AfterHearing self.old heard self.new sent × IsSent sent result wire.new.items)) }
-    {
-        self.hear_message(&decode(octets), wire)
-    }
-
-    /// Nothing was heard for the time of a time-out. True: the wire holds the one message to send. False:
-    /// the wire is empty.
-    fn silence(&mut self, wire: &mut Wire) -> bool
-        ensures row { (sent : Option MessageValue) × ActsOnSilence self.old self.new sent × IsSent sent result wire.new.items }
-        ensures after { (sent : Option MessageValue) × AfterSilence self.old self.new sent × IsSent sent result wire.new.items }
-    {
-        transmit(self.procedure.act_on_silence(), wire)
+    fn act(&mut self) -> Option<Message> {
+        self.procedure.act_on_silence()
     }
 
     /// Whether the control station acts on a silence before a terminal does: it doesn't.
@@ -231,5 +208,5 @@ impl<A: Allocator> Station for Control<A> {
         false
     }
 
-    ghost ignores_noise = { noise_changes_nothing };
+    ghost ignores_noise = { λ old new sent hearing. noise_changes_nothing old new sent hearing.row };
 }

@@ -20,11 +20,23 @@ pub trait Station {
     /// Whether it acts on a silence before the control station does.
     ghost holds: { Self → Bool };
 
+    /// Hears what octets were decoded as, and gives the message to send. It may try to reserve
+    /// memory; a refusal changes a reply alone.
+    fn answer(&mut self, heard: &Heard) -> Option<Message>
+        ensures { hears self.old heard.now self.new result };
+
+    /// Nothing was heard for the time of a time-out; gives the message to send.
+    fn act(&mut self) -> Option<Message>
+        ensures { acts self.old self.new result };
+
     /// Hears what octets were decoded as. True: the wire holds the one message to send. False: the
     /// wire is empty. It may try to reserve memory; a refusal changes a reply alone.
     fn hear_message(&mut self, heard: &Heard, wire: &mut Wire) -> bool
         ensures { (sent : Option MessageValue) × hears self.old heard.now self.new sent
-            × IsSent sent result wire.new.items };
+            × IsSent sent result wire.new.items }
+    {
+        transmit(self.answer(heard), wire)
+    }
 
     /// Hears octets. True: the wire holds the one message to send. False: the wire is empty. It may
     /// try to reserve memory; a refusal changes a reply alone.
@@ -40,7 +52,10 @@ pub trait Station {
     /// False: the wire is empty.
     fn silence(&mut self, wire: &mut Wire) -> bool
         ensures { (sent : Option MessageValue) × acts self.old self.new sent
-            × IsSent sent result wire.new.items };
+            × IsSent sent result wire.new.items }
+    {
+        transmit(self.act(), wire)
+    }
 
     /// Whether it acts on a silence before the control station does.
     fn holds_line(&self) -> bool

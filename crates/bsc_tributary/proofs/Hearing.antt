@@ -1,5 +1,5 @@
 -- What a transmission changes of a terminal, row by row of the table.
-use Rattle.std.proofs.Common.{◌≡◌, ◌≢◌, ◌∙◌, ◌⊎◌, inl, inr, ◌<◌, ℕ, sym, ap, subst, refl, Bool, true, false, List, ◌++◌, length, nat_eq, slice_set, Option, None, is_some, arith}
+use Rattle.std.proofs.Common.{◌≡◌, ◌≢◌, ◌∙◌, ◌⊎◌, inl, inr, ◌<◌, ℕ, sym, ap, subst, refl, Bool, true, false, List, ◌++◌, length, nat_eq, slice_set, Option, None, arith}
 use Rattle.std.proofs.lemmas.Bool.Decides.{nat_tests}
 use Rattle.std.proofs.lemmas.List.{get_or-set_same, get_or-set_other, length-set}
 use Rattle.bsc_frame.specs.declared.message.Message.{Message}
@@ -22,7 +22,7 @@ use Rattle.bsc_tributary.specs.declared.mode.Mode.{Mode}
 use Rattle.bsc_tributary.specs.declared.mode.Mode.TheVariants.{Control, Receiving, Sending}
 use Rattle.bsc_tributary.specs.Called.{called_as}
 use Rattle.bsc_tributary.specs.Tributary.{TributaryValue, TributaryStep, spool_at, empty_spool, quiet_step, answer_step, without_line, mode_after, act_step, receive_step, poll_step, selection_step, call_step, mode_step, hear_step, Hears, rooms_after}
-use Rattle.bsc_tributary.specs.Kept.{IsTributary, SuitsMode, Keeps, GrowsByText, IsModeCalled, IsModeAfter, TakesLine, IsNoCall, StaysQuiet, AfterHearing, AfterSilence}
+use Rattle.bsc_tributary.specs.Kept.{IsTributary, SuitsMode, Keeps, GrowsByText, IsModeCalled, IsModeAfter, TakesLine, IsNoCall, StaysQuiet, AfterHearing, AfterSilence, IsHearing}
 use Rattle.bsc_tributary.specs.Noise.{quiet_in}
 use Rattle.bsc_tributary.proofs.Acts.{FollowsFrom, follows-sent_next, follows-reply_step, follows-silence_step, mode_after-Sending}
 use Rattle.bsc_tributary.proofs.CallsHeard.{begun_mode, within-selects}
@@ -35,9 +35,9 @@ record Changes (old : TributaryValue) (h : Heard) (step : TributaryStep) : Type 
   mode : IsModeAfter old h step.tributary.mode
   other_spools : (s : ℕ) → step.tributary.mode ≢ Receiving s → spool_at step.tributary.spools s ≡ spool_at old.spools s
   grows : (s : ℕ) → GrowsByText old.mode h s (spool_at old.spools s).records (spool_at step.tributary.spools s).records
-  taken : TakesLine old.terminal h → (step.tributary.mode ≡ Control) × (is_some step.sent ≡ false)
-  control : old.mode ≡ Control → IsNoCall h → StaysQuiet old step.tributary (is_some step.sent)
-  noise : h ≡ Noise → StaysQuiet old step.tributary (is_some step.sent)
+  taken : TakesLine old.terminal h → (step.tributary.mode ≡ Control) × (step.sent ≡ None)
+  control : old.mode ≡ Control → IsNoCall h → StaysQuiet old step.tributary step.sent
+  noise : h ≡ Noise → StaysQuiet old step.tributary step.sent
 
 -- a write at one spool: that spool, or another one
 record At (spools : List SpoolValue) (s r : ℕ) (spool : SpoolValue) : Type 0 where
@@ -71,7 +71,7 @@ record CallChanges (old : TributaryValue) (called : Called) (step : TributarySte
   mode : IsModeCalled called step.tributary.mode
   other_spools : (s : ℕ) → step.tributary.mode ≢ Receiving s → spool_at step.tributary.spools s ≡ spool_at old.spools s
   same_records : (s : ℕ) → (spool_at step.tributary.spools s).records ≡ (spool_at old.spools s).records
-  taken : called ≡ Other → (step.tributary.mode ≡ Control) × (is_some step.sent ≡ false)
+  taken : called ≡ Other → (step.tributary.mode ≡ Control) × (step.sent ≡ None)
 
 keeps_all : (t : TributaryValue) (urgent : Bool) → Keeps t (record (without_line t) { urgent = urgent })
 keeps_all t urgent = record { terminal = refl; setup = refl; ready = refl; format = refl; offered = refl; spools = refl }
@@ -185,7 +185,7 @@ record ModeChanges (old : TributaryValue) (h : Heard) (step : TributaryStep) : T
   mode : (step.tributary.mode ≡ Control) ⊎ (step.tributary.mode ≡ old.mode)
   other_spools : (s : ℕ) → step.tributary.mode ≢ Receiving s → spool_at step.tributary.spools s ≡ spool_at old.spools s
   grows : (s : ℕ) → GrowsByText old.mode h s (spool_at old.spools s).records (spool_at step.tributary.spools s).records
-  control : old.mode ≡ Control → StaysQuiet old step.tributary (is_some step.sent)
+  control : old.mode ≡ Control → StaysQuiet old step.tributary step.sent
 
 control_changes : (t : TributaryValue) (h : Heard) → ModeChanges t h (quiet_step t)
 control_changes t h =
@@ -277,11 +277,11 @@ takes_none t (Whole m.Wack) plain takes = takes
 takes_none t (Whole m.Rvi) plain takes = takes
 
 noise_quiet : (t : TributaryValue) (h : Heard) (mode : Mode) (rooms : Rooms) → h ≡ Noise →
-    StaysQuiet t (mode_step t mode h rooms).tributary (is_some (mode_step t mode h rooms).sent)
+    StaysQuiet t (mode_step t mode h rooms).tributary (mode_step t mode h rooms).sent
 noise_quiet t h mode rooms e =
     let same : mode_step t mode h rooms ≡ quiet_step t = ap (λ (x : Heard). mode_step t mode x rooms) e
     ∙ quiet_in t mode rooms in
-    (ap (λ (o : TributaryStep). o.tributary) same, ap (λ (o : TributaryStep). is_some o.sent) same)
+    (ap (λ (o : TributaryStep). o.tributary) same, ap (λ (o : TributaryStep). o.sent) same)
 
 from_mode : (t : TributaryValue) (h : Heard) (rooms : Rooms) → IsNoCall h → IsTributary t →
     Changes t h (hear_step t h rooms)
@@ -323,37 +323,39 @@ changes t (Whole m.Rvi) rooms is = from_mode t (Whole m.Rvi) rooms tt is
 
 -- what holds of a terminal that has heard a transmission
 pub after_hearing : (old : TributaryValue) (h : Heard) (new : TributaryValue) (sent : Option Message) →
-    IsTributary old → IsTributary new → Hears old h new sent → AfterHearing old h new (is_some sent)
+    IsTributary old → IsTributary new → Hears old h new sent → AfterHearing old h new sent
 after_hearing old h new sent was is hears =
     let c : Changes old h (record { tributary = new; sent = sent }) = subst (Changes old h) (sym hears.row)
     (changes old h (rooms_after h new) was) in
     record { tributary = is; keeps = c.keeps; mode = c.mode; other_spools = c.other_spools; grows = c.grows; taken = c.taken; control = c.control; noise = c.noise }
 
--- what EOT leaves
-pub after_drop : (t old : TributaryValue) (sender : SenderValue) → t ≡ old → IsTributary t →
+-- EOT is heard
+pub hears_eot : (t old : TributaryValue) (sender : SenderValue) → t ≡ old → IsTributary t →
     sender ≡ with_phase t.sender (cut_phase t.sender.phase) → IsReady sender t.queue →
-    AfterHearing old (Whole m.Eot) (record t { mode = Control; sender = sender }) false
-after_drop t old sender view is cut ready =
+    IsHearing old (Whole m.Eot) (record t { mode = Control; sender = sender }) None
+hears_eot t old sender view is cut ready =
     let new : TributaryValue = record t { mode = Control; sender = sender } in
     let row : record { tributary = new; sent = None } ≡ hear_step t (Whole m.Eot) (rooms_after (Whole m.Eot) new) = ap
     (λ (s : SenderValue). quiet_step (record t { mode = Control; sender = s })) cut in
-    subst (λ (v : TributaryValue). AfterHearing v (Whole m.Eot)
-    (record t { mode = Control; sender = sender }) false) view
-    (after_hearing t (Whole m.Eot) new None is (stays-without_line t sender is cut ready)
-    (record { row = row; room = λ s e had. absurd (cc) }))
+    let hears : Hears t (Whole m.Eot) new None = record { row = row; room = λ s e had. absurd (cc) } in
+    subst (λ (v : TributaryValue). IsHearing v (Whole m.Eot) new None) view
+    (record {
+      row = hears;
+      after = after_hearing t (Whole m.Eot) new None is (stays-without_line t sender is cut ready) hears;
+    })
 
 -- and after a silence
 pub after_silence : (t old : TributaryValue) (mode : Mode) (step : SenderStep) (sent : Option Message) → t ≡ old →
     IsTributary t → t.mode ≡ Sending → step ≡ silence_step t.sender t.queue → mode ≡ mode_after step.act t.mode →
     IsTributary (record t { mode = mode; sender = step.sender; queue = step.queue }) →
-    AfterSilence old (record t { mode = mode; sender = step.sender; queue = step.queue }) (is_some sent)
+    AfterSilence old (record t { mode = mode; sender = step.sender; queue = step.queue }) sent
 after_silence t old mode step sent view was sending row mode_is is =
     let f : FollowsFrom Sending (length t.spools) t.sender t.queue step = subst
     (FollowsFrom Sending (length t.spools) t.sender t.queue) (sym row)
     (follows-silence_step (length t.spools) t.sender t.queue
     (subst (λ (x : Mode). SuitsMode x t.sender.phase (length t.spools)) sending was.bid)) in
     subst (λ (v : TributaryValue). AfterSilence v (record t { mode = mode; sender = step.sender; queue = step.queue })
-    (is_some sent)) view
+    sent) view
     (record {
       tributary = is;
       keeps = record { terminal = refl; setup = f.setup_is; ready = refl; format = f.format_is; offered = f.offered_is; spools = refl };
@@ -364,7 +366,7 @@ after_silence t old mode step sent view was sending row mode_is is =
       still = λ ne. absurd (ne sending);
     })
 
-pub after_stillness : (t old : TributaryValue) → t ≡ old → IsTributary t → AfterSilence old old false
+pub after_stillness : (t old : TributaryValue) → t ≡ old → IsTributary t → AfterSilence old old None
 after_stillness t old view is =
     record {
       tributary = subst IsTributary view is;

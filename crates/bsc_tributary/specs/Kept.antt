@@ -1,5 +1,6 @@
 -- What holds of every terminal, and what a transmission or a silence may change of it (own).
-use Rattle.std.specs.Prelude.{◌≡◌, ◌≢◌, ◌⊎◌, ℕ, ◌<◌, Bool, false, List, ◌++◌, length}
+use Rattle.std.specs.Prelude.{◌≡◌, ◌≢◌, ◌⊎◌, ℕ, ◌<◌, List, ◌++◌, length, Option, None}
+use Rattle.bsc_frame.specs.declared.message.Message.{Message}
 use Rattle.bsc_frame.specs.declared.message.Message.TheVariants as m
 use Rattle.bsc_frame.specs.declared.message.Heard.{Heard}
 use Rattle.bsc_frame.specs.declared.message.Heard.TheVariants.{Whole, Noise}
@@ -13,7 +14,7 @@ use Rattle.bsc_tributary.specs.declared.called.Called.TheVariants.{Polling, Sele
 use Rattle.bsc_tributary.specs.declared.mode.Mode.{Mode}
 use Rattle.bsc_tributary.specs.declared.mode.Mode.TheVariants.{Control, Receiving, Sending}
 use Rattle.bsc_tributary.specs.Called.{AreDistinct, called_as}
-use Rattle.bsc_tributary.specs.Tributary.{TributaryValue, spool_at}
+use Rattle.bsc_tributary.specs.Tributary.{TributaryValue, Hears, ActsOnSilence, spool_at}
 
 -- a bid goes on exactly while the terminal sends, and it receives into a spool that it has
 abbrev pub SuitsMode : Mode → Phase → ℕ → Type 0
@@ -77,24 +78,34 @@ IsNoCall (Whole (m.Call address)) = ⊥
 IsNoCall h = Unit {0}
 
 -- Nothing is sent and nothing changes.
-abbrev pub StaysQuiet : TributaryValue → TributaryValue → Bool → Type 0
-StaysQuiet old new sent = (new ≡ old) × (sent ≡ false)
+abbrev pub StaysQuiet : TributaryValue → TributaryValue → Option Message → Type 0
+StaysQuiet old new sent = (new ≡ old) × (sent ≡ None)
 
--- what a terminal is once it has heard a transmission; sent says whether it answers
-pub record AfterHearing (old : TributaryValue) (h : Heard) (new : TributaryValue) (sent : Bool) : Type 0 where
+-- what a terminal is once it has heard a transmission, and what it may send
+pub record AfterHearing (old : TributaryValue) (h : Heard) (new : TributaryValue) (sent : Option Message) : Type 0 where
   pub tributary : IsTributary new
   pub keeps : Keeps old new
   pub mode : IsModeAfter old h new.mode
   pub other_spools : (s : ℕ) → new.mode ≢ Receiving s → spool_at new.spools s ≡ spool_at old.spools s
   pub grows : (s : ℕ) → GrowsByText old.mode h s (spool_at old.spools s).records (spool_at new.spools s).records
-  pub taken : TakesLine old.terminal h → (new.mode ≡ Control) × (sent ≡ false)
+  pub taken : TakesLine old.terminal h → (new.mode ≡ Control) × (sent ≡ None)
   pub control : old.mode ≡ Control → IsNoCall h → StaysQuiet old new sent
   pub noise : h ≡ Noise → StaysQuiet old new sent
 
 -- what a terminal is after a silence
-pub record AfterSilence (old new : TributaryValue) (sent : Bool) : Type 0 where
+pub record AfterSilence (old new : TributaryValue) (sent : Option Message) : Type 0 where
   pub tributary : IsTributary new
   pub keeps : Keeps old new
   pub mode : (new.mode ≡ Control) ⊎ (new.mode ≡ old.mode)
   pub spools : new.spools ≡ old.spools
   pub still : old.mode ≢ Sending → StaysQuiet old new sent
+
+-- a terminal hears a transmission: by the row of its table, and with what that keeps
+pub record IsHearing (old : TributaryValue) (h : Heard) (new : TributaryValue) (sent : Option Message) : Type 0 where
+  pub row : Hears old h new sent
+  pub after : AfterHearing old h new sent
+
+-- a silence passes at a terminal: by the row of its table, and with what that keeps
+pub record IsSilence (old new : TributaryValue) (sent : Option Message) : Type 0 where
+  pub row : ActsOnSilence old new sent
+  pub after : AfterSilence old new sent

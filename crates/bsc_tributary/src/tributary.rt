@@ -1,25 +1,22 @@
 //! The terminal.
 
-ghost use Rattle.std.specs.Prelude.{◌≡◌, ◌≤◌, ◌<◌, [], true, false, if◌then◌else◌, Option, length, OnOk, OnErr, IfErr, All, is_some, option_map};
-ghost use Rattle.bsc_frame.specs.declared.message.Message.{Message as MessageValue};
-ghost use Rattle.bsc_frame.specs.declared.message.Heard.{Heard as HeardValue};
+ghost use Rattle.std.specs.Prelude.{◌≡◌, ◌≤◌, ◌<◌, [], true, false, if◌then◌else◌, None, length, OnOk, OnErr, IfErr, All, option_map};
 ghost use Rattle.bsc_spool.specs.Queue.{queue_of, with_offered};
 ghost use Rattle.bsc_text.specs.declared.phase.Phase.TheVariants.{Idle};
 ghost use Rattle.bsc_text.specs.Receiver.{begun, sends_rvi};
 ghost use Rattle.bsc_text.specs.Reply.{message_of};
 ghost use Rattle.bsc_text.specs.Sender.{release_step, is_in_doubt};
-ghost use Rattle.bsc_text.specs.Station.{IsSent, IsHeardAs};
 ghost use Rattle.bsc_tributary.specs.Called.{AreDistinct};
-ghost use Rattle.bsc_tributary.specs.Tributary.{without_line, poll_step, selection_step, mode_after, message_for, after_release, holds, spool_at, Hears, ActsOnSilence};
-ghost use Rattle.bsc_tributary.specs.Kept.{IsTributary, AfterHearing, AfterSilence, IsNoCall};
+ghost use Rattle.bsc_tributary.specs.Tributary.{without_line, poll_step, selection_step, mode_after, message_for, after_release, holds, spool_at};
+ghost use Rattle.bsc_tributary.specs.Kept.{IsTributary, IsHearing, IsNoCall};
 
 use crate::called::{Called, called_address};
 use crate::mode::Mode;
 use crate::spools::Spools;
 use bsc_block::Record;
-use bsc_frame::{Address, Heard, Message, Wire, decode};
+use bsc_frame::{Address, Heard, Message};
 use bsc_spool::{Queue, Spool};
-use bsc_text::{Act, Receiver, ReleaseError, Reply, Sender, Setup, Station, Terminal, transmit};
+use bsc_text::{Act, Receiver, ReleaseError, Reply, Sender, Setup, Station, Terminal};
 use std::alloc::Allocator;
 use std::marker::Model;
 
@@ -145,7 +142,7 @@ impl<A: Allocator> Tributary<A> {
     /// The line is taken from the terminal.
     fn drop_line(&mut self)
         ensures state { self.new ≡ without_line self.old }
-        ensures after { AfterHearing self.old (Heard.Whole Message.Eot) self.new false }
+        ensures hearing { IsHearing self.old (Heard.Whole Message.Eot) self.new None }
     {
         self.sender.cut_off();
         self.mode = Mode::Control;
@@ -184,8 +181,7 @@ impl<A: Allocator> Tributary<A> {
 
     /// A call.
     fn hear_call(&mut self, address: &Address) -> Option<Message>
-        ensures row { Hears self.old (Heard.Whole (Message.Call address.now)) self.new result }
-        ensures after { AfterHearing self.old (Heard.Whole (Message.Call address.now)) self.new (is_some result) }
+        ensures { IsHearing self.old (Heard.Whole (Message.Call address.now)) self.new result }
     {
         match called_address(&self.terminal, address) {
             Called::Polling => self.answer_poll(),
@@ -200,8 +196,7 @@ impl<A: Allocator> Tributary<A> {
     /// What is no call and no EOT.
     fn hear_in_mode(&mut self, heard: &Heard) -> Option<Message>
         requires { IsNoCall heard.now }
-        ensures row { Hears self.old heard.now self.new result }
-        ensures after { AfterHearing self.old heard.now self.new (is_some result) }
+        ensures { IsHearing self.old heard.now self.new result }
     {
         match self.mode {
             Mode::Control => None,
@@ -218,12 +213,20 @@ impl<A: Allocator> Tributary<A> {
             }
         }
     }
+}
 
-    /// Hears what octets were decoded as, and gives the message to send.
-    fn answer(&mut self, heard: &Heard) -> Option<Message>
-        ensures row { Hears self.old heard.now self.new result }
-        ensures after { AfterHearing self.old heard.now self.new (is_some result) }
-    {
+impl<A: Allocator> Station for Tributary<A> {
+    ghost use Rattle.bsc_tributary.specs.Tributary.{holds};
+    ghost use Rattle.bsc_tributary.specs.Kept.{IsHearing, IsSilence};
+    ghost use Rattle.bsc_tributary.specs.Noise.{noise_changes_nothing};
+
+    ghost hears = { IsHearing };
+
+    ghost acts = { IsSilence };
+
+    ghost holds = { λ t. holds t.mode };
+
+    fn answer(&mut self, heard: &Heard) -> Option<Message> {
         match heard {
             Heard::Whole(Message::Eot) => {
                 self.drop_line();
@@ -234,11 +237,7 @@ impl<A: Allocator> Tributary<A> {
         }
     }
 
-    /// Nothing was heard; gives the message to send.
-    fn act_on_silence(&mut self) -> Option<Message>
-        ensures row { ActsOnSilence self.old self.new result }
-        ensures after { AfterSilence self.old self.new (is_some result) }
-    {
+    fn act(&mut self) -> Option<Message> {
         match self.mode {
             Mode::Control | Mode::Receiving { .. } => None,
             Mode::Sending => {
@@ -246,47 +245,6 @@ impl<A: Allocator> Tributary<A> {
                 perform(act, &mut self.mode)
             }
         }
-    }
-}
-
-impl<A: Allocator> Station for Tributary<A> {
-    ghost use Rattle.bsc_tributary.specs.Tributary.{Hears, ActsOnSilence, holds};
-    ghost use Rattle.bsc_tributary.specs.Noise.{noise_changes_nothing};
-
-    ghost hears = { Hears };
-
-    ghost acts = { ActsOnSilence };
-
-    ghost holds = { λ t. holds t.mode };
-
-    /// Hears what octets were decoded as. True: the wire holds the one message to send. False: the wire is
-    /// empty. It may try to reserve memory; a refusal changes a reply alone.
-    fn hear_message(&mut self, heard: &Heard, wire: &mut Wire) -> bool
-        ensures row { (sent : Option MessageValue)
-            × Hears self.old heard.now self.new sent × IsSent sent result wire.new.items }
-        ensures after { AfterHearing self.old heard.now self.new result }
-    {
-        transmit(self.answer(heard), wire)
-    }
-
-    /// Hears octets. True: the wire holds the one message to send. False: the wire is empty. It may try to
-    /// reserve memory; a refusal changes a reply alone.
-    fn hear(&mut self, octets: &[u8], wire: &mut Wire) -> bool
-        ensures row { (heard : HeardValue) × (IsHeardAs octets.now heard
-            × ((sent : Option MessageValue) × Hears self.old heard self.new sent × IsSent sent result wire.new.items)) }
-        ensures after { (heard : HeardValue) × (IsHeardAs octets.now heard × AfterHearing self.old heard self.new result) }
-    {
-        self.hear_message(&decode(octets), wire)
-    }
-
-    /// Nothing was heard for the time of a time-out. True: the wire holds the one message to send. False:
-    /// the wire is empty.
-    fn silence(&mut self, wire: &mut Wire) -> bool
-        ensures row { (sent : Option MessageValue)
-            × ActsOnSilence self.old self.new sent × IsSent sent result wire.new.items }
-        ensures after { AfterSilence self.old self.new result }
-    {
-        transmit(self.act_on_silence(), wire)
     }
 
     /// Whether the terminal acts on a silence: exactly while it sends.
@@ -297,7 +255,7 @@ impl<A: Allocator> Station for Tributary<A> {
         self.mode == Mode::Sending
     }
 
-    ghost ignores_noise = { noise_changes_nothing };
+    ghost ignores_noise = { λ old new sent hearing. noise_changes_nothing old new sent hearing.row };
 }
 
 /// Whether the urgent flag stays up once the terminal gave this reply: RVI clears it.

@@ -3,7 +3,7 @@
 ghost use Rattle.std.specs.Prelude.{◌≡◌, Some, None, false};
 ghost use Rattle.bsc_frame.specs.declared.message.Message.TheVariants as m;
 
-use crate::{Station, Terminal, TerminalError, transmit};
+use crate::{Station, Terminal, TerminalError};
 use bsc_frame::{Address, Heard, Message, Wire};
 use std::test::Fail;
 
@@ -20,13 +20,13 @@ impl Station for Asking {
 
     ghost holds = { λ station. false };
 
-    fn hear_message(&mut self, _heard: &Heard, wire: &mut Wire) -> bool {
-        transmit(None, wire)
+    fn answer(&mut self, _heard: &Heard) -> Option<Message> {
+        None
     }
 
-    fn silence(&mut self, wire: &mut Wire) -> bool {
+    fn act(&mut self) -> Option<Message> {
         self.silences = self.silences.saturating_add(1);
-        transmit(Some(Message::Enq), wire)
+        Some(Message::Enq)
     }
 
     fn holds_line(&self) -> bool {

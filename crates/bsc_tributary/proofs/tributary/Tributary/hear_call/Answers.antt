@@ -44,5 +44,5 @@ returns-in-Other g c =
     record {
       row = hears;
       after = after_hearing _ _ _ _
-          (subst IsTributary c.self.view_is c.self.invariant) c.drop_line.ensures.after.tributary hears;
+          (subst IsTributary c.self.view_is c.self.invariant) c.drop_line.ensures.hearing.after.tributary hears;
     }

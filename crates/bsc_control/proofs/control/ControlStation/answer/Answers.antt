@@ -2,14 +2,14 @@ use Rattle.std.proofs.Common.{sym, ◌∙◌, ap}
 use Rattle.bsc_control.specs.Addresses.{numbered}
 use Rattle.bsc_control.specs.Kept.{AfterHearing}
 use Rattle.bsc_control.proofs.Controls.{after_hearing_is}
-use Rattle.bsc_control.proofs.control.ControlStation.hear_message.Given as given
-use Rattle.bsc_control.proofs.control.ControlStation.hear_message.Goals as goal
+use Rattle.bsc_control.proofs.control.ControlStation.answer.Given as given
+use Rattle.bsc_control.proofs.control.ControlStation.answer.Goals as goal
 
-after : (g : given.Over) (c : goal.After-transmit g) → AfterHearing c.self.inside.procedure c.args.heard.now c.hear.new.self c.hear.result
+after : (g : given.Over) (c : goal.After-hear g) → AfterHearing c.self.inside.procedure c.args.heard.now c.hear.new.self c.hear.result
 after g c = after_hearing_is c.self.inside.procedure c.args.heard.now c.hear.new.self c.hear.result c.self.invariant.0 c.hear.ensures.entries c.hear.ensures.row
 
 pub invariant_of-self : goal.invariant_of-self
 invariant_of-self g c = ((after g c).control, c.self.invariant.1 ∙ ap (numbered 0) (sym (after g c).keeps.terminals))
 
-pub returns-clause-after : goal.returns-clause-after
-returns-clause-after g c = (c.hear.result, rw (← c.self.view_is) (after g c), c.transmit.ensures)
+pub returns : goal.returns
+returns g c = rw (← c.self.view_is) (record { row = c.hear.ensures.row; after = after g c })

@@ -1,6 +1,6 @@
 use Rattle.bsc_tributary.proofs.Hearing.{after_silence, after_stillness}
 use Rattle.bsc_tributary.proofs.InMode.{silent-sending, silent-still, stays-silent}
-use Rattle.bsc_tributary.proofs.tributary.Tributary.act_on_silence.Goals as goal
+use Rattle.bsc_tributary.proofs.tributary.TributaryStation.act.Goals as goal
 
 pub invariant_of-self : goal.invariant_of-self
 invariant_of-self g c =
