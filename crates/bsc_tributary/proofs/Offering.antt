@@ -16,7 +16,7 @@ use Rattle.bsc_tributary.proofs.Choice.{choose}
 use Rattle.bsc_tributary.specs.declared.mode.Mode.{Mode}
 use Rattle.bsc_tributary.specs.declared.mode.Mode.TheVariants.{Control, Receiving, Sending}
 use Rattle.bsc_tributary.specs.Tributary.{TributaryValue, after_release}
-use Rattle.bsc_tributary.specs.Kept.{IsTributary, SuitsMode}
+use Rattle.bsc_tributary.specs.Kept.{IsTributary, KeepsSetupAndMode, SuitsMode}
 
 -- more records may wait than are counted on
 waiting_more : (k : ℕ) (end : End) (m n : ℕ) → m ≤ n → AreWaiting k end m → AreWaiting k end n
@@ -78,13 +78,18 @@ releases-in mode n s q Idle count suits = record { suits = suits; setup_is = ref
 releases-in mode n s q (Unanswered b) count suits = record { suits = suits; setup_is = refl; format_is = refl }
 releases-in mode n s q (Held end parity) count suits = record { suits = suits; setup_is = refl; format_is = refl }
 
+releases : (t : TributaryValue) (count : ℕ) (step : ReleaseStep) → IsTributary t →
+    step ≡ release_step t.sender t.queue count →
+    Releases t.mode (length t.spools) t.sender.setup t.queue.format step
+releases t count step is row =
+    subst (Releases t.mode (length t.spools) t.sender.setup t.queue.format) (sym row)
+    (releases-in t.mode (length t.spools) t.sender t.queue t.sender.phase count is.bid)
+
 pub stays-release : (t : TributaryValue) (count : ℕ) (step : ReleaseStep) → IsTributary t →
     step ≡ release_step t.sender t.queue count → IsReady step.sender step.queue →
     IsTributary (record t { sender = step.sender; queue = step.queue })
 stays-release t count step is row ready =
-    let r : Releases t.mode (length t.spools) t.sender.setup t.queue.format step = subst
-    (Releases t.mode (length t.spools) t.sender.setup t.queue.format) (sym row)
-    (releases-in t.mode (length t.spools) t.sender t.queue t.sender.phase count is.bid) in
+    let r : Releases t.mode (length t.spools) t.sender.setup t.queue.format step = releases t count step is row in
     record {
       distinct = is.distinct;
       terminal = is.terminal;
@@ -139,3 +144,26 @@ pub release-answer : (t old : TributaryValue) (count : ℕ) (step : ReleaseStep)
     step ≡ release_step t.sender t.queue count → step.answer ≡ (release_step old.sender old.queue count).answer
 release-answer t old count step view row = ap (λ (s : ReleaseStep). s.answer) row
     ∙ ap (λ (v : TributaryValue). (release_step v.sender v.queue count).answer) view
+
+-- the addresses, settings and mode that it had
+pub same-offer : (t old : TributaryValue) (queue : QueueValue) → t ≡ old → IsTributary (with_queue t queue) →
+    KeepsSetupAndMode old (with_queue t queue)
+same-offer t old queue view is =
+    record {
+      tributary = is;
+      addresses = ap (λ (v : TributaryValue). v.terminal) view;
+      setup = ap (λ (v : TributaryValue). v.sender.setup) view;
+      mode = ap (λ (v : TributaryValue). v.mode) view;
+    }
+
+pub same-release : (t old : TributaryValue) (count : ℕ) (step : ReleaseStep) → t ≡ old → IsTributary t →
+    step ≡ release_step t.sender t.queue count → IsReady step.sender step.queue →
+    KeepsSetupAndMode old (record t { sender = step.sender; queue = step.queue })
+same-release t old count step view is row ready =
+    let r : Releases t.mode (length t.spools) t.sender.setup t.queue.format step = releases t count step is row in
+    record {
+      tributary = stays-release t count step is row ready;
+      addresses = ap (λ (v : TributaryValue). v.terminal) view;
+      setup = r.setup_is ∙ ap (λ (v : TributaryValue). v.sender.setup) view;
+      mode = ap (λ (v : TributaryValue). v.mode) view;
+    }

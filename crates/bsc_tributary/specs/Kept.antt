@@ -1,12 +1,17 @@
 -- What holds of every terminal, and what a transmission or a silence may change of it (own).
-use Rattle.std.specs.Prelude.{◌≡◌, ◌≢◌, ◌⊎◌, ℕ, ◌<◌, List, ◌++◌, length, Option, None}
+use Rattle.std.specs.Prelude.{◌≡◌, ◌≢◌, ◌⊎◌, ℕ, ◌<◌, true, false, List, [], ◌++◌, length, All, Option, None}
 use Rattle.bsc_frame.specs.declared.message.Message.{Message}
 use Rattle.bsc_frame.specs.declared.message.Message.TheVariants as m
 use Rattle.bsc_frame.specs.declared.message.Heard.{Heard}
 use Rattle.bsc_frame.specs.declared.message.Heard.TheVariants.{Whole, Noise}
 use Rattle.bsc_frame.specs.Texts.{TextValue}
 use Rattle.bsc_block.specs.Blocks.{records_in}
+use Rattle.bsc_spool.specs.Queue.{queue_of}
+use Rattle.bsc_spool.specs.Spool.{SpoolValue}
 use Rattle.bsc_text.specs.declared.phase.Phase.{Phase}
+use Rattle.bsc_text.specs.declared.phase.Phase.TheVariants.{Idle}
+use Rattle.bsc_text.specs.Receiver.{begun}
+use Rattle.bsc_text.specs.Setup.{SetupValue}
 use Rattle.bsc_text.specs.Ready.{IsReady, IsGoing, IsAtRest}
 use Rattle.bsc_text.specs.Terminal.{TerminalValue, IsTerminal}
 use Rattle.bsc_tributary.specs.declared.called.Called.{Called}
@@ -31,6 +36,25 @@ pub record IsTributary (t : TributaryValue) : Type 0 where
   pub format : t.queue.format ≡ t.sender.setup.format
   pub ready : IsReady t.sender t.queue
   pub bid : SuitsMode t.mode t.sender.phase (length t.spools)
+
+-- a new terminal is in control mode and ready, not urgent, with nothing to send and nothing received
+pub record IsNewTerminal (setup : SetupValue) (terminal : TerminalValue) (t : TributaryValue) : Type 0 where
+  pub terminal_given : t.terminal ≡ terminal
+  pub mode : t.mode ≡ Control
+  pub ready : t.ready ≡ true
+  pub calm : t.urgent ≡ false
+  pub sender : t.sender ≡ record { setup = setup; phase = Idle; tries = 0; waits = 0 }
+  pub receiver : t.receiver ≡ begun true
+  pub queue : t.queue ≡ queue_of setup.format [] 0
+  pub spools : All (λ (s : SpoolValue). (s.records ≡ []) × (s.delays ≡ 0)) t.spools
+  pub tributary : IsTributary t
+
+-- what an offer, a release or a flag leaves: a terminal with the addresses, settings and mode that it had
+pub record KeepsSetupAndMode (old new : TributaryValue) : Type 0 where
+  pub tributary : IsTributary new
+  pub addresses : new.terminal ≡ old.terminal
+  pub setup : new.sender.setup ≡ old.sender.setup
+  pub mode : new.mode ≡ old.mode
 
 -- what stays: the addresses, the settings, the ready flag, the records that were offered, and a spool for each
 -- selection address

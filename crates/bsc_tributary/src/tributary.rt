@@ -1,14 +1,13 @@
 //! The terminal.
 
-ghost use Rattle.std.specs.Prelude.{◌≡◌, ◌≤◌, ◌<◌, [], true, false, if◌then◌else◌, None, length, OnOk, OnErr, IfErr, All, option_map};
-ghost use Rattle.bsc_spool.specs.Queue.{queue_of, with_offered};
-ghost use Rattle.bsc_text.specs.declared.phase.Phase.TheVariants.{Idle};
-ghost use Rattle.bsc_text.specs.Receiver.{begun, sends_rvi};
+ghost use Rattle.std.specs.Prelude.{◌≡◌, ◌≤◌, ◌<◌, true, false, if◌then◌else◌, None, length, OnOk, OnErr, IfErr, option_map};
+ghost use Rattle.bsc_spool.specs.Queue.{with_offered};
+ghost use Rattle.bsc_text.specs.Receiver.{sends_rvi};
 ghost use Rattle.bsc_text.specs.Reply.{message_of};
 ghost use Rattle.bsc_text.specs.Sender.{release_step, is_in_doubt};
 ghost use Rattle.bsc_tributary.specs.Called.{AreDistinct};
 ghost use Rattle.bsc_tributary.specs.Tributary.{without_line, poll_step, selection_step, mode_after, message_for, after_release, holds, spool_at};
-ghost use Rattle.bsc_tributary.specs.Kept.{IsTributary, IsHearing, IsNoCall};
+ghost use Rattle.bsc_tributary.specs.Kept.{IsTributary, IsNewTerminal, KeepsSetupAndMode, IsHearing, IsNoCall};
 
 use crate::called::{Called, called_address};
 use crate::mode::Mode;
@@ -51,14 +50,7 @@ impl<A: Allocator> Tributary<A> {
     where
         A: Copy,
         requires { AreDistinct terminal }
-        ensures terminal { result.terminal ≡ terminal }
-        ensures mode { result.mode ≡ Mode.Control }
-        ensures flags { (result.ready ≡ true) × (result.urgent ≡ false) }
-        ensures sender { result.sender ≡ record { setup = setup; phase = Idle; tries = 0; waits = 0 } }
-        ensures receiver { result.receiver ≡ begun true }
-        ensures queue { result.queue ≡ queue_of setup.format [] 0 }
-        ensures spools { All (λ s. (s.records ≡ []) × (s.delays ≡ 0)) result.spools }
-        ensures tributary { IsTributary result }
+        ensures { IsNewTerminal setup terminal result }
     {
         Tributary {
             terminal,
@@ -79,7 +71,7 @@ impl<A: Allocator> Tributary<A> {
         ensures ok { OnOk result (self.new ≡ record self.old { queue = with_offered self.old.queue «record» }) }
         ensures err { OnErr result (self.new ≡ self.old) }
         ensures given_back { IfErr result (λ r. r ≡ «record») }
-        ensures tributary { IsTributary self.new }
+        ensures same { KeepsSetupAndMode self.old self.new }
     {
         self.queue.offer(record)
     }
@@ -88,7 +80,7 @@ impl<A: Allocator> Tributary<A> {
     /// taking goes on. (GA27-3004, NAK to a selection; the flag is own.)
     pub fn set_ready(&mut self, ready: bool)
         ensures state { self.new ≡ record self.old { ready = ready } }
-        ensures tributary { IsTributary self.new }
+        ensures same { KeepsSetupAndMode self.old self.new }
     {
         self.ready = ready;
     }
@@ -97,7 +89,7 @@ impl<A: Allocator> Tributary<A> {
     /// was RVI too, or it is polled before. (GA27-3004, RVI; the flag is own.)
     pub fn set_urgent(&mut self)
         ensures state { self.new ≡ record self.old { urgent = true } }
-        ensures tributary { IsTributary self.new }
+        ensures same { KeepsSetupAndMode self.old self.new }
     {
         self.urgent = true;
     }
@@ -116,7 +108,7 @@ impl<A: Allocator> Tributary<A> {
     pub fn release(&mut self, count: usize) -> Result<(), ReleaseError>
         ensures state { self.new ≡ after_release self.old count }
         ensures answer { result ≡ (release_step self.old.sender self.old.queue count).answer }
-        ensures tributary { IsTributary self.new }
+        ensures same { KeepsSetupAndMode self.old self.new }
     {
         self.sender.release(count, &mut self.queue)
     }
