@@ -83,6 +83,14 @@ impl<A: Allocator> Control<A> {
         })
     }
 
+    /// The settings that it was made with.
+    pub fn setup(&self) -> Setup
+        ensures value { result ≡ self.now.setup }
+        ensures control { IsControl self.now }
+    {
+        self.procedure.setup()
+    }
+
     /// How many terminals the line has: 1 to 64.
     pub fn terminals(&self) -> usize
         ensures value { result ≡ length self.now.peers }

@@ -339,6 +339,13 @@ impl<A: Allocator> Procedure<A> {
         }
     }
 
+    /// The settings.
+    pub(crate) fn setup(&self) -> Setup
+        ensures { result ≡ self.now.setup }
+    {
+        self.setup
+    }
+
     /// How many terminals there are.
     pub(crate) fn terminals(&self) -> usize
         ensures { result ≡ length self.now.peers }
