@@ -53,6 +53,7 @@ impl Record {
         requires low { 1 ≤ full }
         requires high { full ≤ 144 }
         ensures value { result ≡ record_of full codes.now }
+        ensures codes { IfOk result (λ r. r ≡ codes.now) }
         ensures record { IfOk result (λ r. IsRecord r) }
         ensures short { IfOk result (λ r. length r ≤ full) }
     {
