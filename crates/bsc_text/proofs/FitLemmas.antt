@@ -64,7 +64,7 @@ fits_answered s q (InDoubt k) r e = refl
 fits_answered s q (Unanswered b) r e = fits_unanswered s q b (answer_of b.parity r) (subst IsGoing (sym e) tt)
 fits_answered s q (Held end x) r e = fits_held s q end x (answer_of x r) (subst IsGoing (sym e) tt)
 
-fits_reply : (s : SenderValue) (q : QueueValue) (r : Option Reply) → Fits s (reply_step s q r)
+pub fits_reply : (s : SenderValue) (q : QueueValue) (r : Option Reply) → Fits s (reply_step s q r)
 fits_reply s q None = refl
 fits_reply s q (Some r) = fits_answered s q s.phase r refl
 

@@ -13,9 +13,9 @@ use Rattle.bsc_text.specs.declared.reply.Reply.{Reply}
 use Rattle.bsc_text.specs.declared.reply.Reply.TheVariants.{Ack0}
 use Rattle.bsc_text.specs.declared.phase.Phase.{Phase}
 use Rattle.bsc_text.specs.declared.phase.Phase.TheVariants.{Idle, InDoubt}
-use Rattle.bsc_text.specs.Sender.{SenderValue, SenderStep, ReleaseStep, begin_step, silence_step, release_step}
+use Rattle.bsc_text.specs.Sender.{SenderValue, SenderStep, ReleaseStep, begin_step, reply_step, silence_step, release_step}
 use Rattle.bsc_text.specs.Receiver.{ReceiverValue, ReceiverStep, Rooms}
-use Rattle.bsc_text.specs.Ready.{IsAtRest}
+use Rattle.bsc_text.specs.Ready.{IsAtRest, FitsAct}
 use Rattle.bsc_text.specs.Channel.{channel, IsSound}
 use Rattle.bsc_text.specs.Fair.{IsTextMessage, IsFair}
 use Rattle.bsc_text.specs.Bid.{received, answered, IsFairTo, message_back}
@@ -134,3 +134,9 @@ abbrev pub BackIsLast : Type 0
 BackIsLast =
     (phase : Phase) (q : QueueValue) (parity : Parity) (last reply : Reply)
     (spooled : List (List ℕ)) → InBid phase q parity last spooled (Back reply) → reply ≡ last
+
+-- each step of a sender leaves the phase that its act says
+pub record ActsFit : Type 0 where
+  pub begin : (s : SenderValue) (q : QueueValue) → FitsAct (begin_step s q).act s.phase (begin_step s q).sender.phase
+  pub reply : (s : SenderValue) (q : QueueValue) (r : Option Reply) → FitsAct (reply_step s q r).act s.phase (reply_step s q r).sender.phase
+  pub silence : (s : SenderValue) (q : QueueValue) → FitsAct (silence_step s q).act s.phase (silence_step s q).sender.phase

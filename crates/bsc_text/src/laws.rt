@@ -1,7 +1,7 @@
 //! Laws over the definitions alone: what holds of every bid, whatever is lost or spoiled.
 
 ghost use Rattle.bsc_text.specs.OneBid.{SendsTextsAndEnq, SendsItsBlocks, HearsItsBlocks, OnlyMoves, OffersMove, StaysReady, StaysSound, SoundWithinTurns, EndsKnowing, DoubtsAtSilence, ReleaseEndsDoubt, EndsSoon};
-ghost use Rattle.bsc_text.specs.EachStep.{HearingAgrees, AnsweringAgrees, SilenceAgrees, BeginAgrees, OfferAgrees, OfferKeepsRest, ReleaseKeepsRest, AgreementIsSound, LossAgrees, BidContinues, SendingGoesOn, OutwardIsTextOrEnq, BackIsLast};
+ghost use Rattle.bsc_text.specs.EachStep.{HearingAgrees, AnsweringAgrees, SilenceAgrees, BeginAgrees, OfferAgrees, OfferKeepsRest, ReleaseKeepsRest, AgreementIsSound, LossAgrees, BidContinues, SendingGoesOn, OutwardIsTextOrEnq, BackIsLast, ActsFit};
 
 use bsc_block::laws::records_back;
 use bsc_spool::laws::next_blocks;
@@ -44,7 +44,8 @@ pub fn one_bid()
 /// - the receiver hears what the sender sent, or nothing; the sender hears the reply, or nothing;
 /// - a silence comes to the sender, a bid begins, or a record is offered;
 /// - what was on its way is lost;
-/// - a sender whose bid is over is at rest, and while the ends agree the channel is sound.
+/// - a sender whose bid is over is at rest, one that keeps quiet stays in its phase, and while the ends
+///   agree the channel is sound.
 pub fn each_step()
     ensures hearing { HearingAgrees }
     ensures answering { AnsweringAgrees }
@@ -59,6 +60,7 @@ pub fn each_step()
     ensures goes_on { SendingGoesOn }
     ensures outward { OutwardIsTextOrEnq }
     ensures back { BackIsLast }
+    ensures fits { ActsFit }
 {
     records_back();
     next_blocks();
