@@ -1,4 +1,4 @@
-use Rattle.std.proofs.Common.{◌≡◌, ◌∙◌, ℕ, Bool, true, false, List, length, nat_eq, nat_lt, ◌||◌, Ok, Err, if◌then◌else◌, ap, rules}
+use Rattle.std.proofs.Common.{◌≡◌, ◌∙◌, ℕ, Bool, true, false, List, length, nat_eq, nat_lt, ◌||◌, Ok, Err, if◌then◌else◌, ap}
 use Rattle.bsc_text.specs.declared.terminal.TerminalError.TheVariants.{Count}
 use Rattle.bsc_text.specs.Terminal.{TerminalValue}
 use Rattle.bsc_tributary.proofs.tests.exchange.terminal_a.Goals as goal
@@ -12,10 +12,10 @@ selects_of false poll selects t e = let same : t ≡ record { poll = poll; selec
     (λ (v : TerminalValue). length v.selects) same
 
 pub new-requires-2 : goal.new-requires-2
-new-requires-2 g c = (search rules, c.addresses_differ.ensures.0 c.if-not-addresses_differ.false)
+new-requires-2 g c = c.addresses_differ.ensures.0 c.if-not-addresses_differ.false
 
 pub returns-clause-spools : goal.returns-clause-spools
 returns-clause-spools g c =
-    ap (λ (v : TerminalValue). length v.selects) c.new-2.ensures.terminal
+    ap (λ (v : TerminalValue). length v.selects) c.new-2.ensures.terminal_given
     ∙ selects_of (nat_eq (length c.args.selects.now) 0 || nat_lt 4
     (length c.args.selects.now)) c.in_ok-read.field-0 c.args.selects.now c.in_ok-terminal.terminal c.in_ok-terminal.ensures.value
