@@ -6,6 +6,7 @@ pub mod Bids
 pub mod Steps
 pub mod Replacing
 pub mod Controls
+pub mod EachTerminal
 pub mod Owners
 pub mod Repeats
 pub mod NewControls

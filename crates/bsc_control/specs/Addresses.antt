@@ -1,13 +1,9 @@
 -- The addresses of a line, and their numbers (GA27-3004: polling and selection addresses; the numbering is own).
 use Rattle.std.specs.Prelude.{◌≡◌, ◌≢◌, ◌+◌, ℕ, List, [], ◌∷◌, ◌++◌, Option, Some, slice_get}
 use Rattle.std.specs.List.{AllPairs}
-use Rattle.bsc_text.specs.Terminal.{TerminalValue}
+use Rattle.bsc_text.specs.Terminal.{TerminalValue, own_addresses}
 use Rattle.bsc_control.specs.declared.way.Way.{Way}
 use Rattle.bsc_control.specs.declared.way.Way.TheVariants.{FromTerminal, ToTerminal}
-
--- the addresses of a terminal: its polling address, then its selection addresses in order
-abbrev pub own_addresses : TerminalValue → List (List ℕ)
-own_addresses t = t.poll ∷ t.selects
 
 -- the addresses in the order of their numbers: terminal 0's polling address, its selection addresses in order,
 -- terminal 1's polling address, and so on

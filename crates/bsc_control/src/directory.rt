@@ -3,7 +3,8 @@
 ghost use Rattle.std.specs.Prelude.{◌≡◌, ◌++◌, ◌↔◌, [], ◌∷◌, ℕ, IfOk, IfErr, OnOk, Some};
 ghost use Rattle.std.specs.List.{Contains};
 ghost use Rattle.bsc_control.specs.declared.way.Way.{Way as WayValue};
-ghost use Rattle.bsc_control.specs.Addresses.{AreDistinct, numbered, owned, addresses, own_addresses};
+ghost use Rattle.bsc_control.specs.Addresses.{AreDistinct, numbered, owned, addresses};
+ghost use Rattle.bsc_text.specs.Terminal.{own_addresses};
 ghost use Rattle.bsc_control.specs.Refusals.{IsClash};
 ghost use Rattle.std.specs.Map.{keys_of};
 

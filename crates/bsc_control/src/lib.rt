@@ -8,6 +8,7 @@
 
 mod control;
 mod directory;
+pub mod laws;
 mod outbound;
 mod peer;
 mod procedure;

@@ -1,7 +1,8 @@
 -- The addresses of a terminal (GA27-3004, polling and selection; up to four selection addresses are
 -- own).
-use Rattle.std.specs.Prelude.{◌≡◌, ◌<◌, ◌≤◌, ◌-◌, ℕ, List, ◌++◌, length, take, replicate}
+use Rattle.std.specs.Prelude.{◌≡◌, ◌≢◌, ◌<◌, ◌≤◌, ◌-◌, ℕ, List, ◌∷◌, ◌++◌, length, take, replicate}
 use Rattle.std.specs.Prelude.{nat_lt, nat_eq, ◌||◌, if◌then◌else◌, Result, Ok, Err}
+use Rattle.std.specs.List.{AllPairs}
 use Rattle.bsc_text.specs.declared.terminal.TerminalError.{TerminalError}
 use Rattle.bsc_text.specs.declared.terminal.TerminalError.TheVariants.{Count}
 
@@ -14,6 +15,14 @@ pub record TerminalValue : Type 0 where
 pub record IsTerminal (t : TerminalValue) : Type 0 where
   pub some : 0 < length t.selects
   pub most : length t.selects ≤ 4
+
+-- its addresses: the polling address, then the selection addresses in order
+abbrev pub own_addresses : TerminalValue → List (List ℕ)
+own_addresses t = t.poll ∷ t.selects
+
+-- no two of its addresses are the same
+abbrev pub HasDistinctAddresses : TerminalValue → Type 0
+HasDistinctAddresses t = AllPairs (λ a b. a ≢ b) (own_addresses t)
 
 -- the selection addresses as they lie in a table of four, the polling address behind them
 abbrev pub padded : List ℕ → List (List ℕ) → List (List ℕ)

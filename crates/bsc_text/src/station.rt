@@ -10,18 +10,19 @@ use bsc_frame::{Heard, Message, Wire, decode, encode};
 
 /// A station of the line (GA27-3004, centralised multipoint operation).
 pub trait Station {
-    /// Its table of what is heard: the station before, what is heard, the station after, and the
-    /// message that it sends.
+    /// What it does with what is heard: the station before, what is heard, the station after, and
+    /// the message that it sends.
     ghost hears: { Self → HeardValue → Self → Option MessageValue → Type 0 };
 
-    /// Its table of silences: the station before, the station after, and the message that it sends.
+    /// What it does at a silence: the station before, the station after, and the message that it
+    /// sends.
     ghost acts: { Self → Self → Option MessageValue → Type 0 };
 
     /// Whether it acts on a silence before the control station does.
     ghost holds: { Self → Bool };
 
     /// Hears what octets were decoded as, and gives the message to send. It may try to reserve
-    /// memory; a refusal changes a reply alone.
+    /// memory; a refusal changes only a reply.
     fn answer(&mut self, heard: &Heard) -> Option<Message>
         ensures { hears self.old heard.now self.new result };
 
@@ -30,7 +31,7 @@ pub trait Station {
         ensures { acts self.old self.new result };
 
     /// Hears what octets were decoded as. True: the wire holds the one message to send. False: the
-    /// wire is empty. It may try to reserve memory; a refusal changes a reply alone.
+    /// wire is empty. It may try to reserve memory; a refusal changes only a reply.
     fn hear_message(&mut self, heard: &Heard, wire: &mut Wire) -> bool
         ensures { (sent : Option MessageValue) × hears self.old heard.now self.new sent
             × IsSent sent result wire.new.items }
@@ -39,7 +40,7 @@ pub trait Station {
     }
 
     /// Hears octets. True: the wire holds the one message to send. False: the wire is empty. It may
-    /// try to reserve memory; a refusal changes a reply alone.
+    /// try to reserve memory; a refusal changes only a reply.
     fn hear(&mut self, octets: &[u8], wire: &mut Wire) -> bool
         ensures { (heard : HeardValue) × (IsHeardAs octets.now heard
             × ((sent : Option MessageValue) × hears self.old heard self.new sent

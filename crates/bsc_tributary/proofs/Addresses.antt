@@ -6,9 +6,9 @@ use Rattle.std.proofs.lemmas.List.Sums.{position_or_len_is, fails_before_first}
 use Rattle.std.proofs.lemmas.Option.{slice_get-get_or, slice_get_within, get_or_from_slice_get}
 use Rattle.std.specs.Cmp.Lexicographic.{same_text, other_text}
 use Rattle.std.specs.List.{Contains, position, position_or_len}
-use Rattle.bsc_text.specs.Terminal.{TerminalValue}
+use Rattle.bsc_text.specs.Terminal.{TerminalValue, own_addresses, HasDistinctAddresses}
 use Rattle.bsc_tributary.specs.declared.called.Called.TheVariants.{Polling, Selection, Other}
-use Rattle.bsc_tributary.specs.Called.{is_same, addresses, AreDistinct, selection, called_as}
+use Rattle.bsc_tributary.specs.Called.{is_same, selection, called_as}
 
 -- the test of two addresses
 pub is_same-≡ : (a b : List ℕ) → is_same a b ≡ true → a ≡ b
@@ -83,7 +83,7 @@ selection-is t address s e =
     (sym (is_same-≡ address (get_or t.selects s []) p.1))
 
 -- and the other way round, where the addresses differ
-pub is-selection : (t : TerminalValue) (address : List ℕ) (s : ℕ) → AreDistinct t →
+pub is-selection : (t : TerminalValue) (address : List ℕ) (s : ℕ) → HasDistinctAddresses t →
     slice_get t.selects s ≡ Some address → called_as t address ≡ Selection s
 is-selection t address s distinct at =
     let within : s < length t.selects = slice_get_within t.selects s address at in
@@ -97,8 +97,8 @@ is-selection t address s distinct at =
 
 -- a call that names no address of the terminal is a call of none of them
 place_is_none : (t : TerminalValue) (address : List ℕ) (k : ℕ) → is_same address t.poll ≡ false →
-    position (is_same address) t.selects ≡ None → k < length (addresses t) →
-    get_or (addresses t) k address ≡ address → ⊥
+    position (is_same address) t.selects ≡ None → k < length (own_addresses t) →
+    get_or (own_addresses t) k address ≡ address → ⊥
 place_is_none t address zero poll nowhere within here = let yes : is_same address t.poll ≡
     true = is_same-refl address t.poll (sym here) in cc
 place_is_none t address (suc k) poll nowhere within here =
@@ -111,12 +111,12 @@ place_is_none t address (suc k) poll nowhere within here =
     (is_same address) t.selects k nowhere less in
     cc
 
-pub other-is : (t : TerminalValue) (address : List ℕ) → called_as t address ≡ Other → Contains (addresses t) address → ⊥
+pub other-is : (t : TerminalValue) (address : List ℕ) → called_as t address ≡ Other → Contains (own_addresses t) address → ⊥
 other-is t address e there =
     let f = from_Other (is_same address t.poll) (position (is_same address) t.selects) e in
     place_is_none t address there.0 f.0 f.1 there.1 there.2
 
-pub is-other : (t : TerminalValue) (address : List ℕ) → (Contains (addresses t) address → ⊥) →
+pub is-other : (t : TerminalValue) (address : List ℕ) → (Contains (own_addresses t) address → ⊥) →
     called_as t address ≡ Other
 is-other t address none =
     called_as-Other t address
@@ -131,8 +131,8 @@ is-other t address none =
 
 -- where each selection address is the first that it equals, the addresses differ
 distinct_at : (t : TerminalValue) → ((k : ℕ) → k < length t.selects → called_as t (get_or t.selects k []) ≡
-    Selection k) → (i j : ℕ) (d : List ℕ) → i < j → j < length (addresses t) →
-    get_or (addresses t) i d ≢ get_or (addresses t) j d
+    Selection k) → (i j : ℕ) (d : List ℕ) → i < j → j < length (own_addresses t) →
+    get_or (own_addresses t) i d ≢ get_or (own_addresses t) j d
 distinct_at t each i zero d less within e = absurd (omega arith)
 distinct_at t each zero (suc j) d less within e =
     let there : j < length t.selects = omega arith in
@@ -160,10 +160,10 @@ distinct_at t each (suc i) (suc j) d less within e =
     cc
 
 pub are_distinct : (t : TerminalValue) → ((k : ℕ) → k < length t.selects → called_as t (get_or t.selects k []) ≡
-    Selection k) → AreDistinct t
+    Selection k) → HasDistinctAddresses t
 are_distinct t each = λ i j d less within. distinct_at t each i j d less within
 
-pub is-selection_at : (t : TerminalValue) (s : ℕ) → AreDistinct t → s < length t.selects →
+pub is-selection_at : (t : TerminalValue) (s : ℕ) → HasDistinctAddresses t → s < length t.selects →
     called_as t (get_or t.selects s []) ≡ Selection s
 is-selection_at t s distinct within = is-selection t (get_or t.selects s []) s distinct
     (slice_get-get_or t.selects s [] within)

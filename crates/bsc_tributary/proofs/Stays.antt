@@ -5,8 +5,7 @@ use Rattle.bsc_spool.specs.Spool.{SpoolValue}
 use Rattle.bsc_text.specs.declared.phase.Phase.TheVariants.{Idle}
 use Rattle.bsc_text.specs.Ready.{IsReady}
 use Rattle.bsc_text.specs.Setup.{SetupValue, IsSetup}
-use Rattle.bsc_text.specs.Terminal.{TerminalValue, IsTerminal}
-use Rattle.bsc_tributary.specs.Called.{AreDistinct}
+use Rattle.bsc_text.specs.Terminal.{TerminalValue, IsTerminal, HasDistinctAddresses}
 use Rattle.bsc_text.specs.Receiver.{ReceiverValue}
 use Rattle.bsc_text.specs.Sender.{SenderValue, SenderStep, with_phase, cut_phase}
 use Rattle.bsc_tributary.specs.declared.mode.Mode.{Mode}
@@ -47,7 +46,7 @@ stays-act_step t mode from step is e follows ready =
 
 -- a new one
 pub new_is : (terminal : TerminalValue) (setup : SetupValue) (sender : SenderValue) (receiver : ReceiverValue)
-    (queue : QueueValue) (spools : List SpoolValue) → AreDistinct terminal → IsTerminal terminal → IsSetup setup →
+    (queue : QueueValue) (spools : List SpoolValue) → HasDistinctAddresses terminal → IsTerminal terminal → IsSetup setup →
     sender ≡ record { setup = setup; phase = Idle; tries = 0; waits = 0 } →
     queue ≡ record { format = setup.format; offered = []; known = 0 } → length spools ≡ length terminal.selects →
     IsTributary

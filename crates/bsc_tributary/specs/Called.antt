@@ -1,6 +1,6 @@
 -- Whose call is heard (GA27-3004: polling and selection; several selection addresses are own).
-use Rattle.std.specs.Prelude.{◌≢◌, ℕ, Bool, ◌==◌, List, ◌∷◌, Option, None, Some, if◌then◌else◌}
-use Rattle.std.specs.List.{AllPairs, position}
+use Rattle.std.specs.Prelude.{ℕ, Bool, ◌==◌, List, Option, None, Some, if◌then◌else◌}
+use Rattle.std.specs.List.{position}
 use lib.Pointwise.{pointwise}
 use Rattle.bsc_text.specs.Terminal.{TerminalValue}
 use Rattle.bsc_tributary.specs.declared.called.Called.{Called}
@@ -9,14 +9,6 @@ use Rattle.bsc_tributary.specs.declared.called.Called.TheVariants.{Polling, Sele
 -- the same address, code by code
 abbrev pub is_same : List ℕ → List ℕ → Bool
 is_same = pointwise ◌==◌
-
--- the addresses of a terminal: its polling address, then its selection addresses in order
-abbrev pub addresses : TerminalValue → List (List ℕ)
-addresses t = t.poll ∷ t.selects
-
--- no two addresses of a terminal are the same
-abbrev pub AreDistinct : TerminalValue → Type 0
-AreDistinct t = AllPairs (λ a b. a ≢ b) (addresses t)
 
 -- the selection address of this number, or none of the terminal's own
 abbrev pub selection : Option ℕ → Called

@@ -13,12 +13,12 @@ use Rattle.bsc_text.specs.declared.phase.Phase.TheVariants.{Idle}
 use Rattle.bsc_text.specs.Receiver.{begun}
 use Rattle.bsc_text.specs.Setup.{SetupValue}
 use Rattle.bsc_text.specs.Ready.{IsReady, IsGoing, IsAtRest}
-use Rattle.bsc_text.specs.Terminal.{TerminalValue, IsTerminal}
+use Rattle.bsc_text.specs.Terminal.{TerminalValue, IsTerminal, HasDistinctAddresses}
 use Rattle.bsc_tributary.specs.declared.called.Called.{Called}
 use Rattle.bsc_tributary.specs.declared.called.Called.TheVariants.{Polling, Selection, Other}
 use Rattle.bsc_tributary.specs.declared.mode.Mode.{Mode}
 use Rattle.bsc_tributary.specs.declared.mode.Mode.TheVariants.{Control, Receiving, Sending}
-use Rattle.bsc_tributary.specs.Called.{AreDistinct, called_as}
+use Rattle.bsc_tributary.specs.Called.{called_as}
 use Rattle.bsc_tributary.specs.Tributary.{TributaryValue, Hears, ActsOnSilence, spool_at}
 
 -- a bid goes on exactly while the terminal sends, and it receives into a spool that it has
@@ -30,7 +30,7 @@ SuitsMode Sending phase spools = IsGoing phase
 -- a terminal: its addresses differ, each selection address has its spool, the queue has what the sender counts
 -- on, and a bid goes on exactly while it sends
 pub record IsTributary (t : TributaryValue) : Type 0 where
-  pub distinct : AreDistinct t.terminal
+  pub distinct : HasDistinctAddresses t.terminal
   pub terminal : IsTerminal t.terminal
   pub spools : length t.spools ≡ length t.terminal.selects
   pub format : t.queue.format ≡ t.sender.setup.format

@@ -1,7 +1,8 @@
 //! Whose call is heard: every terminal hears the calls of all.
 
 ghost use Rattle.std.specs.Prelude.{◌≡◌, ◌↔◌, ◌<◌, [], length, slice_index_or, IsTrue};
-ghost use Rattle.bsc_tributary.specs.Called.{called_as, AreDistinct};
+ghost use Rattle.bsc_text.specs.Terminal.{HasDistinctAddresses};
+ghost use Rattle.bsc_tributary.specs.Called.{called_as};
 
 use bsc_frame::Address;
 use bsc_text::Terminal;
@@ -49,7 +50,7 @@ fn is_first(terminal: &Terminal, select: usize) -> bool
 
 /// Whether all addresses of the terminal differ, as a tributary needs it. (Own.)
 pub fn addresses_differ(terminal: &Terminal) -> bool
-    ensures { IsTrue result ↔ AreDistinct terminal.now }
+    ensures { IsTrue result ↔ HasDistinctAddresses terminal.now }
 {
     for select in 0..terminal.selects() {
         if !is_first(terminal, select) {

@@ -4,8 +4,8 @@ ghost use Rattle.std.specs.Prelude.{◌≡◌, ◌≤◌, ◌<◌, true, false, 
 ghost use Rattle.bsc_spool.specs.Queue.{with_offered};
 ghost use Rattle.bsc_text.specs.Receiver.{sends_rvi};
 ghost use Rattle.bsc_text.specs.Reply.{message_of};
+ghost use Rattle.bsc_text.specs.Terminal.{HasDistinctAddresses};
 ghost use Rattle.bsc_text.specs.Sender.{release_step, is_in_doubt};
-ghost use Rattle.bsc_tributary.specs.Called.{AreDistinct};
 ghost use Rattle.bsc_tributary.specs.Tributary.{without_line, poll_step, selection_step, mode_after, message_for, after_release, holds, spool_at};
 ghost use Rattle.bsc_tributary.specs.Kept.{IsTributary, IsNewTerminal, KeepsSetupAndMode, IsHearing, IsNoCall};
 
@@ -49,7 +49,7 @@ impl<A: Allocator> Tributary<A> {
     pub fn new(alloc: A, setup: Setup, terminal: Terminal) -> Self
     where
         A: Copy,
-        requires { AreDistinct terminal }
+        requires { HasDistinctAddresses terminal }
         ensures { IsNewTerminal setup terminal result }
     {
         Tributary {

@@ -5,10 +5,10 @@ use Rattle.std.proofs.lemmas.Result.{err_from_is_err_and}
 use Rattle.std.proofs.lemmas.Option.{slice_get-get_or, slice_get_within}
 use Rattle.std.specs.List.{slice_get}
 use Rattle.std.specs.Map.{keys_of}
-use Rattle.bsc_text.specs.Terminal.{TerminalValue}
+use Rattle.bsc_text.specs.Terminal.{TerminalValue, own_addresses}
 use Rattle.bsc_control.specs.declared.refusal.SetupError.{SetupError}
 use Rattle.bsc_control.specs.declared.way.Way.TheVariants.{FromTerminal, ToTerminal}
-use Rattle.bsc_control.specs.Addresses.{numbered_selects, own_addresses}
+use Rattle.bsc_control.specs.Addresses.{numbered_selects}
 use Rattle.bsc_control.specs.Refusals.{IsClash}
 use Rattle.bsc_control.proofs.Owners.{Owner, selects-push, keys-selects}
 use Rattle.bsc_control.proofs.Repeats.{clash-more, clash-earlier}

@@ -4,9 +4,9 @@ use Rattle.std.proofs.Math.Seq.{take-suc}
 use Rattle.std.proofs.lemmas.Result.{err_from_is_err_and}
 use Rattle.std.specs.List.{AllPairs}
 use Rattle.std.specs.Map.{keys_of}
-use Rattle.bsc_text.specs.Terminal.{TerminalValue}
+use Rattle.bsc_text.specs.Terminal.{TerminalValue, own_addresses}
 use Rattle.bsc_control.specs.declared.refusal.SetupError.{SetupError}
-use Rattle.bsc_control.specs.Addresses.{addresses, own_addresses, owned, numbered}
+use Rattle.bsc_control.specs.Addresses.{addresses, owned, numbered}
 use Rattle.bsc_control.specs.Refusals.{IsClash}
 use Rattle.bsc_control.proofs.Owners.{Owner, numbered-push, keys-numbered}
 use Rattle.bsc_control.proofs.Repeats.{clash-more, clash-earlier, all_differ}
