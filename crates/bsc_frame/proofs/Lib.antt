@@ -16,3 +16,5 @@ pub mod CutLemmas
 pub mod TakeLemmas
 pub mod ShortLemmas
 pub mod SqueezeLemmas
+pub mod SameLemmas
+pub mod MessageLemmas

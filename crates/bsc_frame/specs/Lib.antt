@@ -7,3 +7,4 @@ pub mod Wire
 pub mod Spells
 pub mod Reading
 pub mod Short
+pub mod Same

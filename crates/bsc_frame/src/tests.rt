@@ -304,3 +304,44 @@ fn addresses_compare_by_their_codes(rt: HostRuntime) {
     assert!(rt; short == short && short != long && long != last);
     assert!(rt; short < long && long < last);
 }
+
+// Whether both octets are heard as messages that are the same.
+fn are_same(a: &[u8], b: &[u8]) -> bool {
+    match (&decode(a), &decode(b)) {
+        (Heard::Whole(a), Heard::Whole(b)) => a == b,
+        _ => false,
+    }
+}
+
+#[test]
+fn messages_compare_by_what_they_carry(rt: HostRuntime) {
+    const EOT: &[u8] = &[0x16, 0x16, 0x04, 0xff];
+    const CALL: &[u8] = &[0x16, 0x16, 0x04, 0xff, 0x16, 0x16, 0xc1, 0x85, 0xff];
+    const HI: &[u8] = &[0x16, 0x16, 0x02, 0xc8, 0x49, 0x19, 0x83, 0x9b, 0xff];
+    for (other, same) in [
+        (HI, true),
+        // More SYN stand in front.
+        (
+            [0x16, 0x16, 0x16, 0x02, 0xc8, 0x49, 0x19, 0x83, 0x9b, 0xff].as_slice(),
+            true,
+        ),
+        // EM is missing.
+        (&[0x16, 0x16, 0x02, 0xc8, 0x49, 0x83, 0x02, 0xff], false),
+        // ETB ends it.
+        (
+            &[0x16, 0x16, 0x02, 0xc8, 0x49, 0x19, 0x97, 0x8f, 0xff],
+            false,
+        ),
+        // The characters are cut into two units.
+        (
+            &[
+                0x16, 0x16, 0x02, 0xc8, 0x19, 0x1f, 0xce, 0x49, 0x19, 0x83, 0xd3, 0xff,
+            ],
+            false,
+        ),
+        (EOT, false),
+    ] {
+        assert_eq!(rt; are_same(HI, other), same);
+    }
+    assert!(rt; are_same(EOT, EOT) && are_same(CALL, CALL) && !are_same(EOT, CALL));
+}

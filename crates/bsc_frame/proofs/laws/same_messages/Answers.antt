@@ -1,0 +1,5 @@
+use Rattle.bsc_frame.proofs.MessageLemmas.{message-Decides}
+use Rattle.bsc_frame.proofs.laws.same_messages.Goals as goal
+
+pub returns : goal.returns
+returns c = message-Decides
