@@ -1,0 +1,5 @@
+use Rattle.bsc_line_model.proofs.Soundness.{sound}
+use Rattle.bsc_line_model.proofs.laws.sound_channels.Goals as goal
+
+pub returns : goal.returns
+returns c = λ l is now. sound c.bid_laws.ensures l is.stations (is.together now)

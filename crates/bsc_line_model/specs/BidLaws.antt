@@ -1,0 +1,19 @@
+-- The laws of one step of a bid, as bsc_text's each_step ensures them: the lemmas of the line take
+-- them as one value.
+use Rattle.bsc_text.specs.EachStep.{HearingAgrees, AnsweringAgrees, SilenceAgrees, BeginAgrees, OfferAgrees, OfferKeepsRest, ReleaseKeepsRest, AgreementIsSound, LossAgrees, BidContinues, SendingGoesOn, OutwardIsTextOrEnq, BackIsLast, ActsFit}
+
+pub record BidLaws : Type 0 where
+  pub hearing : HearingAgrees
+  pub answering : AnsweringAgrees
+  pub silence : SilenceAgrees
+  pub begin : BeginAgrees
+  pub offer : OfferAgrees
+  pub offer_at_rest : OfferKeepsRest
+  pub release : ReleaseKeepsRest
+  pub sound : AgreementIsSound
+  pub loss : LossAgrees
+  pub continues : BidContinues
+  pub goes_on : SendingGoesOn
+  pub outward : OutwardIsTextOrEnq
+  pub back : BackIsLast
+  pub fits : ActsFit

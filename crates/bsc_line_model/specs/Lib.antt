@@ -1,0 +1,15 @@
+pub mod BidLaws
+pub mod Transmission
+pub mod Line
+pub mod Hearing
+pub mod Terminals
+pub mod Trust
+pub mod Carries
+pub mod Offers
+pub mod Runs
+pub mod Stays
+pub mod Kept
+pub mod Together
+pub mod ChannelSteps
+pub mod StepLaws
+pub mod Headline

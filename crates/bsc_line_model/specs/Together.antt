@@ -1,0 +1,175 @@
+-- How the stations of a trusted line go together, by what the control station does (own). Every
+-- event keeps it; that each channel is sound rests on it.
+use Rattle.std.specs.Prelude.{◌≡◌, ◌≢◌, ◌⊎◌, ◌<◌, ℕ, Bool, true, false, List, length, Option, None, Some}
+use Rattle.bsc_frame.specs.declared.message.Message.{Message}
+use Rattle.bsc_frame.specs.declared.message.Message.TheVariants as m
+use Rattle.bsc_text.specs.declared.parity.Parity.TheVariants.{Even}
+use Rattle.bsc_text.specs.declared.reply.Reply.{Reply}
+use Rattle.bsc_text.specs.declared.reply.Reply.TheVariants.{Ack0, Wack}
+use Rattle.bsc_text.specs.Reply.{message_of}
+use Rattle.bsc_text.specs.Agreement.{Flight, Still, Outward, Back, InBid, IsResting}
+use Rattle.bsc_text.specs.Channel.{IsSound}
+use Rattle.bsc_tributary.specs.declared.mode.Mode.TheVariants as mode
+use Rattle.bsc_tributary.specs.Tributary.{TributaryValue, spool_at}
+use Rattle.bsc_control.specs.declared.task.Task.{Task}
+use Rattle.bsc_control.specs.declared.task.Task.TheVariants.{AtRest, Selecting, Sending, Polling}
+use Rattle.bsc_control.specs.declared.task.Replied.{Replied}
+use Rattle.bsc_control.specs.declared.task.Replied.TheVariants.{Nothing}
+use Rattle.bsc_control.specs.declared.way.Way.{Way}
+use Rattle.bsc_control.specs.Peer.{PeerValue, outbound_at}
+use Rattle.bsc_control.specs.Control.{ControlValue, peer_at, peer, current}
+use Rattle.bsc_control.specs.Table.{select_address}
+use Rattle.bsc_line_model.specs.declared.transmission.Speaker.{Speaker}
+use Rattle.bsc_line_model.specs.declared.transmission.Speaker.TheVariants.{Control, Terminal}
+use Rattle.bsc_line_model.specs.declared.transmission.Transmission.{Transmission}
+use Rattle.bsc_line_model.specs.Line.{LineValue, terminal_in, IsChannel, channel_of, phase_of}
+
+-- no bid goes on from the terminal, and the channel is sound
+abbrev pub RestsUp : PeerValue → TributaryValue → Type 0
+RestsUp p x = IsResting x.sender.phase x.queue p.spool.records
+
+-- none goes on to its selection address s, and the channel is sound
+abbrev pub RestsDown : PeerValue → TributaryValue → ℕ → Type 0
+RestsDown p x s =
+    IsResting (outbound_at p s).sender.phase (outbound_at p s).queue (spool_at x.spools s).records
+
+-- no bid goes on with this terminal, and its channels are sound
+pub record IsQuiet (p : PeerValue) (x : TributaryValue) : Type 0 where
+  pub mode : x.mode ≢ mode.Sending
+  pub up : RestsUp p x
+  pub down : (s : ℕ) → s < length p.outbounds → RestsDown p x s
+
+-- none goes on with each terminal but this one
+abbrev pub OthersQuiet : ControlValue → List TributaryValue → ℕ → Type 0
+OthersQuiet c ts e = (t : ℕ) → t < length ts → t ≢ e → IsQuiet (peer_at c t) (terminal_in ts t)
+
+abbrev pub AllQuiet : ControlValue → List TributaryValue → Type 0
+AllQuiet c ts = (t : ℕ) → t < length ts → IsQuiet (peer_at c t) (terminal_in ts t)
+
+-- all are in control mode
+abbrev pub AllInControlMode : List TributaryValue → Type 0
+AllInControlMode ts = (t : ℕ) → t < length ts → (terminal_in ts t).mode ≡ mode.Control
+
+-- a terminal that was selected, and has taken nothing since
+pub record IsFresh (x : TributaryValue) (s : ℕ) : Type 0 where
+  pub mode : x.mode ≡ mode.Receiving s
+  pub even : x.receiver.parity ≡ Even
+  pub last : (x.receiver.last ≡ Ack0) ⊎ (x.receiver.last ≡ Wack)
+
+-- the answer of a selected terminal: NAK with all in control mode, else its last reply while it is
+-- fresh
+abbrev pub IsAnswer : Message → TributaryValue → ℕ → List TributaryValue → Type 0
+IsAnswer m.Nak x s ts = AllInControlMode ts
+IsAnswer m.Ack0 x s ts = IsFresh x s × (x.receiver.last ≡ Ack0)
+IsAnswer m.Wack x s ts = IsFresh x s × (x.receiver.last ≡ Wack)
+IsAnswer _ x s ts = ⊥
+
+-- on the line while a selection address is called: the call, and ENQ where ENQ was sent last; or
+-- the answer
+abbrev pub IsSelectedBy : Speaker → Message → Bool → PeerValue → ℕ → ℕ → TributaryValue →
+    List TributaryValue → Type 0
+IsSelectedBy Control w true p e s x ts = w ≡ m.Enq
+IsSelectedBy Control w false p e s x ts = w ≡ m.Call (select_address p.terminal s)
+IsSelectedBy (Terminal t) w enquired p e s x ts = (t ≡ e) × IsAnswer w x s ts
+
+abbrev pub IsSelectedWith : Option Transmission → Bool → PeerValue → ℕ → ℕ → TributaryValue →
+    List TributaryValue → Type 0
+IsSelectedWith None enquired p e s x ts = Unit {0}
+IsSelectedWith (Some sent) enquired p e s x ts =
+    IsSelectedBy sent.speaker sent.message enquired p e s x ts
+
+-- where ENQ was sent last the terminal is fresh
+abbrev pub IsFreshAfter : Bool → TributaryValue → ℕ → Type 0
+IsFreshAfter true x s = IsFresh x s
+IsFreshAfter false x s = Unit {0}
+
+-- what is on its way in a bid to terminal e
+abbrev pub FliesDownBy : Speaker → Message → ℕ → Flight → Type 0
+FliesDownBy Control w e f = f ≡ Outward w
+FliesDownBy (Terminal t) w e f = (t ≡ e) × ((r : Reply) × (w ≡ message_of r) × (f ≡ Back r))
+
+abbrev pub FliesDown : Option Transmission → ℕ → Flight → Type 0
+FliesDown None e f = f ≡ Still
+FliesDown (Some sent) e f = FliesDownBy sent.speaker sent.message e f
+
+-- what is on its way in a bid of terminal e
+abbrev pub FliesUpBy : Speaker → Message → ℕ → Flight → Type 0
+FliesUpBy Control w e f = (r : Reply) × (w ≡ message_of r) × (f ≡ Back r)
+FliesUpBy (Terminal t) w e f = (t ≡ e) × (f ≡ Outward w)
+
+abbrev pub FliesUp : Option Transmission → ℕ → Flight → Type 0
+FliesUp None e f = f ≡ Still
+FliesUp (Some sent) e f = FliesUpBy sent.speaker sent.message e f
+
+-- a bid to selection address s of terminal e goes on
+pub record IsInBidDown (pending : Option Transmission) (p : PeerValue) (e s : ℕ)
+    (x : TributaryValue) : Type 0 where
+  pub mode : x.mode ≡ mode.Receiving s
+  pub up : RestsUp p x
+  pub down : (k : ℕ) → k < length p.outbounds → k ≢ s → RestsDown p x k
+  pub flight : Flight
+  pub flies : FliesDown pending e flight
+  pub bid : InBid (outbound_at p s).sender.phase (outbound_at p s).queue x.receiver.parity
+      x.receiver.last (spool_at x.spools s).records flight
+
+-- a bid of terminal e goes on
+pub record IsInBidUp (pending : Option Transmission) (p : PeerValue) (e : ℕ) (x : TributaryValue)
+    : Type 0 where
+  pub mode : x.mode ≡ mode.Sending
+  pub down : (k : ℕ) → k < length p.outbounds → RestsDown p x k
+  pub flight : Flight
+  pub flies : FliesUp pending e flight
+  pub bid : InBid x.sender.phase x.queue p.receiver.parity p.receiver.last p.spool.records flight
+
+-- on the line in a poll that no text has answered: the call, with no reply sent, or EOT with all in
+-- control mode
+abbrev pub IsPolledBy : Speaker → Message → Replied → PeerValue → ℕ → List TributaryValue → Type 0
+IsPolledBy Control w replied p e ts = (w ≡ m.Call p.terminal.poll) × (replied ≡ Nothing)
+IsPolledBy (Terminal t) w replied p e ts = (t ≡ e) × (w ≡ m.Eot) × AllInControlMode ts
+
+abbrev pub IsPolledWith :
+    Option Transmission → Replied → PeerValue → ℕ → List TributaryValue → Type 0
+IsPolledWith None replied p e ts = Unit {0}
+IsPolledWith (Some sent) replied p e ts = IsPolledBy sent.speaker sent.message replied p e ts
+
+-- the stations go together during this task
+pub record IsSelecting (pending : Option Transmission) (c : ControlValue)
+    (ts : List TributaryValue) (s : ℕ) (enquired : Bool) : Type 0 where
+  pub quiet : AllQuiet c ts
+  pub with_pending : IsSelectedWith pending enquired (peer c) (current c) s
+      (terminal_in ts (current c)) ts
+  pub fresh : IsFreshAfter enquired (terminal_in ts (current c)) s
+
+pub record IsSending (pending : Option Transmission) (c : ControlValue)
+    (ts : List TributaryValue) (s : ℕ) : Type 0 where
+  pub others : OthersQuiet c ts (current c)
+  pub bid : IsInBidDown pending (peer c) (current c) s (terminal_in ts (current c))
+
+pub record IsPolling (pending : Option Transmission) (c : ControlValue)
+    (ts : List TributaryValue) (replied : Replied) : Type 0 where
+  pub others : OthersQuiet c ts (current c)
+  pub present :
+      (IsQuiet (peer c) (terminal_in ts (current c))
+      × IsPolledWith pending replied (peer c) (current c) ts)
+      ⊎ IsInBidUp pending (peer c) (current c) (terminal_in ts (current c))
+
+pub record IsAtStart (pending : Option Transmission) (c : ControlValue)
+    (ts : List TributaryValue) : Type 0 where
+  pub nothing : pending ≡ None
+  pub quiet : AllQuiet c ts
+  pub modes : AllInControlMode ts
+
+abbrev pub InTask : Task → Option Transmission → ControlValue → List TributaryValue → Type 0
+InTask AtRest pending c ts = IsAtStart pending c ts
+InTask (Selecting s enquired) pending c ts = IsSelecting pending c ts s enquired
+InTask (Sending s) pending c ts = IsSending pending c ts s
+InTask (Polling replied) pending c ts = IsPolling pending c ts replied
+
+-- the stations of a line go together
+abbrev pub AreTogether : LineValue → Type 0
+AreTogether l = InTask l.control.task l.pending l.control l.terminals
+
+-- each channel of the line is sound
+abbrev pub AreSound : LineValue → Type 0
+AreSound l =
+    (t : ℕ) (way : Way) → IsChannel l t way → IsSound (phase_of l t way) (channel_of l t way)

@@ -1,0 +1,12 @@
+//! The laws of one step of a bid, as one value that the lemmas of the line take.
+
+ghost use Rattle.bsc_line_model.specs.BidLaws.{BidLaws};
+
+use bsc_text::laws::each_step;
+
+/// What each single step of a bid keeps.
+pub(crate) fn bid_laws()
+    ensures { BidLaws }
+{
+    each_step();
+}

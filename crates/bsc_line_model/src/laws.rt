@@ -1,0 +1,92 @@
+//! Laws over the definitions only.
+
+ghost use Rattle.std.specs.Prelude.{IsTrue};
+ghost use Rattle.bsc_line_model.specs.Kept.{IsLine};
+ghost use Rattle.bsc_line_model.specs.Line.{LineValue};
+ghost use Rattle.bsc_line_model.specs.Stays.{NewLineStays, DownStays, UpStays, SilenceStays, OfferAtStays, ReadyStays, UrgentAtStays, ReleaseFromStays, OfferForStays, UrgentForStays, ReleaseToStays};
+ghost use Rattle.bsc_line_model.specs.StepLaws.{EachStepsChannels, GrowsByOffers, RefusedChangesNothing, TrustOnlyFalls, HoldsWhilePolled, NeverMismatches, NewChannelsAreEmpty, OneAnswers, AlikeIsFair, FairIsAlike};
+ghost use Rattle.bsc_line_model.specs.Headline.{RunsKeepRecords};
+ghost use Rattle.bsc_line_model.specs.Together.{AreSound};
+
+use crate::bids::bid_laws;
+use bsc_tributary::laws::own_addresses;
+
+/// Every event leaves a line a line.
+pub fn each_event()
+    ensures new_line { NewLineStays }
+    ensures down { DownStays }
+    ensures up { UpStays }
+    ensures silence { SilenceStays }
+    ensures offer_at { OfferAtStays }
+    ensures ready { ReadyStays }
+    ensures urgent_at { UrgentAtStays }
+    ensures release_from { ReleaseFromStays }
+    ensures offer_for { OfferForStays }
+    ensures urgent_for { UrgentForStays }
+    ensures release_to { ReleaseToStays }
+{
+    own_addresses();
+    bid_laws();
+}
+
+/// Each channel of a trusted line is sound: what was spooled at one end is the first of what was
+/// offered at the other, in order and each record once, and what the sending end knows of is among
+/// it.
+pub fn sound_channels()
+    ensures { (l : LineValue) → IsLine l → IsTrue l.trusted → AreSound l }
+{
+    bid_laws();
+}
+
+/// What each accepted event does to the channels of a line that is trusted after it.
+pub fn channel_steps()
+    ensures { EachStepsChannels }
+{
+    bid_laws();
+}
+
+/// What is offered on a channel grows by the accepted offers of it, trusted or not, and by nothing
+/// else; a refused event changes nothing; and trust that is lost never comes back.
+pub fn offers_and_refusals()
+    ensures offers { GrowsByOffers }
+    ensures refusals { RefusedChangesNothing }
+    ensures trust { TrustOnlyFalls }
+{}
+
+/// On a trusted line a terminal holds the line only while the control station polls it, and no
+/// count mismatches.
+pub fn line_holder()
+    ensures holder { HoldsWhilePolled }
+    ensures count { NeverMismatches }
+{
+    bid_laws();
+}
+
+/// At most one terminal answers a transmission of the control station that leaves the line trusted.
+pub fn one_answer()
+    ensures { OneAnswers }
+{
+    own_addresses();
+}
+
+/// Where all terminals hear the control station alike, trust asks of its transmission what it asks
+/// of one that the control station hears: that it is heard fairly.
+pub fn heard_alike()
+    ensures fair { AlikeIsFair }
+    ensures back { FairIsAlike }
+{}
+
+/// On a new line nothing is offered, known or spooled.
+pub fn new_channels()
+    ensures { NewChannelsAreEmpty }
+{}
+
+/// The promise of a line: where it is still trusted, whatever events it met, the records that
+/// arrived on each channel are the first of those that were offered on it, in order and each once;
+/// the sending end counts none as delivered that did not arrive; and no record reaches a terminal
+/// that is not addressed.
+pub fn headline()
+    ensures { RunsKeepRecords }
+{
+    bid_laws();
+}
