@@ -1,0 +1,65 @@
+-- The channel that is addressed after the control station's transmission.
+use Rattle.std.proofs.Common.{◌≡◌, ◌↔◌, ℕ, ◌<◌, Bool, false, IsTrue, List, Option, Some, None, refl, ◌∙◌, ap, subst}
+use Rattle.bsc_frame.specs.declared.message.Message.TheVariants as m
+use Rattle.bsc_frame.specs.declared.message.Heard.{Heard}
+use Rattle.bsc_frame.specs.declared.message.Heard.TheVariants.{Whole}
+use Rattle.bsc_text.specs.Terminal.{TerminalValue}
+use Rattle.bsc_control.specs.declared.way.Way.{Way}
+use Rattle.bsc_control.specs.Addresses.{IsAddressOf}
+use Rattle.bsc_line.specs.declared.addressing.Named.TheVariants.{Address, Nobody, Nothing}
+use Rattle.bsc_line_model.specs.Trust.{AllHear, IsAddressedAfter}
+use Rattle.bsc_line.specs.Naming.{named_in}
+
+-- all hear a call
+pub addressed_call : (ts : List TerminalValue) (n : ℕ) (hears : ℕ → Heard) (old new : Option (ℕ × Way)) (a : List ℕ) → 0 < n → AllHear n hears (m.Call a) → ((t : ℕ) (way : Way) → (new ≡ Some (t, way)) ↔ IsAddressOf ts t way a) → IsAddressedAfter ts n hears old new
+addressed_call ts n hears old new a some all exact =
+    let here : hears 0 ≡ Whole (m.Call a) = all 0 some in
+    record {
+      called = λ z each t way.
+          let there : hears 0 ≡ Whole (m.Call z) = each 0 some in
+          let same : a ≡ z = cc in
+          subst (λ (y : List ℕ). (new ≡ Some (t, way)) ↔ IsAddressOf ts t way y) same (exact t way);
+      ended = λ each. let there : hears 0 ≡ Whole m.Eot = each 0 some in absurd (cc);
+      other = λ f g. absurd (f a all);
+    }
+
+-- all hear EOT
+pub addressed_nobody : (ts : List TerminalValue) (n : ℕ) (hears : ℕ → Heard) (old : Option (ℕ × Way)) → 0 < n → AllHear n hears m.Eot → IsAddressedAfter ts n hears old None
+addressed_nobody ts n hears old some all =
+    let here : hears 0 ≡ Whole m.Eot = all 0 some in
+    record {
+      called = λ z each. let there : hears 0 ≡ Whole (m.Call z) = each 0 some in absurd (cc);
+      ended = λ each. refl;
+      other = λ f g. absurd (g all);
+    }
+
+-- neither
+pub still_addressed : (ts : List TerminalValue) (n : ℕ) (hears : ℕ → Heard) (old : Option (ℕ × Way)) → ((a : List ℕ) → AllHear n hears (m.Call a) → ⊥) → (AllHear n hears m.Eot → ⊥) → IsAddressedAfter ts n hears old old
+still_addressed ts n hears old f g =
+    record { called = λ z each. absurd (f z each); ended = λ each. absurd (g each); other = λ f g. refl }
+
+-- the first hears a call that not all hear
+pub other_call : (ts : List TerminalValue) (n : ℕ) (hears : ℕ → Heard) (old : Option (ℕ × Way)) (a : List ℕ) (all : Bool) → 0 < n → Address a ≡ named_in (hears 0) → all ≡ false → (IsTrue all ↔ AllHear n hears (m.Call a)) → IsAddressedAfter ts n hears old old
+other_call ts n hears old a all some first not told =
+    still_addressed ts n hears old
+    (λ z each.
+    let there : hears 0 ≡ Whole (m.Call z) = each 0 some in
+    let named : Address a ≡ Address z = first ∙ ap named_in there in
+    let same : z ≡ a = cc in
+    let yet : IsTrue all = told.1 (subst (λ (y : List ℕ). AllHear n hears (m.Call y)) same each) in
+    cc)
+    (λ each. let there : Address a ≡ Nobody = first ∙ ap named_in (each 0 some) in cc)
+
+-- the first hears an EOT that not all hear
+pub other_eot : (ts : List TerminalValue) (n : ℕ) (hears : ℕ → Heard) (old : Option (ℕ × Way)) (all : Bool) → 0 < n → Nobody ≡ named_in (hears 0) → all ≡ false → (IsTrue all ↔ AllHear n hears m.Eot) → IsAddressedAfter ts n hears old old
+other_eot ts n hears old all some first not told =
+    still_addressed ts n hears old
+    (λ z each. let there : Nobody ≡ Address z = first ∙ ap named_in (each 0 some) in cc)
+    (λ each. let yet : IsTrue all = told.1 each in cc)
+
+-- the first hears neither
+pub other_heard : (ts : List TerminalValue) (n : ℕ) (hears : ℕ → Heard) (old : Option (ℕ × Way)) → 0 < n → Nothing ≡ named_in (hears 0) → IsAddressedAfter ts n hears old old
+other_heard ts n hears old some first =
+    still_addressed ts n hears old
+    (λ z each. let there : Nothing ≡ Address z = first ∙ ap named_in (each 0 some) in cc)
+    (λ each. let there : Nothing ≡ Nobody = first ∙ ap named_in (each 0 some) in cc)

@@ -1,0 +1,63 @@
+use Rattle.std.proofs.Common.{◌≡◌, ◌<◌, ◌↔◌, IsTrue, ℕ, length, Some, ◌∙◌, refl, ap, subst, arith}
+use Rattle.bsc_control.specs.Control.{terminals as addresses_of}
+use Rattle.bsc_line_model.specs.declared.transmission.Transmission.{Transmission}
+use Rattle.bsc_line_model.specs.Trust.{IsHeardFairly, IsTrustAfter, IsAddressedAfter}
+use Rattle.bsc_line_model.specs.Line.{LineValue, line_of}
+use Rattle.bsc_line_model.specs.Carries.{IsCarriedDown}
+use Rattle.bsc_line.specs.Hearings.{hearing_of}
+use Rattle.bsc_line.proofs.Carrying.{trust_after, of_some, some_terminal}
+use Rattle.bsc_line.proofs.line.Line.carry_down.Given as given
+use Rattle.bsc_line.proofs.line.Line.carry_down.Goals as goal
+
+pub is_down_fair-fair-requires : goal.is_down_fair-fair-requires
+is_down_fair-fair-requires g c =
+    let some : 0 < length c.self.inside.terminals.items = some_terminal c.self.inside.control c.self.inside.terminals.items c.self.invariant.0.stations in
+    omega arith
+
+pub addressed_after-self-inside-requires : goal.addressed_after-self-inside-requires
+addressed_after-self-inside-requires g c =
+    let some : 0 < length c.self.inside.terminals.items = some_terminal c.self.inside.control c.self.inside.terminals.items c.self.invariant.0.stations in
+    omega arith
+
+-- the count is that of the terminals
+counted : (g : given.Over) (c : goal.After-show g) → c.len-count.result ≡ length c.self.inside.terminals.items
+counted g c = omega arith
+
+trusted : (g : given.Over) (c : goal.After-show g) (s : Transmission) → c.self.inside.sent ≡ Some s →
+    IsTrustAfter c.self.inside.trusted (IsHeardFairly s.message (length c.self.inside.terminals.items) (hearing_of c.args.hearings.now)) c.both-self-inside.result
+trusted g c s e =
+    subst (λ (n : ℕ). IsTrustAfter c.self.inside.trusted (IsHeardFairly s.message n (hearing_of c.args.hearings.now)) c.both-self-inside.result) (counted g c)
+    (trust_after c.self.inside.trusted c.is_down_fair-fair.result c.both-self-inside.result (IsHeardFairly s.message c.len-count.result (hearing_of c.args.hearings.now)) c.both-self-inside.ensures
+    (of_some (λ (z : Transmission). IsTrue c.is_down_fair-fair.result ↔ IsHeardFairly z.message c.len-count.result (hearing_of c.args.hearings.now)) c.self.inside.sent s c.is_down_fair-fair.ensures e))
+
+addressed : (g : given.Over) (c : goal.After-show g) →
+    IsAddressedAfter (addresses_of c.self.inside.control) (length c.self.inside.terminals.items) (hearing_of c.args.hearings.now) c.self.inside.addressed c.addressed_after-self-inside.result
+addressed g c =
+    subst (λ (n : ℕ). IsAddressedAfter (addresses_of c.self.inside.control) n (hearing_of c.args.hearings.now) c.self.inside.addressed c.addressed_after-self-inside.result) (counted g c) c.addressed_after-self-inside.ensures
+
+carried : (g : given.Over) (c : goal.After-show g) (s : Transmission) → c.self.inside.sent ≡ Some s →
+    IsCarriedDown s.message (hearing_of c.args.hearings.now)
+    (line_of c.self.inside.control c.self.inside.terminals.items c.self.inside.sent c.self.inside.trusted c.self.inside.addressed)
+    (line_of c.self.inside.control c.hear_in-self-inside.new.terminals.items c.hear_in-self-inside.result c.both-self-inside.result c.addressed_after-self-inside.result)
+carried g c s e =
+    record {
+      control = refl;
+      terminals = c.hear_in-self-inside.ensures.each;
+      kept = c.hear_in-self-inside.ensures.keeps;
+      pending = c.hear_in-self-inside.ensures.first;
+      addressed = addressed g c;
+      trusted = trusted g c s e;
+    }
+
+pub invariant_of-self : goal.invariant_of-self
+invariant_of-self g c =
+    let pending : c.self.inside.sent ≡ Some c.requires.sent = ap (λ (l : LineValue). l.pending) c.self.view_is ∙ c.requires.pending in (
+      c.each_event.ensures.down c.requires.sent (hearing_of c.args.hearings.now) _ _ c.self.invariant.0 pending c.requires.speaker (carried g c c.requires.sent pending),
+      c.show.ensures,
+    )
+
+pub returns-clause-does : goal.returns-clause-does
+returns-clause-does g c = rw (← c.self.view_is) (carried g c)
+
+pub returns-clause-line : goal.returns-clause-line
+returns-clause-line g c = (invariant_of-self g c).0

@@ -1,0 +1,38 @@
+use Rattle.std.proofs.Common.{◌≡◌, length, refl, sym, ◌∙◌, ap, subst, arith, ℕ, Option}
+use Rattle.bsc_frame.specs.declared.message.Message.{Message}
+use Rattle.bsc_tributary.specs.Tributary.{TributaryValue}
+use Rattle.bsc_line_model.specs.declared.transmission.Transmission.{Transmission}
+use Rattle.bsc_line_model.specs.declared.transmission.Speaker.TheVariants.{Terminal}
+use Rattle.bsc_line_model.specs.Transmission.{sent_by}
+use Rattle.bsc_line.specs.Hearings.{hearing_of}
+use Rattle.bsc_line_model.specs.Terminals.{or_first, first_answer, EachHears, EachKeeps}
+use Rattle.bsc_line.proofs.EachHearing.{Heeds, none_heard, one_more, first_more, all_heard}
+use Rattle.bsc_line.proofs.terminals.hear_all.Goals as goal
+
+pub loop-i-init : goal.loop-i-init
+loop-i-init g c = record { heard = none_heard c.args.terminals.now (hearing_of c.args.hearings.now); first = refl }
+
+pub loop-i-preserved : goal.loop-i-preserved
+loop-i-preserved g c =
+    let t : TributaryValue = c.index-terminals-i.result in
+    let out : Option Message = c.hear_at-answer.result in
+    let heeds : Heeds t (hearing_of c.args.hearings.now c.loop-i.i) c.hear_at-answer.new.terminal out =
+    subst (λ (x : TributaryValue). Heeds x (hearing_of c.args.hearings.now c.loop-i.i) c.hear_at-answer.new.terminal out) (sym c.index-terminals-i.is)
+    (record { row = c.hear_at-answer.ensures.row; after = c.hear_at-answer.ensures.after }) in
+    record {
+      heard = one_more c.args.terminals.now (hearing_of c.args.hearings.now) c.loop-i.terminals c.loop-i.i t c.hear_at-answer.new.terminal out c.loop-i.invariant.heard c.loop-i-test.true c.index-terminals-i.is heeds;
+      first = c.keep_first.ensures
+          ∙ ap (λ (x : Option Transmission). or_first x (sent_by (Terminal c.loop-i.i) out)) c.loop-i.invariant.first
+          ∙ sym (first_more c.args.terminals.now (hearing_of c.args.hearings.now) c.loop-i.terminals c.loop-i.i t c.hear_at-answer.new.terminal out c.loop-i.invariant.heard c.loop-i-test.true c.index-terminals-i.is heeds);
+    }
+
+pub returns : goal.returns
+returns g c =
+    let all : c.loop-i.i ≡ length c.args.terminals.now = omega arith in
+    let heard : EachHears c.args.terminals.now (hearing_of c.args.hearings.now) c.loop-i.terminals × EachKeeps c.args.terminals.now (hearing_of c.args.hearings.now) c.loop-i.terminals =
+    all_heard c.args.terminals.now (hearing_of c.args.hearings.now) c.loop-i.terminals c.loop-i.i c.loop-i.invariant.heard all in
+    record {
+      each = heard.0;
+      keeps = heard.1;
+      first = c.loop-i.invariant.first ∙ ap (λ (n : ℕ). first_answer c.args.terminals.now (hearing_of c.args.hearings.now) c.loop-i.terminals n) all;
+    }

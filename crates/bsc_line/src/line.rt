@@ -1,0 +1,188 @@
+//! The line.
+
+mod carries;
+mod offers;
+mod releases;
+mod runs;
+mod silences;
+
+ghost use Rattle.std.specs.Prelude.{◌≡◌, ◌<◌, IfOk, IfErr, OnOk};
+ghost use Rattle.bsc_text.specs.Sender.{is_in_doubt};
+ghost use Rattle.bsc_control.specs.Refusals.{IsAccepted, IsRefused};
+ghost use Rattle.bsc_line_model.specs.Transmission.{IsPending};
+ghost use Rattle.bsc_line_model.specs.Line.{terminal_count, IsChannel, channel_of, phase_of};
+ghost use Rattle.bsc_line_model.specs.Offers.{select_count};
+ghost use Rattle.bsc_line_model.specs.Kept.{IsLine, IsNewLine};
+
+use crate::terminals::new_terminals;
+use bsc_block::Record;
+use bsc_control::laws::distinct_addresses;
+use bsc_control::{Control, SetupError, Way};
+use bsc_frame::Wire;
+use bsc_line_model::laws::each_event;
+use bsc_line_model::{Speaker, Transmission};
+use bsc_text::{Setup, Terminal};
+use bsc_tributary::Tributary;
+use std::alloc::Allocator;
+use std::marker::Model;
+
+/// A line: a control station, its terminals, and what is on its way between them (GA27-3004,
+/// centralised multipoint operation). The terminals hear only the control station, and it hears
+/// each of them.
+#[derive(Drop)]
+pub struct Line<A: Allocator> {
+    control: Control<A>,
+    terminals: Vec<Tributary<A>, A>,
+    // What nobody has heard yet, and its octets: a wire has none where nothing is sent.
+    sent: Option<Transmission>,
+    wire: Wire,
+    // Whether each transmission so far was heard fairly.
+    trusted: bool,
+    // The channel that the last call named which all terminals heard whole.
+    addressed: Option<(usize, Way)>,
+}
+
+impl<A: Allocator> Model for Line<A> {
+    ghost use Rattle.bsc_line_model.specs.Transmission.{IsOnWire};
+    ghost use Rattle.bsc_line_model.specs.Line.{LineValue, line_of};
+    ghost use Rattle.bsc_line_model.specs.Kept.{IsLine};
+
+    ghost Value = { LineValue };
+
+    ghost view = { λ l. line_of l.control l.terminals.items l.sent l.trusted l.addressed };
+
+    ghost invariant = { λ l.
+        IsLine (line_of l.control l.terminals.items l.sent l.trusted l.addressed)
+        × IsOnWire l.sent l.wire.items };
+}
+
+impl<A: Allocator> Line<A> {
+    /// A line of new stations with these settings, addresses and poll list. Nothing is on it: its
+    /// first silence makes the first call. Refusals as those of `Control::new`; `Memory` may come
+    /// in place of any after `TooMany`.
+    pub fn new(
+        alloc: A,
+        setup: Setup,
+        terminals: &[Terminal],
+        poll_list: &[u8],
+    ) -> Result<Self, SetupError>
+    where
+        A: Copy,
+        ensures accepted { OnOk result (IsAccepted terminals.now poll_list.now) }
+        ensures refused { IfErr result (IsRefused terminals.now poll_list.now) }
+        ensures value { IfOk result (λ l. IsNewLine setup terminals.now poll_list.now l) }
+        ensures line { IfOk result IsLine }
+    {
+        each_event();
+        distinct_addresses();
+        let control = Control::new(alloc, setup, terminals, poll_list)?;
+        let terminals = new_terminals(alloc, setup, terminals)?;
+        Ok(Line {
+            control,
+            terminals,
+            sent: None,
+            wire: Wire::new(),
+            trusted: true,
+            addressed: None,
+        })
+    }
+
+    /// Whether every transmission so far was heard fairly: each spoiled one failed its check, and
+    /// each call of the control station reached all terminals whole or none. (Own.)
+    pub fn trusted(&self) -> bool
+        ensures value { result ≡ self.now.trusted }
+        ensures line { IsLine self.now }
+    {
+        self.trusted
+    }
+
+    /// How many terminals the line has: 1 to 64.
+    pub fn terminals(&self) -> usize
+        ensures value { result ≡ terminal_count self.now }
+        ensures line { IsLine self.now }
+    {
+        self.terminals.len()
+    }
+
+    /// What is on the line, and who sent it.
+    pub fn pending(&self) -> Option<(Speaker, &[u8])>
+        ensures value { IsPending self.now.pending result }
+        ensures line { IsLine self.now }
+    {
+        match &self.sent {
+            Some(sent) => Some((sent.speaker, self.wire.as_slice())),
+            None => None,
+        }
+    }
+
+    /// How many selection addresses a terminal has: 1 to 4. Condition: there is such a terminal.
+    pub fn addresses(&self, terminal: usize) -> usize
+        requires { terminal < terminal_count self.now }
+        ensures value { result ≡ select_count self.now terminal }
+        ensures line { IsLine self.now }
+    {
+        self.control.addresses(terminal)
+    }
+
+    /// The records that were offered on a channel, in order. Condition: there is such a channel.
+    pub fn offered(&self, terminal: usize, way: Way) -> &[Record]
+        requires { IsChannel self.now terminal way }
+        ensures value { result.now ≡ (channel_of self.now terminal way).offered }
+        ensures line { IsLine self.now }
+    {
+        match way {
+            Way::FromTerminal => {
+                let station = &self.terminals[terminal];
+                station.queue().offered()
+            }
+            Way::ToTerminal(select) => self.control.queue(terminal, select).offered(),
+        }
+    }
+
+    /// The records that arrived on a channel, in order. Condition: there is such a channel.
+    pub fn spooled(&self, terminal: usize, way: Way) -> &[Record]
+        requires { IsChannel self.now terminal way }
+        ensures value { result.now ≡ (channel_of self.now terminal way).spooled }
+        ensures line { IsLine self.now }
+    {
+        match way {
+            Way::FromTerminal => self.control.spool(terminal).records(),
+            Way::ToTerminal(select) => {
+                let station = &self.terminals[terminal];
+                station.spool(select).records()
+            }
+        }
+    }
+
+    /// How many of the offered records the sending end knows to have arrived. Condition: there is
+    /// such a channel.
+    pub fn known(&self, terminal: usize, way: Way) -> usize
+        requires { IsChannel self.now terminal way }
+        ensures value { result ≡ (channel_of self.now terminal way).known }
+        ensures line { IsLine self.now }
+    {
+        match way {
+            Way::FromTerminal => {
+                let station = &self.terminals[terminal];
+                station.queue().known()
+            }
+            Way::ToTerminal(select) => self.control.queue(terminal, select).known(),
+        }
+    }
+
+    /// Whether the sending end is in doubt about its last block. Condition: there is such a
+    /// channel. (Own.)
+    pub fn in_doubt(&self, terminal: usize, way: Way) -> bool
+        requires { IsChannel self.now terminal way }
+        ensures value { result ≡ is_in_doubt (phase_of self.now terminal way) }
+        ensures line { IsLine self.now }
+    {
+        match way {
+            Way::FromTerminal => {
+                let station = &self.terminals[terminal];
+                station.in_doubt()
+            }
+            Way::ToTerminal(_) => self.control.in_doubt(terminal, way),
+        }
+    }
+}

@@ -1,0 +1,158 @@
+//! What is on the line is heard.
+
+ghost use Rattle.std.specs.Prelude.{◌≡◌, ◌↔◌, IsTrue, Some};
+ghost use Rattle.bsc_frame.specs.declared.message.Heard.TheVariants as h;
+ghost use Rattle.bsc_line_model.specs.declared.transmission.Transmission.{Transmission as TransmissionValue};
+ghost use Rattle.bsc_line_model.specs.Hearing.{octets_in};
+ghost use Rattle.bsc_line_model.specs.Carries.{IsCarriedDown, IsCarriedUp};
+ghost use Rattle.bsc_line_model.specs.Runs.{Carries, Does, IsFromTerminal, IsFromControl};
+ghost use Rattle.bsc_line_model.specs.Kept.{IsLine};
+ghost use Rattle.bsc_line.specs.Hearings.{hearing_of};
+
+use crate::addressing::addressed_after;
+use crate::hearing::{Hearings, hearing};
+use crate::line::Line;
+use crate::pending::{show, speaker_of, take_whole};
+use crate::terminals::hear_in;
+use crate::trust::{both, is_down_fair, is_up_fair};
+use bsc_frame::laws::{one_reading, reading};
+use bsc_frame::{Heard, Wire};
+use bsc_line_model::laws::each_event;
+use bsc_line_model::{LineError, Speaker, Transmission};
+use bsc_text::Station;
+use std::alloc::Allocator;
+
+impl<A: Allocator> Line<A> {
+    ghost use Rattle.bsc_line_model.specs.declared.event.Event.TheVariants as event;
+
+    /// What is on the line is heard as these octets, by all terminals or by the control station;
+    /// None is lost. `NothingSent`. A station may try to reserve memory; a refusal only changes its
+    /// reply.
+    pub fn carry(&mut self, heard: Option<&[u8]>) -> Result<(), LineError>
+        ensures does { Does (event.Carry heard.entry) self.old result self.new }
+        ensures line { IsLine self.new }
+    {
+        one_reading();
+        reading();
+        if is_as_sent(heard, &self.wire) {
+            return self.carry_sent();
+        }
+        self.carry_as(&hearing(heard))
+    }
+
+    /// The control station's transmission is heard by each terminal as the item of its number; None
+    /// is lost there. `NothingSent`; `NotControl` where a terminal's transmission is pending;
+    /// `WrongCount` where the items are not one for each terminal. A terminal may try to reserve
+    /// memory; a refusal only changes its reply.
+    pub fn carry_each(&mut self, items: &[Option<&[u8]>]) -> Result<(), LineError>
+        ensures does { Does (event.CarryEach items.entry) self.old result self.new }
+        ensures line { IsLine self.new }
+    {
+        match speaker_of(&self.sent) {
+            None => return Err(LineError::NothingSent),
+            Some(Speaker::Terminal(_)) => return Err(LineError::NotControl),
+            Some(Speaker::Control) => {}
+        }
+        if items.len() != self.terminals.len() {
+            return Err(LineError::WrongCount);
+        }
+        self.carry_down(&Hearings::Each(items));
+        Ok(())
+    }
+
+    /// What is on the line is heard as it was sent: no octet of it is read. `NothingSent`. A
+    /// station may try to reserve memory; a refusal only changes its reply.
+    pub fn carry_sent(&mut self) -> Result<(), LineError>
+        ensures does { Does event.CarrySent self.old result self.new }
+        ensures line { IsLine self.new }
+    {
+        match speaker_of(&self.sent) {
+            None => return Err(LineError::NothingSent),
+            Some(Speaker::Control) => self.carry_down_whole(),
+            Some(Speaker::Terminal(_)) => self.carry_up_whole(),
+        }
+        Ok(())
+    }
+
+    /// What is on the line is heard so, by all who hear it.
+    fn carry_as(&mut self, heard: &Heard) -> Result<(), LineError>
+        ensures does { Carries (λ (sent : TransmissionValue). heard.now) self.old result self.new }
+        ensures line { IsLine self.new }
+    {
+        match speaker_of(&self.sent) {
+            None => return Err(LineError::NothingSent),
+            Some(Speaker::Control) => self.carry_down(&Hearings::Alike(heard)),
+            Some(Speaker::Terminal(_)) => self.carry_up(heard),
+        }
+        Ok(())
+    }
+
+    /// The control station's transmission is heard.
+    fn carry_down(&mut self, hearings: &Hearings<'_>)
+        requires { IsFromControl self.old }
+        ensures does { (sent : TransmissionValue) → self.old.pending ≡ Some sent →
+            IsCarriedDown sent.message (hearing_of hearings.now) self.old self.new }
+        ensures line { IsLine self.new }
+    {
+        each_event();
+        let count = self.terminals.len();
+        let fair = is_down_fair(&self.sent, count, hearings);
+        self.addressed = addressed_after(&self.control, self.addressed, count, hearings);
+        self.sent = hear_in(&mut self.terminals, hearings);
+        self.trusted = both(self.trusted, fair);
+        show(&self.sent, &mut self.wire);
+    }
+
+    /// The control station's transmission is heard as it was sent, which is fair.
+    fn carry_down_whole(&mut self)
+        requires { IsFromControl self.old }
+        ensures does { (sent : TransmissionValue) → self.old.pending ≡ Some sent →
+            IsCarriedDown sent.message (λ t. h.Whole sent.message) self.old self.new }
+        ensures line { IsLine self.new }
+    {
+        each_event();
+        let count = self.terminals.len();
+        let heard = take_whole(&mut self.sent);
+        let hearings = Hearings::Alike(&heard);
+        self.addressed = addressed_after(&self.control, self.addressed, count, &hearings);
+        self.sent = hear_in(&mut self.terminals, &hearings);
+        show(&self.sent, &mut self.wire);
+    }
+
+    /// A terminal's transmission is heard.
+    fn carry_up(&mut self, heard: &Heard)
+        requires { IsFromTerminal self.old }
+        ensures does { (sent : TransmissionValue) → self.old.pending ≡ Some sent →
+            IsCarriedUp sent.message heard.now self.old self.new }
+        ensures line { IsLine self.new }
+    {
+        each_event();
+        let fair = is_up_fair(&self.sent, heard);
+        self.sent = Transmission::by(Speaker::Control, self.control.answer(heard));
+        self.trusted = both(self.trusted, fair);
+        show(&self.sent, &mut self.wire);
+    }
+
+    /// A terminal's transmission is heard as it was sent, which is fair.
+    fn carry_up_whole(&mut self)
+        requires { IsFromTerminal self.old }
+        ensures does { (sent : TransmissionValue) → self.old.pending ≡ Some sent →
+            IsCarriedUp sent.message (h.Whole sent.message) self.old self.new }
+        ensures line { IsLine self.new }
+    {
+        each_event();
+        let heard = take_whole(&mut self.sent);
+        self.sent = Transmission::by(Speaker::Control, self.control.answer(&heard));
+        show(&self.sent, &mut self.wire);
+    }
+}
+
+/// Whether these octets are those on the wire.
+fn is_as_sent(heard: Option<&[u8]>, wire: &Wire) -> bool
+    ensures { IsTrue result ↔ (octets_in heard.entry ≡ Some wire.now.items) }
+{
+    match heard {
+        Some(octets) => octets == wire.as_slice(),
+        None => false,
+    }
+}

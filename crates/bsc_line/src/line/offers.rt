@@ -1,0 +1,99 @@
+//! Records are offered, and flags are set.
+
+ghost use Rattle.bsc_line_model.specs.Runs.{Does};
+ghost use Rattle.bsc_line_model.specs.Kept.{IsLine};
+
+use crate::line::Line;
+use crate::reading::read_record;
+use crate::terminals::offer_here;
+use bsc_line_model::LineError;
+use bsc_line_model::laws::each_event;
+use std::alloc::Allocator;
+
+impl<A: Allocator> Line<A> {
+    ghost use Rattle.bsc_line_model.specs.declared.event.Event.TheVariants as event;
+
+    /// Offers the record of these codes at a terminal, for the control station. `NoSuchTerminal`,
+    /// `BadRecord`, `Memory`, in that order.
+    pub fn offer_at(&mut self, terminal: usize, codes: &[u8]) -> Result<(), LineError>
+        ensures does { Does (event.OfferAt terminal codes.entry) self.old result self.new }
+        ensures line { IsLine self.new }
+    {
+        if terminal >= self.terminals.len() {
+            return Err(LineError::NoSuchTerminal);
+        }
+        each_event();
+        let record = read_record(codes, self.control.setup())?;
+        let station = &mut self.terminals[terminal];
+        offer_here(station, record)
+    }
+
+    /// Offers the record of these codes at the control station, for a selection address of a
+    /// terminal. `NoSuchTerminal`, `NoSuchAddress`, `BadRecord`, `Memory`, in that order.
+    pub fn offer_for(
+        &mut self,
+        terminal: usize,
+        select: usize,
+        codes: &[u8],
+    ) -> Result<(), LineError>
+        ensures does { Does (event.OfferFor terminal select codes.entry) self.old result self.new }
+        ensures line { IsLine self.new }
+    {
+        if terminal >= self.control.terminals() {
+            return Err(LineError::NoSuchTerminal);
+        }
+        if select >= self.control.addresses(terminal) {
+            return Err(LineError::NoSuchAddress);
+        }
+        each_event();
+        let record = read_record(codes, self.control.setup())?;
+        match self.control.offer(terminal, select, record) {
+            Ok(()) => Ok(()),
+            Err(_) => Err(LineError::Memory),
+        }
+    }
+
+    /// Whether a terminal takes selections: one that is not ready answers them by NAK.
+    /// `NoSuchTerminal`. (GA27-3004, NAK to a selection; the flag is own.)
+    pub fn set_ready(&mut self, terminal: usize, ready: bool) -> Result<(), LineError>
+        ensures does { Does (event.Ready terminal ready) self.old result self.new }
+        ensures line { IsLine self.new }
+    {
+        if terminal >= self.terminals.len() {
+            return Err(LineError::NoSuchTerminal);
+        }
+        each_event();
+        let station = &mut self.terminals[terminal];
+        station.set_ready(ready);
+        Ok(())
+    }
+
+    /// A terminal asks the control station for the line: it answers the next text by RVI.
+    /// `NoSuchTerminal`. (GA27-3004, RVI; the flag is own.)
+    pub fn set_urgent_at(&mut self, terminal: usize) -> Result<(), LineError>
+        ensures does { Does (event.UrgentAt terminal) self.old result self.new }
+        ensures line { IsLine self.new }
+    {
+        if terminal >= self.terminals.len() {
+            return Err(LineError::NoSuchTerminal);
+        }
+        each_event();
+        let station = &mut self.terminals[terminal];
+        station.set_urgent();
+        Ok(())
+    }
+
+    /// The control station asks a terminal for the line: it answers the terminal's next text by
+    /// RVI. `NoSuchTerminal`. (GA27-3004, RVI; the flag is own.)
+    pub fn set_urgent_for(&mut self, terminal: usize) -> Result<(), LineError>
+        ensures does { Does (event.UrgentFor terminal) self.old result self.new }
+        ensures line { IsLine self.new }
+    {
+        if terminal >= self.control.terminals() {
+            return Err(LineError::NoSuchTerminal);
+        }
+        each_event();
+        self.control.set_urgent(terminal);
+        Ok(())
+    }
+}

@@ -1,0 +1,71 @@
+//! A list of events.
+
+ghost use Rattle.std.specs.Prelude.{IsTrue};
+ghost use Rattle.bsc_line_model.specs.Headline.{KeepsRecords};
+ghost use Rattle.bsc_line_model.specs.Kept.{IsLine};
+ghost use Rattle.bsc_line_model.specs.Runs.{Does, Runs};
+
+use crate::line::Line;
+use bsc_line_model::laws::headline;
+use bsc_line_model::{Event, LineError, Stopped};
+use std::alloc::Allocator;
+
+impl<A: Allocator> Line<A> {
+    /// Does the events in order, up to the first that is refused.
+    ///
+    /// Where the line is trusted after them, it has kept the records: on each channel those that
+    /// arrived are the first of those that were offered, in order and each once; they include all
+    /// that the sending end counts as delivered; and none reached a terminal that was not
+    /// addressed.
+    pub fn run(&mut self, events: &[Event<'_>]) -> Result<(), Stopped>
+        ensures does { Runs self.old events.now result self.new }
+        ensures headline { IsTrue self.new.trusted →
+            KeepsRecords self.old events.now result self.new }
+    {
+        headline();
+        self.is_line();
+        self.do_each(events)
+    }
+
+    /// The events, one after the other.
+    fn do_each(&mut self, events: &[Event<'_>]) -> Result<(), Stopped>
+        ensures { Runs self.old events.now result self.new }
+    {
+        for (at, event) in events.iter().enumerate() {
+            if let Err(why) = self.step(event) {
+                return Err(Stopped { at, why });
+            }
+        }
+        Ok(())
+    }
+
+    /// Does one event.
+    fn step(&mut self, event: &Event<'_>) -> Result<(), LineError>
+        ensures does { Does event.now self.old result self.new }
+        ensures line { IsLine self.new }
+    {
+        match event {
+            Event::OfferAt { terminal, codes } => self.offer_at(*terminal, codes),
+            Event::OfferFor {
+                terminal,
+                select,
+                codes,
+            } => self.offer_for(*terminal, *select, codes),
+            Event::Carry { heard } => self.carry(*heard),
+            Event::CarryEach { heard } => self.carry_each(heard),
+            Event::CarrySent => self.carry_sent(),
+            Event::Silence => self.silence(),
+            Event::Ready { terminal, ready } => self.set_ready(*terminal, *ready),
+            Event::UrgentAt { terminal } => self.set_urgent_at(*terminal),
+            Event::UrgentFor { terminal } => self.set_urgent_for(*terminal),
+            Event::Release { terminal, way } => self.release(*terminal, *way),
+        }
+    }
+
+    /// What holds of every line, for a contract to rest on: the field is read for nothing else.
+    fn is_line(&self)
+        ensures { IsLine self.now }
+    {
+        let _trusted = self.trusted;
+    }
+}

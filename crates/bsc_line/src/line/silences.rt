@@ -1,0 +1,64 @@
+//! A silence passes.
+
+ghost use Rattle.std.specs.Prelude.{◌≡◌, ◌<◌, Some, None};
+ghost use Rattle.bsc_line_model.specs.Line.{terminal_count};
+ghost use Rattle.bsc_line_model.specs.Terminals.{line_owner};
+ghost use Rattle.bsc_line_model.specs.Carries.{TerminalActsAlone, ControlActsAlone};
+ghost use Rattle.bsc_line_model.specs.Runs.{Does};
+ghost use Rattle.bsc_line_model.specs.Kept.{IsLine};
+
+use crate::line::Line;
+use crate::pending::show;
+use crate::terminals::line_owner;
+use bsc_line_model::laws::each_event;
+use bsc_line_model::{LineError, Speaker, Transmission};
+use bsc_text::Station;
+use std::alloc::Allocator;
+
+impl<A: Allocator> Line<A> {
+    ghost use Rattle.bsc_line_model.specs.declared.event.Event.TheVariants as event;
+
+    /// Nothing is heard for the time of a time-out: the least numbered terminal that holds the line
+    /// acts, else the control station. `Pending` while a transmission is on the line. (GA27-3004,
+    /// time-outs; who acts is own.)
+    pub fn silence(&mut self) -> Result<(), LineError>
+        ensures does { Does event.Silence self.old result self.new }
+        ensures line { IsLine self.new }
+    {
+        if self.sent.is_some() {
+            return Err(LineError::Pending);
+        }
+        match line_owner(self.terminals.as_slice()) {
+            Some(terminal) => self.act_at(terminal),
+            None => self.act_at_control(),
+        }
+        Ok(())
+    }
+
+    /// A terminal acts on a silence.
+    fn act_at(&mut self, terminal: usize)
+        requires there { terminal < terminal_count self.old }
+        requires nothing { self.old.pending ≡ None }
+        requires owner { line_owner self.old.terminals ≡ Some terminal }
+        ensures does { TerminalActsAlone terminal self.old self.new }
+        ensures line { IsLine self.new }
+    {
+        each_event();
+        let station = &mut self.terminals[terminal];
+        let answer = station.act();
+        self.sent = Transmission::by(Speaker::Terminal(terminal), answer);
+        show(&self.sent, &mut self.wire);
+    }
+
+    /// The control station acts on a silence.
+    fn act_at_control(&mut self)
+        requires nothing { self.old.pending ≡ None }
+        requires nobody { line_owner self.old.terminals ≡ None }
+        ensures does { ControlActsAlone self.old self.new }
+        ensures line { IsLine self.new }
+    {
+        each_event();
+        self.sent = Transmission::by(Speaker::Control, self.control.act());
+        show(&self.sent, &mut self.wire);
+    }
+}
