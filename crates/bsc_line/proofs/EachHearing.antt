@@ -1,11 +1,12 @@
 -- One more terminal has heard.
-use Rattle.std.proofs.Common.{◌≡◌, ◌≢◌, ℕ, zero, suc, ◌+◌, ◌<◌, ◌≤◌, List, length, Option, get_or, slice_set, refl, sym, ◌∙◌, ap, subst, arith, add-one, get_or-set_other, get_or-set_same, below_more}
+use Rattle.std.proofs.Common.{◌≡◌, ◌≢◌, ℕ, zero, suc, ◌+◌, ◌<◌, ◌≤◌, List, length, Option, None, Some, get_or, slice_set, refl, sym, ◌∙◌, ap, subst, arith, add-one, get_or-set_other, get_or-set_same, below_more}
 use Rattle.std.proofs.lemmas.List.{get_or_default, length-set}
 use Rattle.bsc_frame.specs.declared.message.Message.{Message}
 use Rattle.bsc_frame.specs.declared.message.Heard.{Heard}
 use Rattle.bsc_tributary.specs.Tributary.{TributaryValue, TributaryStep, Hears}
 use Rattle.bsc_tributary.specs.Kept.{AfterHearing}
 use Rattle.bsc_line_model.specs.declared.transmission.Speaker.TheVariants.{Terminal}
+use Rattle.bsc_line_model.specs.declared.transmission.Transmission.{Transmission}
 use Rattle.bsc_line_model.specs.Transmission.{sent_by}
 use Rattle.bsc_line_model.specs.Line.{no_terminal, terminal_in}
 use Rattle.bsc_line_model.specs.Terminals.{answer, answer_of, EachHears, EachKeeps, or_first, first_answer}
@@ -21,6 +22,11 @@ sent_is t h u out x = ap (λ (o : TributaryStep). o.sent) x.row
 
 pub heeds_answer : (t : TributaryValue) (h : Heard) (u : TributaryValue) (out : Option Message) → Heeds t h u out → Heeds t h u (answer t h u)
 heeds_answer t h u out x = subst (λ (o : Option Message). Heeds t h u o) (sent_is t h u out x.row) x
+
+-- a terminal that does not answer leaves the one before
+pub first_kept : (first : Option Transmission) (t : ℕ) → first ≡ or_first first (sent_by (Terminal t) None)
+first_kept None t = refl
+first_kept (Some s) t = refl
 
 -- the first n answers are read from the first n terminals
 pub first_same : (old a b : List TributaryValue) (hears : ℕ → Heard) (n : ℕ) → ((k : ℕ) → k < n → terminal_in a k ≡ terminal_in b k) → first_answer old hears a n ≡ first_answer old hears b n

@@ -1,5 +1,5 @@
 -- The channel that is addressed after the control station's transmission.
-use Rattle.std.proofs.Common.{◌≡◌, ◌↔◌, ℕ, ◌<◌, Bool, false, IsTrue, List, Option, Some, None, refl, ◌∙◌, ap, subst}
+use Rattle.std.proofs.Common.{◌≡◌, ◌↔◌, ℕ, ◌<◌, Bool, false, IsTrue, List, Option, Some, None, refl, sym, ◌∙◌, ap, subst}
 use Rattle.bsc_frame.specs.declared.message.Message.TheVariants as m
 use Rattle.bsc_frame.specs.declared.message.Heard.{Heard}
 use Rattle.bsc_frame.specs.declared.message.Heard.TheVariants.{Whole}
@@ -63,3 +63,15 @@ other_heard ts n hears old some first =
     still_addressed ts n hears old
     (λ z each. let there : Nothing ≡ Address z = first ∙ ap named_in (each 0 some) in cc)
     (λ each. let there : Nothing ≡ Nobody = first ∙ ap named_in (each 0 some) in cc)
+
+-- what names an address is its call
+pub named_address : (h : Heard) (a : List ℕ) → Address a ≡ named_in h → h ≡ Whole (m.Call a)
+named_address (Whole (m.Call z)) a e = let same : a ≡ z = cc in ap (λ (y : List ℕ). Whole (m.Call y)) (sym same)
+named_address (Whole m.Eot) a e = absurd (cc)
+named_address _ a e = absurd (cc)
+
+-- what names nobody is EOT
+pub named_nobody : (h : Heard) → Nobody ≡ named_in h → h ≡ Whole m.Eot
+named_nobody (Whole m.Eot) e = refl
+named_nobody (Whole (m.Call z)) e = absurd (cc)
+named_nobody _ e = absurd (cc)

@@ -2,12 +2,13 @@
 
 ghost use Rattle.std.specs.Prelude.{◌≡◌, ◌<◌};
 ghost use Rattle.bsc_control.specs.Control.{terminals};
+ghost use Rattle.bsc_line_model.specs.Hearing.{heard_at, all_hear};
 ghost use Rattle.bsc_line_model.specs.Trust.{IsAddressedAfter};
 ghost use Rattle.bsc_line.specs.Hearings.{hearing_of};
 ghost use Rattle.bsc_line.specs.Naming.{named_in};
 
 use crate::hearing::{Hearings, hearing, item_at};
-use crate::trust::all_hear;
+use crate::trust::each_hears;
 use bsc_control::{Control, Way};
 use bsc_frame::{Address, Heard, Message};
 use std::alloc::Allocator;
@@ -35,12 +36,52 @@ fn named_in(heard: &Heard) -> Named
     }
 }
 
-fn named_first(hearings: &Hearings<'_>) -> Named
-    ensures { result ≡ named_in (hearing_of hearings.now 0) }
+/// The channel that is addressed after all terminals heard this alike. Condition: there is a
+/// terminal.
+fn addressed_alike<A: Allocator>(
+    control: &Control<A>,
+    addressed: Option<(usize, Way)>,
+    count: usize,
+    heard: &Heard,
+) -> Option<(usize, Way)>
+    requires { 0 < count }
+    ensures { IsAddressedAfter (terminals control.now) count (all_hear heard.now) addressed
+        result }
 {
-    match hearings {
-        Hearings::Alike(heard) => named_in(heard),
-        Hearings::Each(items) => named_in(&hearing(item_at(items, 0))),
+    match named_in(heard) {
+        Named::Address(address) => control.find(&address),
+        Named::Nobody => None,
+        Named::Nothing => addressed,
+    }
+}
+
+/// The channel that is addressed after each of the `count` terminals heard its item. Condition:
+/// there is a terminal.
+fn addressed_apart<A: Allocator>(
+    control: &Control<A>,
+    addressed: Option<(usize, Way)>,
+    count: usize,
+    items: &[Option<&[u8]>],
+) -> Option<(usize, Way)>
+    requires { 0 < count }
+    ensures { IsAddressedAfter (terminals control.now) count (heard_at items.now) addressed result }
+{
+    match named_in(&hearing(item_at(items, 0))) {
+        Named::Address(address) => {
+            if each_hears(&Message::Call(address), count, items) {
+                control.find(&address)
+            } else {
+                addressed
+            }
+        }
+        Named::Nobody => {
+            if each_hears(&Message::Eot, count, items) {
+                None
+            } else {
+                addressed
+            }
+        }
+        Named::Nothing => addressed,
     }
 }
 
@@ -53,24 +94,11 @@ pub(crate) fn addressed_after<A: Allocator>(
     hearings: &Hearings<'_>,
 ) -> Option<(usize, Way)>
     requires { 0 < count }
-    ensures { IsAddressedAfter (terminals control.now) count (hearing_of hearings.now)
-        addressed result }
+    ensures { IsAddressedAfter (terminals control.now) count (hearing_of hearings.now) addressed
+        result }
 {
-    match named_first(hearings) {
-        Named::Address(address) => {
-            if all_hear(&Message::Call(address), count, hearings) {
-                control.find(&address)
-            } else {
-                addressed
-            }
-        }
-        Named::Nobody => {
-            if all_hear(&Message::Eot, count, hearings) {
-                None
-            } else {
-                addressed
-            }
-        }
-        Named::Nothing => addressed,
+    match hearings {
+        Hearings::Alike(heard) => addressed_alike(control, addressed, count, heard),
+        Hearings::Each(items) => addressed_apart(control, addressed, count, items),
     }
 }

@@ -5,14 +5,14 @@ ghost use Rattle.bsc_spool.specs.Queue.{with_offered};
 ghost use Rattle.bsc_tributary.specs.Tributary.{holds};
 ghost use Rattle.bsc_tributary.specs.Kept.{IsHearing, KeepsSetupAndMode};
 ghost use Rattle.bsc_line_model.specs.Transmission.{sent_by};
-ghost use Rattle.bsc_line_model.specs.Terminals.{EachHears, EachKeeps, first_answer, or_first, line_owner};
+ghost use Rattle.bsc_line_model.specs.Terminals.{EachHears, EachKeeps, answer, first_answer, or_first, line_owner};
 ghost use Rattle.bsc_line_model.specs.Kept.{AreNewTerminals, AreEachDistinct};
 ghost use Rattle.bsc_line.specs.Hearings.{hearing_of};
 
 use crate::hearing::{Hearings, hearing, item_at};
 use bsc_block::Record;
 use bsc_control::SetupError;
-use bsc_frame::Message;
+use bsc_frame::{Heard, Message};
 use bsc_line_model::{LineError, Speaker, Transmission};
 use bsc_text::{Setup, Station, Terminal};
 use bsc_tributary::Tributary;
@@ -27,17 +27,60 @@ fn keep_first(first: &mut Option<Transmission>, terminal: usize, answer: Option<
     }
 }
 
-/// A terminal hears what arrives at its place, and gives the message to send.
+/// A terminal that may answer hears, and its answer is kept where none came before. It stands apart
+/// so that those that do not answer, which are all but one, need no room for a message.
+#[inline(never)]
+fn hear_apart<A: Allocator>(
+    terminal: &mut Tributary<A>,
+    heard: &Heard,
+    place: usize,
+    first: &mut Option<Transmission>,
+)
+    ensures hearing { IsHearing terminal.old heard.now terminal.new
+        (answer terminal.old heard.now terminal.new) }
+    ensures first { first.new ≡ or_first first.old
+        (sent_by (Speaker.Terminal place) (answer terminal.old heard.now terminal.new)) }
+{
+    let answer = terminal.answer(heard);
+    keep_first(first, place, answer);
+}
+
+/// A terminal hears this, and its answer is kept where none came before.
+fn hear_one<A: Allocator>(
+    terminal: &mut Tributary<A>,
+    heard: &Heard,
+    place: usize,
+    first: &mut Option<Transmission>,
+)
+    ensures hearing { IsHearing terminal.old heard.now terminal.new
+        (answer terminal.old heard.now terminal.new) }
+    ensures first { first.new ≡ or_first first.old
+        (sent_by (Speaker.Terminal place) (answer terminal.old heard.now terminal.new)) }
+{
+    if terminal.overhear(heard) {
+        return;
+    }
+    hear_apart(terminal, heard, place, first);
+}
+
+/// A terminal hears what arrives at its place, and its answer is kept where none came before.
 fn hear_at<A: Allocator>(
     terminal: &mut Tributary<A>,
     hearings: &Hearings<'_>,
     place: usize,
-) -> Option<Message>
-    ensures { IsHearing terminal.old (hearing_of hearings.now place) terminal.new result }
+    first: &mut Option<Transmission>,
+)
+    ensures hearing { let heard = hearing_of hearings.now place in
+        IsHearing terminal.old heard terminal.new (answer terminal.old heard terminal.new) }
+    ensures first { let heard = hearing_of hearings.now place in
+        first.new ≡ or_first first.old
+        (sent_by (Speaker.Terminal place) (answer terminal.old heard terminal.new)) }
 {
     match hearings {
-        Hearings::Alike(heard) => terminal.answer(heard),
-        Hearings::Each(items) => terminal.answer(&hearing(item_at(items, place))),
+        Hearings::Alike(heard) => hear_one(terminal, heard, place, first),
+        Hearings::Each(items) => {
+            hear_one(terminal, &hearing(item_at(items, place)), place, first)
+        }
     }
 }
 
@@ -54,8 +97,7 @@ fn hear_all<A: Allocator>(
 {
     let mut first = None;
     for (i, terminal) in terminals.iter_mut().enumerate() {
-        let answer = hear_at(terminal, hearings, i);
-        keep_first(&mut first, i, answer);
+        hear_at(terminal, hearings, i, &mut first);
     }
     first
 }

@@ -85,7 +85,7 @@ fn is_missed(heard: &Heard) -> bool
 }
 
 /// Whether each of the first `count` items is heard as this message.
-fn each_hears(message: &Message, count: usize, items: &[Option<&[u8]>]) -> bool
+pub(crate) fn each_hears(message: &Message, count: usize, items: &[Option<&[u8]>]) -> bool
     ensures { IsTrue result ↔ AllHear count (heard_at items.now) message.now }
 {
     for place in 0..count {
@@ -122,7 +122,7 @@ fn each_is_fair(message: &Message, count: usize, items: &[Option<&[u8]>]) -> boo
 }
 
 /// Whether all of the `count` terminals hear this message. Condition: there is a terminal.
-pub(crate) fn all_hear(message: &Message, count: usize, hearings: &Hearings<'_>) -> bool
+fn all_hear(message: &Message, count: usize, hearings: &Hearings<'_>) -> bool
     requires { 0 < count }
     ensures { IsTrue result ↔ AllHear count (hearing_of hearings.now) message.now }
 {

@@ -1,6 +1,6 @@
 //! The terminal.
 
-ghost use Rattle.std.specs.Prelude.{◌≡◌, ◌≤◌, ◌<◌, true, false, if◌then◌else◌, None, length, OnOk, OnErr, IfErr, option_map};
+ghost use Rattle.std.specs.Prelude.{IsTrue, ◌≡◌, ◌≤◌, ◌<◌, true, false, if◌then◌else◌, None, length, OnOk, OnErr, IfErr, option_map};
 ghost use Rattle.bsc_spool.specs.Queue.{with_offered};
 ghost use Rattle.bsc_text.specs.Receiver.{sends_rvi};
 ghost use Rattle.bsc_text.specs.Reply.{message_of};
@@ -203,6 +203,53 @@ impl<A: Allocator> Tributary<A> {
                 let act = self.sender.reply(heard, &mut self.queue);
                 perform(act, &mut self.mode)
             }
+        }
+    }
+
+    /// A call: one of an address that is not the terminal's own is not answered.
+    fn overhear_call(&mut self, address: &Address) -> bool
+        ensures silent { IsTrue result →
+            IsHearing self.old (Heard.Whole (Message.Call address.now)) self.new None }
+        ensures left { result ≡ false → self.new ≡ self.old }
+    {
+        let called = called_address(&self.terminal, address);
+        match called {
+            Called::Other => {
+                self.drop_line();
+                true
+            }
+            Called::Polling => false,
+            Called::Selection { .. } => false,
+        }
+    }
+
+    /// Whether what is no call and no EOT surely changes nothing.
+    fn is_deaf(&self, heard: &Heard) -> bool
+        requires { IsNoCall heard.now }
+        ensures { IsTrue result → IsHearing self.now heard.now self.now None }
+    {
+        match self.mode {
+            Mode::Control => true,
+            Mode::Receiving { .. } => false,
+            Mode::Sending => false,
+        }
+    }
+
+    /// Hears what the terminal surely does not answer, and gives true: EOT, a call of another
+    /// terminal, and in control mode all that is no call. Where it may answer it gives false, and
+    /// nothing changed. It is `answer` without the room for a message, for a line of many terminals
+    /// of which one answers.
+    pub fn overhear(&mut self, heard: &Heard) -> bool
+        ensures silent { IsTrue result → IsHearing self.old heard.now self.new None }
+        ensures left { result ≡ false → self.new ≡ self.old }
+    {
+        match heard {
+            Heard::Whole(Message::Eot) => {
+                self.drop_line();
+                true
+            }
+            Heard::Whole(Message::Call(address)) => self.overhear_call(address),
+            _ => self.is_deaf(heard),
         }
     }
 }

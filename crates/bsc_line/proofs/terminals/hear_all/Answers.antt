@@ -1,11 +1,11 @@
 use Rattle.std.proofs.Common.{◌≡◌, length, refl, sym, ◌∙◌, ap, subst, arith, ℕ, Option}
-use Rattle.bsc_frame.specs.declared.message.Message.{Message}
+use Rattle.bsc_frame.specs.declared.message.Heard.{Heard}
 use Rattle.bsc_tributary.specs.Tributary.{TributaryValue}
 use Rattle.bsc_line_model.specs.declared.transmission.Transmission.{Transmission}
 use Rattle.bsc_line_model.specs.declared.transmission.Speaker.TheVariants.{Terminal}
 use Rattle.bsc_line_model.specs.Transmission.{sent_by}
 use Rattle.bsc_line.specs.Hearings.{hearing_of}
-use Rattle.bsc_line_model.specs.Terminals.{or_first, first_answer, EachHears, EachKeeps}
+use Rattle.bsc_line_model.specs.Terminals.{answer, or_first, first_answer, EachHears, EachKeeps}
 use Rattle.bsc_line.proofs.EachHearing.{Heeds, none_heard, one_more, first_more, all_heard}
 use Rattle.bsc_line.proofs.terminals.hear_all.Goals as goal
 
@@ -15,15 +15,17 @@ loop-i-init g c = record { heard = none_heard c.args.terminals.now (hearing_of c
 pub loop-i-preserved : goal.loop-i-preserved
 loop-i-preserved g c =
     let t : TributaryValue = c.index-terminals-i.result in
-    let out : Option Message = c.hear_at-answer.result in
-    let heeds : Heeds t (hearing_of c.args.hearings.now c.loop-i.i) c.hear_at-answer.new.terminal out =
-    subst (λ (x : TributaryValue). Heeds x (hearing_of c.args.hearings.now c.loop-i.i) c.hear_at-answer.new.terminal out) (sym c.index-terminals-i.is)
-    (record { row = c.hear_at-answer.ensures.row; after = c.hear_at-answer.ensures.after }) in
+    let h : Heard = hearing_of c.args.hearings.now c.loop-i.i in
+    let u : TributaryValue = c.hear_at.new.terminal in
+    let heeds : Heeds t h u (answer t h u) =
+    subst (λ (x : TributaryValue). Heeds x h u (answer x h u)) (sym c.index-terminals-i.is)
+    (record { row = c.hear_at.ensures.hearing.row; after = c.hear_at.ensures.hearing.after }) in
     record {
-      heard = one_more c.args.terminals.now (hearing_of c.args.hearings.now) c.loop-i.terminals c.loop-i.i t c.hear_at-answer.new.terminal out c.loop-i.invariant.heard c.loop-i-test.true c.index-terminals-i.is heeds;
-      first = c.keep_first.ensures
-          ∙ ap (λ (x : Option Transmission). or_first x (sent_by (Terminal c.loop-i.i) out)) c.loop-i.invariant.first
-          ∙ sym (first_more c.args.terminals.now (hearing_of c.args.hearings.now) c.loop-i.terminals c.loop-i.i t c.hear_at-answer.new.terminal out c.loop-i.invariant.heard c.loop-i-test.true c.index-terminals-i.is heeds);
+      heard = one_more c.args.terminals.now (hearing_of c.args.hearings.now) c.loop-i.terminals c.loop-i.i t u (answer t h u) c.loop-i.invariant.heard c.loop-i-test.true c.index-terminals-i.is heeds;
+      first = c.hear_at.ensures.first
+          ∙ ap (λ (x : TributaryValue). or_first c.loop-i.first (sent_by (Terminal c.loop-i.i) (answer x h u))) (sym c.index-terminals-i.is)
+          ∙ ap (λ (o : Option Transmission). or_first o (sent_by (Terminal c.loop-i.i) (answer t h u))) c.loop-i.invariant.first
+          ∙ sym (first_more c.args.terminals.now (hearing_of c.args.hearings.now) c.loop-i.terminals c.loop-i.i t u (answer t h u) c.loop-i.invariant.heard c.loop-i-test.true c.index-terminals-i.is heeds);
     }
 
 pub returns : goal.returns
