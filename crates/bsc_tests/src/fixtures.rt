@@ -1,0 +1,94 @@
+//! The lines of the worked exchanges.
+
+use bsc_control::SetupError;
+use bsc_frame::Address;
+use bsc_line::Line;
+use bsc_text::{SettingError, Setup, Terminal};
+use std::alloc::Allocator;
+use std::test::Fail;
+
+/// Blocks of up to 400 characters of records of up to 80, and this many failures in a row are
+/// borne.
+pub(crate) fn setup(tries: u8) -> Result<Setup, SettingError> {
+    Setup::new(80, 400, tries, 10)
+}
+
+/// A terminal with this polling address and these selection addresses.
+pub(crate) fn terminal_of(poll: &[u8], selects: &[Address]) -> Result<Terminal, Fail> {
+    Ok(Terminal::new(Address::read(poll)?, selects)?)
+}
+
+/// Terminal 0, which is polled by A and selected by a, and terminal 1, polled by B and selected by
+/// b.
+pub(crate) fn two_terminals() -> Result<[Terminal; 2], Fail> {
+    Ok([
+        terminal_of(b"A", &[Address::read(b"a")?])?,
+        terminal_of(b"B", &[Address::read(b"b")?])?,
+    ])
+}
+
+/// The same two terminals, but terminal 0 is also selected by c.
+pub(crate) fn two_terminals_by_three() -> Result<[Terminal; 2], Fail> {
+    Ok([
+        terminal_of(b"A", &[Address::read(b"a")?, Address::read(b"c")?])?,
+        terminal_of(b"B", &[Address::read(b"b")?])?,
+    ])
+}
+
+/// The code by which the addresses of the first of many terminals are told apart from those of the
+/// others.
+pub(crate) const FIRST_CODE: u8 = 0x21;
+
+/// A terminal whose polling address is P with this code, and whose selection addresses are a, b, c
+/// and d with it.
+fn coded_terminal(code: u8) -> Result<Terminal, Fail> {
+    let selects = [
+        Address::read(&[b'a', code])?,
+        Address::read(&[b'b', code])?,
+        Address::read(&[b'c', code])?,
+        Address::read(&[b'd', code])?,
+    ];
+    terminal_of(&[b'P', code], &selects)
+}
+
+/// As many terminals as a line may have, each with as many selection addresses as it may have.
+pub(crate) fn most_terminals() -> Result<[Terminal; 64], Fail> {
+    let mut terminals = [coded_terminal(FIRST_CODE)?; 64];
+    for (terminal, code) in terminals.iter_mut().zip(FIRST_CODE..=0x7e) {
+        *terminal = coded_terminal(code)?;
+    }
+    Ok(terminals)
+}
+
+/// A new line with these terminals and this poll list, on which this many failures in a row are
+/// borne.
+pub(crate) fn line_of<A: Allocator + Copy>(
+    alloc: A,
+    terminals: &[Terminal],
+    poll_list: &[u8],
+    tries: u8,
+) -> Result<Line<A>, Fail> {
+    Ok(Line::new(alloc, setup(tries)?, terminals, poll_list)?)
+}
+
+/// A new line with terminals 0 and 1 polled in turn, and the default of three tries.
+pub(crate) fn line_of_two<A: Allocator + Copy>(alloc: A) -> Result<Line<A>, Fail> {
+    line_of(alloc, &two_terminals()?, &[0, 1], 3)
+}
+
+/// Why there is no line with these terminals and this poll list; None where there is one.
+pub(crate) fn refusal<A: Allocator + Copy>(
+    alloc: A,
+    terminals: &[Terminal],
+    poll_list: &[u8],
+) -> Result<Option<SetupError>, Fail> {
+    Ok(Line::new(alloc, setup(3)?, terminals, poll_list).err())
+}
+
+/// Offers this many empty records for the first selection address of terminal 0.
+pub(crate) fn offer_empty<A: Allocator>(line: &mut Line<A>, count: usize) -> Result<(), Fail> {
+    for _ in 0..count {
+        line.offer_for(0, 0, b"")?;
+    }
+    Ok(())
+}

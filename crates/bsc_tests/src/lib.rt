@@ -1,0 +1,28 @@
+//! Tests that cross crates: whole lines, with all their stations, as a user of the libraries runs
+//! them.
+#![tactic(auto)]
+
+#[cfg(test)]
+mod channels;
+#[cfg(test)]
+mod doubt;
+#[cfg(test)]
+mod fixtures;
+#[cfg(test)]
+mod hearings;
+#[cfg(test)]
+mod limits;
+#[cfg(test)]
+mod memory;
+#[cfg(test)]
+mod octets;
+#[cfg(test)]
+mod play;
+#[cfg(test)]
+mod polling;
+#[cfg(test)]
+mod refusals;
+#[cfg(test)]
+mod runs;
+#[cfg(test)]
+mod selecting;
