@@ -2,7 +2,7 @@
 
 use crate::content::{Content, bsc_decode, bsc_encode, kind};
 use crate::inputs::{self, Random};
-use crate::plain::{plain_decode, plain_encode};
+use crate::plain_calls::{plain_decode, plain_encode};
 use std::hint::black_box;
 use std::time::{Duration, Instant};
 

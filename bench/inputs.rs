@@ -2,7 +2,7 @@
 //! has the same.
 
 use crate::content::{Content, kind};
-use crate::plain::plain_encode;
+use crate::plain_calls::plain_encode;
 
 /// SplitMix64.
 pub struct Random(u64);

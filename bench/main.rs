@@ -6,6 +6,7 @@ mod compare;
 mod content;
 mod inputs;
 mod plain;
+mod plain_calls;
 
 use inputs::Random;
 

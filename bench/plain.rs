@@ -1,15 +1,12 @@
 //! The same profile in plain Rust, written for this comparison: what a Rust programmer writes who wants it
 //! fast and has no proofs to carry. One pass over the octets, one table look-up for each, no crates.
 //!
-//! It has the public surface of `bsc_frame` (`decode` to a `Heard` by value, `encode` of a `&Message` into a
-//! `Wire`), and on top the same two calls for C that `bsc_embed` has, so that both sides of the comparison
-//! do the same work.
-
-use crate::content::{Content, kind};
+//! It has the public surface of `bsc_frame`: `decode` to a `Heard` by value, `encode` of a `&Message` into a
+//! `Wire`.
 
 const MAX_HEARD: usize = 2048;
-const MAX_UNITS: usize = 7;
-const MAX_CHARS: usize = 144;
+pub const MAX_UNITS: usize = 7;
+pub const MAX_CHARS: usize = 144;
 
 const STX: u8 = 0x02;
 const SYN: u8 = 0x16;
@@ -24,7 +21,7 @@ pub enum End {
     Etx,
 }
 
-#[derive(Clone, Copy)]
+#[derive(Clone, Copy, PartialEq, Eq)]
 pub struct Address {
     codes: [u8; 7],
     len: u8,
@@ -36,7 +33,7 @@ pub struct Unit<'a> {
     pub em: bool,
 }
 
-#[derive(Clone, Copy)]
+#[derive(Clone, Copy, PartialEq, Eq)]
 struct Mark {
     end: u16,
     em: bool,
@@ -49,6 +46,7 @@ pub struct Text {
     end: End,
 }
 
+#[derive(PartialEq)]
 pub enum Message {
     Eot,
     Call(Address),
@@ -121,7 +119,7 @@ const fn to_line(code: u8) -> u8 {
     }
 }
 
-fn is_record_char(code: u8) -> bool {
+pub fn is_record_char(code: u8) -> bool {
     code < 0x80 && CLASSES[LINE[code as usize] as usize] == Class::Record
 }
 
@@ -146,6 +144,14 @@ impl Address {
     }
 }
 
+impl PartialEq for Text {
+    fn eq(&self, other: &Text) -> bool {
+        self.end == other.end
+            && self.marks[..self.count] == other.marks[..other.count]
+            && self.used() == other.used()
+    }
+}
+
 impl Text {
     fn new() -> Text {
         Text {
@@ -156,17 +162,11 @@ impl Text {
         }
     }
 
-    pub fn of(units: &[Unit], end: End) -> Option<Text> {
-        if units.is_empty() || units.len() > MAX_UNITS {
-            return None;
-        }
+    /// The text of units that are known to be those of a text.
+    pub fn holding(units: &[Unit], end: End) -> Text {
         let mut text = Text::new();
         let mut len = 0;
         for unit in units {
-            if unit.chars.len() > MAX_CHARS || !unit.chars.iter().all(|&code| is_record_char(code))
-            {
-                return None;
-            }
             text.chars[len..len + unit.chars.len()].copy_from_slice(unit.chars);
             len += unit.chars.len();
             text.marks[text.count] = Mark {
@@ -176,7 +176,16 @@ impl Text {
             text.count += 1;
         }
         text.end = end;
-        Some(text)
+        text
+    }
+
+    /// The characters of all its units.
+    fn used(&self) -> &[u8] {
+        let len = match self.marks[..self.count].last() {
+            Some(mark) => mark.end as usize,
+            None => 0,
+        };
+        &self.chars[..len]
     }
 
     pub fn count(&self) -> usize {
@@ -392,101 +401,4 @@ pub fn encode(message: &Message, wire: &mut Wire) {
         }
     }
     wire.push(PAD);
-}
-
-/// `bsc_decode` of `bsc.h`.
-#[inline(never)]
-pub extern "C" fn plain_decode(octets: *const u8, len: usize, content: &mut Content) -> u32 {
-    // SAFETY: the driver passes a slice's own address and length.
-    let octets = unsafe { std::slice::from_raw_parts(octets, len) };
-    match &decode(octets) {
-        Heard::Whole(message) => put(message, content),
-        Heard::Failed => kind::FAILED,
-        Heard::Noise => kind::NOISE,
-    }
-}
-
-fn put(message: &Message, content: &mut Content) -> u32 {
-    match message {
-        Message::Eot => kind::EOT,
-        Message::Call(address) => {
-            let codes = address.codes();
-            content.address[..codes.len()].copy_from_slice(codes);
-            content.address_len = codes.len() as u8;
-            kind::CALL
-        }
-        Message::Enq => kind::ENQ,
-        Message::Ack0 => kind::ACK0,
-        Message::Ack1 => kind::ACK1,
-        Message::Nak => kind::NAK,
-        Message::Wack => kind::WACK,
-        Message::Rvi => kind::RVI,
-        Message::Text(text) => {
-            for place in 0..text.count() {
-                let unit = text.unit(place);
-                let stored = &mut content.units[place];
-                stored.chars[..unit.chars.len()].copy_from_slice(unit.chars);
-                stored.len = unit.chars.len() as u8;
-                stored.em = unit.em as u8;
-            }
-            content.count = text.count() as u8;
-            content.end = if text.end() == End::Etb { ETB } else { 0x03 };
-            kind::TEXT
-        }
-    }
-}
-
-/// `bsc_encode` of `bsc.h`.
-#[inline(never)]
-pub extern "C" fn plain_encode(kind: u32, content: &Content, octets: *mut u8, len: usize) -> usize {
-    // SAFETY: the driver passes a slice's own address and length.
-    let octets = unsafe { std::slice::from_raw_parts_mut(octets, len) };
-    let Some(message) = message_of(kind, content) else {
-        return 0;
-    };
-    let mut wire = Wire::new();
-    encode(&message, &mut wire);
-    let Some(place) = octets.get_mut(..wire.len) else {
-        return 0;
-    };
-    place.copy_from_slice(wire.octets());
-    wire.len
-}
-
-fn message_of(kind: u32, content: &Content) -> Option<Message> {
-    match kind {
-        kind::EOT => Some(Message::Eot),
-        kind::CALL => {
-            let codes = content.address.get(..content.address_len as usize)?;
-            Some(Message::Call(Address::read(codes)?))
-        }
-        kind::ENQ => Some(Message::Enq),
-        kind::ACK0 => Some(Message::Ack0),
-        kind::ACK1 => Some(Message::Ack1),
-        kind::NAK => Some(Message::Nak),
-        kind::WACK => Some(Message::Wack),
-        kind::RVI => Some(Message::Rvi),
-        kind::TEXT => Some(Message::Text(text_of(content)?)),
-        _ => None,
-    }
-}
-
-fn text_of(content: &Content) -> Option<Text> {
-    let end = match content.end {
-        ETB => End::Etb,
-        0x03 => End::Etx,
-        _ => return None,
-    };
-    let stored = content.units.get(..content.count as usize)?;
-    let mut units = [Unit {
-        chars: &[],
-        em: false,
-    }; MAX_UNITS];
-    for (unit, stored) in units.iter_mut().zip(stored) {
-        *unit = Unit {
-            chars: stored.chars.get(..stored.len as usize)?,
-            em: stored.em != 0,
-        };
-    }
-    Text::of(&units[..stored.len()], end)
 }

@@ -1,0 +1,41 @@
+//! The numbers that the workloads are made of: the same here and in bench/line_plain.
+
+ghost use Rattle.std.specs.Prelude.{◌<◌};
+
+/// The generator xorshift64*.
+#[derive(Drop)]
+pub struct Random {
+    state: u64,
+}
+
+impl Random {
+    pub fn new(seed: u64) -> Random {
+        Random {
+            state: seed.wrapping_mul(0x9e37_79b9_7f4a_7c15) | 1,
+        }
+    }
+
+    fn word(&mut self) -> u64 {
+        self.state ^= self.state >> 12;
+        self.state ^= self.state << 25;
+        self.state ^= self.state >> 27;
+        self.state.wrapping_mul(0x2545_f491_4f6c_dd1d)
+    }
+
+    /// A number below the bound; 0 where that is 0.
+    pub fn below(&mut self, bound: usize) -> usize
+        ensures { 0 < bound → result < bound }
+    {
+        let number = (self.word() >> 32) as usize;
+        if bound == 0 { 0 } else { number % bound }
+    }
+
+    /// Whether one in so many comes up.
+    pub fn one_in(&mut self, many: usize) -> bool {
+        self.below(many) == 0
+    }
+
+    pub fn octet(&mut self) -> u8 {
+        self.below(256) as u8
+    }
+}

@@ -1,0 +1,141 @@
+//! What was left on a line, in a line of text that is the same here and in bench/line_plain.
+
+ghost use Rattle.bsc_line.specs.Line.{IsChannel};
+
+use bsc_block::RecordError;
+use bsc_control::Way;
+use bsc_line::{Line, LineError, Speaker};
+use std::alloc::Global;
+use std::io;
+use std::io::Write;
+
+/// A digest of numbers and octets.
+#[derive(Clone, Copy)]
+pub struct Digest {
+    sum: u64,
+}
+
+impl Digest {
+    pub fn new() -> Digest {
+        Digest {
+            sum: 0xcbf2_9ce4_8422_2325,
+        }
+    }
+
+    pub fn number(&mut self, number: usize) {
+        self.sum = (self.sum ^ number as u64).wrapping_mul(0x0000_0100_0000_01b3);
+        self.sum ^= self.sum >> 32;
+    }
+
+    pub fn octets(&mut self, octets: &[u8]) {
+        self.number(octets.len());
+        for octet in octets {
+            self.number(usize::from(*octet));
+        }
+    }
+
+    /// How an event was answered, and what is on the line after it.
+    pub fn event(&mut self, answer: Result<(), LineError>, line: &Line<Global>) {
+        self.number(code(answer));
+        match line.pending() {
+            None => self.number(0),
+            Some((speaker, octets)) => {
+                self.number(speaker_code(speaker));
+                self.octets(octets);
+            }
+        }
+        self.number(usize::from(line.trusted()));
+    }
+}
+
+/// A number for each station.
+fn speaker_code(speaker: Speaker) -> usize {
+    match speaker {
+        Speaker::Control => 1,
+        Speaker::Terminal(number) => number.wrapping_add(2),
+    }
+}
+
+/// A number for each answer.
+fn code(answer: Result<(), LineError>) -> usize {
+    match answer {
+        Ok(()) => 0,
+        Err(LineError::NothingSent) => 1,
+        Err(LineError::NotControl) => 2,
+        Err(LineError::WrongCount) => 3,
+        Err(LineError::Pending) => 4,
+        Err(LineError::NoSuchTerminal) => 5,
+        Err(LineError::NoSuchAddress) => 6,
+        Err(LineError::Memory) => 7,
+        Err(LineError::NotInDoubt) => 8,
+        Err(LineError::CountMismatch) => 9,
+        Err(LineError::BadRecord(RecordError::TooLong)) => 10,
+        Err(LineError::BadRecord(RecordError::NotText(place))) => place.wrapping_add(11),
+    }
+}
+
+/// What is left on all channels.
+#[derive(Drop)]
+struct Left {
+    digest: Digest,
+    offered: usize,
+    known: usize,
+    spooled: usize,
+    doubts: usize,
+}
+
+impl Left {
+    fn channel(&mut self, line: &Line<Global>, terminal: usize, way: Way)
+        requires { IsChannel line.now terminal way }
+    {
+        let known = line.known(terminal, way);
+        let in_doubt = line.in_doubt(terminal, way);
+        let offered = line.offered(terminal, way).len();
+        let spooled = line.spooled(terminal, way);
+        self.digest.number(offered);
+        self.digest.number(known);
+        self.digest.number(usize::from(in_doubt));
+        self.digest.number(spooled.len());
+        for record in spooled {
+            self.digest.octets(record.chars());
+        }
+        self.offered = self.offered.wrapping_add(offered);
+        self.known = self.known.wrapping_add(known);
+        self.spooled = self.spooled.wrapping_add(spooled.len());
+        self.doubts = self.doubts.wrapping_add(usize::from(in_doubt));
+    }
+}
+
+/// Prints what is left on the line after a history with this digest.
+pub fn print<W: Write>(
+    out: &mut W,
+    name: &str,
+    digest: Digest,
+    line: &Line<Global>,
+) -> io::Result<()> {
+    let mut left = Left {
+        digest,
+        offered: 0,
+        known: 0,
+        spooled: 0,
+        doubts: 0,
+    };
+    for terminal in 0..line.terminals() {
+        left.channel(line, terminal, Way::FromTerminal);
+        for select in 0..line.addresses(terminal) {
+            left.channel(line, terminal, Way::ToTerminal(select));
+        }
+    }
+    let (offered, known, spooled, doubts) = (left.offered, left.known, left.spooled, left.doubts);
+    let trusted = if line.trusted() {
+        "trusted"
+    } else {
+        "not trusted"
+    };
+    let sum = left.digest.sum;
+    write!(
+        out,
+        "{name}: offered {offered}, known {known}, spooled {spooled}, in doubt {doubts}, "
+    )?;
+    writeln!(out, "{trusted}, {sum:016x}")
+}

@@ -1,0 +1,331 @@
+//! Random scripts of events of all kinds.
+
+ghost use Rattle.std.specs.Prelude.{◌<◌};
+
+use crate::random::Random;
+use crate::report;
+use crate::report::Digest;
+use bsc_control::Way;
+use bsc_frame::Address;
+use bsc_line::{Line, LineError, Speaker};
+use bsc_text::{Setup, Terminal};
+use std::alloc::{AllocError, Global};
+use std::io::Write;
+use std::mem;
+
+/// A script as it is played.
+#[derive(Drop)]
+struct Script {
+    alloc: Global,
+    random: Random,
+    line: Line<Global>,
+    full: usize,
+
+    /// Of eight transmissions so many are not heard as they were sent.
+    spoiled: usize,
+
+    /// How many ways of spoiling there are.
+    ways: usize,
+
+    /// What is pending, and what was pending some time before.
+    octets: Vec<u8>,
+    earlier: Vec<u8>,
+}
+
+/// What an event answers; the outer error is want of memory outside the line.
+type Answer = Result<Result<(), LineError>, AllocError>;
+
+/// Plays a number of scripts, and tells what each leaves.
+pub fn play<W: Write>(
+    alloc: Global,
+    out: &mut W,
+    seed: u64,
+    scripts: u64,
+    events: usize,
+) -> anyhow::Result<()> {
+    for number in 0..scripts {
+        let number = seed.wrapping_add(number);
+        let mut script = Script::new(alloc, number)?;
+        let mut digest = Digest::new();
+        for _ in 0..events {
+            let answer = script.step()?;
+            digest.event(answer, &script.line);
+        }
+        let name = format!(in alloc; "{number}")?;
+        report::print(out, name.as_str(), digest, &script.line)?;
+    }
+    Ok(())
+}
+
+/// Plays one script, and tells after each event what is left.
+pub fn trace<W: Write>(alloc: Global, out: &mut W, seed: u64, events: usize) -> anyhow::Result<()> {
+    let mut script = Script::new(alloc, seed)?;
+    for number in 0..events {
+        let mut digest = Digest::new();
+        let answer = script.step()?;
+        digest.event(answer, &script.line);
+        let name = format!(in alloc; "{number}")?;
+        report::print(out, name.as_str(), digest, &script.line)?;
+    }
+    Ok(())
+}
+
+impl Script {
+    fn new(alloc: Global, seed: u64) -> anyhow::Result<Script> {
+        let mut random = Random::new(seed);
+        let full = if random.one_in(2) {
+            80
+        } else {
+            1 + random.below(144)
+        };
+        let block_chars = if random.one_in(2) {
+            400
+        } else {
+            146 + random.below(255)
+        };
+        let tries = 1 + random.below(3);
+        let waits = 1 + random.below(3);
+        let setup = Setup::new(full as u8, block_chars as u16, tries as u8, waits as u8)?;
+        let count = 1 + random.below(4);
+        let mut terminals = Vec::new(alloc);
+        for number in 0..count {
+            terminals.push(terminal(alloc, &mut random, number)?)?;
+        }
+        let mut poll_list = Vec::new(alloc);
+        for _ in 0..1 + random.below(6) {
+            poll_list.push(random.below(count) as u8)?;
+        }
+        Ok(Script {
+            alloc,
+            line: Line::new(alloc, setup, &terminals, &poll_list)?,
+            full,
+            spoiled: random.below(8),
+            ways: ways(random.below(3)),
+            octets: Vec::new(alloc),
+            earlier: Vec::new(alloc),
+            random,
+        })
+    }
+
+    /// One event.
+    fn step(&mut self) -> Answer {
+        let count = self.line.terminals();
+        let terminal = self.one_of(count);
+        match self.random.below(16) {
+            0 | 1 => {
+                let record = self.record()?;
+                Ok(self.line.offer_at(terminal, &record))
+            }
+            2 | 3 => {
+                let select = self.select(terminal);
+                let record = self.record()?;
+                Ok(self.line.offer_for(terminal, select, &record))
+            }
+            4 => Ok(self.flag(terminal)),
+            5 => Ok(self.release(terminal)),
+            6 => {
+                if self.random.one_in(8) {
+                    self.any_turn()
+                } else {
+                    self.turn()
+                }
+            }
+            _ => self.turn(),
+        }
+    }
+
+    /// A number below the count, or sometimes also the count.
+    fn one_of(&mut self, count: usize) -> usize {
+        if self.random.one_in(16) {
+            self.random.below(count.wrapping_add(1))
+        } else {
+            self.random.below(count)
+        }
+    }
+
+    /// The number of an address of a terminal, or one more.
+    fn select(&mut self, terminal: usize) -> usize {
+        let selects = if terminal < self.line.terminals() {
+            self.line.addresses(terminal)
+        } else {
+            1
+        };
+        self.one_of(selects)
+    }
+
+    fn record(&mut self) -> Result<Vec<u8>, AllocError> {
+        let len = if self.random.one_in(2) {
+            self.random.below(self.full.wrapping_add(2))
+        } else {
+            self.random.below(4)
+        };
+        let mut record = Vec::new(self.alloc);
+        for _ in 0..len {
+            record.push(0x20 + self.random.below(0x5f) as u8)?;
+        }
+        if self.random.one_in(32) && len > 0 {
+            let place = self.random.below(len);
+            let octet = self.random.octet();
+            if let Some(char) = record.get_mut(place) {
+                *char = octet;
+            }
+        }
+        Ok(record)
+    }
+
+    fn flag(&mut self, terminal: usize) -> Result<(), LineError> {
+        match self.random.below(3) {
+            0 => {
+                let ready = !self.random.one_in(3);
+                self.line.set_ready(terminal, ready)
+            }
+            1 => self.line.set_urgent_at(terminal),
+            _ => self.line.set_urgent_for(terminal),
+        }
+    }
+
+    fn release(&mut self, terminal: usize) -> Result<(), LineError> {
+        let select = self.select(terminal);
+        let way = if self.random.one_in(2) {
+            Way::FromTerminal
+        } else {
+            Way::ToTerminal(select)
+        };
+        self.line.release(terminal, way)
+    }
+
+    /// What is pending is carried or lost, or a silence passes, also at a wrong time.
+    fn any_turn(&mut self) -> Answer {
+        match self.random.below(4) {
+            0 => Ok(self.line.silence()),
+            1 => Ok(self.line.carry(None)),
+            2 => Ok(self.line.carry_sent()),
+            _ => self.carry_each(),
+        }
+    }
+
+    /// What is pending is carried or lost; where nothing is, a silence passes.
+    fn turn(&mut self) -> Answer {
+        let Some((speaker, octets)) = self.line.pending() else {
+            return Ok(self.line.silence());
+        };
+        let by_control = matches!(speaker, Speaker::Control);
+        if self.random.one_in(4) {
+            mem::swap(&mut self.octets, &mut self.earlier);
+        }
+        self.octets.clear();
+        self.octets.extend_from_slice(octets)?;
+        if self.random.below(8) >= self.spoiled {
+            return Ok(self.line.carry_sent());
+        }
+        match self.random.below(4) {
+            0 => Ok(self.line.carry(None)),
+            1 if by_control => self.carry_each(),
+            _ => {
+                let heard = self.spoil()?;
+                Ok(self.line.carry(Some(heard.as_slice())))
+            }
+        }
+    }
+
+    /// Each terminal hears what is pending in a way of its own.
+    fn carry_each(&mut self) -> Answer {
+        let count = self.line.terminals();
+        let count = if self.random.one_in(16) {
+            count.wrapping_add(1)
+        } else {
+            count
+        };
+        let mut hearings = Vec::new(self.alloc);
+        for _ in 0..count {
+            hearings.push(self.hearing()?)?;
+        }
+        let mut items = Vec::new(self.alloc);
+        for hearing in &hearings {
+            items.push(match hearing {
+                Some(octets) => Some(octets.as_slice()),
+                None => None,
+            })?;
+        }
+        Ok(self.line.carry_each(&items))
+    }
+
+    /// What one terminal hears of what is pending.
+    fn hearing(&mut self) -> Result<Option<Vec<u8>>, AllocError> {
+        match self.random.below(4) {
+            0 => Ok(None),
+            1 => Ok(Some(self.spoil()?)),
+            _ => Ok(Some(self.octets.clone()?)),
+        }
+    }
+
+    /// What is heard in place of what is pending.
+    fn spoil(&mut self) -> Result<Vec<u8>, AllocError> {
+        let mut heard = self.octets.clone()?;
+        let place = self.random.below(heard.len().max(1));
+        match self.random.below(self.ways) {
+            0 => {
+                let bit = self.random.below(8);
+                if let Some(octet) = heard.get_mut(place) {
+                    *octet ^= 1u8 << bit;
+                }
+            }
+            1 => heard.truncate(place),
+            2 => heard.push(0xff)?,
+            3 => heard = self.earlier.clone()?,
+            4 => heard = Vec::from_slice(self.alloc, other(self.random.below(8)))?,
+            _ => {
+                let new = self.random.octet();
+                if let Some(octet) = heard.get_mut(place) {
+                    *octet = new;
+                }
+            }
+        }
+        Ok(heard)
+    }
+}
+
+/// How many ways of spoiling a script has: bits are turned, or more is cut short, or all.
+fn ways(choice: usize) -> usize {
+    match choice {
+        0 => 1,
+        1 => 2,
+        _ => 6,
+    }
+}
+
+/// What else may be heard: EOT, ENQ, NAK, ACK0, ACK1, WACK, RVI, and a text whose check fails.
+fn other(choice: usize) -> &'static [u8] {
+    match choice {
+        0 => &[0x16, 0x04],
+        1 => &[0x16, 0x85],
+        2 => &[0x16, 0x15],
+        3 => &[0x16, 0x10, 0xb0],
+        4 => &[0x16, 0x10, 0x31],
+        5 => &[0x16, 0x10, 0x3b],
+        6 => &[0x16, 0x10, 0xbc],
+        _ => &[0x16, 0x02, 0x85],
+    }
+}
+
+/// A terminal of one to four addresses.
+fn terminal(alloc: Global, random: &mut Random, number: usize) -> anyhow::Result<Terminal>
+    requires { number < 4 }
+{
+    let letter = number as u8;
+    let poll = address(alloc, random, &[b'A' + letter])?;
+    let mut selects = Vec::new(alloc);
+    for select in 0..1 + random.below(4) {
+        selects.push(address(alloc, random, &[b'a' + letter, b'0' + select as u8])?)?;
+    }
+    Ok(Terminal::new(poll, &selects)?)
+}
+
+/// An address of these codes and some more.
+fn address(alloc: Global, random: &mut Random, first: &[u8]) -> anyhow::Result<Address> {
+    let mut codes = Vec::from_slice(alloc, first)?;
+    for _ in 0..random.below(6) {
+        codes.push(0x21 + random.below(0x5e) as u8)?;
+    }
+    Ok(Address::read(&codes)?)
+}
