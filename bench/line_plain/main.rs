@@ -45,6 +45,7 @@ fn hearing_of(word: &str) -> Result<Hearing, String> {
     match word {
         "sent" => Ok(Hearing::Sent),
         "octets" => Ok(Hearing::Octets),
-        _ => Err(format!("{word} is neither sent nor octets")),
+        "padded" => Ok(Hearing::Padded),
+        _ => Err(format!("{word} is not sent, octets or padded")),
     }
 }

@@ -14,8 +14,11 @@ pub enum Hearing {
     /// By a call that says that it is heard as it was sent.
     Sent,
 
-    /// As octets, which are read again.
+    /// As octets that are those that were sent.
     Octets,
+
+    /// As these and one more FF after them, which is no part of the message.
+    Padded,
 }
 
 /// Records of which seven fill a block of 400: each counts 57.
@@ -132,14 +135,20 @@ impl Player {
 
     fn carry(&mut self) -> Result<(), LineError> {
         match self.hearing {
-            Hearing::Sent => self.line.carry_sent(),
-            Hearing::Octets => {
-                self.octets.clear();
-                if let Some((_, octets)) = self.line.pending() {
-                    self.octets.extend_from_slice(octets);
-                }
-                self.line.carry(Some(&self.octets))
+            Hearing::Sent => return self.line.carry_sent(),
+            Hearing::Octets => self.copy_pending(),
+            Hearing::Padded => {
+                self.copy_pending();
+                self.octets.push(0xff);
             }
+        }
+        self.line.carry(Some(&self.octets))
+    }
+
+    fn copy_pending(&mut self) {
+        self.octets.clear();
+        if let Some((_, octets)) = self.line.pending() {
+            self.octets.extend_from_slice(octets);
         }
     }
 

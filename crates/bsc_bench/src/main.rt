@@ -77,6 +77,7 @@ fn hearing(word: &str) -> Result<Hearing> {
     match word {
         "sent" => Ok(Hearing::Sent),
         "octets" => Ok(Hearing::Octets),
-        _ => bail!("neither sent nor octets"),
+        "padded" => Ok(Hearing::Padded),
+        _ => bail!("not sent, octets or padded"),
     }
 }

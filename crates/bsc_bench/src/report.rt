@@ -1,6 +1,6 @@
 //! What was left on a line, in a line of text that is the same here and in bench/line_plain.
 
-ghost use Rattle.bsc_line.specs.Line.{IsChannel};
+ghost use Rattle.bsc_line_model.specs.Line.{IsChannel};
 
 use bsc_block::RecordError;
 use bsc_control::Way;

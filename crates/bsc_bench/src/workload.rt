@@ -5,7 +5,7 @@ ghost use Rattle.std.specs.Prelude.{◌<◌};
 use crate::report;
 use crate::report::Digest;
 use anyhow::{Context, ensure};
-use bsc_frame::Address;
+use bsc_frame::{Address, Wire};
 use bsc_line::{Line, LineError};
 use bsc_text::{Setup, Terminal};
 use std::alloc::Global;
@@ -20,8 +20,11 @@ pub enum Hearing {
     /// By a call that says that it is heard as it was sent.
     Sent,
 
-    /// As octets, which are read again.
+    /// As octets that are those that were sent.
     Octets,
+
+    /// As these and one more FF after them, which is no part of the message.
+    Padded,
 }
 
 /// The records of a text.
@@ -30,13 +33,13 @@ const RECORDS: usize = 7;
 /// How many transmissions a visit of a terminal takes: two calls, two texts, their replies and EOT.
 const TRANSMISSIONS: usize = 8;
 
-/// A line, and the record that is offered next on it. It has 55 characters, so that it counts 57 and
+/// A line, and the record that is offered next on it: of 55 characters, so that it counts 57 and
 /// seven of them fill a block of 400.
 #[derive(Drop)]
 struct Player {
     line: Line<Global>,
     hearing: Hearing,
-    octets: Vec<u8>,
+    octets: Wire,
     record: [u8; 55],
     number: usize,
     terminal: usize,
@@ -127,7 +130,7 @@ impl Player {
         Ok(Player {
             line: Line::new(alloc, setup, &stations, &poll_list)?,
             hearing,
-            octets: Vec::new(alloc),
+            octets: Wire::new(),
             record: [b'-'; 55],
             number: 0,
             terminal: 0,
@@ -136,16 +139,21 @@ impl Player {
 
     fn carry(&mut self) -> Result<(), LineError> {
         match self.hearing {
-            Hearing::Sent => self.line.carry_sent(),
-            Hearing::Octets => {
-                self.octets.clear();
-                if let Some((_, octets)) = self.line.pending()
-                    && self.octets.extend_from_slice(octets).is_err()
-                {
-                    return Err(LineError::Memory);
-                }
-                self.line.carry(Some(self.octets.as_slice()))
+            Hearing::Sent => return self.line.carry_sent(),
+            Hearing::Octets => self.copy_pending(),
+            Hearing::Padded => {
+                self.copy_pending();
+                let _ = self.octets.try_push(0xff);
             }
+        }
+        self.line.carry(Some(self.octets.as_slice()))
+    }
+
+    /// Copies the octets of what is pending, which are at most 1,033.
+    fn copy_pending(&mut self) {
+        self.octets.clear();
+        if let Some((_, octets)) = self.line.pending() {
+            let _ = self.octets.try_extend_from_slice(octets);
         }
     }
 
