@@ -211,6 +211,7 @@ impl Text {
 }
 
 /// What the octets are heard as.
+#[inline]
 pub fn decode(octets: &[u8]) -> Heard {
     if octets.len() > MAX_HEARD {
         return Heard::Noise;
@@ -370,6 +371,7 @@ impl Wire {
 }
 
 /// Puts the octets of the message into the wire, in place of what it had.
+#[inline]
 pub fn encode(message: &Message, wire: &mut Wire) {
     wire.len = 0;
     wire.append(&[SYN, SYN]);
