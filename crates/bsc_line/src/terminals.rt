@@ -4,6 +4,7 @@ ghost use Rattle.std.specs.Prelude.{◌≡◌, ◌<◌, ◌≤◌, length, IfSom
 ghost use Rattle.bsc_spool.specs.Queue.{with_offered};
 ghost use Rattle.bsc_tributary.specs.Tributary.{holds};
 ghost use Rattle.bsc_tributary.specs.Kept.{IsHearing, KeepsSetupAndMode};
+ghost use Rattle.bsc_line_model.specs.Hearing.{heard_at};
 ghost use Rattle.bsc_line_model.specs.Transmission.{sent_by};
 ghost use Rattle.bsc_line_model.specs.Terminals.{EachHears, EachKeeps, answer, first_answer, or_first, line_owner};
 ghost use Rattle.bsc_line_model.specs.Kept.{AreNewTerminals, AreEachDistinct};
@@ -63,6 +64,25 @@ fn hear_one<A: Allocator>(
     hear_apart(terminal, heard, place, first);
 }
 
+/// A terminal hears its item, and its answer is kept where none came before. It stands apart for
+/// the same reason.
+#[inline(never)]
+fn hear_item<A: Allocator>(
+    terminal: &mut Tributary<A>,
+    items: &[Option<&[u8]>],
+    place: usize,
+    first: &mut Option<Transmission>,
+)
+    ensures hearing { let heard = heard_at items.now place in
+        IsHearing terminal.old heard terminal.new (answer terminal.old heard terminal.new) }
+    ensures first { let heard = heard_at items.now place in
+        first.new ≡ or_first first.old
+        (sent_by (Speaker.Terminal place) (answer terminal.old heard terminal.new)) }
+{
+    let heard = hearing(item_at(items, place));
+    hear_one(terminal, &heard, place, first);
+}
+
 /// A terminal hears what arrives at its place, and its answer is kept where none came before.
 fn hear_at<A: Allocator>(
     terminal: &mut Tributary<A>,
@@ -78,9 +98,7 @@ fn hear_at<A: Allocator>(
 {
     match hearings {
         Hearings::Alike(heard) => hear_one(terminal, heard, place, first),
-        Hearings::Each(items) => {
-            hear_one(terminal, &hearing(item_at(items, place)), place, first)
-        }
+        Hearings::Each(items) => hear_item(terminal, items, place, first),
     }
 }
 
