@@ -30,3 +30,4 @@ pub mod Refusals
 pub mod RunsKeep
 pub mod UpMoves
 pub mod NewChannels
+pub mod OctetsHeard

@@ -13,3 +13,4 @@ pub mod Together
 pub mod ChannelSteps
 pub mod StepLaws
 pub mod Headline
+pub mod Octets

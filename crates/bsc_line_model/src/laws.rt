@@ -6,9 +6,11 @@ ghost use Rattle.bsc_line_model.specs.Line.{LineValue};
 ghost use Rattle.bsc_line_model.specs.Stays.{NewLineStays, DownStays, UpStays, SilenceStays, OfferAtStays, ReadyStays, UrgentAtStays, ReleaseFromStays, OfferForStays, UrgentForStays, ReleaseToStays};
 ghost use Rattle.bsc_line_model.specs.StepLaws.{EachStepsChannels, GrowsByOffers, RefusedChangesNothing, TrustOnlyFalls, HoldsWhilePolled, NeverMismatches, NewChannelsAreEmpty, OneAnswers, AlikeIsFair, FairIsAlike};
 ghost use Rattle.bsc_line_model.specs.Headline.{RunsKeepRecords};
+ghost use Rattle.bsc_line_model.specs.Octets.{FairInOctets};
 ghost use Rattle.bsc_line_model.specs.Together.{AreSound};
 
 use crate::bids::bid_laws;
+use bsc_frame::laws::reading;
 use bsc_tributary::laws::own_addresses;
 
 /// Every event leaves a line a line.
@@ -75,6 +77,14 @@ pub fn heard_alike()
     ensures fair { AlikeIsFair }
     ensures back { FairIsAlike }
 {}
+
+/// What is heard of octets is heard fairly exactly where they spell what was sent, or EOT of a
+/// call, or spell no message, which may have failed its check where a text was sent.
+pub fn fair_in_octets()
+    ensures { FairInOctets }
+{
+    reading();
+}
 
 /// On a new line nothing is offered, known or spooled.
 pub fn new_channels()
