@@ -185,3 +185,8 @@ acted_at l t x u sent next less is row kept made =
       becomes = ap (λ (o : Option Transmission). record (with_terminal l t u) { pending = o }) made
           ∙ ap (λ (y : TributaryValue). record (with_terminal l t y) { pending = sent_by (Terminal t) sent }) there;
     }
+
+-- what is on the line keeps the limits of a message
+pub on_wire_within : (sent : Option Transmission) (octets : List ℕ) → IsOnWire sent octets → IfSome sent (λ (s : Transmission). IsMessage s.message)
+on_wire_within None octets on = tt
+on_wire_within (Some s) octets on = on.1

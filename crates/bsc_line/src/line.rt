@@ -6,9 +6,11 @@ mod releases;
 mod runs;
 mod silences;
 
-ghost use Rattle.std.specs.Prelude.{◌≡◌, ◌<◌, IfOk, IfErr, OnOk};
+ghost use Rattle.std.specs.Prelude.{◌≡◌, ◌<◌, IfSome, IfOk, IfErr, OnOk};
+ghost use Rattle.bsc_frame.specs.Message.{IsMessage};
 ghost use Rattle.bsc_text.specs.Sender.{is_in_doubt};
 ghost use Rattle.bsc_control.specs.Refusals.{IsAccepted, IsRefused};
+ghost use Rattle.bsc_line_model.specs.declared.transmission.Transmission.{Transmission as TransmissionValue};
 ghost use Rattle.bsc_line_model.specs.Transmission.{IsPending};
 ghost use Rattle.bsc_line_model.specs.Line.{terminal_count, IsChannel, channel_of, phase_of};
 ghost use Rattle.bsc_line_model.specs.Offers.{select_count};
@@ -107,6 +109,7 @@ impl<A: Allocator> Line<A> {
     /// What is on the line, and who sent it.
     pub fn pending(&self) -> Option<(Speaker, &[u8])>
         ensures value { IsPending self.now.pending result }
+        ensures limits { IfSome self.now.pending (λ (s : TransmissionValue). IsMessage s.message) }
         ensures line { IsLine self.now }
     {
         match &self.sent {
