@@ -14,3 +14,4 @@ pub mod ChannelSteps
 pub mod StepLaws
 pub mod Headline
 pub mod Octets
+pub mod Rounds
