@@ -46,3 +46,5 @@ pub mod Visits
 pub mod VisitCounts
 pub mod RoundSteps
 pub mod Delivered
+pub mod DelaysGrow
+pub mod FairRuns

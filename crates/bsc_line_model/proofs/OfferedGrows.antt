@@ -182,3 +182,13 @@ channel_stays event old new t way d is =
       there = subst (λ (n : ℕ). t < n) (sym same.count) is.there;
       its_way = way_stays (terminal_at old t) (terminal_at new t) way (same.each t is.there) is.its_way;
     }
+
+-- and has no others
+pub channel_was : (event : Event) (old new : LineValue) (t : ℕ) (way : Way) → Does event old (Ok tt) new → IsChannel new t way → IsChannel old t way
+channel_was event old new t way d is =
+    let same : SameTerminals old new = same_terminals event old new d in
+    let before : t < terminal_count old = subst (λ (n : ℕ). t < n) same.count is.there in
+    record {
+      there = before;
+      its_way = way_stays (terminal_at new t) (terminal_at old t) way (sym (same.each t before)) is.its_way;
+    }

@@ -97,7 +97,7 @@ no_reply a Wack e = cc
 no_reply a Rvi e = cc
 
 -- while a polling address is called no terminal sends
-all_quiet : (l : LineValue) (a : List ℕ) (replied : Replied) → IsGood l → l.control.task ≡ k.Polling replied → l.pending ≡ Some (record { speaker = sp.Control; message = msg.Call a }) → (t : ℕ) → t < length l.terminals → IsQuiet (peer_at l.control t) (terminal_at l t)
+pub all_quiet : (l : LineValue) (a : List ℕ) (replied : Replied) → IsGood l → l.control.task ≡ k.Polling replied → l.pending ≡ Some (record { speaker = sp.Control; message = msg.Call a }) → (t : ℕ) → t < length l.terminals → IsQuiet (peer_at l.control t) (terminal_at l t)
 all_quiet l a replied g task is t less =
     elim (same_or_not t (current l.control)) [
       | inl same ↦ subst (λ (n : ℕ). IsQuiet (peer_at l.control n) (terminal_at l n)) (sym same) (here polling.present)

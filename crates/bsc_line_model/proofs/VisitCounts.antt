@@ -14,12 +14,11 @@ use Rattle.bsc_control.specs.Addresses.{IsAddressOf, address_for}
 use Rattle.bsc_control.specs.Peer.{PeerValue, OutboundValue, IsPeer, no_peer, no_outbound, outbound_at}
 use Rattle.bsc_control.specs.Control.{ControlValue, peer_at, peer, current, terminals, terminal_of_entry}
 use Rattle.bsc_control.specs.CallOrder.{way_from, first_call}
-use Rattle.bsc_control.specs.Kept.{IsCalled}
 use Rattle.bsc_control.specs.Table.{select_address}
 use Rattle.bsc_line_model.specs.declared.transmission.Speaker.TheVariants as sp
 use Rattle.bsc_line_model.specs.Transmission.{sent_by}
 use Rattle.bsc_line_model.specs.Line.{LineValue, terminal_at}
-use Rattle.bsc_line_model.specs.Rounds.{block_count, selection_length, poll_length, visit_length, BeginsVisit}
+use Rattle.bsc_line_model.specs.Rounds.{block_count, selection_length, poll_length, visit_length, HasMadeCall}
 use Rattle.bsc_line_model.proofs.Stations.{terminal_there}
 use Rattle.bsc_line_model.proofs.DownControl.{HasCalled, address_at}
 use Rattle.bsc_line_model.proofs.DownSteps.{terminal_here}
@@ -59,7 +58,7 @@ address_is x FromTerminal a e within = some_same a x.poll (sym e)
 address_is x (ToTerminal s) a e within = some_same a (select_address x s) (sym e ∙ slice_get-get_or x.selects s x.poll (within s refl))
 
 -- a visit of an entry begins: its first call is pending
-pub begins : (l : LineValue) (place : ℕ) (address : List ℕ) (way : Way) → IsGood l → IsCalled l.control (record { place = place; way = way }) address → l.pending ≡ Some (record { speaker = sp.Control; message = m.Call address }) →
+pub begins : (l : LineValue) (place : ℕ) (address : List ℕ) (way : Way) → IsGood l → HasMadeCall l.control (record { place = place; way = way }) address → l.pending ≡ Some (record { speaker = sp.Control; message = m.Call address }) →
     ((s : ℕ) → way ≡ ToTerminal s → s < length (peer l.control).terminal.selects) → Calls l place way
 begins l place address way g h is within =
     let e : ℕ = current l.control in

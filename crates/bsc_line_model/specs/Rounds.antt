@@ -1,17 +1,20 @@
--- How many transmissions a visit of a terminal and a round of the poll list take where all is heard (own), and
--- what they deliver.
-use Rattle.std.specs.Prelude.{◌≡◌, ◌<◌, ◌+◌, ◌*◌, ◌-◌, ◌^◌, ℕ, zero, suc, false, IsTrue, nat_eq, is_some, position, List, [], ◌∷◌, length, sum_by, replicate, slice_index, Some, Result, Ok, if◌then◌else◌}
+-- How many transmissions a visit of a terminal and a round of the poll list take where all is heard
+-- (own), and what they deliver.
+use Rattle.std.specs.Prelude.{◌≡◌, ◌≢◌, ◌<◌, ◌+◌, ◌*◌, ◌-◌, ◌^◌, ℕ, zero, suc, false, IsTrue, nat_eq}
+use Rattle.std.specs.Prelude.{is_some, position, List, [], ◌∷◌, length, sum_by, replicate, slice_index, Some, Result, Ok, if◌then◌else◌}
 use Rattle.bsc_frame.specs.declared.message.Message.TheVariants as m
 use Rattle.bsc_block.specs.Blocks.{blocks}
 use Rattle.bsc_spool.specs.Queue.{QueueValue, waiting}
+use Rattle.bsc_text.specs.Channel.{Channel}
 use Rattle.bsc_text.specs.Sender.{is_in_doubt}
 use Rattle.bsc_tributary.specs.Tributary.{spool_at}
 use Rattle.bsc_control.specs.declared.way.Way.{Way}
 use Rattle.bsc_control.specs.declared.way.Way.TheVariants.{ToTerminal}
+use Rattle.bsc_control.specs.Addresses.{IsAddressOf}
 use Rattle.bsc_control.specs.Peer.{OutboundValue}
-use Rattle.bsc_control.specs.Control.{peer_at}
-use Rattle.bsc_control.specs.CallOrder.{first_call}
-use Rattle.bsc_control.specs.Kept.{IsCalled}
+use Rattle.bsc_control.specs.Control.{ControlValue, peer_at, terminals, current}
+use Rattle.bsc_control.specs.CallOrder.{Call, first_call}
+use Rattle.bsc_control.specs.Kept.{IsTaskOf}
 use Rattle.bsc_line_model.specs.declared.transmission.Speaker.TheVariants.{Control}
 use Rattle.bsc_line_model.specs.declared.event.Event.{Event}
 use Rattle.bsc_line_model.specs.declared.event.Event.TheVariants.{CarrySent}
@@ -24,80 +27,123 @@ use Rattle.bsc_line_model.specs.Runs.{Runs}
 abbrev pub block_count : QueueValue → ℕ
 block_count q = length (blocks q.format (waiting q))
 
--- the transmissions of a bid of so many blocks to a selection address: call and answer, and two a block; none
--- where there is no block, for then the address is not called
+-- the transmissions of a bid of this many blocks to a selection address: call and answer, and two
+-- for each block; none where there is no block, for then the address is not called
 abbrev pub selection_length : ℕ → ℕ
 selection_length zero = 0
 selection_length (suc n) = 2 + 2 * suc n
 
--- the transmissions of a poll with so many blocks: call and EOT, and two a block
+-- the transmissions of a poll with this many blocks: call and EOT, and two for each block
 abbrev pub poll_length : ℕ → ℕ
 poll_length n = 2 + 2 * n
 
--- the transmissions of a visit of a terminal
+-- the transmissions of a visit of a terminal: a selection of each of its selection addresses, and a
+-- poll
 abbrev pub visit_length : LineValue → ℕ → ℕ
 visit_length l t =
-    sum_by (λ (o : OutboundValue). selection_length (block_count o.queue)) (peer_at l.control t).outbounds
+    sum_by (λ (o : OutboundValue). selection_length (block_count o.queue))
+    (peer_at l.control t).outbounds
     + poll_length (block_count (terminal_at l t).queue)
 
--- a terminal's first entry counts a visit, each later one a poll of nothing
+-- the transmissions of these entries of the poll list: the first entry of a terminal is a visit of
+-- it, and each later one is a poll in which it has nothing to send
 abbrev pub entries_length : LineValue → List ℕ → List ℕ → ℕ
 entries_length l seen [] = 0
 entries_length l seen (t ∷ ts) =
-    (if is_some (position (nat_eq t) seen) then 2 else visit_length l t) + entries_length l (t ∷ seen) ts
+    (if is_some (position (nat_eq t) seen) then 2 else visit_length l t)
+    + entries_length l (t ∷ seen) ts
 
 -- the transmissions of a round of the poll list
 abbrev pub round_length : LineValue → ℕ
 round_length l = entries_length l [] l.control.poll_list
 
--- terminal t is ready for a visit: it takes selections, no end asks for the line, and nothing is in doubt
+-- the terminal that an entry of the poll list names
+abbrev pub entry_at : LineValue → ℕ → ℕ
+entry_at l place = slice_index l.control.poll_list place
+
+-- the place of the entry after this one: after the last the first
+abbrev pub place_after : LineValue → ℕ → ℕ
+place_after l place =
+    if nat_eq (place + 1) (length l.control.poll_list) then 0 else place + 1
+
+-- terminal t is ready for a visit: it takes selections, no end asks for the line, and nothing is in
+-- doubt
 pub record IsCalm (l : LineValue) (t : ℕ) : Type 0 where
   pub ready : IsTrue (terminal_at l t).ready
   pub not_urgent_at : (terminal_at l t).urgent ≡ false
   pub not_urgent_for : (peer_at l.control t).urgent ≡ false
   pub no_doubt : (way : Way) → IsChannel l t way → is_in_doubt (phase_of l t way) ≡ false
 
--- Pending is the first call of an entry, the one that the call order gives for the lists as they are; the line is
--- trusted, and every terminal in the poll list is calm.
+-- the control station has made this call, with this address, and nothing has answered it yet; the
+-- call may be one that was repeated after a silence
+pub record HasMadeCall (c : ControlValue) (call : Call) (address : List ℕ) : Type 0 where
+  pub place : c.place ≡ call.place
+  pub called : IsAddressOf (terminals c) (current c) call.way address
+  pub task : IsTaskOf call.way c.task
+
+-- A visit begins: on the line is the first call of the entry, the one that the call order gives for
+-- the records that wait; the line is trusted, and every terminal in the poll list is ready for a
+-- visit.
 pub record BeginsVisit (l : LineValue) (place : ℕ) : Type 0 where
   pub address : List ℕ
   pub pending : l.pending ≡ Some (record { speaker = Control; message = m.Call address })
-  pub called : IsCalled l.control (first_call l.control place) address
+  pub called : HasMadeCall l.control (first_call l.control place) address
   pub trusted : IsTrue l.trusted
-  pub calm : (k : ℕ) → k < length l.control.poll_list → IsCalm l (slice_index l.control.poll_list k)
+  pub calm : (k : ℕ) → k < length l.control.poll_list → IsCalm l (entry_at l k)
 
--- all that was offered on the channels of terminal t was spooled, and is known
+-- all that was offered on a channel arrived, and is known to have arrived
+pub record IsAllDelivered (channel : Channel) : Type 0 where
+  pub known : channel.known ≡ length channel.offered
+  pub spooled : channel.spooled ≡ channel.offered
+
+-- it is so on every channel of terminal t
 abbrev pub IsDelivered : LineValue → ℕ → Type 0
-IsDelivered l t = (way : Way) → IsChannel l t way → ((channel_of l t way).known ≡ length (channel_of l t way).offered) × ((channel_of l t way).spooled ≡ (channel_of l t way).offered)
+IsDelivered l t = (way : Way) → IsChannel l t way → IsAllDelivered (channel_of l t way)
 
--- how often each spool was refused room
+-- how often the spools of two states were refused room: this often in both, with the count below its
+-- greatest value, at which it stays
+abbrev pub SameDelay : ℕ → ℕ → Type 0
+SameDelay old new = (new ≡ old) × (old < 2 ^ 64 - 1)
+
+-- no spool was refused room: neither one that the control station has for a terminal nor one that a
+-- terminal has for a selection address
 pub record SameDelays (old new : LineValue) : Type 0 where
-  pub control : (t : ℕ) → t < terminal_count old → ((peer_at new.control t).spool.delays ≡ (peer_at old.control t).spool.delays) × ((peer_at old.control t).spool.delays < 2 ^ 64 - 1)
-  pub terminals : (t s : ℕ) → IsChannel old t (ToTerminal s) → ((spool_at (terminal_at new t).spools s).delays ≡ (spool_at (terminal_at old t).spools s).delays) × ((spool_at (terminal_at old t).spools s).delays < 2 ^ 64 - 1)
+  pub control : (t : ℕ) → t < terminal_count old →
+      SameDelay (peer_at old.control t).spool.delays (peer_at new.control t).spool.delays
+  pub terminals : (t s : ℕ) → IsChannel old t (ToTerminal s) →
+      SameDelay (spool_at (terminal_at old t).spools s).delays
+      (spool_at (terminal_at new t).spools s).delays
 
--- so many transmissions, each heard as it was sent
+-- this many transmissions, each heard as it was sent
 abbrev pub sent_times : ℕ → List Event
 sent_times n = replicate n CarrySent
 
--- a visit: the terminal's channels are delivered, the other terminals' stay, and the next entry's visit begins
+-- a visit is done: the channels of the terminal are delivered, those of the other terminals are as
+-- they were, and the visit of the next entry begins
 pub record IsVisited (old new : LineValue) (place : ℕ) : Type 0 where
-  pub delivered : IsDelivered new (slice_index old.control.poll_list place)
-  pub others : (t : ℕ) (way : Way) → IsChannel old t way → (t ≡ slice_index old.control.poll_list place → ⊥) → channel_of new t way ≡ channel_of old t way
-  pub next : BeginsVisit new (if nat_eq (place + 1) (length old.control.poll_list) then 0 else place + 1)
+  pub delivered : IsDelivered new (entry_at old place)
+  pub others : (t : ℕ) (way : Way) → IsChannel old t way → t ≢ entry_at old place →
+      channel_of new t way ≡ channel_of old t way
+  pub next : BeginsVisit new (place_after old place)
 
--- delivery by a number, a visit: no growth being refused, exactly that many transmissions deliver
+-- delivery by a number, a visit: where no spool is refused room, exactly as many transmissions as
+-- the visit's length deliver
 abbrev pub DeliversVisit : Type 0
 DeliversVisit =
-    (old new : LineValue) (place : ℕ) (result : Result (Unit {0}) Stopped) → IsLine old → BeginsVisit old place →
-    Runs old (sent_times (visit_length old (slice_index old.control.poll_list place))) result new → SameDelays old new →
-    (result ≡ Ok tt) × IsVisited old new place
+    (old new : LineValue) (place : ℕ) (result : Result (Unit {0}) Stopped) → IsLine old
+    → BeginsVisit old place
+    → Runs old (sent_times (visit_length old (entry_at old place))) result new
+    → SameDelays old new → (result ≡ Ok tt) × IsVisited old new place
 
--- a round, from the first entry
+-- a round is done: every terminal in the poll list has its channels delivered, and the next round
+-- begins
 pub record IsRoundDone (old new : LineValue) : Type 0 where
-  pub delivered : (k : ℕ) → k < length old.control.poll_list → IsDelivered new (slice_index old.control.poll_list k)
+  pub delivered : (k : ℕ) → k < length old.control.poll_list → IsDelivered new (entry_at old k)
   pub next : BeginsVisit new 0
 
+-- delivery by a number, a round, from its first call
 abbrev pub DeliversRound : Type 0
 DeliversRound =
-    (old new : LineValue) (result : Result (Unit {0}) Stopped) → IsLine old → BeginsVisit old 0 →
-    Runs old (sent_times (round_length old)) result new → SameDelays old new → (result ≡ Ok tt) × IsRoundDone old new
+    (old new : LineValue) (result : Result (Unit {0}) Stopped) → IsLine old → BeginsVisit old 0
+    → Runs old (sent_times (round_length old)) result new
+    → SameDelays old new → (result ≡ Ok tt) × IsRoundDone old new
