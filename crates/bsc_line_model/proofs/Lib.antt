@@ -48,3 +48,4 @@ pub mod RoundSteps
 pub mod Delivered
 pub mod DelaysGrow
 pub mod FairRuns
+pub mod Numbers

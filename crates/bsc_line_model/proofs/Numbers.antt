@@ -7,6 +7,7 @@ use Rattle.std.proofs.lemmas.Option.{slice_get-get_or}
 use Rattle.bsc_frame.specs.declared.message.Message.{Message}
 use Rattle.bsc_frame.specs.declared.message.Message.TheVariants as m
 use Rattle.bsc_spool.specs.Queue.{QueueValue}
+use Rattle.bsc_spool.specs.Spool.{SpoolValue}
 use Rattle.bsc_text.specs.declared.phase.Phase.{Phase}
 use Rattle.bsc_text.specs.Channel.{channel}
 use Rattle.bsc_text.specs.Ready.{IsAtRest}
@@ -34,7 +35,7 @@ use Rattle.bsc_line_model.specs.declared.error.Stopped.{Stopped}
 use Rattle.bsc_line_model.specs.Line.{LineValue, terminal_at, terminal_in, terminal_count, IsChannel, channel_of, phase_of}
 use Rattle.bsc_line_model.specs.Kept.{IsLine}
 use Rattle.bsc_line_model.specs.Runs.{Runs}
-use Rattle.bsc_line_model.specs.Rounds.{block_count, visit_length, round_length, entries_length, entry_at, place_after, sent_times, IsCalm, HasMadeCall, BeginsVisit, IsAllDelivered, IsDelivered, SameDelays, IsVisited, IsRoundDone, DeliversVisit, DeliversRound}
+use Rattle.bsc_line_model.specs.Rounds.{block_count, poll_length, visit_length, round_length, entries_length, entry_at, place_after, sent_times, IsCalm, HasMadeCall, BeginsVisit, IsAllDelivered, IsDelivered, SameDelays, IsVisited, IsRoundDone, DeliversVisit, DeliversRound}
 use Rattle.bsc_line_model.specs.Together.{IsQuiet, AllQuiet, IsSelecting, InTask}
 use Rattle.bsc_line_model.proofs.Soundness.{way_there}
 use Rattle.bsc_line_model.proofs.Stations.{same_or_not, terminal_there}
@@ -43,9 +44,9 @@ use Rattle.bsc_line_model.proofs.DownSteps.{current_there, terminal_here}
 use Rattle.bsc_line_model.proofs.Walking.{IsGood, Walks}
 use Rattle.bsc_line_model.proofs.Selections.{VisitLaws, Comes, Calls}
 use Rattle.bsc_line_model.proofs.Polls.{all_quiet}
-use Rattle.bsc_line_model.proofs.Visits.{IsCalmAt, IsVisitDone, StaysBut}
-use Rattle.bsc_line_model.proofs.VisitCounts.{begins}
-use Rattle.bsc_line_model.proofs.RoundSteps.{IsEmptied, IsRoundAt, visit_entry, round_from, still_calm, wrapped, seen_now}
+use Rattle.bsc_line_model.proofs.Visits.{IsCalmAt, IsVisited as Visiting, IsVisitDone, StaysBut, but_same, selections_length, visit_from}
+use Rattle.bsc_line_model.proofs.VisitCounts.{begins, visit_is}
+use Rattle.bsc_line_model.proofs.RoundSteps.{IsEmptied, IsRoundAt, round_from, still_calm, wrapped, not_last}
 use Rattle.bsc_line_model.proofs.Delivered.{all_delivered}
 use Rattle.bsc_line_model.proofs.FairRuns.{walks, good_line}
 
@@ -67,6 +68,12 @@ called_within l way s g task is = called_there l s g (subst (λ (w : Way). IsTas
 own_address : (x : TerminalValue) (way : Way) → ((s : ℕ) → way ≡ ToTerminal s → s < length x.selects) → address_for x way ≡ Some (address_at x way)
 own_address x FromTerminal within = refl
 own_address x (ToTerminal s) within = slice_get-get_or x.selects s x.poll (within s refl)
+
+-- an entry names a terminal
+entry_there : (l : LineValue) (j : ℕ) → IsGood l → j < length l.control.poll_list → entry_at l j < terminal_count l
+entry_there l j g less =
+    let peer_there : entry_at l j < length l.control.peers = All-get_or (λ (t : ℕ). t < length l.control.peers) l.control.poll_list j 0 less g.line.stations.control.entries.entries in
+    subst (λ (n : ℕ). entry_at l j < n) g.line.stations.count peer_there
 
 -- a visit begins where the first call of an entry is pending
 first_calm : (l : LineValue) (t : ℕ) → IsGood l → t < terminal_count l → IsCalmAt l t → IsCalm l t
@@ -102,8 +109,181 @@ begins_next l place g h calm =
       trusted = g.trusted;
       calm = λ j less. first_calm l (entry_at l j) g (entry_there l j g less) (calm j less);
     }
+
+-- a visit that begins
+terminal_of : (l : LineValue) (place : ℕ) → BeginsVisit l place → current l.control ≡ entry_at l place
+terminal_of l place b = ap (λ (n : ℕ). terminal_of_entry l.control n) b.called.place
+
+first_calls : (l : LineValue) (place : ℕ) → IsGood l → (b : BeginsVisit l place) → Calls l place (way_from (peer l.control) 0)
+first_calls l place g b =
+    let same : current l.control ≡ entry_at l place = terminal_of l place b in
+    let way : Way = (first_call l.control place).way in
+    let calls : Calls l place way = begins l place b.address way g b.called b.pending (λ s is. called_within l way s g b.called.task is) in
+    subst (λ (t : ℕ). Calls l place (way_from (peer_at l.control t) 0)) (sym same) calls
+
+less_or_not : (a b : ℕ) → (a < b) ⊎ (b ≤ a)
+less_or_not a b = by_test (nat_lt a b) refl
   where
-    entry_there : (l : LineValue) (j : ℕ) → IsGood l → j < length l.control.poll_list → entry_at l j < terminal_count l
-    entry_there l j g less =
-        let peer_there : entry_at l j < length l.control.peers = All-get_or (λ (t : ℕ). t < length l.control.peers) l.control.poll_list j 0 less g.line.stations.control.entries.entries in
-        subst (λ (n : ℕ). entry_at l j < n) g.line.stations.count peer_there
+    by_test : (c : Bool) → nat_lt a b ≡ c → (a < b) ⊎ (b ≤ a)
+    by_test true is = inl (grind (arith, nat_tests))
+    by_test false is = inr (grind (arith, nat_tests))
+
+calm_at : (l : LineValue) (t : ℕ) → IsGood l → t < terminal_count l → IsCalm l t → IsCalmAt l t
+calm_at l t g there c =
+    record {
+      ready = c.ready;
+      urgent_at = c.not_urgent_at;
+      urgent_for = c.not_urgent_for;
+      sure_up = c.no_doubt FromTerminal (record { there = there; its_way = tt });
+      sure_down = λ s.
+          elim (less_or_not s (length (terminal_at l t).terminal.selects)) [
+            | inl less ↦ c.no_doubt (ToTerminal s) (record { there = there; its_way = less })
+            | inr past ↦ ap (λ (o : OutboundValue). is_in_doubt o.sender.phase) (get_or_past (peer_at l.control t).outbounds s no_outbound (beyond s past))
+          ];
+    }
+  where
+    beyond : (s : ℕ) → length (terminal_at l t).terminal.selects ≤ s → length (peer_at l.control t).outbounds ≤ s
+    beyond s past =
+        let before : t < length l.control.peers = omega (arith, there, g.line.stations.count) in
+        let of_peer : IsPeer (peer_at l.control t) = All-get_or IsPeer l.control.peers t no_peer before g.line.stations.control.entries.peers in
+        let same : length (terminal_at l t).terminal.selects ≡ length (peer_at l.control t).terminal.selects = ap (λ (x : TerminalValue). length x.selects) (g.line.stations.members t there).addresses in
+        omega (arith, past, same, of_peer.outbounds)
+
+-- while a call is pending no bid goes on
+quiet_by : (l : LineValue) (way : Way) (a : List ℕ) → IsGood l → IsTaskOf way l.control.task → l.pending ≡ Some (record { speaker = sp.Control; message = m.Call a }) → AllQuiet l.control l.terminals
+quiet_by l FromTerminal a g task is = all_quiet l a Nothing g task is
+quiet_by l (ToTerminal s) a g task is =
+    let selecting : IsSelecting l.pending l.control l.terminals s false = subst (λ (z : Task). InTask z l.pending l.control l.terminals) task g.together in
+    selecting.quiet
+
+not_sending : (way : Way) (task : Task) (s : ℕ) → IsTaskOf way task → task ≡ k.Sending s → ⊥
+not_sending FromTerminal task s is e = let both : k.Polling Nothing ≡ k.Sending s = sym is ∙ e in cc
+not_sending (ToTerminal j) task s is e = let both : k.Selecting j false ≡ k.Sending s = sym is ∙ e in cc
+
+rests_in : (n : Mode) (phase : Phase) (count : ℕ) → n ≢ mode.Sending → SuitsMode n phase count → IsAtRest phase
+rests_in mode.Control phase count never is = is
+rests_in (mode.Receiving s) phase count never is = is.0
+rests_in mode.Sending phase count never is = absurd (never refl)
+
+-- where nothing waits for terminal t all is delivered
+delivered_at : (laws : VisitLaws) (l : LineValue) (place t : ℕ) (way : Way) → IsGood l → Calls l place way → t < terminal_count l → IsCalmAt l t → IsEmptied l t → IsDelivered l t
+delivered_at laws l place t called g h there c e = by_way
+  where
+    quiet : IsQuiet (peer_at l.control t) (terminal_at l t)
+    quiet = quiet_by l called (address_at (peer l.control).terminal called) g h.called.task (h.pending ∙ ap (λ (o : Option Message). sent_by sp.Control o) h.called.call) t there
+
+    by_way : IsDelivered l t
+    by_way FromTerminal is =
+        let rest : IsAtRest (terminal_at l t).sender.phase = rests_in (terminal_at l t).mode (terminal_at l t).sender.phase (length (terminal_at l t).spools) quiet.mode (g.line.stations.members t there).tributary.bid in
+        let x : _ = all_delivered laws.cuts (terminal_at l t).sender.phase (terminal_at l t).queue (peer_at l.control t).spool.records quiet.up rest c.sure_up e.up in
+        record { known = x.0; spooled = x.1 }
+    by_way (ToTerminal s) is =
+        let within : s < length (peer_at l.control t).outbounds = way_there l.control l.terminals t (ToTerminal s) g.line.stations there is.its_way in
+        let o : OutboundValue = outbound_of l.control t s in
+        let rest : IsAtRest o.sender.phase = g.line.stations.control.orderly.rests t s (λ used. not_sending called l.control.task s h.called.task used.1) in
+        let x : _ = all_delivered laws.cuts o.sender.phase o.queue (spool_at (terminal_at l t).spools s).records (quiet.down s within) rest (c.sure_down s) (e.down s within) in
+        record { known = x.0; spooled = x.1 }
+
+-- the end of a walk
+ends : (P : LineValue → Type 0) (new : LineValue) (r : Result (Unit {0}) Stopped) → Comes P 0 r new → (r ≡ Ok tt) × P new
+ends P new (Ok done) x = (refl, subst P (sym x.rest) x.holds)
+ends P new (Err stopped) x = absurd x.rest
+
+place_there : (l : LineValue) (place : ℕ) → IsGood l → BeginsVisit l place → place < length l.control.poll_list
+place_there l place g b = subst (λ (n : ℕ). n < length l.control.poll_list) b.called.place g.line.stations.control.entries.place
+
+-- the place of an entry, and after the last one the first
+wrap : (n : ℕ) → 0 < n → wrapped n 0 ≡ 0
+wrap n less = not_last 0 n less (nat_eq 0 n) refl
+
+at_end : (n : ℕ) (b : Bool) → nat_eq n n ≡ b → wrapped n n ≡ 0
+at_end n true e = ap (λ (c : Bool). if c then 0 else n) e
+at_end n false e = absurd (grind (arith, nat_tests))
+
+-- a round begins
+round_begins : (l : LineValue) → IsGood l → BeginsVisit l 0 → IsRoundAt l l 0 []
+round_begins l g b =
+    record {
+      good = g;
+      list = refl;
+      count = refl;
+      calls = subst (λ (n : ℕ). Calls l n (way_from (peer l.control) 0)) (sym (wrap (length l.control.poll_list) (place_there l 0 g b))) (first_calls l 0 g b);
+      calm = λ j less. calm_at l (entry_at l j) g (entry_there l j g less) (b.calm j less);
+      visited = λ t inside seen. absurd (cc);
+      passed = λ j less. absurd (omega arith);
+      fresh = λ t inside seen. refl;
+    }
+
+pub delivers_round : VisitLaws → DeliversRound
+delivers_round laws old new result line b runs delays =
+    let g : IsGood old = good_line old line b.trusted in
+    let n : ℕ = length old.control.poll_list in
+    let w : Walks 0 (round_length old) old result new = walks 0 (round_length old) old new result line b.trusted runs delays in
+    let x : Comes (λ z. (seen : List ℕ) × IsRoundAt old z n seen) 0 result new =
+    round_from laws n 0 0 (round_length old) 0 [] old old new result (round_begins old g b) (omega arith) (omega arith) w in
+    let done : (result ≡ Ok tt) × ((seen : List ℕ) × IsRoundAt old new n seen) = ends (λ z. (seen : List ℕ) × IsRoundAt old z n seen) new result x in
+    let seen : List ℕ = done.1.0 in
+    let h : IsRoundAt old new n seen = done.1.1 in
+    let at_start : Calls new 0 (way_from (peer new.control) 0) = subst (λ (p : ℕ). Calls new p (way_from (peer new.control) 0)) (at_end n (nat_eq n n) refl) h.calls in
+    let same : (j : ℕ) → entry_at new j ≡ entry_at old j = λ j. ap (λ (list : List ℕ). get_or list j 0) h.list in
+    let there : (j : ℕ) → j < n → entry_at old j < terminal_count new = λ j less. subst (λ (c : ℕ). entry_at old j < c) (sym h.count) (entry_there old j g less) in
+    (
+      done.0,
+      record {
+        delivered = λ j less. delivered_at laws new 0 (entry_at old j) (way_from (peer new.control) 0) h.good at_start (there j less) (h.calm j less) (h.visited (entry_at old j) (entry_there old j g less) (h.passed j less));
+        next = begins_next new 0 h.good at_start (λ j less.
+            let within : j < n = subst (λ (list : List ℕ). j < length list) h.list less in
+            subst (λ (t : ℕ). IsCalmAt new t) (sym (same j)) (h.calm j within));
+      },
+    )
+
+-- a visit
+visit_begins : (laws : VisitLaws) (old new : LineValue) (place : ℕ) (r : Result (Unit {0}) Stopped) → IsGood old → BeginsVisit old place → Walks 0 (visit_length old (entry_at old place)) old r new → Comes (IsVisitDone (entry_at old place) place old) 0 r new
+visit_begins laws old new place r g b w =
+    let e : ℕ = entry_at old place in
+    let cur : current old.control ≡ e = terminal_of old place b in
+    let there : e < terminal_count old = entry_there old place g (place_there old place g b) in
+    let v : Visiting e place 0 (block_count (terminal_at old e).queue) old old = record {
+      good = g;
+      present = cur;
+      here = b.called.place;
+      calls = subst (λ (z : ℕ). Calls old place (way_from (peer_at old.control z) 0)) cur (first_calls old place g b);
+      calm = calm_at old e g there (b.calm place (place_there old place g b));
+      done = λ s never. absurd (omega arith);
+      blocks_up = refl;
+      stays = but_same e old;
+    } in
+    let number : visit_length old e ≡ selections_length (peer_at old.control e) 0 (length (peer_at old.control e).outbounds) + poll_length (block_count (terminal_at old e).queue) = visit_is old e in
+    visit_from laws (length (peer_at old.control e).outbounds) 0 0 (visit_length old e) e place 0 (block_count (terminal_at old e).queue) old old new r v there (omega arith) (omega (arith, number)) w
+
+channel_same : (e t : ℕ) (way : Way) (old new : LineValue) → t < terminal_count old → t ≢ e → StaysBut e old new → channel_of new t way ≡ channel_of old t way
+channel_same e t FromTerminal old new less differ h =
+    ap (λ (q : QueueValue). channel q (peer_at new.control t).spool.records) (h.queue t less differ) ∙ ap (λ (s : SpoolValue). channel (terminal_at old t).queue s.records) (h.spool t differ)
+channel_same e t (ToTerminal s) old new less differ h =
+    ap (λ (o : OutboundValue). channel o.queue (spool_at (terminal_at new t).spools s).records) (h.outbound t s differ) ∙ ap (λ (rs : List (List ℕ)). channel (outbound_of old.control t s).queue rs) (h.spooled t s less differ)
+
+pub delivers_visit : VisitLaws → DeliversVisit
+delivers_visit laws old new place result line b runs delays =
+    let g : IsGood old = good_line old line b.trusted in
+    let e : ℕ = entry_at old place in
+    let w : Walks 0 (visit_length old e) old result new = walks 0 (visit_length old e) old new result line b.trusted runs delays in
+    let done : (result ≡ Ok tt) × IsVisitDone e place old new = ends (IsVisitDone e place old) new result (visit_begins laws old new place result g b w) in
+    let h : IsVisitDone e place old new = done.1 in
+    let there : e < terminal_count old = entry_there old place g (place_there old place g b) in
+    let now : e < terminal_count new = subst (λ (c : ℕ). e < c) (sym h.stays.count) there in
+    let same : (j : ℕ) → entry_at new j ≡ entry_at old j = λ j. ap (λ (list : List ℕ). get_or list j 0) h.stays.poll_list in
+    (
+      done.0,
+      record {
+        delivered = delivered_at laws new (place_after old place) e (way_from (peer new.control) 0) h.good h.calls now h.calm (record { down = h.down; up = h.up });
+        others = λ t way is differ. channel_same e t way old new is.there differ h.stays;
+        next = begins_next new (place_after old place) h.good h.calls (λ j less.
+            let within : j < length old.control.poll_list = subst (λ (list : List ℕ). j < length list) h.stays.poll_list less in
+            let inside : entry_at old j < terminal_count old = entry_there old j g within in
+            subst (λ (t : ℕ). IsCalmAt new t) (sym (same j))
+            (elim (same_or_not (entry_at old j) e) [
+              | inl this ↦ subst (λ (t : ℕ). IsCalmAt new t) (sym this) h.calm
+              | inr differ ↦ still_calm e (entry_at old j) old new inside differ h.stays (calm_at old (entry_at old j) g inside (b.calm j within))
+            ]));
+      },
+    )

@@ -19,7 +19,7 @@ use Rattle.bsc_line_model.proofs.Stations.{same_or_not}
 use Rattle.bsc_line_model.proofs.DownSteps.{current_there}
 use Rattle.bsc_line_model.proofs.Walking.{IsGood, Walks}
 use Rattle.bsc_line_model.proofs.Selections.{VisitLaws, Comes, Calls}
-use Rattle.bsc_line_model.proofs.Visits.{StaysBut, IsCalmAt, IsVisited, IsVisitDone, selections_length, same_lengths, visit_from}
+use Rattle.bsc_line_model.proofs.Visits.{StaysBut, but_same, IsCalmAt, IsVisited, IsVisitDone, selections_length, same_lengths, visit_from}
 use Rattle.bsc_line_model.proofs.VisitCounts.{visit_is, no_selections}
 
 abbrev is_seen : ℕ → List ℕ → Bool
@@ -98,7 +98,7 @@ other_length e t a l less differ h =
     ∙ ap (λ (x : QueueValue). selections_length p 0 (length p.outbounds) + poll_length (block_count x)) (h.queue t less differ) ∙ sym (visit_is a t)
 
 -- the others stay calm
-still_calm : (e t : ℕ) (a l : LineValue) → t < length a.terminals → t ≢ e → StaysBut e a l → IsCalmAt a t → IsCalmAt l t
+pub still_calm : (e t : ℕ) (a l : LineValue) → t < length a.terminals → t ≢ e → StaysBut e a l → IsCalmAt a t → IsCalmAt l t
 still_calm e t a l less differ h c =
     record {
       ready = h.ready t less ∙ c.ready;
@@ -108,7 +108,7 @@ still_calm e t a l less differ h c =
       sure_down = λ s. ap (λ (o : OutboundValue). is_in_doubt o.sender.phase) (h.outbound t s differ) ∙ c.sure_down s;
     }
 
-not_last : (k n : ℕ) → k < n → (b : Bool) → nat_eq k n ≡ b → (if b then 0 else k) ≡ k
+pub not_last : (k n : ℕ) → k < n → (b : Bool) → nat_eq k n ≡ b → (if b then 0 else k) ≡ k
 not_last k n less true e = absurd (grind (arith, nat_tests))
 not_last k n less false e = refl
 
@@ -132,7 +132,7 @@ visit_entry laws at more count k seen start l new r h less there is w =
       calm = h.calm k less;
       done = λ s never. absurd (omega arith);
       blocks_up = refl;
-      stays = record { poll_list = refl; count = refl; addresses = λ t. refl; lists = λ t. refl; urgent_for = λ t z. z; ready = λ t z. refl; urgent_at = λ t z y. y; outbound = λ t s z. refl; spool = λ t z. refl; queue = λ t z y. refl; phase = λ t z y. refl; spooled = λ t s z y. refl };
+      stays = but_same e l;
     } in
     let number : visit_length l e ≡ selections_length p 0 (length p.outbounds) + poll_length i = visit_is l e in
     visit_from laws (length p.outbounds) at more count e k 0 i l l new r v there (omega arith) (omega (arith, is, number)) w

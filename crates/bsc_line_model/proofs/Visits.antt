@@ -62,6 +62,11 @@ but_of e way old new h =
       spooled = λ t s less differ. (h.terminals.terminals t less).down s (else_where t (ToTerminal s) differ);
     }
 
+-- nothing moves
+pub but_same : (e : ℕ) (l : LineValue) → StaysBut e l l
+but_same e l =
+    record { poll_list = refl; count = refl; addresses = λ t. refl; lists = λ t. refl; urgent_for = λ t z. z; ready = λ t z. refl; urgent_at = λ t z y. y; outbound = λ t s z. refl; spool = λ t z. refl; queue = λ t z y. refl; phase = λ t z y. refl; spooled = λ t s z y. refl }
+
 pub but_then : (e : ℕ) (a b c : LineValue) → StaysBut e a b → StaysBut e b c → StaysBut e a c
 but_then e a b c x y =
     let on : (t : ℕ) → t < length a.terminals → t < length b.terminals = λ t less. omega (arith, less, x.count) in

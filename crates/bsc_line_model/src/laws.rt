@@ -7,9 +7,11 @@ ghost use Rattle.bsc_line_model.specs.Stays.{NewLineStays, DownStays, UpStays, S
 ghost use Rattle.bsc_line_model.specs.StepLaws.{EachStepsChannels, GrowsByOffers, RefusedChangesNothing, TrustOnlyFalls, HoldsWhilePolled, NeverMismatches, NewChannelsAreEmpty, OneAnswers, AlikeIsFair, FairIsAlike};
 ghost use Rattle.bsc_line_model.specs.Headline.{RunsKeepRecords};
 ghost use Rattle.bsc_line_model.specs.Octets.{FairInOctets};
+ghost use Rattle.bsc_line_model.specs.Rounds.{DeliversVisit, DeliversRound};
 ghost use Rattle.bsc_line_model.specs.Together.{AreSound};
 
 use crate::bids::bid_laws;
+use bsc_block::laws::cut_into_blocks;
 use bsc_frame::laws::reading;
 use bsc_tributary::laws::own_addresses;
 
@@ -99,4 +101,24 @@ pub fn headline()
     ensures { RunsKeepRecords }
 {
     bid_laws();
+}
+
+/// Delivery by a number, a visit: where all is heard and no spool is refused room, exactly as many
+/// transmissions as the visit's length deliver all that waits on the channels of its terminal, and
+/// then the visit of the next entry begins.
+pub fn visit()
+    ensures { DeliversVisit }
+{
+    cut_into_blocks();
+    own_addresses();
+}
+
+/// Delivery by a number, a round: where all is heard and no spool is refused room, exactly as many
+/// transmissions as the round's length deliver all that waits on the channels of every terminal in
+/// the poll list, and then the next round begins.
+pub fn round()
+    ensures { DeliversRound }
+{
+    cut_into_blocks();
+    own_addresses();
 }
