@@ -32,10 +32,11 @@ use Rattle.bsc_line_model.specs.declared.transmission.Speaker.TheVariants as sp
 use Rattle.bsc_line_model.specs.declared.transmission.Transmission.{Transmission}
 use Rattle.bsc_line_model.specs.Transmission.{sent_by}
 use Rattle.bsc_line_model.specs.declared.error.Stopped.{Stopped}
+use Rattle.bsc_line_model.specs.declared.event.Event.{Event}
 use Rattle.bsc_line_model.specs.Line.{LineValue, terminal_at, terminal_in, terminal_count, IsChannel, channel_of, phase_of}
 use Rattle.bsc_line_model.specs.Kept.{IsLine}
 use Rattle.bsc_line_model.specs.Runs.{Runs}
-use Rattle.bsc_line_model.specs.Rounds.{block_count, poll_length, visit_length, round_length, entries_length, entry_at, place_after, sent_times, IsCalm, HasMadeCall, BeginsVisit, IsAllDelivered, IsDelivered, SameDelays, IsVisited, IsRoundDone, DeliversVisit, DeliversRound}
+use Rattle.bsc_line_model.specs.Rounds.{block_count, poll_length, visit_length, round_length, entries_length, entry_at, place_after, sent_times, IsCalm, HasMadeCall, BeginsVisit, IsAllDelivered, IsDelivered, SameDelays, IsVisited, IsRoundDone, RunsDeliverVisit, RunsDeliverRound}
 use Rattle.bsc_line_model.specs.Together.{IsQuiet, AllQuiet, IsSelecting, InTask}
 use Rattle.bsc_line_model.proofs.Soundness.{way_there}
 use Rattle.bsc_line_model.proofs.Stations.{same_or_not, terminal_there}
@@ -214,8 +215,8 @@ round_begins l g b =
       fresh = λ t inside seen. refl;
     }
 
-pub delivers_round : VisitLaws → DeliversRound
-delivers_round laws old new result line b runs delays =
+round_done : VisitLaws → (old new : LineValue) (result : Result (Unit {0}) Stopped) → IsLine old → BeginsVisit old 0 → Runs old (sent_times (round_length old)) result new → SameDelays old new → (result ≡ Ok tt) × IsRoundDone old new
+round_done laws old new result line b runs delays =
     let g : IsGood old = good_line old line b.trusted in
     let n : ℕ = length old.control.poll_list in
     let w : Walks 0 (round_length old) old result new = walks 0 (round_length old) old new result line b.trusted runs delays in
@@ -262,8 +263,8 @@ channel_same e t FromTerminal old new less differ h =
 channel_same e t (ToTerminal s) old new less differ h =
     ap (λ (o : OutboundValue). channel o.queue (spool_at (terminal_at new t).spools s).records) (h.outbound t s differ) ∙ ap (λ (rs : List (List ℕ)). channel (outbound_of old.control t s).queue rs) (h.spooled t s less differ)
 
-pub delivers_visit : VisitLaws → DeliversVisit
-delivers_visit laws old new place result line b runs delays =
+visit_done : VisitLaws → (old new : LineValue) (place : ℕ) (result : Result (Unit {0}) Stopped) → IsLine old → BeginsVisit old place → Runs old (sent_times (visit_length old (entry_at old place))) result new → SameDelays old new → (result ≡ Ok tt) × IsVisited old new place
+visit_done laws old new place result line b runs delays =
     let g : IsGood old = good_line old line b.trusted in
     let e : ℕ = entry_at old place in
     let w : Walks 0 (visit_length old e) old result new = walks 0 (visit_length old e) old new result line b.trusted runs delays in
@@ -287,3 +288,12 @@ delivers_visit laws old new place result line b runs delays =
             ]));
       },
     )
+
+-- as it is said of runs
+pub delivers_visit : VisitLaws → RunsDeliverVisit
+delivers_visit laws old new events result line runs place h =
+    visit_done laws old new place result line h.begins (subst (λ (es : List Event). Runs old es result new) h.transmissions runs) h.delays
+
+pub delivers_round : VisitLaws → RunsDeliverRound
+delivers_round laws old new events result line runs h =
+    round_done laws old new result line h.begins (subst (λ (es : List Event). Runs old es result new) h.transmissions runs) h.delays

@@ -126,24 +126,44 @@ pub record IsVisited (old new : LineValue) (place : ℕ) : Type 0 where
       channel_of new t way ≡ channel_of old t way
   pub next : BeginsVisit new (place_after old place)
 
--- delivery by a number, a visit: where no spool is refused room, exactly as many transmissions as
--- the visit's length deliver
-abbrev pub DeliversVisit : Type 0
-DeliversVisit =
-    (old new : LineValue) (place : ℕ) (result : Result (Unit {0}) Stopped) → IsLine old
-    → BeginsVisit old place
-    → Runs old (sent_times (visit_length old (entry_at old place))) result new
-    → SameDelays old new → (result ≡ Ok tt) × IsVisited old new place
+-- these events are the transmissions of a visit that begins, as many as its length, each heard as it
+-- was sent, and no spool is refused room
+pub record IsFairVisit (old : LineValue) (place : ℕ) (events : List Event) (new : LineValue)
+    : Type 0 where
+  pub begins : BeginsVisit old place
+  pub transmissions : events ≡ sent_times (visit_length old (entry_at old place))
+  pub delays : SameDelays old new
 
--- a round is done: every terminal in the poll list has its channels delivered, and the next round
+-- delivery by a number, a visit: such events are accepted, and the visit is done
+abbrev pub DeliversVisit : LineValue → List Event → Result (Unit {0}) Stopped → LineValue → Type 0
+DeliversVisit old events result new =
+    (place : ℕ) → IsFairVisit old place events new → (result ≡ Ok tt) × IsVisited old new place
+
+-- a round is done: the channels of every terminal in the poll list are delivered, and the next round
 -- begins
 pub record IsRoundDone (old new : LineValue) : Type 0 where
   pub delivered : (k : ℕ) → k < length old.control.poll_list → IsDelivered new (entry_at old k)
   pub next : BeginsVisit new 0
 
--- delivery by a number, a round, from its first call
-abbrev pub DeliversRound : Type 0
-DeliversRound =
-    (old new : LineValue) (result : Result (Unit {0}) Stopped) → IsLine old → BeginsVisit old 0
-    → Runs old (sent_times (round_length old)) result new
-    → SameDelays old new → (result ≡ Ok tt) × IsRoundDone old new
+-- these events are the transmissions of a round that begins, as many as its length, each heard as it
+-- was sent, and no spool is refused room
+pub record IsFairRound (old : LineValue) (events : List Event) (new : LineValue) : Type 0 where
+  pub begins : BeginsVisit old 0
+  pub transmissions : events ≡ sent_times (round_length old)
+  pub delays : SameDelays old new
+
+-- delivery by a number, a round: such events are accepted, and the round is done
+abbrev pub DeliversRound : LineValue → List Event → Result (Unit {0}) Stopped → LineValue → Type 0
+DeliversRound old events result new =
+    IsFairRound old events new → (result ≡ Ok tt) × IsRoundDone old new
+
+-- every run does so
+abbrev pub RunsDeliverVisit : Type 0
+RunsDeliverVisit =
+    (old new : LineValue) (events : List Event) (result : Result (Unit {0}) Stopped) → IsLine old
+    → Runs old events result new → DeliversVisit old events result new
+
+abbrev pub RunsDeliverRound : Type 0
+RunsDeliverRound =
+    (old new : LineValue) (events : List Event) (result : Result (Unit {0}) Stopped) → IsLine old
+    → Runs old events result new → DeliversRound old events result new

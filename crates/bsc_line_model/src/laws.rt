@@ -7,7 +7,7 @@ ghost use Rattle.bsc_line_model.specs.Stays.{NewLineStays, DownStays, UpStays, S
 ghost use Rattle.bsc_line_model.specs.StepLaws.{EachStepsChannels, GrowsByOffers, RefusedChangesNothing, TrustOnlyFalls, HoldsWhilePolled, NeverMismatches, NewChannelsAreEmpty, OneAnswers, AlikeIsFair, FairIsAlike};
 ghost use Rattle.bsc_line_model.specs.Headline.{RunsKeepRecords};
 ghost use Rattle.bsc_line_model.specs.Octets.{FairInOctets};
-ghost use Rattle.bsc_line_model.specs.Rounds.{DeliversVisit, DeliversRound};
+ghost use Rattle.bsc_line_model.specs.Rounds.{RunsDeliverVisit, RunsDeliverRound};
 ghost use Rattle.bsc_line_model.specs.Together.{AreSound};
 
 use crate::bids::bid_laws;
@@ -107,7 +107,7 @@ pub fn headline()
 /// transmissions as the visit's length deliver all that waits on the channels of its terminal, and
 /// then the visit of the next entry begins.
 pub fn visit()
-    ensures { DeliversVisit }
+    ensures { RunsDeliverVisit }
 {
     cut_into_blocks();
     own_addresses();
@@ -117,7 +117,7 @@ pub fn visit()
 /// transmissions as the round's length deliver all that waits on the channels of every terminal in
 /// the poll list, and then the next round begins.
 pub fn round()
-    ensures { DeliversRound }
+    ensures { RunsDeliverRound }
 {
     cut_into_blocks();
     own_addresses();
