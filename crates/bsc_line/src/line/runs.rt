@@ -3,10 +3,11 @@
 ghost use Rattle.std.specs.Prelude.{IsTrue};
 ghost use Rattle.bsc_line_model.specs.Headline.{KeepsRecords};
 ghost use Rattle.bsc_line_model.specs.Kept.{IsLine};
+ghost use Rattle.bsc_line_model.specs.Rounds.{DeliversVisit, DeliversRound};
 ghost use Rattle.bsc_line_model.specs.Runs.{Does, Runs};
 
 use crate::line::Line;
-use bsc_line_model::laws::headline;
+use bsc_line_model::laws::{headline, round, visit};
 use bsc_line_model::{Event, LineError, Stopped};
 use std::alloc::Allocator;
 
@@ -17,12 +18,20 @@ impl<A: Allocator> Line<A> {
     /// arrived are the first of those that were offered, in order and each once; they include all
     /// that the sending end counts as delivered; and none reached a terminal that was not
     /// addressed.
+    ///
+    /// Where they are the transmissions of a visit or of a round that begins, as many as its length
+    /// and each heard as it was sent, and no spool is refused room, all that waits there is
+    /// delivered.
     pub fn run(&mut self, events: &[Event<'_>]) -> Result<(), Stopped>
         ensures does { Runs self.old events.now result self.new }
         ensures headline { IsTrue self.new.trusted →
             KeepsRecords self.old events.now result self.new }
+        ensures visit { DeliversVisit self.old events.now result self.new }
+        ensures round { DeliversRound self.old events.now result self.new }
     {
         headline();
+        visit();
+        round();
         self.is_line();
         self.do_each(events)
     }
