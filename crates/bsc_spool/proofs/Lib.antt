@@ -1,1 +1,2 @@
 pub mod NextBlock
+pub mod BlockCount

@@ -1,9 +1,10 @@
 //! The sending end of a channel. A record stays in its queue after it was delivered, so that what was
 //! offered can be compared with what was spooled.
 ghost use Rattle.std.specs.Prelude.{◌≡◌, ◌≤◌, [], length, take, IfSome, IfErr, OnOk, OnErr};
-ghost use Rattle.bsc_block.specs.Blocks.{block_text};
+ghost use Rattle.bsc_block.specs.Blocks.{block_text, blocks};
 ghost use Rattle.bsc_spool.specs.Queue.{waiting, next_block, queue_of, with_offered, with_known, IsQueue, IsNext};
 
+use bsc_block::laws::cut_into_blocks;
 use bsc_block::{Format, Record, build, pack};
 use bsc_frame::{End, Text};
 use std::alloc::Allocator;
@@ -93,6 +94,21 @@ impl<A: Allocator> Queue<A> {
             End::Etb
         };
         Some(Next { count, end })
+    }
+
+    /// How many blocks the waiting records make: 0 where no record waits.
+    pub fn blocks(&self) -> usize
+        ensures value { result ≡ length (blocks self.now.format (waiting self.now)) }
+        ensures few { result ≤ length (waiting self.now) }
+    {
+        cut_into_blocks();
+        let mut at = self.known;
+        let mut count = 0usize;
+        while at < self.records.len() {
+            at += pack(&self.records[at..], self.format);
+            count += 1;
+        }
+        count
     }
 
     /// The text of the first `count` waiting records, with this end: 1 to 7 records, not more than wait.
