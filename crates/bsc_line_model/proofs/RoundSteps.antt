@@ -14,16 +14,13 @@ use Rattle.bsc_control.specs.CallOrder.{way_from}
 use Rattle.bsc_control.specs.Kept.{outbound_of}
 use Rattle.bsc_line_model.specs.declared.error.Stopped.{Stopped}
 use Rattle.bsc_line_model.specs.Line.{LineValue, terminal_at}
-use Rattle.bsc_line_model.specs.Rounds.{block_count, poll_length, visit_length, entries_length}
+use Rattle.bsc_line_model.specs.Rounds.{block_count, poll_length, visit_length, entries_length, is_seen}
 use Rattle.bsc_line_model.proofs.Stations.{same_or_not}
 use Rattle.bsc_line_model.proofs.DownSteps.{current_there}
 use Rattle.bsc_line_model.proofs.Walking.{IsGood, Walks}
 use Rattle.bsc_line_model.proofs.Selections.{VisitLaws, Comes, Calls}
 use Rattle.bsc_line_model.proofs.Visits.{StaysBut, but_same, IsCalmAt, IsVisited, IsVisitDone, selections_length, same_lengths, visit_from}
 use Rattle.bsc_line_model.proofs.VisitCounts.{visit_is, no_selections}
-
-abbrev is_seen : ℕ → List ℕ → Bool
-is_seen t seen = is_some (position (nat_eq t) seen)
 
 -- one more was visited
 same_test : (n e : ℕ) (xs : List ℕ) (a b : Bool) → nat_lt (1 + n) (length (e ∷ xs)) ≡ a → nat_lt n (length xs) ≡ b → a ≡ b
@@ -32,7 +29,7 @@ same_test n e xs false false x y = refl
 same_test n e xs true false x y = absurd (let more : length (e ∷ xs) ≡ length xs + 1 = omega arith in grind (arith, nat_tests))
 same_test n e xs false true x y = absurd (let more : length (e ∷ xs) ≡ length xs + 1 = omega arith in grind (arith, nat_tests))
 
-seen_more : (t e : ℕ) (seen : List ℕ) → t ≢ e → is_seen t (e ∷ seen) ≡ is_seen t seen
+pub seen_more : (t e : ℕ) (seen : List ℕ) → t ≢ e → is_seen t (e ∷ seen) ≡ is_seen t seen
 seen_more t e seen differ =
     let no : nat_eq t e ≡ false = grind (arith, nat_tests) in
     let n : position_or_len (nat_eq t) (e ∷ seen) ≡ 1 + position_or_len (nat_eq t) seen = ap (λ (b : Bool). if not b then 1 + position_or_len (nat_eq t) seen else 0) no in
@@ -45,7 +42,7 @@ seen_more t e seen differ =
     by_test n true false z = absurd (cc)
     by_test n false true z = absurd (cc)
 
-seen_now : (t e : ℕ) (seen : List ℕ) → t ≡ e → is_seen t (e ∷ seen) ≡ true
+pub seen_now : (t e : ℕ) (seen : List ℕ) → t ≡ e → is_seen t (e ∷ seen) ≡ true
 seen_now t e seen same =
     let yes : nat_eq t e ≡ true = grind (arith, nat_tests) in
     let n : position_or_len (nat_eq t) (e ∷ seen) ≡ 0 = ap (λ (b : Bool). if not b then 1 + position_or_len (nat_eq t) seen else 0) yes in

@@ -1,6 +1,6 @@
 -- How many transmissions a visit of a terminal and a round of the poll list take where all is heard
 -- (own), and what they deliver.
-use Rattle.std.specs.Prelude.{◌≡◌, ◌≢◌, ◌<◌, ◌+◌, ◌*◌, ◌-◌, ◌^◌, ℕ, zero, suc, false, IsTrue, nat_eq}
+use Rattle.std.specs.Prelude.{◌≡◌, ◌≢◌, ◌<◌, ◌+◌, ◌*◌, ◌-◌, ◌^◌, ℕ, zero, suc, Bool, true, false, IsTrue, nat_eq}
 use Rattle.std.specs.Prelude.{is_some, position, List, [], ◌∷◌, length, sum_by, replicate, slice_index, Some, Result, Ok, if◌then◌else◌}
 use Rattle.bsc_frame.specs.declared.message.Message.TheVariants as m
 use Rattle.bsc_block.specs.Blocks.{blocks}
@@ -45,12 +45,16 @@ visit_length l t =
     (peer_at l.control t).outbounds
     + poll_length (block_count (terminal_at l t).queue)
 
+-- this terminal is among those that were visited
+abbrev pub is_seen : ℕ → List ℕ → Bool
+is_seen t seen = is_some (position (nat_eq t) seen)
+
 -- the transmissions of these entries of the poll list: the first entry of a terminal is a visit of
 -- it, and each later one is a poll in which it has nothing to send
 abbrev pub entries_length : LineValue → List ℕ → List ℕ → ℕ
 entries_length l seen [] = 0
 entries_length l seen (t ∷ ts) =
-    (if is_some (position (nat_eq t) seen) then 2 else visit_length l t)
+    (if is_seen t seen then 2 else visit_length l t)
     + entries_length l (t ∷ seen) ts
 
 -- the transmissions of a round of the poll list
@@ -167,3 +171,10 @@ abbrev pub RunsDeliverRound : Type 0
 RunsDeliverRound =
     (old new : LineValue) (events : List Event) (result : Result (Unit {0}) Stopped) → IsLine old
     → Runs old events result new → DeliversRound old events result new
+
+-- a terminal was visited where it is the one visited last, or was visited before it
+abbrev pub SeesLast : Type 0
+SeesLast = (t e : ℕ) (seen : List ℕ) → t ≡ e → is_seen t (e ∷ seen) ≡ true
+
+abbrev pub SeesEarlier : Type 0
+SeesEarlier = (t e : ℕ) (seen : List ℕ) → t ≢ e → is_seen t (e ∷ seen) ≡ is_seen t seen

@@ -7,7 +7,7 @@ ghost use Rattle.bsc_line_model.specs.Stays.{NewLineStays, DownStays, UpStays, S
 ghost use Rattle.bsc_line_model.specs.StepLaws.{EachStepsChannels, GrowsByOffers, RefusedChangesNothing, TrustOnlyFalls, HoldsWhilePolled, NeverMismatches, NewChannelsAreEmpty, OneAnswers, AlikeIsFair, FairIsAlike};
 ghost use Rattle.bsc_line_model.specs.Headline.{RunsKeepRecords};
 ghost use Rattle.bsc_line_model.specs.Octets.{FairInOctets};
-ghost use Rattle.bsc_line_model.specs.Rounds.{RunsDeliverVisit, RunsDeliverRound};
+ghost use Rattle.bsc_line_model.specs.Rounds.{RunsDeliverVisit, RunsDeliverRound, SeesLast, SeesEarlier};
 ghost use Rattle.bsc_line_model.specs.Together.{AreSound};
 
 use crate::bids::bid_laws;
@@ -122,3 +122,9 @@ pub fn round()
     cut_into_blocks();
     own_addresses();
 }
+
+/// Which terminals were visited, entry by entry of the poll list.
+pub fn seen_terminals()
+    ensures last { SeesLast }
+    ensures earlier { SeesEarlier }
+{}
