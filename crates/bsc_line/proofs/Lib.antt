@@ -5,3 +5,4 @@ pub mod Making
 pub mod Offering
 pub mod Running
 pub mod Alike
+pub mod Lengths

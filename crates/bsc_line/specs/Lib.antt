@@ -1,2 +1,3 @@
 pub mod Hearings
 pub mod Naming
+pub mod Counts

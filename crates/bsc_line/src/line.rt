@@ -1,6 +1,7 @@
 //! The line.
 
 mod carries;
+mod lengths;
 mod offers;
 mod releases;
 mod runs;
