@@ -19,3 +19,6 @@ mod trust;
 
 pub use bsc_line_model::{Event, LineError, Speaker, Stopped};
 pub use line::Line;
+
+#[cfg(test)]
+mod tests;
