@@ -91,6 +91,14 @@ impl<A: Allocator> Control<A> {
         self.procedure.setup()
     }
 
+    /// The poll list: the number of a terminal for each entry.
+    pub fn poll_list(&self) -> &[u8]
+        ensures value { result.now ≡ self.now.poll_list }
+        ensures control { IsControl self.now }
+    {
+        self.procedure.poll_list()
+    }
+
     /// How many terminals the line has: 1 to 64.
     pub fn terminals(&self) -> usize
         ensures value { result ≡ length self.now.peers }

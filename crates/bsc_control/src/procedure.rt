@@ -346,6 +346,13 @@ impl<A: Allocator> Procedure<A> {
         self.setup
     }
 
+    /// The poll list.
+    pub(crate) fn poll_list(&self) -> &[u8]
+        ensures { result.now ≡ self.now.poll_list }
+    {
+        self.poll_list.as_slice()
+    }
+
     /// How many terminals there are.
     pub(crate) fn terminals(&self) -> usize
         ensures { result ≡ length self.now.peers }
