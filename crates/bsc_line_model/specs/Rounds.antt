@@ -104,7 +104,7 @@ pub record IsAllDelivered (channel : Channel) : Type 0 where
 abbrev pub IsDelivered : LineValue → ℕ → Type 0
 IsDelivered l t = (way : Way) → IsChannel l t way → IsAllDelivered (channel_of l t way)
 
--- how often the spools of two states were refused room: this often in both, with the count below its
+-- how often a spool was refused room, in two states: this often in both, with the count below its
 -- greatest value, at which it stays
 abbrev pub SameDelay : ℕ → ℕ → Type 0
 SameDelay old new = (new ≡ old) × (old < 2 ^ 64 - 1)
@@ -130,8 +130,8 @@ pub record IsVisited (old new : LineValue) (place : ℕ) : Type 0 where
       channel_of new t way ≡ channel_of old t way
   pub next : BeginsVisit new (place_after old place)
 
--- these events are the transmissions of a visit that begins, as many as its length, each heard as it
--- was sent, and no spool is refused room
+-- these events are the transmissions of a visit that begins, as many as its length, each heard as
+-- it was sent, and no spool is refused room
 pub record IsFairVisit (old : LineValue) (place : ℕ) (events : List Event) (new : LineValue)
     : Type 0 where
   pub begins : BeginsVisit old place
@@ -143,14 +143,14 @@ abbrev pub DeliversVisit : LineValue → List Event → Result (Unit {0}) Stoppe
 DeliversVisit old events result new =
     (place : ℕ) → IsFairVisit old place events new → (result ≡ Ok tt) × IsVisited old new place
 
--- a round is done: the channels of every terminal in the poll list are delivered, and the next round
--- begins
+-- a round is done: the channels of every terminal in the poll list are delivered, and the next
+-- round begins
 pub record IsRoundDone (old new : LineValue) : Type 0 where
   pub delivered : (k : ℕ) → k < length old.control.poll_list → IsDelivered new (entry_at old k)
   pub next : BeginsVisit new 0
 
--- these events are the transmissions of a round that begins, as many as its length, each heard as it
--- was sent, and no spool is refused room
+-- these events are the transmissions of a round that begins, as many as its length, each heard as
+-- it was sent, and no spool is refused room
 pub record IsFairRound (old : LineValue) (events : List Event) (new : LineValue) : Type 0 where
   pub begins : BeginsVisit old 0
   pub transmissions : events ≡ sent_times (round_length old)
