@@ -29,12 +29,7 @@ fn line_of<A: Allocator + Copy>(alloc: A, poll_list: &[u8]) -> Result<Line<A>, F
         terminal_of(b"A", &[Address::read(b"a")?, Address::read(b"c")?])?,
         terminal_of(b"B", &[Address::read(b"b")?])?,
     ];
-    Ok(Line::new(
-        alloc,
-        Setup::new(80, 400, 3, 10)?,
-        &terminals,
-        poll_list,
-    )?)
+    Ok(Line::new(alloc, Setup::new(80, 400, 3, 10)?, &terminals, poll_list)?)
 }
 
 /// Offers this many empty records for the first selection address of terminal 0.
@@ -80,10 +75,7 @@ fn counts<A: Allocator>(
     way: Way,
 ) -> (usize, usize) {
     assert!(rt; is_channel(line, terminal, way));
-    (
-        line.known(terminal, way),
-        line.spooled(terminal, way).len(),
-    )
+    (line.known(terminal, way), line.spooled(terminal, way).len())
 }
 
 /// The transmissions of a visit of this terminal.

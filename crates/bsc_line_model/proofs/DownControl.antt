@@ -95,8 +95,7 @@ sends_block laws c d sent s n x q parity after there select is count row =
     let step : SenderStep = sent_next x q parity (Some h.next) in
     let exact : record { control = d; sent = sent } ≡ acted c s step after = row ∙ ap (λ (o : Option Next). acted c s (sent_next x q parity o) after) h.is in
     let o : outbound_at (peer (after_step c s step)) s ≡ outbound_after step = outbound_is c s step there select in
-    subst (λ (k : ControlStep). SendsDown k.control k.sent c.place s n × ControlStays (current c) (ToTerminal s) c k.control) (sym exact)
-    (
+    subst (λ (k : ControlStep). SendsDown k.control k.sent c.place s n × ControlStays (current c) (ToTerminal s) c k.control) (sym exact) (
       record {
         place_is = refl;
         block = b;
@@ -152,8 +151,7 @@ ends_bid c d sent s x q there select none row =
     let lists : (peer r.control).outbounds ≡ (peer k).outbounds = call_lists k c.place way named in
     let now : outbound_at (peer r.control) s ≡ outbound_after step = ap (λ (os : List OutboundValue). outbound_at (record (peer k) { outbounds = os }) s) lists ∙ o in
     let way_now : way_from (peer k) (s + 1) ≡ way_from (peer r.control) (s + 1) = ap (λ (os : List OutboundValue). way_from (record (peer k) { outbounds = os }) (s + 1)) (sym lists) in
-    subst (λ (z : ControlStep). EndsDown z.control z.sent c.place s × ControlStays (current c) (ToTerminal s) c z.control) (sym row)
-    (
+    subst (λ (z : ControlStep). EndsDown z.control z.sent c.place s × ControlStays (current c) (ToTerminal s) c z.control) (sym row) (
       record {
         called = subst (λ (w : Way). HasCalled r.control r.sent c.place w) way_now (call_is k c.place way named);
         idle = ap (λ (z : OutboundValue). z.sender.phase) now;

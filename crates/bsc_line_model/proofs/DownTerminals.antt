@@ -86,8 +86,7 @@ rests_on (Held end p) k = absurd k
 -- the call of another terminal's address
 pub hears_other : (e : ℕ) (way : Way) (t : ℕ) (x u : TributaryValue) (out : Option Message) (a : List ℕ) → IsAtRest x.sender.phase → called_as x.terminal a ≡ Other → Hears x (Whole (m.Call a)) u out → (out ≡ None) × TerminalStays e way t x u
 hears_other e way t x u out a rest is h =
-    let row : record { tributary = u; sent = out } ≡ quiet_step (without_line x) = h.row ∙ ap (λ (k : Called). call_step x k (rooms_after (Whole (m.Call a)) u)) is in
-    (
+    let row : record { tributary = u; sent = out } ≡ quiet_step (without_line x) = h.row ∙ ap (λ (k : Called). call_step x k (rooms_after (Whole (m.Call a)) u)) is in (
       ap (λ (o : TributaryStep). o.sent) row,
       subst (λ (o : TributaryStep). TerminalStays e way t x o.tributary) (sym row) (record { ready = refl; urgent = λ k. k; down = λ s k. refl; queue = λ k. refl; phase = λ k. rests_on x.sender.phase rest }),
     )
@@ -110,10 +109,9 @@ selected_exact e x u out s room there ready rest same less row = by_room room ex
     spool_is b is = ap (λ (o : TributaryStep). spool_at o.tributary.spools s) is ∙ get_or-set_same x.spools s (room_asked (spool_at x.spools s) b) empty_spool there
 
     by_room : (b : Bool) → record { tributary = u; sent = out } ≡ selected b → (out ≡ Some m.Ack0) × TerminalStays e (ToTerminal s) e x u
-    by_room true is =
-        (
-          ap (λ (o : TributaryStep). o.sent) is,
-          subst (λ (o : TributaryStep). TerminalStays e (ToTerminal s) e x o.tributary) (sym is)
+    by_room true is = (
+      ap (λ (o : TributaryStep). o.sent) is,
+      subst (λ (o : TributaryStep). TerminalStays e (ToTerminal s) e x o.tributary) (sym is)
           (record {
             ready = refl;
             urgent = λ k. k;
@@ -123,7 +121,7 @@ selected_exact e x u out s room there ready rest same less row = by_room room ex
             queue = λ k. refl;
             phase = λ k. rests_on x.sender.phase rest;
           }),
-        )
+    )
     by_room false is =
         let counted : with_delay (spool_at x.spools s).delays ≡ (spool_at x.spools s).delays = ap (λ (z : SpoolValue). z.delays) (sym (spool_is false is)) ∙ same in
         absurd (omega (arith, counted))

@@ -227,8 +227,7 @@ round_done laws old new result line b runs delays =
     let h : IsRoundAt old new n seen = done.1.1 in
     let at_start : Calls new 0 (way_from (peer new.control) 0) = subst (λ (p : ℕ). Calls new p (way_from (peer new.control) 0)) (at_end n (nat_eq n n) refl) h.calls in
     let same : (j : ℕ) → entry_at new j ≡ entry_at old j = λ j. ap (λ (list : List ℕ). get_or list j 0) h.list in
-    let there : (j : ℕ) → j < n → entry_at old j < terminal_count new = λ j less. subst (λ (c : ℕ). entry_at old j < c) (sym h.count) (entry_there old j g less) in
-    (
+    let there : (j : ℕ) → j < n → entry_at old j < terminal_count new = λ j less. subst (λ (c : ℕ). entry_at old j < c) (sym h.count) (entry_there old j g less) in (
       done.0,
       record {
         delivered = λ j less. delivered_at laws new 0 (entry_at old j) (way_from (peer new.control) 0) h.good at_start (there j less) (h.calm j less) (h.visited (entry_at old j) (entry_there old j g less) (h.passed j less));
@@ -272,8 +271,7 @@ visit_done laws old new place result line b runs delays =
     let h : IsVisitDone e place old new = done.1 in
     let there : e < terminal_count old = entry_there old place g (place_there old place g b) in
     let now : e < terminal_count new = subst (λ (c : ℕ). e < c) (sym h.stays.count) there in
-    let same : (j : ℕ) → entry_at new j ≡ entry_at old j = λ j. ap (λ (list : List ℕ). get_or list j 0) h.stays.poll_list in
-    (
+    let same : (j : ℕ) → entry_at new j ≡ entry_at old j = λ j. ap (λ (list : List ℕ). get_or list j 0) h.stays.poll_list in (
       done.0,
       record {
         delivered = delivered_at laws new (place_after old place) e (way_from (peer new.control) 0) h.good h.calls now h.calm (record { down = h.down; up = h.up });

@@ -67,26 +67,25 @@ pub record IsInPoll (l : LineValue) (e place n : ℕ) : Type 0 where
 one_acts : (e : ℕ) (v : Message) (old new : LineValue) (place n : ℕ) → e < length old.terminals → IsCarriedDown v (λ t. Whole v) old new → IsPolled old.control place →
     ((t : ℕ) → t < length old.terminals → t ≢ e → Answers e FromTerminal t (terminal_at old t) (terminal_at new t) (answer_of old.terminals (λ z. Whole v) new.terminals t) None) →
     GoesOnUp (terminal_at new e) (answer_of old.terminals (λ z. Whole v) new.terminals e) n × TerminalStays e FromTerminal e (terminal_at old e) (terminal_at new e) → IsInPoll new e place n × Stays e FromTerminal old new
-one_acts e v old new place n there h polled others this =
-    (
-      record {
-        out = answer_of old.terminals (λ z. Whole v) new.terminals e;
-        pending = h.pending ∙ one_answers old.terminals (λ z. Whole v) new.terminals e (length old.terminals) there (λ t less differ. (others t less differ).says);
-        goes_on = this.0;
-        polled = subst (λ (c : ControlValue). IsPolled c place) (sym h.control) polled;
-      },
-      record {
-        control = control_same e FromTerminal old.control new.control h.control;
-        terminals = record {
-          count = h.terminals.count;
-          terminals = λ t less.
-              elim (same_or_not t e) [
-                | inl same ↦ subst (λ (n : ℕ). TerminalStays e FromTerminal n (terminal_at old n) (terminal_at new n)) (sym same) this.1
-                | inr differ ↦ (others t less differ).stays
-              ];
-        };
-      },
-    )
+one_acts e v old new place n there h polled others this = (
+  record {
+    out = answer_of old.terminals (λ z. Whole v) new.terminals e;
+    pending = h.pending ∙ one_answers old.terminals (λ z. Whole v) new.terminals e (length old.terminals) there (λ t less differ. (others t less differ).says);
+    goes_on = this.0;
+    polled = subst (λ (c : ControlValue). IsPolled c place) (sym h.control) polled;
+  },
+  record {
+    control = control_same e FromTerminal old.control new.control h.control;
+    terminals = record {
+      count = h.terminals.count;
+      terminals = λ t less.
+          elim (same_or_not t e) [
+            | inl same ↦ subst (λ (n : ℕ). TerminalStays e FromTerminal n (terminal_at old n) (terminal_at new n)) (sym same) this.1
+            | inr differ ↦ (others t less differ).stays
+          ];
+    };
+  },
+)
 
 -- a call is no reply
 no_reply : (a : List ℕ) (r : Reply) → msg.Call a ≡ message_of r → ⊥

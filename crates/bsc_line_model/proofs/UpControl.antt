@@ -57,8 +57,7 @@ takes_up c d sent t parity place there i not_urgent counted same less h =
     let now : peer_at d e ≡ q = ap (λ (o : ControlStep). peer_at o.control e) row ∙ get_or-set_same c.peers e q no_peer there in
     let delays : r.spool.delays ≡ p.spool.delays = ap (λ (z : PeerValue). z.spool.delays) (sym now) ∙ same in
     let parity_is : other p.receiver.parity ≡ parity = ap other counted ∙ twice_other parity in
-    let reply : r.reply ≡ Some (ack parity) = taken_exact p.receiver p.spool t rooms.first rooms.after delays less ∙ ap (λ (z : Parity). Some (ack z)) parity_is in
-    (
+    let reply : r.reply ≡ Some (ack parity) = taken_exact p.receiver p.spool t rooms.first rooms.after delays less ∙ ap (λ (z : Parity). Some (ack z)) parity_is in (
       ap (λ (o : ControlStep). o.sent) row ∙ ap (λ (z : Option Reply). option_map message_of z) reply,
       record {
         place_is = ap (λ (o : ControlStep). o.control.place) row ∙ i.place_is;
@@ -67,7 +66,7 @@ takes_up c d sent t parity place there i not_urgent counted same less h =
         without_rvi = without i.replied parity i.without_rvi;
       },
       peer_written e FromTerminal c d e q there (record { terminal = refl; urgent = λ k. calm (sends_rvi r.reply) p.urgent k; count = refl; down = λ s k. refl; up = λ k. absurd (k refl refl) })
-      (ap (λ (o : ControlStep). o.control.peers) row) (ap (λ (o : ControlStep). o.control.poll_list) row),
+          (ap (λ (o : ControlStep). o.control.peers) row) (ap (λ (o : ControlStep). o.control.poll_list) row),
     )
 
 -- the next entry is called, by the lists as they are

@@ -116,8 +116,7 @@ poll_exact laws e x u out zero is sure count row =
     subst (λ (o : TributaryStep). EndsUp o.tributary o.sent × TerminalStays e FromTerminal e x o.tributary) (sym exact)
     (record { eot = refl; idle = sure; rest = count }, up_stays e x (called_up x) refl (λ k. refl) refl)
 poll_exact laws e x u out (suc n) is sure count row =
-    let exact : record { tributary = u; sent = out } ≡ act_step (called_up x) (begin_step (called_up x).sender x.queue) = row ∙ by_tests x false false sure (a_block laws x.queue n count) in
-    (
+    let exact : record { tributary = u; sent = out } ≡ act_step (called_up x) (begin_step (called_up x).sender x.queue) = row ∙ by_tests x false false sure (a_block laws x.queue n count) in (
       sends_up laws (called_up x) u out n (called_up x).sender x.queue Odd is count exact,
       up_stays e x u (ap (λ (o : TributaryStep). o.tributary.ready) exact) (λ k. ap (λ (o : TributaryStep). o.tributary.urgent) exact) (ap (λ (o : TributaryStep). o.tributary.spools) exact),
     )
