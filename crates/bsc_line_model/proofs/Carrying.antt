@@ -1,33 +1,17 @@
 -- A line stays a line when a transmission is heard, or a silence passes.
-use Rattle.std.proofs.Common.{◌≡◌, ◌↔◌, ℕ, ◌<◌, ◌≤◌, ◌+◌, Bool, true, false, ◌&&◌, IsTrue, IfSome, is_some, Result, Ok, Err, List, length, Option, None, Some, get_or, slice_set, refl, sym, ◌∙◌, ap, subst, arith, inl, inr, ◌≢◌, position, nat_lt, get_or-set_other, get_or-set_same, ◌==◌, ◌||◌, if◌then◌else◌, OnOk, OnErr}
+use Rattle.std.proofs.Common.{◌≡◌, ℕ, ◌<◌, ◌≤◌, Bool, true, false, IsTrue, List, length, Option, None, Some, get_or, slice_set, refl, sym, ◌∙◌, ap, subst, arith, inl, inr, ◌≢◌, position, nat_lt, get_or-set_other, get_or-set_same, if◌then◌else◌}
 use Rattle.std.proofs.lemmas.List.{get_or_default}
 use Rattle.bsc_frame.specs.declared.message.Message.{Message}
 use Rattle.bsc_frame.specs.declared.message.Heard.{Heard}
-use Rattle.bsc_tributary.specs.Tributary.{TributaryValue, after_release}
-use Rattle.bsc_tributary.specs.Kept.{IsTributary, AfterSilence, KeepsSetupAndMode}
-use Rattle.bsc_spool.specs.Queue.{QueueValue, with_offered}
-use Rattle.bsc_text.specs.declared.phase.Phase.{Phase}
-use Rattle.bsc_text.specs.declared.phase.Phase.TheVariants.{Idle, Unanswered, Held, InDoubt}
-use Rattle.bsc_text.specs.declared.sender.ReleaseError.TheVariants.{CountMismatch}
-use Rattle.bsc_text.specs.Sender.{SenderValue, release_in, released, not_released}
+use Rattle.bsc_tributary.specs.Tributary.{TributaryValue}
+use Rattle.bsc_tributary.specs.Kept.{AfterSilence, KeepsSetupAndMode}
 use Rattle.bsc_control.specs.declared.way.Way.{Way}
 use Rattle.bsc_control.specs.Control.{ControlValue, terminals as addresses_of}
 use Rattle.bsc_control.specs.Kept.{IsControl, Keeps as ControlKeeps}
 use Rattle.bsc_line_model.specs.declared.transmission.Speaker.{Speaker}
 use Rattle.bsc_line_model.specs.declared.transmission.Speaker.TheVariants.{Control, Terminal}
 use Rattle.bsc_line_model.specs.declared.transmission.Transmission.{Transmission}
-use Rattle.bsc_line_model.specs.Transmission.{speaker_of, IsOnWire}
-use Rattle.bsc_line_model.specs.Carries.{IsCarriedDown, IsCarriedUp, IsCarriedBy, OwnerActs}
-use Rattle.std.specs.Borrow.{Bor}
-use Rattle.bsc_frame.specs.declared.message.Heard.TheVariants.{Whole}
-use Rattle.bsc_frame.specs.Message.{IsMessage}
-use Rattle.bsc_frame.specs.Spells.{Spells}
-use Rattle.bsc_frame.specs.Wire.{wire}
-use Rattle.bsc_line_model.specs.declared.error.LineError.{LineError}
-use Rattle.bsc_line_model.specs.declared.error.LineError.TheVariants as e
-use Rattle.bsc_line_model.specs.Hearing.{heard_at}
-use Rattle.bsc_line_model.specs.Runs.{Carries, CarriesAs, CarriesEachAs, PassesSilence, IsFromTerminal, IsFromControl}
-use Rattle.bsc_line_model.specs.Line.{LineValue, line_of, no_terminal, terminal_in, terminal_count}
+use Rattle.bsc_line_model.specs.Line.{line_of, no_terminal, terminal_in}
 use Rattle.bsc_line_model.specs.Terminals.{EachHears, EachKeeps, line_owner}
 use Rattle.bsc_line_model.specs.Trust.{IsHeardFairly, IsTrustAfter, IsAddressedAfter}
 use Rattle.bsc_line_model.specs.Kept.{AreStations, IsLine}
@@ -45,7 +29,7 @@ use Rattle.bsc_tributary.specs.Tributary.{holds, ActsOnSilence as TerminalActs}
 use Rattle.bsc_control.specs.Kept.{AfterHearing as ControlAfter}
 use Rattle.bsc_control.specs.Table.{Hears as ControlHears, ActsOnSilence as ControlActs}
 use Rattle.bsc_control.specs.Control.{peer_at, current, with_peer}
-use Rattle.bsc_control.specs.Peer.{PeerValue, no_peer, outbound_at, offered_to}
+use Rattle.bsc_control.specs.Peer.{PeerValue, no_peer, outbound_at}
 use Rattle.std.proofs.lemmas.List.{length-set}
 use Rattle.std.proofs.lemmas.Bool.Decides.{nat_tests}
 use Rattle.std.proofs.lemmas.List.Sums.{fails_before_first}
@@ -56,7 +40,7 @@ use Rattle.bsc_line_model.proofs.Stations.{same_or_not}
 use Rattle.bsc_line_model.proofs.AllHear.{hears_down}
 use Rattle.bsc_line_model.proofs.AnswersHeard.{hears_up}
 use Rattle.bsc_line_model.proofs.Silences.{silent_control, silent_terminal}
-use Rattle.bsc_line_model.proofs.Likeness.{IsLike, together_like, terminal_like, peer_like, like_itself, offer_at_like, offer_for_like}
+use Rattle.bsc_line_model.proofs.Likeness.{IsLike, together_like, terminal_like, peer_like}
 use Rattle.bsc_block.specs.Format.{FormatValue}
 use Rattle.bsc_text.specs.Setup.{SetupValue}
 

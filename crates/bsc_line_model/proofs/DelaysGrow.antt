@@ -1,5 +1,5 @@
 -- How often a spool was refused room never falls while transmissions are heard.
-use Rattle.std.proofs.Common.{◌≡◌, ◌≢◌, inl, inr, ℕ, ◌+◌, ◌^◌, ◌-◌, ◌<◌, ◌≤◌, true, false, Bool, List, length, nat_eq, nat_lt, Option, None, Some, slice_set, refl, sym, ◌∙◌, ap, subst, arith, if◌then◌else◌, get_or-set_other, get_or-set_same}
+use Rattle.std.proofs.Common.{◌≡◌, inl, inr, ℕ, ◌+◌, ◌^◌, ◌-◌, ◌<◌, ◌≤◌, true, false, Bool, List, length, nat_eq, nat_lt, Option, None, Some, slice_set, refl, sym, ◌∙◌, ap, subst, arith, if◌then◌else◌, get_or-set_other, get_or-set_same}
 use Rattle.std.proofs.lemmas.List.{length-set}
 use Rattle.bsc_frame.specs.declared.message.Message.{Message}
 use Rattle.bsc_frame.specs.declared.message.Message.TheVariants as m
@@ -13,23 +13,23 @@ use Rattle.bsc_text.specs.declared.act.Act.TheVariants as a
 use Rattle.bsc_text.specs.declared.reply.Reply.{Reply}
 use Rattle.bsc_text.specs.declared.reply.Reply.TheVariants.{Ack0, Ack1, Nak, Wack, Rvi}
 use Rattle.bsc_text.specs.Reply.{reply_heard}
-use Rattle.bsc_text.specs.Receiver.{ReceiverValue, ReceiverStep, Rooms, heard_step, text_step, enq_step, taken, taken_urgently, replied, tried, is_rvi, is_wack, begun}
+use Rattle.bsc_text.specs.Receiver.{ReceiverValue, ReceiverStep, Rooms, heard_step, text_step, taken, taken_urgently, replied, tried, is_rvi, is_wack, begun}
 use Rattle.bsc_text.specs.Sender.{SenderStep, begin_step, reply_step, is_in_doubt}
 use Rattle.bsc_tributary.specs.declared.called.Called.{Called}
 use Rattle.bsc_tributary.specs.declared.called.Called.TheVariants.{Polling, Selection, Other}
 use Rattle.bsc_tributary.specs.declared.mode.Mode.{Mode}
 use Rattle.bsc_tributary.specs.declared.mode.Mode.TheVariants as mode
 use Rattle.bsc_tributary.specs.Called.{called_as}
-use Rattle.bsc_tributary.specs.Tributary.{TributaryValue, TributaryStep, Hears, hear_step, call_step, poll_step, selection_step, mode_step, receive_step, act_step, answer_step, without_line, rooms_after, spool_at, empty_spool}
+use Rattle.bsc_tributary.specs.Tributary.{TributaryValue, TributaryStep, Hears, hear_step, call_step, mode_step, act_step, answer_step, without_line, rooms_after, spool_at, empty_spool}
 use Rattle.bsc_control.specs.declared.task.Task.{Task}
 use Rattle.bsc_control.specs.declared.task.Task.TheVariants as k
 use Rattle.bsc_control.specs.declared.task.Replied.{Replied}
 use Rattle.bsc_control.specs.declared.way.Way.{Way}
 use Rattle.bsc_control.specs.declared.way.Way.TheVariants.{FromTerminal, ToTerminal}
 use Rattle.bsc_control.specs.Peer.{PeerValue, OutboundValue, no_peer, outbound_at, with_outbound, outbound_after}
-use Rattle.bsc_control.specs.Control.{ControlValue, ControlStep, peer_at, peer, current, terminal_of_entry, with_peer, with_current, quiet, sends}
+use Rattle.bsc_control.specs.Control.{ControlValue, ControlStep, peer_at, peer, current, terminal_of_entry, with_peer, with_current, sends}
 use Rattle.bsc_control.specs.CallOrder.{After, Selection, Poll, next_call}
-use Rattle.bsc_control.specs.Table.{Hears as ControlHears, hear_step as control_step, task_step, selecting_step, polling_step, receives, acted, performs, calls, calls_next, calls_by, after_bid, has_rvi, rooms_after as rooms_up}
+use Rattle.bsc_control.specs.Table.{Hears as ControlHears, task_step, selecting_step, polling_step, receives, acted, performs, calls_next, calls_by, after_bid, has_rvi, rooms_after as rooms_up}
 use Rattle.bsc_line_model.proofs.Stations.{same_or_not}
 
 -- a count that is within 64 bits does not fall, and stays within them

@@ -1,8 +1,8 @@
 -- Where no bid goes on, nothing is in doubt and nothing waits, everything that was offered is delivered and known.
-use Rattle.std.proofs.Common.{◌≡◌, ◌≢◌, ℕ, zero, suc, ◌+◌, ◌<◌, ◌≤◌, true, false, Bool, nat_eq, List, [], ◌∷◌, length, take, drop, refl, sym, ◌∙◌, ap, subst, arith}
+use Rattle.std.proofs.Common.{◌≡◌, ℕ, true, false, nat_eq, List, length, ◌∙◌, arith}
 use Rattle.std.proofs.lemmas.Bool.Decides.{nat_tests}
 use Rattle.std.proofs.lemmas.List.{length-drop, take_all}
-use Rattle.bsc_spool.specs.Queue.{QueueValue, IsQueue, waiting}
+use Rattle.bsc_spool.specs.Queue.{QueueValue, waiting}
 use Rattle.bsc_text.specs.declared.phase.Phase.{Phase}
 use Rattle.bsc_text.specs.declared.phase.Phase.TheVariants.{Idle, Unanswered, Held, InDoubt}
 use Rattle.bsc_text.specs.Ready.{IsAtRest}

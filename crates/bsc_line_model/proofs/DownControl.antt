@@ -1,6 +1,6 @@
 -- What the control station does with the replies of a selected terminal where all is heard: ACK0 begins the bid,
 -- each acknowledgement brings the next block, and that of the last one the next call.
-use Rattle.std.proofs.Common.{◌≡◌, ◌≢◌, inl, inr, ℕ, zero, suc, ◌+◌, ◌<◌, true, false, Bool, List, length, drop, position, Option, None, Some, slice_set, refl, sym, ◌∙◌, ap, subst, arith, get_or-set_other, get_or-set_same}
+use Rattle.std.proofs.Common.{◌≡◌, ℕ, zero, suc, ◌+◌, ◌<◌, true, false, Bool, List, length, Option, Some, refl, sym, ◌∙◌, ap, subst, arith, get_or-set_same}
 use Rattle.std.proofs.lemmas.List.{length-set}
 use Rattle.bsc_frame.specs.declared.message.Message.{Message}
 use Rattle.bsc_frame.specs.declared.message.Message.TheVariants as m
@@ -10,11 +10,9 @@ use Rattle.bsc_frame.specs.declared.text.End.{End}
 use Rattle.bsc_frame.specs.declared.text.End.TheVariants.{Etb, Etx}
 use Rattle.bsc_spool.specs.declared.queue.Next.{Next}
 use Rattle.bsc_spool.specs.Queue.{QueueValue, IsQueue, with_known, next_block}
-use Rattle.bsc_text.specs.declared.act.Act.TheVariants as a
 use Rattle.bsc_text.specs.declared.parity.Parity.{Parity}
 use Rattle.bsc_text.specs.declared.parity.Parity.TheVariants.{Even, Odd}
 use Rattle.bsc_text.specs.declared.phase.SentBlock.{SentBlock}
-use Rattle.bsc_text.specs.declared.phase.Phase.{Phase}
 use Rattle.bsc_text.specs.declared.phase.Phase.TheVariants.{Idle, Unanswered}
 use Rattle.bsc_text.specs.Receiver.{begun}
 use Rattle.bsc_text.specs.Reply.{message_of, reply_heard, ack, other}
@@ -24,11 +22,11 @@ use Rattle.bsc_control.specs.declared.task.Task.{Task}
 use Rattle.bsc_control.specs.declared.task.Task.TheVariants.{Selecting, Sending}
 use Rattle.bsc_control.specs.declared.way.Way.{Way}
 use Rattle.bsc_control.specs.declared.way.Way.TheVariants.{FromTerminal, ToTerminal}
-use Rattle.bsc_control.specs.Peer.{PeerValue, OutboundValue, no_peer, no_outbound, outbound_at, with_outbound, outbound_after, is_selectable}
+use Rattle.bsc_control.specs.Peer.{PeerValue, OutboundValue, no_peer, no_outbound, outbound_at, with_outbound, outbound_after}
 use Rattle.bsc_control.specs.Control.{ControlValue, ControlStep, peer_at, peer, current, with_current, terminal_of_entry}
-use Rattle.bsc_control.specs.CallOrder.{Call, After, Selection, way_from, way_at, next_call}
+use Rattle.bsc_control.specs.CallOrder.{After, Selection, way_from}
 use Rattle.bsc_control.specs.Kept.{IsTaskOf}
-use Rattle.bsc_control.specs.Table.{Hears, hear_step, task_step, acted, calls, calls_by, after_bid, select_address, rooms_after}
+use Rattle.bsc_control.specs.Table.{Hears, task_step, acted, calls, after_bid, select_address, rooms_after}
 use Rattle.bsc_line_model.specs.Rounds.{block_count}
 use Rattle.bsc_line_model.proofs.BlockCounts.{CutLaws, HasFirstBlock, IsEnd, has_first}
 use Rattle.bsc_line_model.proofs.Staying.{ControlStays, control_then, call_stays, sender_stays}

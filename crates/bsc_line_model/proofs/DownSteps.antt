@@ -1,5 +1,5 @@
 -- A selection address is called, and blocks are sent to it, on a line where all is heard: the terminal's answers.
-use Rattle.std.proofs.Common.{◌≡◌, ◌≢◌, inl, inr, ℕ, zero, suc, ◌+◌, ◌^◌, ◌-◌, ◌<◌, true, false, Bool, IsTrue, List, length, Option, None, Some, slice_get, refl, sym, ◌∙◌, ap, subst, arith}
+use Rattle.std.proofs.Common.{◌≡◌, ◌≢◌, inl, inr, ℕ, ◌^◌, ◌-◌, ◌<◌, false, IsTrue, List, length, Option, None, Some, slice_get, refl, sym, ◌∙◌, ap, subst}
 use Rattle.std.proofs.lemmas.List.Elements.{All-get_or}
 use Rattle.std.proofs.lemmas.Option.{slice_get-get_or}
 use Rattle.bsc_frame.specs.declared.message.Message.{Message}
@@ -7,16 +7,13 @@ use Rattle.bsc_frame.specs.declared.message.Message.TheVariants as m
 use Rattle.bsc_frame.specs.declared.message.Heard.{Heard}
 use Rattle.bsc_frame.specs.declared.message.Heard.TheVariants.{Whole}
 use Rattle.bsc_frame.specs.Texts.{TextValue}
-use Rattle.bsc_text.specs.declared.parity.Parity.{Parity}
 use Rattle.bsc_text.specs.declared.phase.SentBlock.{SentBlock}
 use Rattle.bsc_text.specs.declared.phase.Phase.{Phase}
 use Rattle.bsc_text.specs.declared.phase.Phase.TheVariants.{Unanswered}
-use Rattle.bsc_text.specs.declared.reply.Reply.{Reply}
-use Rattle.bsc_spool.specs.Queue.{QueueValue}
 use Rattle.bsc_text.specs.Ready.{IsAtRest}
 use Rattle.bsc_text.specs.Reply.{message_of, ack, other}
 use Rattle.bsc_text.specs.Sender.{text_of}
-use Rattle.bsc_text.specs.Agreement.{Flight, Outward, InBid, Agree, NotLanded, HasLanded, IsFlightAfter}
+use Rattle.bsc_text.specs.Agreement.{Flight, Outward, Agree}
 use Rattle.bsc_text.specs.Terminal.{TerminalValue}
 use Rattle.bsc_tributary.specs.declared.called.Called.{Called}
 use Rattle.bsc_tributary.specs.declared.called.Called.TheVariants.{Polling, Selection, Other}
@@ -31,16 +28,16 @@ use Rattle.bsc_control.specs.declared.way.Way.{Way}
 use Rattle.bsc_control.specs.declared.way.Way.TheVariants.{FromTerminal, ToTerminal}
 use Rattle.bsc_control.specs.Addresses.{IsAddressOf}
 use Rattle.bsc_control.specs.Peer.{PeerValue, IsPeer, no_peer, outbound_at}
-use Rattle.bsc_control.specs.Control.{ControlValue, peer_at, peer, current, terminals}
+use Rattle.bsc_control.specs.Control.{ControlValue, peer, current, terminals}
 use Rattle.bsc_control.specs.Table.{select_address}
 use Rattle.bsc_line_model.specs.declared.transmission.Speaker.TheVariants as sp
 use Rattle.bsc_line_model.specs.declared.transmission.Transmission.{Transmission}
 use Rattle.bsc_line_model.specs.Transmission.{sent_by}
-use Rattle.bsc_line_model.specs.Line.{LineValue, terminal_in, terminal_at, terminal_count}
+use Rattle.bsc_line_model.specs.Line.{LineValue, terminal_at}
 use Rattle.bsc_line_model.specs.Carries.{IsCarriedDown}
-use Rattle.bsc_line_model.specs.Kept.{AreStations, IsTuned, AreTuned}
-use Rattle.bsc_line_model.specs.Terminals.{answer_of, EachHears, first_answer}
-use Rattle.bsc_line_model.specs.Together.{IsQuiet, InTask, IsSelecting, IsSending, IsInBidDown, FliesDown}
+use Rattle.bsc_line_model.specs.Kept.{IsTuned, AreTuned}
+use Rattle.bsc_line_model.specs.Terminals.{answer_of}
+use Rattle.bsc_line_model.specs.Together.{InTask, IsSelecting, IsSending, IsInBidDown, FliesDown}
 use Rattle.bsc_line_model.specs.Rounds.{SameDelays}
 use Rattle.bsc_line_model.proofs.Stations.{same_or_not, terminal_there}
 use Rattle.bsc_line_model.proofs.Tuning.{NamesOwn}

@@ -1,8 +1,7 @@
 -- What a terminal does where it is selected or sent a block, all is heard and no room is refused.
-use Rattle.std.proofs.Common.{◌≡◌, ◌≢◌, inl, inr, ℕ, zero, suc, ◌+◌, ◌^◌, ◌-◌, ◌<◌, true, false, Bool, IsTrue, List, length, Option, None, Some, slice_set, option_map, refl, sym, ◌∙◌, ap, subst, arith, if◌then◌else◌, get_or-set_other, get_or-set_same}
+use Rattle.std.proofs.Common.{◌≡◌, ◌≢◌, ℕ, ◌^◌, ◌-◌, ◌<◌, true, false, Bool, IsTrue, List, length, Option, None, Some, slice_set, option_map, refl, sym, ◌∙◌, ap, subst, arith, if◌then◌else◌, get_or-set_other, get_or-set_same}
 use Rattle.bsc_frame.specs.declared.message.Message.{Message}
 use Rattle.bsc_frame.specs.declared.message.Message.TheVariants as m
-use Rattle.bsc_frame.specs.declared.message.Heard.{Heard}
 use Rattle.bsc_frame.specs.declared.message.Heard.TheVariants.{Whole}
 use Rattle.bsc_frame.specs.Texts.{TextValue}
 use Rattle.bsc_spool.specs.Spool.{SpoolValue, room_asked, with_delay}
@@ -16,14 +15,14 @@ use Rattle.bsc_text.specs.Reply.{message_of, ack, other}
 use Rattle.bsc_text.specs.Receiver.{ReceiverValue, ReceiverStep, Rooms, text_step, sends_rvi, begun, first_reply}
 use Rattle.bsc_text.specs.Sender.{cut_phase}
 use Rattle.bsc_tributary.specs.declared.called.Called.{Called}
-use Rattle.bsc_tributary.specs.declared.called.Called.TheVariants.{Polling, Selection, Other}
+use Rattle.bsc_tributary.specs.declared.called.Called.TheVariants.{Selection, Other}
 use Rattle.bsc_tributary.specs.declared.mode.Mode.{Mode}
-use Rattle.bsc_tributary.specs.declared.mode.Mode.TheVariants.{Control, Receiving, Sending}
+use Rattle.bsc_tributary.specs.declared.mode.Mode.TheVariants.{Receiving}
 use Rattle.bsc_tributary.specs.Called.{called_as}
 use Rattle.bsc_tributary.specs.Tributary.{TributaryValue, TributaryStep, Hears, mode_step, receive_step, call_step, selection_step, rooms_after, without_line, quiet_step, spool_at, empty_spool}
-use Rattle.bsc_control.specs.declared.way.Way.TheVariants.{FromTerminal, ToTerminal}
+use Rattle.bsc_control.specs.declared.way.Way.TheVariants.{ToTerminal}
 use Rattle.bsc_control.specs.declared.way.Way.{Way}
-use Rattle.bsc_line_model.proofs.Staying.{TerminalStays, IsElsewhere}
+use Rattle.bsc_line_model.proofs.Staying.{TerminalStays}
 
 -- a try that was refused is counted
 granted : (d : ℕ) (b : Bool) → (if b then d else with_delay d) ≡ d → d < 2 ^ 64 - 1 → b ≡ true

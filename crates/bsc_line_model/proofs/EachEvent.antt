@@ -1,20 +1,17 @@
 -- Every event leaves a line a line: the laws, from the lemmas on values.
-use Rattle.std.proofs.Common.{◌≡◌, ◌≢◌, ℕ, ◌<◌, ◌≤◌, List, length, Option, None, Some, get_or, refl, sym, ◌∙◌, ap, subst}
+use Rattle.std.proofs.Common.{◌≡◌, ℕ, ◌<◌, ◌≤◌, List, length, Option, None, Some, refl, sym, ◌∙◌, ap, subst}
 use Rattle.std.proofs.lemmas.List.{get_or_default}
-use Rattle.bsc_text.specs.Terminal.{TerminalValue}
-use Rattle.bsc_text.specs.Sender.{SenderValue}
-use Rattle.bsc_tributary.specs.Tributary.{TributaryValue, after_release}
+use Rattle.bsc_tributary.specs.Tributary.{TributaryValue}
 use Rattle.bsc_tributary.specs.Kept.{IsTributary, KeepsSetupAndMode}
 use Rattle.bsc_control.specs.declared.way.Way.TheVariants.{ToTerminal}
-use Rattle.bsc_control.specs.Control.{ControlValue, peer_at, with_peer}
-use Rattle.bsc_control.specs.Peer.{PeerValue, outbound_at}
-use Rattle.bsc_control.specs.Kept.{IsControl}
+use Rattle.bsc_control.specs.Control.{ControlValue, peer_at}
+use Rattle.bsc_control.specs.Peer.{PeerValue}
 use Rattle.bsc_line_model.specs.declared.transmission.Speaker.{Speaker}
 use Rattle.bsc_line_model.specs.declared.transmission.Transmission.{Transmission}
 use Rattle.bsc_line_model.specs.BidLaws.{BidLaws}
-use Rattle.bsc_line_model.specs.Line.{LineValue, line_of, terminal_at, terminal_count, terminal_in, no_terminal, with_terminal, with_control}
+use Rattle.bsc_line_model.specs.Line.{LineValue, terminal_at, terminal_count, no_terminal, with_terminal}
 use Rattle.bsc_line_model.specs.Carries.{OwnerActs}
-use Rattle.bsc_line_model.specs.Offers.{full_length, select_count}
+use Rattle.bsc_line_model.specs.Offers.{select_count}
 use Rattle.bsc_line_model.specs.Terminals.{line_owner}
 use Rattle.bsc_line_model.specs.Kept.{IsLine}
 use Rattle.bsc_line_model.specs.Stays.{NewLineStays, DownStays, UpStays, SilenceStays, OfferAtStays, ReadyStays, UrgentAtStays, ReleaseFromStays, OfferForStays, UrgentForStays, ReleaseToStays}

@@ -1,10 +1,9 @@
 -- A run of transmissions that are heard as they were sent, after which no spool was refused room more often than
 -- before, is a walk: its lines are trusted, and no spool was refused room on the way.
-use Rattle.std.proofs.Common.{◌≡◌, ◌≢◌, ◌⊎◌, inl, inr, ℕ, zero, suc, ◌+◌, ◌^◌, ◌-◌, ◌<◌, ◌≤◌, IsTrue, List, [], ◌∷◌, length, replicate, Option, None, Some, Result, Ok, Err, refl, sym, ◌∙◌, ap, subst, arith}
+use Rattle.std.proofs.Common.{◌≡◌, inl, inr, ℕ, zero, suc, ◌+◌, ◌^◌, ◌-◌, ◌<◌, ◌≤◌, IsTrue, length, Result, Ok, Err, refl, sym, ◌∙◌, ap, subst, arith}
 use Rattle.bsc_frame.specs.declared.message.Message.{Message}
 use Rattle.bsc_frame.specs.declared.message.Heard.TheVariants.{Whole}
 use Rattle.bsc_text.specs.Fair.{IsFairlyHeard}
-use Rattle.bsc_text.specs.Terminal.{TerminalValue}
 use Rattle.bsc_tributary.specs.Tributary.{spool_at}
 use Rattle.bsc_control.specs.declared.way.Way.TheVariants.{ToTerminal}
 use Rattle.bsc_control.specs.Control.{ControlValue, peer_at}
@@ -14,16 +13,14 @@ use Rattle.bsc_line_model.specs.declared.transmission.Speaker.TheVariants.{Contr
 use Rattle.bsc_line_model.specs.declared.event.Event.TheVariants.{CarrySent}
 use Rattle.bsc_line_model.specs.declared.error.Stopped.{Stopped}
 use Rattle.bsc_line_model.specs.Line.{LineValue, terminal_at, terminal_count, IsChannel}
-use Rattle.bsc_line_model.specs.Hearing.{all_hear}
-use Rattle.bsc_line_model.specs.Trust.{IsHeardFairly}
 use Rattle.bsc_line_model.specs.Carries.{IsCarriedBy, IsCarriedDown, IsCarriedUp}
-use Rattle.bsc_line_model.specs.Runs.{Carries, CarriesAs, GoesOn, RunsFrom}
+use Rattle.bsc_line_model.specs.Runs.{CarriesAs, GoesOn, RunsFrom}
 use Rattle.bsc_line_model.specs.Kept.{IsLine}
 use Rattle.bsc_line_model.specs.Rounds.{SameDelays, sent_times}
 use Rattle.bsc_line_model.proofs.HeardAlike.{alike_is_fair}
 use Rattle.bsc_line_model.proofs.OfferedGrows.{channel_stays, channel_was}
 use Rattle.bsc_line_model.proofs.Refusals.{nothing_changed}
-use Rattle.bsc_line_model.proofs.DelaysGrow.{Grows, grows_same, grows_then, terminal_grows, ControlGrows, control_grows, control_same_grows}
+use Rattle.bsc_line_model.proofs.DelaysGrow.{Grows, grows_same, grows_then, terminal_grows, ControlGrows, control_grows}
 use Rattle.bsc_line_model.proofs.Walking.{IsGood, Goes, Walks}
 
 -- no spool of the line was refused room less often

@@ -1,9 +1,6 @@
 -- A new line.
-use Rattle.std.proofs.Common.{◌≡◌, ◌≢◌, ℕ, zero, suc, ◌<◌, ◌+◌, Bool, List, [], ◌∷◌, ◌++◌, length, None, get_or, refl, sym, ◌∙◌, ap, subst, arith, length-append, below_more}
-use Rattle.std.proofs.Math.ListN.{get_or-append}
-use Rattle.std.proofs.Math.Seq.{get_or-append_seam}
-use Rattle.std.proofs.lemmas.List.{length-map, get_or-append-add, get_or_default}
-use Rattle.std.specs.List.{AllPairs}
+use Rattle.std.proofs.Common.{◌≡◌, ℕ, ◌<◌, Bool, List, [], length, None, get_or, refl, sym, ◌∙◌, ap, subst, arith}
+use Rattle.std.proofs.lemmas.List.{length-map}
 use Rattle.bsc_text.specs.Setup.{SetupValue}
 use Rattle.bsc_text.specs.Sender.{SenderValue}
 use Rattle.bsc_text.specs.Terminal.{TerminalValue}
@@ -20,7 +17,7 @@ use Rattle.bsc_control.specs.Peer.{PeerValue, OutboundValue, IsPeer, IsNewPeer, 
 use Rattle.bsc_control.specs.Control.{ControlValue, peer_at}
 use Rattle.bsc_control.specs.declared.task.Task.{Task}
 use Rattle.bsc_control.specs.Kept.{IsControl, IsNewControl}
-use Rattle.bsc_line_model.specs.Line.{no_terminal, terminal_in, line_of}
+use Rattle.bsc_line_model.specs.Line.{terminal_in, line_of}
 use Rattle.bsc_line_model.specs.Kept.{AreStations, IsTuned, IsLine, AreNewTerminals}
 use Rattle.bsc_tributary.specs.Kept.{IsNewTerminal}
 use Rattle.bsc_line_model.proofs.Stations.{peer_terminal}

@@ -1,5 +1,5 @@
 -- Delivery by a number: a visit and a round of exactly as many transmissions as their lengths.
-use Rattle.std.proofs.Common.{◌≡◌, ◌≢◌, ◌⊎◌, inl, inr, ℕ, zero, suc, ◌+◌, ◌<◌, ◌≤◌, true, false, Bool, IsTrue, nat_eq, nat_lt, List, [], ◌∷◌, length, get_or, slice_get, Option, None, Some, Result, Ok, Err, refl, sym, ◌∙◌, ap, subst, arith, if◌then◌else◌}
+use Rattle.std.proofs.Common.{◌≡◌, ◌≢◌, ◌⊎◌, inl, inr, ℕ, ◌+◌, ◌<◌, ◌≤◌, true, false, Bool, nat_eq, nat_lt, List, [], length, get_or, slice_get, Option, Some, Result, Ok, Err, refl, sym, ◌∙◌, ap, subst, arith, if◌then◌else◌}
 use Rattle.std.proofs.lemmas.Bool.Decides.{nat_tests}
 use Rattle.std.proofs.lemmas.List.{get_or_past}
 use Rattle.std.proofs.lemmas.List.Elements.{All-get_or}
@@ -15,7 +15,7 @@ use Rattle.bsc_text.specs.Sender.{is_in_doubt}
 use Rattle.bsc_text.specs.Terminal.{TerminalValue}
 use Rattle.bsc_tributary.specs.declared.mode.Mode.{Mode}
 use Rattle.bsc_tributary.specs.declared.mode.Mode.TheVariants as mode
-use Rattle.bsc_tributary.specs.Tributary.{TributaryValue, spool_at}
+use Rattle.bsc_tributary.specs.Tributary.{spool_at}
 use Rattle.bsc_tributary.specs.Kept.{SuitsMode}
 use Rattle.bsc_control.specs.declared.task.Task.{Task}
 use Rattle.bsc_control.specs.declared.task.Task.TheVariants as k
@@ -23,20 +23,18 @@ use Rattle.bsc_control.specs.declared.task.Replied.TheVariants.{Nothing}
 use Rattle.bsc_control.specs.declared.way.Way.{Way}
 use Rattle.bsc_control.specs.declared.way.Way.TheVariants.{FromTerminal, ToTerminal}
 use Rattle.bsc_control.specs.Addresses.{IsAddressOf, address_for}
-use Rattle.bsc_control.specs.Peer.{PeerValue, OutboundValue, IsPeer, no_peer, no_outbound, outbound_at}
-use Rattle.bsc_control.specs.Control.{ControlValue, peer_at, peer, current, terminals, terminal_of_entry}
+use Rattle.bsc_control.specs.Peer.{OutboundValue, IsPeer, no_peer, no_outbound}
+use Rattle.bsc_control.specs.Control.{peer_at, peer, current, terminals, terminal_of_entry}
 use Rattle.bsc_control.specs.CallOrder.{way_from, first_call}
 use Rattle.bsc_control.specs.Kept.{IsTaskOf, SuitsTask, IsSelected, outbound_of}
-use Rattle.bsc_control.specs.Table.{select_address}
 use Rattle.bsc_line_model.specs.declared.transmission.Speaker.TheVariants as sp
-use Rattle.bsc_line_model.specs.declared.transmission.Transmission.{Transmission}
 use Rattle.bsc_line_model.specs.Transmission.{sent_by}
 use Rattle.bsc_line_model.specs.declared.error.Stopped.{Stopped}
 use Rattle.bsc_line_model.specs.declared.event.Event.{Event}
-use Rattle.bsc_line_model.specs.Line.{LineValue, terminal_at, terminal_in, terminal_count, IsChannel, channel_of, phase_of}
+use Rattle.bsc_line_model.specs.Line.{LineValue, terminal_at, terminal_count, channel_of, phase_of}
 use Rattle.bsc_line_model.specs.Kept.{IsLine}
 use Rattle.bsc_line_model.specs.Runs.{Runs}
-use Rattle.bsc_line_model.specs.Rounds.{block_count, poll_length, visit_length, round_length, entries_length, entry_at, place_after, sent_times, IsCalm, HasMadeCall, BeginsVisit, IsAllDelivered, IsDelivered, SameDelays, IsVisited, IsRoundDone, RunsDeliverVisit, RunsDeliverRound}
+use Rattle.bsc_line_model.specs.Rounds.{block_count, poll_length, visit_length, round_length, entry_at, place_after, sent_times, IsCalm, BeginsVisit, IsDelivered, SameDelays, IsVisited, IsRoundDone, RunsDeliverVisit, RunsDeliverRound}
 use Rattle.bsc_line_model.specs.Together.{IsQuiet, AllQuiet, IsSelecting, InTask}
 use Rattle.bsc_line_model.proofs.Soundness.{way_there}
 use Rattle.bsc_line_model.proofs.Stations.{same_or_not, terminal_there}

@@ -1,12 +1,12 @@
 -- Fair hearing in terms of octets.
-use Rattle.std.proofs.Common.{◌≡◌, ◌⊎◌, ◌↔◌, inl, inr, ℕ, List, true, IsTrue, Option, None, Some, refl, sym, subst}
+use Rattle.std.proofs.Common.{◌≡◌, ◌↔◌, inl, inr, ℕ, List, IsTrue, None, Some, refl, sym, subst}
 use Rattle.bsc_frame.specs.declared.message.Message.{Message}
 use Rattle.bsc_frame.specs.declared.message.Message.TheVariants as m
 use Rattle.bsc_frame.specs.declared.message.Heard.{Heard}
 use Rattle.bsc_frame.specs.declared.message.Heard.TheVariants.{Whole, Failed, Noise}
 use Rattle.bsc_frame.specs.Reading.{heard}
 use Rattle.bsc_frame.specs.Spells.{Spells, IsFailed, IsNoise}
-use Rattle.bsc_text.specs.Fair.{IsTextMessage, IsCallCutShort, IsFairlyHeard}
+use Rattle.bsc_text.specs.Fair.{IsCallCutShort, IsFairlyHeard}
 use Rattle.bsc_line_model.specs.Hearing.{heard_in}
 use Rattle.bsc_line_model.specs.Trust.{is_call}
 use Rattle.bsc_line_model.specs.Octets.{IsFairIn, FairInOctets}

@@ -1,6 +1,6 @@
 -- At most one terminal answers a transmission of the control station that is heard fairly: the one whose address all heard
 -- called, or the addressed one.
-use Rattle.std.proofs.Common.{None, ◌≡◌, ◌⊎◌, inl, inr, ℕ, ◌<◌, Bool, true, false, List, IsTrue, is_some, Option, Some, refl, sym, ◌∙◌, ap, subst}
+use Rattle.std.proofs.Common.{None, ◌≡◌, ◌⊎◌, inl, inr, ℕ, ◌<◌, true, false, List, IsTrue, is_some, Option, Some, refl, sym, ap, subst}
 use Rattle.bsc_frame.specs.declared.message.Message.{Message}
 use Rattle.bsc_frame.specs.declared.message.Message.TheVariants as m
 use Rattle.bsc_frame.specs.declared.message.Heard.{Heard}

@@ -1,19 +1,18 @@
 -- A poll where all is heard: after the call, two transmissions a block, and EOT, everything that waited is delivered
 -- and known, and the first call of the next entry is pending.
-use Rattle.std.proofs.Common.{◌≡◌, ◌≢◌, ◌⊎◌, inl, inr, ℕ, zero, suc, ◌+◌, ◌*◌, ◌^◌, ◌-◌, ◌<◌, true, false, Bool, IsTrue, nat_eq, List, length, Option, None, Some, Result, refl, sym, ◌∙◌, ap, subst, arith, if◌then◌else◌}
+use Rattle.std.proofs.Common.{◌≡◌, ◌≢◌, ◌⊎◌, inl, inr, ℕ, zero, suc, ◌+◌, ◌*◌, ◌^◌, ◌-◌, ◌<◌, true, false, Bool, nat_eq, List, length, Option, None, Some, Result, refl, sym, ◌∙◌, ap, subst, arith, if◌then◌else◌}
 use Rattle.std.proofs.lemmas.Bool.Decides.{nat_tests}
 use Rattle.std.proofs.lemmas.List.Elements.{All-get_or}
 use Rattle.bsc_frame.specs.declared.message.Message.{Message}
 use Rattle.bsc_frame.specs.declared.message.Message.TheVariants as msg
 use Rattle.bsc_frame.specs.declared.message.Heard.TheVariants.{Whole}
 use Rattle.bsc_frame.specs.Texts.{TextValue}
-use Rattle.bsc_spool.specs.Queue.{QueueValue, with_known}
 use Rattle.bsc_text.specs.declared.parity.Parity.{Parity}
 use Rattle.bsc_text.specs.declared.reply.Reply.{Reply}
 use Rattle.bsc_text.specs.declared.reply.Reply.TheVariants.{Ack0, Ack1, Nak, Wack, Rvi}
 use Rattle.bsc_text.specs.declared.phase.SentBlock.{SentBlock}
 use Rattle.bsc_text.specs.declared.phase.Phase.{Phase}
-use Rattle.bsc_text.specs.declared.phase.Phase.TheVariants.{Idle, Unanswered}
+use Rattle.bsc_text.specs.declared.phase.Phase.TheVariants.{Unanswered}
 use Rattle.bsc_text.specs.Ready.{IsAtRest, IsReady}
 use Rattle.bsc_text.specs.Reply.{message_of, ack, other}
 use Rattle.bsc_text.specs.Sender.{text_of, is_in_doubt}
@@ -21,20 +20,17 @@ use Rattle.bsc_text.specs.Agreement.{Flight, Outward, Agree}
 use Rattle.bsc_text.specs.Terminal.{TerminalValue}
 use Rattle.bsc_tributary.specs.declared.called.Called.TheVariants.{Polling}
 use Rattle.bsc_tributary.specs.declared.mode.Mode.{Mode}
-use Rattle.bsc_tributary.specs.declared.mode.Mode.TheVariants.{Sending}
 use Rattle.bsc_tributary.specs.Called.{called_as}
 use Rattle.bsc_tributary.specs.Tributary.{TributaryValue}
 use Rattle.bsc_control.specs.declared.task.Replied.{Replied}
 use Rattle.bsc_control.specs.declared.task.Replied.TheVariants.{Nothing}
 use Rattle.bsc_control.specs.declared.task.Task.{Task}
 use Rattle.bsc_control.specs.declared.task.Task.TheVariants as k
-use Rattle.bsc_control.specs.declared.way.Way.{Way}
 use Rattle.bsc_control.specs.declared.way.Way.TheVariants.{FromTerminal}
 use Rattle.bsc_control.specs.Addresses.{IsAddressOf}
 use Rattle.bsc_control.specs.Peer.{PeerValue}
 use Rattle.bsc_control.specs.Control.{ControlValue, peer_at, peer, current, terminals, terminal_of_entry}
 use Rattle.bsc_control.specs.CallOrder.{way_from, next_place}
-use Rattle.bsc_control.specs.Table.{Hears}
 use Rattle.bsc_line_model.specs.declared.transmission.Speaker.TheVariants as sp
 use Rattle.bsc_line_model.specs.declared.transmission.Transmission.{Transmission}
 use Rattle.bsc_line_model.specs.declared.error.Stopped.{Stopped}
@@ -47,7 +43,7 @@ use Rattle.bsc_line_model.specs.Together.{IsQuiet, InTask, IsPolling, IsPolledWi
 use Rattle.bsc_line_model.specs.Rounds.{block_count, SameDelays}
 use Rattle.bsc_line_model.proofs.Stations.{same_or_not, terminal_there}
 use Rattle.bsc_line_model.proofs.SendingDown.{others_in_control, one_answers}
-use Rattle.bsc_line_model.proofs.Staying.{Stays, ControlStays, TerminalsStay, TerminalStays, control_same, terminals_same, terminals_then, stays_then}
+use Rattle.bsc_line_model.proofs.Staying.{Stays, ControlStays, TerminalStays, control_same, terminals_same, stays_then}
 use Rattle.bsc_line_model.proofs.DownControl.{HasCalled}
 use Rattle.bsc_line_model.proofs.DownTerminals.{hears_other}
 use Rattle.bsc_line_model.proofs.DownSteps.{Answers, current_there, terminal_here, stays_quiet, at_rest, names_other}

@@ -1,6 +1,6 @@
 -- A round of the poll list where all is heard: a visit of each entry, in which nothing waits any more for a terminal
 -- that was visited before.
-use Rattle.std.proofs.Common.{◌≡◌, ◌≢◌, ◌⊎◌, inl, inr, ℕ, zero, suc, ◌+◌, ◌*◌, ◌<◌, ◌≤◌, true, false, Bool, IsTrue, not, nat_eq, nat_lt, is_some, position, List, [], ◌∷◌, length, drop, get_or, Option, None, Some, Result, refl, sym, ◌∙◌, ap, subst, arith, if◌then◌else◌}
+use Rattle.std.proofs.Common.{◌≡◌, ◌≢◌, inl, inr, ℕ, zero, suc, ◌+◌, ◌<◌, true, false, Bool, not, nat_eq, nat_lt, is_some, List, ◌∷◌, length, drop, get_or, None, Some, Result, refl, sym, ◌∙◌, ap, subst, arith, if◌then◌else◌}
 use Rattle.std.proofs.Math.Seq.{drop-cons}
 use Rattle.std.proofs.lemmas.Bool.Decides.{nat_tests}
 use Rattle.std.proofs.lemmas.List.{drop_all}
@@ -8,15 +8,14 @@ use Rattle.std.proofs.lemmas.List.Elements.{All-get_or}
 use Rattle.std.specs.List.{position_or_len}
 use Rattle.bsc_spool.specs.Queue.{QueueValue}
 use Rattle.bsc_text.specs.Sender.{is_in_doubt}
-use Rattle.bsc_control.specs.Peer.{PeerValue, OutboundValue, outbound_at}
-use Rattle.bsc_control.specs.Control.{ControlValue, peer_at, peer, current}
+use Rattle.bsc_control.specs.Peer.{PeerValue, OutboundValue}
+use Rattle.bsc_control.specs.Control.{peer_at, peer, current}
 use Rattle.bsc_control.specs.CallOrder.{way_from}
 use Rattle.bsc_control.specs.Kept.{outbound_of}
 use Rattle.bsc_line_model.specs.declared.error.Stopped.{Stopped}
 use Rattle.bsc_line_model.specs.Line.{LineValue, terminal_at}
 use Rattle.bsc_line_model.specs.Rounds.{block_count, poll_length, visit_length, entries_length, is_seen}
 use Rattle.bsc_line_model.proofs.Stations.{same_or_not}
-use Rattle.bsc_line_model.proofs.DownSteps.{current_there}
 use Rattle.bsc_line_model.proofs.Walking.{IsGood, Walks}
 use Rattle.bsc_line_model.proofs.Selections.{VisitLaws, Comes, Calls}
 use Rattle.bsc_line_model.proofs.Visits.{StaysBut, but_same, IsCalmAt, IsVisited, IsVisitDone, selections_length, same_lengths, visit_from}

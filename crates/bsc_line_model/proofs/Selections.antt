@@ -1,6 +1,6 @@
 -- A selection where all is heard: after the call, its answer, and two transmissions a block, everything that waited
 -- is delivered and known, and the next call is pending.
-use Rattle.std.proofs.Common.{◌≡◌, ◌≢◌, inl, inr, ℕ, zero, suc, ◌+◌, ◌*◌, ◌≤◌, ◌^◌, ◌-◌, ◌<◌, true, false, Bool, IsTrue, List, length, drop, Option, None, Some, Result, refl, sym, ◌∙◌, ap, subst, arith}
+use Rattle.std.proofs.Common.{◌≡◌, ℕ, zero, suc, ◌+◌, ◌*◌, ◌≤◌, ◌<◌, false, IsTrue, List, length, Option, Some, Result, refl, sym, ◌∙◌, ap, subst, arith}
 use Rattle.std.proofs.lemmas.List.{length-drop}
 use Rattle.std.proofs.lemmas.List.Elements.{All-get_or}
 use Rattle.bsc_frame.specs.declared.message.Message.{Message}
@@ -19,23 +19,22 @@ use Rattle.bsc_text.specs.Sender.{text_of}
 use Rattle.bsc_control.specs.declared.task.Task.{Task}
 use Rattle.bsc_control.specs.declared.task.Task.TheVariants as k
 use Rattle.bsc_control.specs.declared.way.Way.{Way}
-use Rattle.bsc_control.specs.declared.way.Way.TheVariants.{FromTerminal, ToTerminal}
-use Rattle.bsc_control.specs.Peer.{PeerValue, OutboundValue, IsPeer, IsOutbound, no_peer, no_outbound, outbound_at}
-use Rattle.bsc_control.specs.Control.{ControlValue, peer_at, peer, current}
+use Rattle.bsc_control.specs.declared.way.Way.TheVariants.{ToTerminal}
+use Rattle.bsc_control.specs.Peer.{OutboundValue, IsPeer, IsOutbound, no_peer, no_outbound, outbound_at}
+use Rattle.bsc_control.specs.Control.{ControlValue, peer, current}
 use Rattle.bsc_control.specs.CallOrder.{way_from}
-use Rattle.bsc_control.specs.Kept.{IsTaskOf, SuitsTask, IsInBid, IsSelected, IsOrderly}
+use Rattle.bsc_control.specs.Kept.{SuitsTask, IsInBid, IsSelected}
 use Rattle.bsc_control.specs.Table.{Hears, select_address}
 use Rattle.bsc_line_model.specs.declared.transmission.Speaker.TheVariants as sp
-use Rattle.bsc_line_model.specs.declared.transmission.Transmission.{Transmission}
 use Rattle.bsc_line_model.specs.declared.error.Stopped.{Stopped}
 use Rattle.bsc_line_model.specs.Transmission.{sent_by}
 use Rattle.bsc_line_model.specs.Line.{LineValue, terminal_at}
-use Rattle.bsc_line_model.specs.Carries.{IsCarriedUp, IsCarriedDown}
+use Rattle.bsc_line_model.specs.Carries.{IsCarriedUp}
 use Rattle.bsc_line_model.specs.Rounds.{block_count}
 use Rattle.bsc_line_model.proofs.Tuning.{NamesOwn}
 use Rattle.bsc_line_model.proofs.BlockCounts.{CutLaws}
-use Rattle.bsc_line_model.proofs.Staying.{Stays, ControlStays, TerminalsStay, TerminalStays, terminals_same, terminals_then, stays_then}
-use Rattle.bsc_line_model.proofs.DownControl.{HasCalled, IsInBlock, SendsDown, EndsDown, GoesOnDown, address_at, begins_bid, learns}
+use Rattle.bsc_line_model.proofs.Staying.{Stays, ControlStays, terminals_same, terminals_then, stays_then}
+use Rattle.bsc_line_model.proofs.DownControl.{HasCalled, SendsDown, EndsDown, GoesOnDown, begins_bid, learns}
 use Rattle.bsc_line_model.proofs.DownSteps.{OneAnswers, current_there, terminal_here, text_down, call_down}
 use Rattle.bsc_line_model.proofs.Walking.{IsGood, Walks, Stepped, one_step}
 

@@ -1,5 +1,5 @@
 -- The control station's text or ENQ is heard: the terminal that it sends to receives, and the others do nothing.
-use Rattle.std.proofs.Common.{◌≡◌, ◌≢◌, ◌⊎◌, inl, inr, ℕ, zero, suc, ◌+◌, ◌<◌, ◌≤◌, false, List, length, Option, None, Some, option_map, slice_set, refl, sym, ◌∙◌, ap, subst, arith, get_or-set_same}
+use Rattle.std.proofs.Common.{◌≡◌, ◌≢◌, ◌⊎◌, inl, inr, ℕ, zero, suc, ◌+◌, ◌<◌, ◌≤◌, List, length, Option, None, Some, option_map, slice_set, refl, sym, ◌∙◌, ap, subst, arith, get_or-set_same}
 use Rattle.bsc_frame.specs.declared.message.Message.{Message}
 use Rattle.bsc_frame.specs.declared.message.Message.TheVariants as m
 use Rattle.bsc_frame.specs.declared.message.Heard.{Heard}
@@ -15,7 +15,7 @@ use Rattle.bsc_text.specs.EachStep.{ReceiverAgrees}
 use Rattle.bsc_tributary.specs.declared.mode.Mode.{Mode}
 use Rattle.bsc_tributary.specs.declared.mode.Mode.TheVariants.{Control, Receiving, Sending}
 use Rattle.bsc_tributary.specs.Tributary.{TributaryValue, TributaryStep, Hears, hear_step, mode_step, receive_step, rooms_after, spool_at, empty_spool}
-use Rattle.bsc_tributary.specs.Kept.{AfterHearing, IsNoCall, StaysQuiet, SuitsMode}
+use Rattle.bsc_tributary.specs.Kept.{AfterHearing, IsNoCall, SuitsMode}
 use Rattle.bsc_control.specs.declared.way.Way.{Way}
 use Rattle.bsc_control.specs.declared.way.Way.TheVariants.{ToTerminal}
 use Rattle.bsc_control.specs.Peer.{PeerValue, outbound_at}

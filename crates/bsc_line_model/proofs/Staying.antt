@@ -1,18 +1,12 @@
 -- What one transmission of a visit leaves as it was: all channels but one, and that no end asks for the line.
-use Rattle.std.proofs.Common.{◌≡◌, ◌≢◌, inl, inr, ℕ, ◌<◌, true, false, Bool, List, length, Option, None, Some, slice_set, refl, sym, ◌∙◌, ap, subst, arith, get_or-set_other, get_or-set_same}
+use Rattle.std.proofs.Common.{◌≡◌, ◌≢◌, inl, inr, ℕ, ◌<◌, true, false, List, length, slice_set, refl, sym, ◌∙◌, ap, subst, arith, get_or-set_other, get_or-set_same}
 use Rattle.std.proofs.lemmas.List.{length-set}
-use Rattle.bsc_spool.specs.Queue.{QueueValue}
-use Rattle.bsc_spool.specs.Spool.{SpoolValue}
 use Rattle.bsc_text.specs.Receiver.{begun}
-use Rattle.bsc_text.specs.Sender.{SenderStep}
 use Rattle.bsc_tributary.specs.Tributary.{TributaryValue, spool_at}
-use Rattle.bsc_control.specs.declared.task.Task.{Task}
 use Rattle.bsc_control.specs.declared.way.Way.{Way}
 use Rattle.bsc_control.specs.declared.way.Way.TheVariants.{FromTerminal, ToTerminal}
-use Rattle.bsc_control.specs.Peer.{PeerValue, OutboundValue, no_peer, no_outbound, outbound_at, with_outbound, outbound_after}
-use Rattle.bsc_control.specs.Control.{ControlValue, peer_at, peer, current, with_peer, with_current, terminal_of_entry}
-use Rattle.bsc_control.specs.Kept.{outbound_of}
-use Rattle.bsc_control.specs.CallOrder.{Call}
+use Rattle.bsc_control.specs.Peer.{PeerValue, OutboundValue, no_peer, no_outbound, outbound_at, with_outbound}
+use Rattle.bsc_control.specs.Control.{ControlValue, peer_at, peer, current, terminal_of_entry}
 use Rattle.bsc_control.specs.Table.{calls, polls, selects}
 use Rattle.bsc_line_model.specs.Line.{LineValue, terminal_in}
 use Rattle.bsc_line_model.proofs.Stations.{same_or_not}

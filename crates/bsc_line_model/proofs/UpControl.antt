@@ -1,13 +1,11 @@
 -- What the control station does in a poll where all is heard and no room is refused: each block is acknowledged, and
 -- after EOT the next entry is called.
-use Rattle.std.proofs.Common.{◌≡◌, ◌≢◌, inl, inr, ℕ, zero, suc, ◌+◌, ◌^◌, ◌-◌, ◌<◌, true, false, Bool, IsTrue, nat_eq, List, length, Option, None, Some, slice_set, option_map, refl, sym, ◌∙◌, ap, subst, arith, if◌then◌else◌, get_or-set_other, get_or-set_same}
-use Rattle.std.proofs.lemmas.Bool.Decides.{nat_tests}
+use Rattle.std.proofs.Common.{◌≡◌, ℕ, ◌^◌, ◌-◌, ◌<◌, false, Bool, List, length, Option, Some, option_map, refl, sym, ◌∙◌, ap, subst, if◌then◌else◌, get_or-set_same}
 use Rattle.bsc_frame.specs.declared.message.Message.{Message}
 use Rattle.bsc_frame.specs.declared.message.Message.TheVariants as m
 use Rattle.bsc_frame.specs.declared.message.Heard.{Heard}
 use Rattle.bsc_frame.specs.declared.message.Heard.TheVariants.{Whole}
 use Rattle.bsc_frame.specs.Texts.{TextValue}
-use Rattle.bsc_spool.specs.Spool.{SpoolValue}
 use Rattle.bsc_text.specs.declared.parity.Parity.{Parity}
 use Rattle.bsc_text.specs.declared.parity.Parity.TheVariants.{Even, Odd}
 use Rattle.bsc_text.specs.declared.reply.Reply.{Reply}
@@ -21,7 +19,7 @@ use Rattle.bsc_control.specs.declared.way.Way.{Way}
 use Rattle.bsc_control.specs.declared.way.Way.TheVariants.{FromTerminal}
 use Rattle.bsc_control.specs.Peer.{PeerValue, OutboundValue, no_peer}
 use Rattle.bsc_control.specs.Control.{ControlValue, ControlStep, peer_at, peer, current, terminal_of_entry}
-use Rattle.bsc_control.specs.CallOrder.{After, Poll, way_from, next_place}
+use Rattle.bsc_control.specs.CallOrder.{Poll, way_from, next_place}
 use Rattle.bsc_control.specs.Table.{Hears, task_step, receives, calls, calls_next, replied_after, has_rvi, rooms_after}
 use Rattle.bsc_line_model.proofs.Staying.{ControlStays, peer_written, call_stays}
 use Rattle.bsc_line_model.proofs.DownControl.{HasCalled, call_is, call_lists}

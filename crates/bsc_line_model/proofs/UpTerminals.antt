@@ -1,6 +1,6 @@
 -- What a terminal does where it is polled and all is heard: the first block or EOT, and on each acknowledgement the
 -- next block, or EOT after the last.
-use Rattle.std.proofs.Common.{◌≡◌, ◌≢◌, inl, inr, ℕ, zero, suc, ◌+◌, ◌<◌, true, false, Bool, IsTrue, nat_eq, List, length, Option, None, Some, refl, sym, ◌∙◌, ap, subst, arith, if◌then◌else◌}
+use Rattle.std.proofs.Common.{◌≡◌, ℕ, zero, suc, true, false, Bool, nat_eq, List, length, Option, Some, refl, sym, ◌∙◌, ap, subst, arith, if◌then◌else◌}
 use Rattle.bsc_frame.specs.declared.message.Message.{Message}
 use Rattle.bsc_frame.specs.declared.message.Message.TheVariants as m
 use Rattle.bsc_frame.specs.declared.message.Heard.{Heard}
@@ -13,15 +13,14 @@ use Rattle.bsc_spool.specs.Queue.{QueueValue, IsQueue, waiting, with_known, next
 use Rattle.bsc_text.specs.declared.parity.Parity.{Parity}
 use Rattle.bsc_text.specs.declared.parity.Parity.TheVariants.{Even, Odd}
 use Rattle.bsc_text.specs.declared.phase.SentBlock.{SentBlock}
-use Rattle.bsc_text.specs.declared.phase.Phase.{Phase}
-use Rattle.bsc_text.specs.declared.phase.Phase.TheVariants.{Idle, Unanswered}
+use Rattle.bsc_text.specs.declared.phase.Phase.TheVariants.{Unanswered}
 use Rattle.bsc_text.specs.Ready.{IsAtRest}
-use Rattle.bsc_text.specs.Reply.{message_of, reply_heard, ack, other}
-use Rattle.bsc_text.specs.Sender.{SenderValue, SenderStep, with_phase, with_counts, text_of, sent_next, begin_step, reply_step, accepted, over, cut_phase, is_in_doubt}
+use Rattle.bsc_text.specs.Reply.{message_of, ack, other}
+use Rattle.bsc_text.specs.Sender.{SenderValue, SenderStep, text_of, sent_next, begin_step, accepted, cut_phase, is_in_doubt}
 use Rattle.bsc_tributary.specs.declared.called.Called.{Called}
 use Rattle.bsc_tributary.specs.declared.called.Called.TheVariants.{Polling}
 use Rattle.bsc_tributary.specs.declared.mode.Mode.{Mode}
-use Rattle.bsc_tributary.specs.declared.mode.Mode.TheVariants.{Control, Sending}
+use Rattle.bsc_tributary.specs.declared.mode.Mode.TheVariants.{Sending}
 use Rattle.bsc_tributary.specs.Called.{called_as}
 use Rattle.bsc_tributary.specs.Tributary.{TributaryValue, TributaryStep, Hears, mode_step, call_step, poll_step, act_step, answer_step, rooms_after, without_line, spool_at}
 use Rattle.bsc_tributary.specs.Kept.{IsNoCall}

@@ -1,26 +1,22 @@
 -- The number of a visit, and of a visit of a terminal for which nothing waits any more.
-use Rattle.std.proofs.Common.{◌≡◌, ◌≢◌, ℕ, zero, suc, ◌+◌, ◌*◌, ◌<◌, ◌≤◌, true, List, [], ◌∷◌, length, drop, sum_by, slice_get, Option, None, Some, refl, sym, ◌∙◌, ap, subst, arith}
+use Rattle.std.proofs.Common.{◌≡◌, ℕ, zero, suc, ◌+◌, ◌<◌, ◌≤◌, List, ◌∷◌, length, drop, sum_by, slice_get, Some, refl, sym, ◌∙◌, ap, subst, arith}
 use Rattle.std.proofs.Math.Seq.{drop-cons}
 use Rattle.std.proofs.lemmas.List.{drop_all}
 use Rattle.std.proofs.lemmas.List.Sums.{sum_by-cons}
-use Rattle.std.proofs.lemmas.List.Elements.{All-get_or}
 use Rattle.std.proofs.lemmas.Option.{slice_get-get_or}
-use Rattle.bsc_frame.specs.declared.message.Message.{Message}
 use Rattle.bsc_frame.specs.declared.message.Message.TheVariants as m
 use Rattle.bsc_text.specs.Terminal.{TerminalValue}
 use Rattle.bsc_control.specs.declared.way.Way.{Way}
 use Rattle.bsc_control.specs.declared.way.Way.TheVariants.{FromTerminal, ToTerminal}
-use Rattle.bsc_control.specs.Addresses.{IsAddressOf, address_for}
-use Rattle.bsc_control.specs.Peer.{PeerValue, OutboundValue, IsPeer, no_peer, no_outbound, outbound_at}
-use Rattle.bsc_control.specs.Control.{ControlValue, peer_at, peer, current, terminals, terminal_of_entry}
-use Rattle.bsc_control.specs.CallOrder.{way_from, first_call}
+use Rattle.bsc_control.specs.Addresses.{address_for}
+use Rattle.bsc_control.specs.Peer.{PeerValue, OutboundValue, no_outbound, outbound_at}
+use Rattle.bsc_control.specs.Control.{peer_at, peer, current, terminals}
 use Rattle.bsc_control.specs.Table.{select_address}
 use Rattle.bsc_line_model.specs.declared.transmission.Speaker.TheVariants as sp
-use Rattle.bsc_line_model.specs.Transmission.{sent_by}
 use Rattle.bsc_line_model.specs.Line.{LineValue, terminal_at}
 use Rattle.bsc_line_model.specs.Rounds.{block_count, selection_length, poll_length, visit_length, HasMadeCall}
 use Rattle.bsc_line_model.proofs.Stations.{terminal_there}
-use Rattle.bsc_line_model.proofs.DownControl.{HasCalled, address_at}
+use Rattle.bsc_line_model.proofs.DownControl.{address_at}
 use Rattle.bsc_line_model.proofs.DownSteps.{terminal_here}
 use Rattle.bsc_line_model.proofs.Walking.{IsGood}
 use Rattle.bsc_line_model.proofs.Selections.{Calls}

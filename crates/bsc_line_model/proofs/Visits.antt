@@ -1,20 +1,18 @@
 -- A visit where all is heard: the selections in the order of their addresses, then the poll.
-use Rattle.std.proofs.Common.{◌≡◌, ◌≢◌, ◌⊎◌, inl, inr, ℕ, zero, suc, ◌+◌, ◌*◌, ◌<◌, ◌≤◌, true, false, Bool, IsTrue, not, nat_eq, List, [], ◌∷◌, length, drop, Option, None, Some, Result, refl, sym, ◌∙◌, ap, subst, arith, add-one, if◌then◌else◌}
+use Rattle.std.proofs.Common.{◌≡◌, ◌≢◌, ◌⊎◌, inl, inr, ℕ, zero, suc, ◌+◌, ◌*◌, ◌<◌, ◌≤◌, true, false, Bool, IsTrue, not, nat_eq, List, [], ◌∷◌, length, drop, Result, refl, sym, ◌∙◌, ap, subst, arith, if◌then◌else◌}
 use Rattle.std.proofs.Math.Seq.{drop-cons}
 use Rattle.std.proofs.lemmas.Bool.Decides.{nat_tests}
 use Rattle.std.proofs.lemmas.List.{drop_all}
 use Rattle.std.proofs.lemmas.List.Elements.{All-get_or}
 use Rattle.bsc_block.specs.Blocks.{blocks}
-use Rattle.bsc_spool.specs.Queue.{QueueValue, IsQueue, waiting}
-use Rattle.bsc_spool.specs.Spool.{SpoolValue}
-use Rattle.bsc_text.specs.declared.phase.Phase.{Phase}
+use Rattle.bsc_spool.specs.Queue.{QueueValue, waiting}
 use Rattle.bsc_text.specs.declared.phase.Phase.TheVariants.{Idle}
 use Rattle.bsc_text.specs.Sender.{is_in_doubt}
-use Rattle.bsc_tributary.specs.Tributary.{TributaryValue, spool_at}
+use Rattle.bsc_tributary.specs.Tributary.{spool_at}
 use Rattle.bsc_control.specs.declared.way.Way.{Way}
 use Rattle.bsc_control.specs.declared.way.Way.TheVariants.{FromTerminal, ToTerminal}
 use Rattle.bsc_control.specs.Peer.{PeerValue, OutboundValue, IsPeer, IsOutbound, no_peer, no_outbound, outbound_at, is_selectable}
-use Rattle.bsc_control.specs.Control.{ControlValue, peer_at, peer, current}
+use Rattle.bsc_control.specs.Control.{peer_at, peer, current}
 use Rattle.bsc_control.specs.CallOrder.{way_from}
 use Rattle.bsc_control.specs.Kept.{outbound_of}
 use Rattle.bsc_line_model.specs.declared.error.Stopped.{Stopped}

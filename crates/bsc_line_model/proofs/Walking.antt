@@ -1,10 +1,6 @@
 -- A walk: transmissions in a row that are each heard as they were sent, and no room is refused.
-use Rattle.std.proofs.Common.{◌≡◌, ◌≢◌, ◌⊎◌, inl, inr, ℕ, zero, suc, ◌+◌, ◌^◌, ◌-◌, ◌<◌, true, IsTrue, List, [], length, Option, None, Some, Result, Ok, Err, refl, sym, ◌∙◌, ap, subst, arith}
-use Rattle.bsc_frame.specs.declared.message.Message.{Message}
-use Rattle.bsc_frame.specs.declared.message.Message.TheVariants as m
-use Rattle.bsc_frame.specs.declared.message.Heard.{Heard}
+use Rattle.std.proofs.Common.{◌≡◌, ◌⊎◌, inl, inr, ℕ, zero, suc, ◌+◌, IsTrue, None, Some, Result, Ok, Err, sym, ◌∙◌, subst}
 use Rattle.bsc_frame.specs.declared.message.Heard.TheVariants.{Whole}
-use Rattle.bsc_line_model.specs.declared.transmission.Speaker.TheVariants.{Control, Terminal}
 use Rattle.bsc_line_model.specs.declared.transmission.Transmission.{Transmission}
 use Rattle.bsc_line_model.specs.declared.error.LineError.{LineError}
 use Rattle.bsc_line_model.specs.declared.error.LineError.TheVariants as e

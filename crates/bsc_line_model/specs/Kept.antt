@@ -1,10 +1,6 @@
 -- What holds of every line (own). That at most one terminal is out of control mode holds where the
 -- line is trusted.
-use Rattle.std.specs.Prelude.{◌≡◌, ◌<◌, ℕ, true, false, IsTrue, List, [], length, slice_index_or, All, Option, None, Some}
-use Rattle.bsc_spool.specs.Queue.{queue_of}
-use Rattle.bsc_spool.specs.Spool.{SpoolValue}
-use Rattle.bsc_text.specs.declared.phase.Phase.TheVariants.{Idle}
-use Rattle.bsc_text.specs.Receiver.{begun}
+use Rattle.std.specs.Prelude.{◌≡◌, ◌<◌, ℕ, true, IsTrue, List, length, slice_index_or, Option, None, Some}
 use Rattle.bsc_text.specs.Terminal.{TerminalValue, HasDistinctAddresses}
 use Rattle.bsc_text.specs.Setup.{SetupValue}
 use Rattle.bsc_tributary.specs.declared.mode.Mode.{Mode}

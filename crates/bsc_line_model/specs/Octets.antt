@@ -1,5 +1,5 @@
 -- Fair hearing in terms of octets (GA27-3004: VRC and LRC checking; own).
-use Rattle.std.specs.Prelude.{◌≡◌, ◌⊎◌, ◌↔◌, ℕ, List, IsTrue, Option, None, Some}
+use Rattle.std.specs.Prelude.{◌⊎◌, ◌↔◌, ℕ, List, IsTrue, Option, None, Some}
 use Rattle.bsc_frame.specs.declared.message.Message.{Message}
 use Rattle.bsc_frame.specs.declared.message.Message.TheVariants as m
 use Rattle.bsc_frame.specs.Spells.{Spells, IsFailed, IsNoise}

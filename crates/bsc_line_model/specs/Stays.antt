@@ -1,6 +1,6 @@
 -- Every event leaves a line a line. What a station's own type keeps is a premise here: that a
 -- terminal is a terminal, and a control station a control station.
-use Rattle.std.specs.Prelude.{◌≡◌, ◌≢◌, ℕ, ◌<◌, ◌≤◌, Bool, true, List, length, Option, None, Some}
+use Rattle.std.specs.Prelude.{◌≡◌, ◌≢◌, ℕ, ◌<◌, ◌≤◌, Bool, true, List, length, Some}
 use Rattle.bsc_frame.specs.declared.message.Heard.{Heard}
 use Rattle.bsc_spool.specs.Queue.{with_offered}
 use Rattle.bsc_text.specs.Setup.{SetupValue}

@@ -13,7 +13,7 @@ use std::alloc::Allocator;
 impl<A: Allocator> Line<A> {
     /// How many transmissions a visit of a terminal takes where all is heard: a poll, and a
     /// selection of each of its selection addresses for which records wait. A number that 64 bits
-    /// don't hold is the greatest that they hold. Condition: there is such a terminal. (Own.)
+    /// do not hold is the greatest that they hold. Condition: there is such a terminal. (Own.)
     pub fn visit(&self, terminal: usize) -> u64
         requires { terminal < terminal_count self.now }
         ensures value { result ≡ in_u64 (visit_length self.now terminal) }
@@ -29,7 +29,7 @@ impl<A: Allocator> Line<A> {
     }
 
     /// How many transmissions a round of the poll list takes where all is heard: a visit at the
-    /// first entry of each terminal, and 2 at each later one. A number that 64 bits don't hold is
+    /// first entry of each terminal, and 2 at each later one. A number that 64 bits do not hold is
     /// the greatest that they hold. (Own.)
     pub fn round(&self) -> u64
         ensures value { result ≡ in_u64 (round_length self.now) }

@@ -1,4 +1,4 @@
-use Rattle.std.proofs.Common.{Option, subst, sym, ◌∙◌, ap}
+use Rattle.std.proofs.Common.{Option, subst, ◌∙◌, ap}
 use Rattle.bsc_frame.specs.declared.message.Message.{Message}
 use Rattle.bsc_tributary.specs.Kept.{IsHearing}
 use Rattle.bsc_line_model.specs.declared.transmission.Speaker.TheVariants.{Terminal}

@@ -1,4 +1,4 @@
-use Rattle.std.proofs.Common.{◌<◌, ◌≡◌, ℕ, Option, Some, length, slice_set, refl, sym, subst, ◌∙◌, ap}
+use Rattle.std.proofs.Common.{◌<◌, ◌≡◌, ℕ, Option, Some, length, slice_set, sym, subst, ◌∙◌, ap}
 use Rattle.bsc_line_model.specs.Line.{LineValue, line_of, terminal_count}
 use Rattle.bsc_line_model.specs.Terminals.{line_owner}
 use Rattle.bsc_line_model.specs.Carries.{TerminalActsAlone, OwnerActs}

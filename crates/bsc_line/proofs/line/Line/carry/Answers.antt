@@ -1,10 +1,8 @@
-use Rattle.std.proofs.Common.{◌≡◌, ℕ, List, Some, Option, sym, ◌∙◌, ap}
-use Rattle.bsc_frame.specs.declared.message.Heard.{Heard}
+use Rattle.std.proofs.Common.{◌∙◌, ap}
 use Rattle.bsc_frame.specs.declared.message.Heard.TheVariants.{Whole}
 use Rattle.bsc_line_model.specs.declared.transmission.Transmission.{Transmission}
 use Rattle.bsc_line_model.specs.Hearing.{heard_in, octets_in}
 use Rattle.bsc_line_model.specs.Line.{LineValue}
-use Rattle.bsc_line_model.specs.Runs.{Carries}
 use Rattle.bsc_line.proofs.Carrying.{carries_same, heard_whole, carries_heard}
 use Rattle.bsc_line.proofs.line.Line.carry.Goals as goal
 

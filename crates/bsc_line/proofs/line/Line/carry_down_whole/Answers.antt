@@ -1,10 +1,8 @@
 use Rattle.std.proofs.Common.{◌≡◌, ◌<◌, ℕ, length, Some, ◌∙◌, refl, ap, subst, arith}
-use Rattle.bsc_frame.specs.declared.message.Heard.{Heard}
 use Rattle.bsc_frame.specs.declared.message.Heard.TheVariants.{Whole}
 use Rattle.bsc_control.specs.Control.{terminals as addresses_of}
 use Rattle.bsc_line_model.specs.declared.transmission.Transmission.{Transmission}
 use Rattle.bsc_line_model.specs.Trust.{IsAddressedAfter}
-use Rattle.bsc_line_model.specs.Terminals.{EachHears, EachKeeps, first_answer}
 use Rattle.bsc_line_model.specs.Line.{LineValue, line_of}
 use Rattle.bsc_line_model.specs.Carries.{IsCarriedDown}
 use Rattle.bsc_line.proofs.Carrying.{of_some, some_terminal, carried_whole}

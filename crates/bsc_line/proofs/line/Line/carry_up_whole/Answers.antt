@@ -1,5 +1,4 @@
-use Rattle.std.proofs.Common.{◌≡◌, IsTrue, Some, Option, refl, sym, ◌∙◌, ap, subst, inl}
-use Rattle.bsc_frame.specs.declared.message.Heard.{Heard}
+use Rattle.std.proofs.Common.{◌≡◌, Some, refl, ◌∙◌, ap}
 use Rattle.bsc_frame.specs.declared.message.Heard.TheVariants.{Whole}
 use Rattle.bsc_line_model.specs.declared.transmission.Transmission.{Transmission}
 use Rattle.bsc_line_model.specs.Line.{LineValue, line_of}

@@ -1,4 +1,4 @@
-use Rattle.std.proofs.Common.{None, true, refl, sym}
+use Rattle.std.proofs.Common.{None, true, refl}
 use Rattle.bsc_line_model.specs.Line.{line_of}
 use Rattle.bsc_control.specs.Peer.{no_peer}
 use Rattle.bsc_line.proofs.line.Line.new.Goals as goal

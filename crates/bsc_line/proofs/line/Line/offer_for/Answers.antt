@@ -1,4 +1,4 @@
-use Rattle.std.proofs.Common.{◌≡◌, ◌<◌, ◌≤◌, ℕ, length, sym, ◌∙◌, ap, subst, arith}
+use Rattle.std.proofs.Common.{◌≡◌, ◌<◌, ◌≤◌, ℕ, length, sym, ◌∙◌, subst, arith}
 use Rattle.bsc_text.specs.Setup.{SetupValue}
 use Rattle.bsc_control.specs.Control.{peer_at}
 use Rattle.bsc_line_model.specs.Kept.{IsLine}

@@ -1,5 +1,4 @@
-use Rattle.std.proofs.Common.{◌<◌, length, sym, ◌∙◌, ap, subst, arith, ℕ}
-use Rattle.bsc_control.specs.Control.{ControlValue}
+use Rattle.std.proofs.Common.{◌<◌, length, subst, arith, ℕ}
 use Rattle.bsc_line_model.specs.Line.{LineValue, line_of}
 use Rattle.bsc_line.proofs.line.Line.set_urgent_for.Goals as goal
 

@@ -1,6 +1,5 @@
 use Rattle.std.proofs.Common.{◌≡◌, ◌<◌, ◌-◌, ℕ, List, length, take, drop, ◌∙◌, ap, subst, arith}
 use Rattle.std.proofs.lemmas.List.{take_all, length-drop}
-use Rattle.bsc_block.specs.Format.{FormatValue}
 use Rattle.bsc_block.specs.Blocks.{taken}
 use Rattle.bsc_spool.specs.Queue.{QueueValue, IsQueue}
 use Rattle.bsc_spool.proofs.BlockCount.{TakesOne, one_block}
