@@ -25,7 +25,7 @@ impl Random {
         (self.word() % bound as u64) as usize
     }
 
-    /// Whether one in so many comes up.
+    /// Whether one in this many comes up.
     pub fn one_in(&mut self, many: usize) -> bool {
         self.below(many) == 0
     }
@@ -66,11 +66,11 @@ pub struct Shape {
     /// Before how many in a hundred characters SYN stands as fill.
     pub fill: usize,
 
-    /// Whether an STX may stand behind the check of a US.
+    /// Whether an STX may stand after the check of a US.
     pub starts: bool,
 }
 
-/// The octets of a text of random characters, from its first SYN to its last check, with so many EM behind
+/// The octets of a text of random characters, from its first SYN to its last check, with this many EM after
 /// the characters of each unit.
 pub fn text(random: &mut Random, shape: &Shape, ems: impl Fn(&mut Random) -> usize) -> Vec<u8> {
     let mut octets = vec![0x16, 0x16, 0x02];
@@ -121,7 +121,7 @@ pub fn full_text(random: &mut Random) -> Vec<u8> {
     octets
 }
 
-/// A full text in which one bit is turned, of a character behind the STX.
+/// A full text in which one bit is turned, of a character after the STX.
 pub fn turned_text(random: &mut Random) -> Vec<u8> {
     let mut octets = full_text(random);
     let place = 3 + random.below(octets.len() - 4);
@@ -203,7 +203,7 @@ fn any_call(random: &mut Random) -> Vec<u8> {
     octets
 }
 
-/// A few random octets behind what begins a transmission.
+/// A few random octets after what begins a transmission.
 fn any_start(random: &mut Random) -> Vec<u8> {
     let mut octets = vec![0x16; random.below(3)];
     octets.extend([0x02, 0x04, 0x10, 0x85, 0x15].get(random.below(6)));
@@ -264,7 +264,7 @@ fn syn_check(random: &mut Random) -> Vec<u8> {
     octets
 }
 
-/// Pads before and behind, more than the 2,048 octets at times.
+/// Pads before and after, more than the 2,048 octets at times.
 fn pad(random: &mut Random, octets: &mut Vec<u8>) {
     let before = if random.one_in(8) {
         random.below(40)

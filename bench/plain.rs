@@ -249,7 +249,7 @@ pub fn decode(octets: &[u8]) -> Heard {
     }
 }
 
-/// The address of a call, behind its EOT.
+/// The address of a call, after its EOT.
 fn read_call(mut octets: &[u8]) -> Option<Address> {
     while let [PAD, rest @ ..] = octets {
         octets = rest;
@@ -271,7 +271,7 @@ fn read_call(mut octets: &[u8]) -> Option<Address> {
     Address::read(&codes[..address.len()])
 }
 
-/// The text, behind its STX.
+/// The text, after its STX.
 fn read_text(octets: &[u8]) -> Option<Text> {
     let mut text = Text::new();
     let mut at = 0;

@@ -24,7 +24,7 @@ impl Random {
         (self.word() >> 32) as usize % bound
     }
 
-    /// Whether one in so many comes up.
+    /// Whether one in this many comes up.
     pub fn one_in(&mut self, many: usize) -> bool {
         self.below(many) == 0
     }

@@ -25,7 +25,7 @@ struct Script {
     line: Line,
     full: usize,
 
-    /// Of eight transmissions so many are not heard as they were sent.
+    /// Of eight transmissions this many are not heard as they were sent.
     spoiled: usize,
 
     /// How many ways of spoiling there are.

@@ -78,7 +78,7 @@ pub fn polls(
     })
 }
 
-/// Texts of seven records each way, after a history of so many records.
+/// Texts of seven records each way, after a history of this many records.
 pub fn texts(
     terminals: usize,
     history: usize,

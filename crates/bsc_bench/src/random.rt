@@ -30,7 +30,7 @@ impl Random {
         if bound == 0 { 0 } else { number % bound }
     }
 
-    /// Whether one in so many comes up.
+    /// Whether one in this many comes up.
     pub fn one_in(&mut self, many: usize) -> bool {
         self.below(many) == 0
     }

@@ -21,7 +21,7 @@ struct Script {
     line: Line<Global>,
     full: usize,
 
-    /// Of eight transmissions so many are not heard as they were sent.
+    /// Of eight transmissions this many are not heard as they were sent.
     spoiled: usize,
 
     /// How many ways of spoiling there are.
@@ -32,7 +32,7 @@ struct Script {
     earlier: Vec<u8>,
 }
 
-/// What an event answers; the outer error is want of memory outside the line.
+/// What an event answers; the outer error is that memory ran out outside the line.
 type Answer = Result<Result<(), LineError>, AllocError>;
 
 /// Plays a number of scripts, and tells what each leaves.

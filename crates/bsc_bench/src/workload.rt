@@ -85,7 +85,7 @@ pub fn polls<R: AllocGlobal + Clock, W: Write>(
     })
 }
 
-/// Texts of seven records each way, after a history of so many records.
+/// Texts of seven records each way, after a history of this many records.
 pub fn texts<R: AllocGlobal + Clock + Files, W: Write>(
     rt: &R,
     out: &mut W,

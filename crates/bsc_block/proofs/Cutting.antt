@@ -5,7 +5,7 @@ use Rattle.bsc_block.specs.Blocks.{taken, cut, blocks, AreShort}
 use Rattle.bsc_block.proofs.Elements.{all-drop}
 use Rattle.bsc_block.proofs.Taking.{taken-IsTaken, taken-some}
 
--- the records behind the next block
+-- the records after the next block
 rest : FormatValue → List (List ℕ) → List (List ℕ)
 rest f rs = drop (taken f rs) rs
 

@@ -16,7 +16,7 @@ BeginsWith-given octets None new carried given = (carried, tt)
 BeginsWith-given octets (Some all) None carried given = absurd given
 BeginsWith-given octets (Some all) (Some rest) carried given = (carried, (rest, given))
 
--- the first end gave a record, and an end behind it did not give the same
+-- the first end gave a record, and an end after it did not give the same
 pub Explains-behind : {S : Type 0} (remaining : S → Option (List ℕ)) (ends : List S) (octets : List ℕ) (d : S) (e : CarrierError)
     → 1 ≤ length ends → BeginsWith octets (remaining (get_or ends 0 d))
     → (IsErrOf {T = Unit {0}} (Err e) Length → Any (λ end. IfSome (remaining end) HasWrongLength) (drop 1 ends))

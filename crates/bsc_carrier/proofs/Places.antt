@@ -24,12 +24,12 @@ module _ {S : Type 0} where
   AllZip-from_places R (x ∷ old) (y ∷ new) long each =
       (each 0 x (omega arith), AllZip-from_places R old new (omega (arith, long)) (λ i d below. each (suc i) d (omega (arith, below))))
 
-  -- the ends behind the first, when the first has changed
+  -- the ends after the first, when the first has changed
   pub ends_behind : (ends : List S) (first : S) → take (length (set ends 0 first) - 1) (drop 1 (set ends 0 first)) ≡ drop 1 ends
   ends_behind [] first = refl
   ends_behind (end ∷ ends) first = take_rest (first ∷ ends) 1
 
-  -- what holds of an end behind the first holds of one of all
+  -- what holds of an end after the first holds of one of all
   pub Any-behind : (P : S → Type 0) (ends : List S) → Any P (drop 1 ends) → Any P ends
   Any-behind P [] any = any
   Any-behind P (end ∷ ends) (place, found, below, is, holds) = (suc place, found, omega (arith, below), is, holds)
@@ -38,7 +38,7 @@ module _ {S : Type 0} where
   Any-first P [] d some holds = absurd (omega (arith, some))
   Any-first P (end ∷ ends) d some holds = (0, end, omega arith, refl, holds)
 
-  -- the first end, and those behind it
+  -- the first end, and those after it
   pub AllZip-first_and_behind : (R : S → S → Type 0) (old behind : List S) (first d : S) → 1 ≤ length old → R (get_or old 0 d) first → AllZip R (drop 1 old) behind
       → AllZip R old (put_mid 1 (length (set old 0 first) - 1) (set old 0 first) behind)
   AllZip-first_and_behind R [] behind first d some one more = absurd (omega (arith, some))

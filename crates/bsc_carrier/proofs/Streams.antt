@@ -59,7 +59,7 @@ splits_when_fed {old = old} {new = new} partial (completes {mid = mid} {piece = 
     ∙ ap (λ l. record_of ++ l) behind ∙ sym (append_assoc record_of (flat_map socket_record records) new.begun) in
     (record { whole = whole; carried = (fed.1, split.carried); rest_begins_none = split.rest_begins_none }, left)
 
--- where `Length` is answered, the stream has a wrong length behind its records
+-- where `Length` is answered, the stream has a wrong length after its records
 pub splits_when_wrong : (old mid new : AssemblerValue) (pieces records : List (List ℕ)) (piece : List ℕ) → old.begun ≡ [] → Assembles old pieces records mid
     → Fed mid piece (Err Length) new → Splits (concat pieces ++ piece) records (mid.begun ++ piece) × HasWrongLength (mid.begun ++ piece)
 splits_when_wrong old mid new pieces records piece none more fed =

@@ -16,7 +16,7 @@ pub fn any_pieces()
         → old.begun ≡ [] → Assembles old pieces records new
         → Splits (concat pieces) records new.begun × IsPartial new.begun }
 
-    // Where a feed answers `Length`, the stream so far has a wrong length behind its records.
+    // Where a feed answers `Length`, the stream so far has a wrong length after its records.
     ensures wrong { (old mid new : AssemblerValue) (pieces records : List (List ℕ)) (piece : List ℕ)
         → old.begun ≡ [] → Assembles old pieces records mid
         → Fed mid piece (Err CarrierError.Length) new

@@ -40,7 +40,7 @@ abbrev pub IsLineFault : Fault → Type 0
 IsLineFault (NotHexadecimalAt line) = Unit {0}
 IsLineFault fault = IsPrintFault fault
 
--- The fault of words that `clap` refuses: want of memory is told apart from wrong usage.
+-- The fault of words that `clap` refuses: out of memory is told apart from wrong usage.
 pub record IsWordsFault (error : Error) (fault : Fault) : Type 0 where
   pub memory : kind_of error ≡ kind.OutOfMemory → fault ≡ OutOfMemory
   pub usage : kind_of error ≢ kind.OutOfMemory → fault ≡ Usage error

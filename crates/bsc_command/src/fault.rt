@@ -7,7 +7,7 @@ use clap::error::ErrorKind;
 use std::alloc::{AllocError, AllocFailed};
 use thiserror::Error;
 
-/// Why the command ends without having done its work. The text is one line of standard error, behind
+/// Why the command ends without having done its work. The text is one line of standard error, after
 /// the program's name.
 #[derive(Debug, Drop, Error)]
 pub enum Fault {
@@ -81,7 +81,7 @@ impl From<clap::Error> for Fault {
 
     ghost from_gives = { IsWordsFault };
 
-    /// Want of memory is told apart from wrong usage, since `clap` has one type for both.
+    /// Out of memory is told apart from wrong usage, since `clap` has one type for both.
     fn from(error: clap::Error) -> Fault {
         match error.kind() {
             ErrorKind::OutOfMemory => Fault::OutOfMemory,

@@ -23,7 +23,7 @@ contains_one y z (suc k, within, e) = absurd (omega (arith, within))
 contains_cases : (y : Owner) (ys : List Owner) (z : Owner) → Contains (y ∷ ys) z → (z ≡ y) ⊎ Contains ys z
 contains_cases y ys z h = elim (Contains-append_cases (y ∷ []) ys z h) [ inl x ↦ inl (contains_one y z x) | inr x ↦ inr x ]
 
--- the way is to the selection address so many places on
+-- the way is to the selection address this many places on
 record IsSelectAt (t s : ℕ) (xs : List (List ℕ)) (z : Owner) : Type 0 where
   place : ℕ
   terminal : z.1.0 ≡ t
@@ -77,7 +77,7 @@ owned-to t x (ToTerminal s) a h =
     subst (λ (n : ℕ). Contains (owned t x) (a, (t, ToTerminal n))) place
     (Contains-append_right ((x.poll, (t, FromTerminal)) ∷ []) (numbered_selects t 0 x.selects) (a, (t, ToTerminal (0 + s))) (selects-to t 0 x.selects s a h))
 
--- the terminal is so many places on
+-- the terminal is this many places on
 record IsOwnerAt (t : ℕ) (xs : List TerminalValue) (z : Owner) : Type 0 where
   place : ℕ
   terminal : z.1.0 ≡ t + place

@@ -27,7 +27,7 @@ slice_get-seam : (xs ys : List (List ℕ)) (y : List ℕ) → slice_get (xs ++ y
 slice_get-seam [] ys y = refl
 slice_get-seam (x ∷ xs) ys y = slice_get-seam xs ys y
 
--- a repeat stays the first one whatever comes behind
+-- a repeat stays the first one whatever comes after
 repeat-more : (xs ys : List (List ℕ)) (i j : ℕ) → IsFirstRepeat xs i j → IsFirstRepeat (xs ++ ys) i j
 repeat-more xs ys i j h =
     let before : i < j = h.before in

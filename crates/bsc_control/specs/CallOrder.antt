@@ -19,7 +19,7 @@ pub data After : Type 0 where
   Interruption : After
   Poll : (rvi : Bool) → After
 
--- the selection address so many places on, or the polling address
+-- the selection address this many places on, or the polling address
 abbrev pub way_at : ℕ → Option ℕ → Way
 way_at from None = FromTerminal
 way_at from (Some i) = ToTerminal (from + i)

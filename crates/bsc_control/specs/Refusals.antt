@@ -13,13 +13,13 @@ pub record IsFirstRepeat (xs : List (List ℕ)) (i j : ℕ) : Type 0 where
   pub same : slice_get xs i ≡ slice_get xs j
   pub first : AllPairs (λ a b. a ≢ b) (take j xs)
 
--- memory was wanting, or behind the old addresses, which differ, one of more came before
+-- there was no memory, or, after the old addresses, which differ, one of more came before
 abbrev pub IsClash : List (List ℕ) → List (List ℕ) → SetupError → Type 0
 IsClash old more Memory = Unit {0}
 IsClash old more (SameAddress i j) = IsFirstRepeat (old ++ more) i j
 IsClash old more _ = ⊥
 
--- an entry of a poll list of so many terminals is right at places below 255 alone
+-- an entry of a poll list of this many terminals is right at places below 255 alone
 abbrev pub IsRight : ℕ → List ℕ → ℕ → Type 0
 IsRight count poll_list place = (place < 255) × (slice_index poll_list place < count)
 
@@ -38,7 +38,7 @@ pub record IsFirstWrong (count : ℕ) (poll_list : List ℕ) (place : ℕ) : Typ
   pub wrong : IsRight count poll_list place → ⊥
   pub first : (k : ℕ) → k < place → IsRight count poll_list k
 
--- what each refusal says; those before it, but for want of memory, don't hold
+-- what each refusal says; those before it, but for out of memory, do not hold
 abbrev pub IsRefused : List TerminalValue → List ℕ → SetupError → Type 0
 IsRefused terminals poll_list NoTerminal = length terminals ≡ 0
 IsRefused terminals poll_list TooMany = 64 < length terminals

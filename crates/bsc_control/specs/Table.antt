@@ -39,7 +39,7 @@ abbrev pub has_rvi : Replied → Bool
 has_rvi WithRvi = true
 has_rvi _ = false
 
--- the polling address of an entry is called, after so many failures: the receiver begins
+-- the polling address of an entry is called, after this many failures: the receiver begins
 abbrev pub polls : ControlValue → ℕ → ℕ → ControlStep
 polls c place tries =
     let t : ℕ = terminal_of_entry c place in

@@ -125,7 +125,7 @@ impl<A: Allocator> Control<A> {
         self.directory.find(address)
     }
 
-    /// Adds a record to those for a selection address of a terminal. It comes back where memory is wanting,
+    /// Adds a record to those for a selection address of a terminal. It comes back where there is no memory for it,
     /// and then nothing changed. Condition: there is such an address, and the record is not longer than the
     /// full length.
     pub fn offer(&mut self, terminal: usize, select: usize, record: Record) -> Result<(), Record>

@@ -80,7 +80,7 @@ impl<A: Allocator> Outbound<A> {
         self.sender.silence()
     }
 
-    /// Adds a record that is not longer than the full length. It comes back where memory is wanting.
+    /// Adds a record that is not longer than the full length. It comes back where there is no memory for it.
     pub(crate) fn offer(&mut self, record: Record) -> Result<(), Record>
         requires { length «record» ≤ self.old.queue.format.full }
         ensures ok { OnOk result (self.new ≡ record self.old { queue = record self.old.queue { offered = self.old.queue.offered ++ «record» ∷ [] } }) }

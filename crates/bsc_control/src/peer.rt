@@ -41,7 +41,7 @@ impl<A: Allocator> Model for Peer<A> {
 }
 
 impl<A: Allocator> Peer<A> {
-    /// Nothing to send, nothing received, and no flag. The error is want of memory.
+    /// Nothing to send, nothing received, and no flag. The error is out of memory.
     pub(crate) fn new(alloc: A, setup: Setup, terminal: Terminal) -> Result<Self, AllocError>
     where
         A: Copy,
@@ -158,7 +158,7 @@ impl<A: Allocator> Peer<A> {
         outbound.silence()
     }
 
-    /// Adds a record for a selection address. It comes back where memory is wanting.
+    /// Adds a record for a selection address. It comes back where there is no memory for it.
     pub(crate) fn offer(&mut self, select: usize, record: Record) -> Result<(), Record>
         requires there { select < length self.old.outbounds }
         requires short { length «record» ≤ (outbound_at self.old select).queue.format.full }

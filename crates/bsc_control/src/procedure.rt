@@ -43,7 +43,7 @@ impl<A: Allocator> Model for Procedure<A> {
 }
 
 impl<A: Allocator> Procedure<A> {
-    /// At rest at the first entry, with nothing to send and nothing received. The error is want of memory.
+    /// At rest at the first entry, with nothing to send and nothing received. The error is out of memory.
     pub(crate) fn new(
         alloc: A,
         setup: Setup,
@@ -73,7 +73,7 @@ impl<A: Allocator> Procedure<A> {
         })
     }
 
-    /// Calls the polling address of an entry, after so many failures.
+    /// Calls the polling address of an entry, after this many failures.
     fn poll(&mut self, place: usize, tries: u8) -> Option<Message>
         requires { place < length self.old.poll_list }
         ensures row { record { control = self.new; sent = result } ≡ polls self.old place tries }
@@ -369,7 +369,7 @@ impl<A: Allocator> Procedure<A> {
         peer.addresses()
     }
 
-    /// Adds a record for a selection address of a terminal. It comes back where memory is wanting.
+    /// Adds a record for a selection address of a terminal. It comes back where there is no memory for it.
     pub(crate) fn offer(
         &mut self,
         terminal: usize,

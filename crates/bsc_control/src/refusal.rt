@@ -30,7 +30,7 @@ pub enum SetupError {
     #[error("poll list entry {0} is wrong")]
     PollList(usize),
 
-    /// Memory is wanting.
+    /// There is no memory.
     #[error("out of memory")]
     Memory,
 }
@@ -60,7 +60,7 @@ impl<T: Drop> From<AllocFailed<T>> for SetupError {
 /// The most entries of a poll list.
 const MAX_ENTRIES: usize = 255;
 
-/// The least place of the poll list that is 255 or more, or whose entry is none of so many terminals.
+/// The least place of the poll list that is 255 or more, or whose entry is none of this many terminals.
 pub(crate) fn wrong_entry(poll_list: &[u8], terminals: usize) -> Option<usize>
     ensures right { result ≡ None → AreRight terminals poll_list.now }
     ensures wrong { IfSome result (IsFirstWrong terminals poll_list.now) }

@@ -73,7 +73,7 @@ pub check_low : (s octets : List ℕ) → behind_check (map low_bits s) octets �
 check_low s [] = refl
 check_low s (k ∷ rest) = rw (sum_low s) refl
 
--- ---- an STX behind a check
+-- ---- an STX after a check
 
 by_stx : (b : Bool) (x : ℕ) (s : List ℕ) → cond b (map low_bits s) (low_bits x ∷ map low_bits s) ≡ map low_bits (cond b s (x ∷ s))
 by_stx true x s = refl

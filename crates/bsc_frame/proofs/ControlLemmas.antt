@@ -125,7 +125,7 @@ address_read a h =
     let none : position (λ c. not (is_address_code c)) a ≡ None = not_found _ (length a) (none_wrong a h.each) in
     rw (test_false (length a) 0 (not_empty (length a) h.some), not_long (length a) h.most, none) refl
 
--- ---- a call behind its EOT
+-- ---- a call after its EOT
 
 called_to : (o : Option (List ℕ)) (m : Message) → option_and_then (λ codes. call_to (read_address codes)) o ≡ Some m
     → (codes : List ℕ) × (o ≡ Some codes) × (call_to (read_address codes) ≡ Some m)
@@ -158,7 +158,7 @@ call_reads rest m e =
       },
     )
 
--- what stands behind the fills begins with neither
+-- what stands after the fills begins with neither
 begins_address : (o : ℕ) (a : List ℕ) → (o ≡ 0x16) ⊎ (o ≡ 0xff) → IsAddress a → begins (is_octet o) (map odd_octet a ++ 0x85 ∷ []) ≡ false
 begins_address o [] h p = absurd (omega (arith, p.some))
 begins_address o (c ∷ a) h p = plain_odd c o (plain c p.each.0) (inr h)

@@ -14,7 +14,7 @@ fill_more found i s e l = ap (λ b. b || (get_or s i 0 == 0x16)) e ∙ sym (list
 
 -- ---- squeezing
 
--- behind the first ones stand those of the first i octets that are no fill
+-- after the first ones stand those of the first i octets that are no fill
 pub record SqueezedTo (first : List ℕ) (start count : ℕ) (buffer : List ℕ) (i : ℕ) (s : List ℕ) : Type 0 where
   pub long : length buffer ≡ 164
   pub room : count ≤ start + i

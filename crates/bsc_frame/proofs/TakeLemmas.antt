@@ -218,7 +218,7 @@ parts_none octets chars em last c p n = by_unit (unit_of (map low_bits octets)) 
         (λ m front w. let b = last_em chars front carried_chars w in p.no_em m b.0 b.1) in
         absurd (n (omega (arith, r.1.most, ap length same, length-map chars low_bits)) (chars_all chars (rw same r.1.each)))
 
--- ---- the check, and an STX behind one
+-- ---- the check, and an STX after one
 
 pub wrong_check : (behind : Bool) (front octets : List ℕ) → None ≡ behind_check front octets → unit_before behind (map low_bits front) octets ≡ None
 wrong_check behind front octets e = rw (check_low front octets, ← e) refl
@@ -238,7 +238,7 @@ odd_start behind s h = by_test (behind && begins (is_octet 0x02) s)
     by_test true = All-drop IsOdd 1 s h
     by_test false = h
 
--- ---- the front and what stands behind it
+-- ---- the front and what stands after it
 
 pub front_without_fill : (behind : Bool) (s : List ℕ) (place : ℕ) → AreCarried s → place ≡ prefix_len is_before_ending s → place < length s → list_any (is_octet 0x16) (take (place + 1) s) ≡ false
     → unit_before behind (map low_bits (take (place + 1) s)) (drop (place + 1) s) ≡ unit_at behind s

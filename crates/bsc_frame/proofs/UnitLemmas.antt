@@ -20,7 +20,7 @@ use Rattle.bsc_frame.proofs.ReadLemmas.{test_false}
 use Rattle.bsc_frame.proofs.ControlLemmas.{chosen, some_is}
 use Rattle.bsc_frame.proofs.GatherLemmas.{gathered_reads, gathered_read, EndsUnit-last, IsOther, IsRun}
 
--- what stands behind a step that succeeded
+-- what stands after a step that succeeded
 bind_some : {A B : Type 0} (o : Option A) (f : A → Option B) (y : B) → (o >>= f) ≡ Some y → (x : A) × (o ≡ Some x) × (f x ≡ Some y)
 bind_some None f y e = cc
 bind_some (Some x) f y e = (x, refl, e)
@@ -109,7 +109,7 @@ unit_read chars false e h l k = ap (λ z. unit_of (z ++ e ∷ [])) (append-nil c
 pub unit_of_read : (u : TextUnit) (e : ℕ) → IsUnit u → is_ending_code e ≡ true → unit_of (unit_codes u e) ≡ Some (u, e)
 unit_of_read u e h k = unit_read u.chars u.em e h.each h.most k
 
--- ---- an STX behind a check
+-- ---- an STX after a check
 
 start_by : (c : ℕ) (cs : List ℕ) (b : Bool) → (c == 0x02) ≡ b → (start : List ℕ) × IsStart true start × (c ∷ cs ≡ start ++ cond b cs (c ∷ cs))
 start_by c cs true e = (0x02 ∷ [], inr (refl, refl), ap (λ z. z ∷ cs) (eqb-true c 0x02 e))

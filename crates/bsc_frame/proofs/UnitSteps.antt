@@ -104,7 +104,7 @@ read_whole d new count e rest [] s end r l t us p q = record {
   some = omega (arith, ap length t.units, length-append (draft_units d) (t.unit ∷ []));
 }
 
--- what stands behind a unit is odd as it was
+-- what stands after a unit is odd as it was
 pub rest_odd : (behind : Bool) (s : List ℕ) (u : TextUnit) (e : ℕ) (rest : List ℕ) → All IsOdd s → unit_at behind s ≡ Some (u, e, rest) → All IsOdd rest
 rest_odd behind s u e rest h r =
     let a = unit_at_reads behind s (u, e, rest) r in

@@ -70,7 +70,7 @@ odd_codes u e =
     map-append odd_octet (u.chars ++ cond u.em (0x19 ∷ []) []) (e ∷ [])
     ∙ ap (λ z. z ++ odd_octet e ∷ []) (map-append odd_octet u.chars (cond u.em (0x19 ∷ []) []) ∙ ap (λ z. map odd_octet u.chars ++ z) (odd_em u.em))
 
--- the octets of the codes and the check behind them
+-- the octets of the codes and the check after them
 pub unit_wire_is : (u : TextUnit) (e : ℕ) (line : List ℕ) → IsUnit u → e < 128 → line ≡ (map odd_octet u.chars ++ cond u.em (0x19 ∷ []) []) ++ odd_octet e ∷ []
     → line ++ odd_octet (longitudinal_sum line) ∷ [] ≡ unit_wire u e
 unit_wire_is u e line h l w =

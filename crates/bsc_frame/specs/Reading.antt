@@ -12,7 +12,7 @@ use Rattle.bsc_frame.specs.declared.message.Message.TheVariants.{Eot, Call, Enq,
 use Rattle.bsc_frame.specs.declared.message.Heard.{Heard}
 use Rattle.bsc_frame.specs.declared.message.Heard.TheVariants.{Whole, Failed, Noise}
 
--- what stands behind the front of octets that pass the test
+-- what stands after the front of octets that pass the test
 unfoldable pub skip : (ℕ → Bool) → List ℕ → List ℕ
 skip test [] = []
 skip test (x ∷ xs) = if test x then skip test xs else x ∷ xs
@@ -59,7 +59,7 @@ abbrev pub call_to : Result (List ℕ) AddressError → Option Message
 call_to (Ok a) = Some (Call a)
 call_to (Err e) = None
 
--- a call, behind its EOT
+-- a call, after its EOT
 unfoldable pub call : List ℕ → Option Message
 call rest = option_and_then (λ codes. call_to (read_address codes)) (called 7 (skip (is_octet 0x16) (skip (is_octet 0xff) rest)))
 
@@ -124,7 +124,7 @@ abbrev pub gather_code : Option ℕ → List ℕ → Option (List ℕ × List �
 gather_code None rest more = None
 gather_code (Some c) rest more = if is_ending_code c then Some (c ∷ [], rest) else before_gathered c more
 
--- The codes up to the first ending character, without SYN, and the octets behind it: at most as many
+-- The codes up to the first ending character, without SYN, and the octets after it: at most as many
 -- codes as there is room for.
 unfoldable pub gathered : ℕ → List ℕ → Option (List ℕ × List ℕ)
 gathered room [] = None
@@ -133,16 +133,16 @@ gathered room (x ∷ xs) =
     else if room == 0 then None
     else gather_code (code_of x) xs (gathered (room - 1) xs)
 
--- the octets behind the check of the codes
+-- the octets after the check of the codes
 abbrev pub behind_check : List ℕ → List ℕ → Option (List ℕ)
 behind_check codes [] = None
 behind_check codes (k ∷ rest) = if odd_octet (longitudinal_sum codes) == k then Some rest else None
 
--- the codes without an STX behind a check
+-- the codes without an STX after a check
 abbrev pub behind_start : Bool → List ℕ → List ℕ
 behind_start behind codes = if behind && begins (is_octet 0x02) codes then drop 1 codes else codes
 
--- the unit of these characters with its ending character, by what stands behind the characters
+-- the unit of these characters with its ending character, by what stands after the characters
 abbrev pub unit_of_tail : List ℕ → List ℕ → Option (TextUnit × ℕ)
 unit_of_tail chars [] = None
 unit_of_tail chars (e ∷ []) = Some (record { chars = chars; em = false }, e)
@@ -166,14 +166,14 @@ pub record AreParts (octets chars : List ℕ) (em : Bool) (last : ℕ) : Type 0 
   pub whole : octets ≡ chars ++ (if em then 0x19 ∷ [] else []) ++ last ∷ []
   pub no_em : em ≡ false → (front : List ℕ) → chars ≡ front ++ 0x19 ∷ [] → ⊥
 
--- the unit of the codes before these octets, its ending character, and the octets behind its check
+-- the unit of the codes before these octets, its ending character, and the octets after its check
 abbrev pub unit_before : Bool → List ℕ → List ℕ → Option (TextUnit × ℕ × List ℕ)
 unit_before behind codes octets = do
   rest ← behind_check codes octets
   u ← unit_of (behind_start behind codes)
   Some (u.0, u.1, rest)
 
--- the first unit, its ending character, and the octets behind its check
+-- the first unit, its ending character, and the octets after its check
 unfoldable pub unit_at : Bool → List ℕ → Option (TextUnit × ℕ × List ℕ)
 unit_at behind octets = do
   g ← gathered 147 octets
@@ -188,7 +188,7 @@ abbrev pub last_unit : TextUnit → ℕ → List ℕ → Option TextValue
 last_unit u e [] = Some (record { units = u ∷ []; end = if e == 0x17 then Etb else Etx })
 last_unit u e (x ∷ xs) = None
 
--- at most so many units
+-- at most this many units
 unfoldable pub units_at : ℕ → Bool → List ℕ → Option TextValue
 units_at zero behind octets = None
 units_at (suc n) behind octets = do
@@ -203,7 +203,7 @@ whole_or_failed None = Failed
 unfoldable pub heard_body : List ℕ → Heard
 heard_body body = if begins (is_octet 0x02) body then whole_or_failed (units_at 7 false (drop 1 body)) else whole_or_noise (control body)
 
--- behind the pads
+-- after the pads
 abbrev pub heard_from_syn : List ℕ → Heard
 heard_from_syn rest =
     if begins (is_octet 0x16) rest then heard_body (trimmed (skip (is_octet 0x16) rest)) else Noise

@@ -33,12 +33,12 @@ abbrev pub AreFilled : List ℕ → List ℕ → Type 0
 AreFilled [] octets = octets ≡ []
 AreFilled (c ∷ cs) octets = (fill rest : List ℕ) × AreAll 0x16 fill × (octets ≡ fill ++ odd_octet c ∷ rest) × AreFilled cs rest
 
--- What may stand before the codes of a unit and in its sum: nothing, and behind the check of a US one STX.
+-- What may stand before the codes of a unit and in its sum: nothing, and after the check of a US one STX.
 abbrev pub IsStart : Bool → List ℕ → Type 0
 IsStart behind start = (start ≡ []) ⊎ ((behind ≡ true) × (start ≡ 0x02 ∷ []))
 
 -- The units of a text: for each its codes with fills, and at once, without fill, the check of these codes.
--- An STX behind the check of a US is the first code of the next sum (GA27-3004: intermediate text blocks).
+-- An STX after the check of a US is the first code of the next sum (GA27-3004: intermediate text blocks).
 abbrev pub AreUnits : Bool → List TextUnit → End → List ℕ → Type 0
 AreUnits behind [] end octets = octets ≡ []
 AreUnits behind (u ∷ us) end octets =
@@ -84,7 +84,7 @@ pub record Spells (octets : List ℕ) (m : Message) : Type 0 where
   pub carried : Carries octets body
   pub is_body : IsBody m body
 
--- The octets failed as a text: they begin with STX behind SYN, and spell no message (GA27-3004: a text
+-- The octets failed as a text: they begin with STX after SYN, and spell no message (GA27-3004: a text
 -- whose check or form failed is answered by NAK).
 pub record IsFailed (octets : List ℕ) : Type 0 where
   pub small : length octets ≤ 2048

@@ -11,7 +11,7 @@ const SYN: u8 = 0x16;
 
 const PAD: u8 = 0xff;
 
-/// What stands behind the leading pads, 0x55 or 0xaa.
+/// What stands after the leading pads, 0x55 or 0xaa.
 #[tactic(auto, using(crate::proofs::RunLemmas::skip_pads))]
 fn behind_pads(octets: &[u8]) -> &[u8]
     ensures { result.now ≡ skip is_pad_octet octets.now }
@@ -20,7 +20,7 @@ fn behind_pads(octets: &[u8]) -> &[u8]
     &octets[start..]
 }
 
-/// What stands behind the front that is of this octet alone.
+/// What stands after the front that is of this octet alone.
 #[tactic(auto, using(crate::proofs::RunLemmas::skip_all))]
 pub(crate) fn behind_all(octets: &[u8], octet: u8) -> &[u8]
     ensures { result.now ≡ skip (is_octet octet) octets.now }

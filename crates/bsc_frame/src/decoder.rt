@@ -12,7 +12,7 @@ use crate::unit_decoder::read_units;
 use crate::{Heard, Message, Short, Text};
 use bsc_octet::all_odd;
 
-/// What a text is heard as, behind its STX.
+/// What a text is heard as, after its STX.
 #[tactic(auto, using(crate::proofs::OddLemmas::not_odd_fails))]
 fn text_heard(units: &[u8]) -> Heard
     ensures { result ≡ whole_or_failed (units_at 7 false units.now) }

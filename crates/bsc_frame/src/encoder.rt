@@ -45,7 +45,7 @@ fn put_codes(octets: &mut UnitOctets, codes: &[u8])
     }
 }
 
-/// Puts the octet behind the first ones, and gives how many there are then.
+/// Puts the octet after the first ones, and gives how many there are then.
 #[tactic(auto, using(std::proofs::lemmas::List::take_more_set))]
 fn put(octets: &mut UnitOctets, count: usize, octet: u8) -> usize
     requires { count < 147 }
@@ -56,7 +56,7 @@ fn put(octets: &mut UnitOctets, count: usize, octet: u8) -> usize
     count + 1
 }
 
-/// Puts EM behind the first octets where the unit is marked, and gives how many there are then.
+/// Puts EM after the first octets where the unit is marked, and gives how many there are then.
 fn put_em(octets: &mut UnitOctets, count: usize, em: bool) -> usize
     requires { count < 147 }
     ensures octets { take result octets.new ≡ take count octets.old ++ (if em then 0x19 ∷ [] else []) }

@@ -3,7 +3,7 @@ use crate::front::{before_ending, either_front};
 use crate::{Address, Heard, Message, Short, Wire, decode, decode_short};
 use bsc_octet::{from_line, is_record_char, to_line};
 
-// Reads the octets behind the STX of a text in one pass, and gives how many characters it has.
+// Reads the octets after the STX of a text in one pass, and gives how many characters it has.
 fn plain_text(octets: &[u8]) -> Option<usize> {
     let mut units = 1usize;
     let mut all = 0usize;
@@ -79,7 +79,7 @@ fn put(octets: &mut Wire, octet: u8) {
     let _ = octets.try_push(octet);
 }
 
-// Puts the code as a character, now and then behind fill.
+// Puts the code as a character, now and then after fill.
 fn put_code(octets: &mut Wire, state: &mut u32, code: u8, sum: &mut u8) {
     if next_random(state, 6) == 0 {
         put(octets, 0x16);
@@ -88,7 +88,7 @@ fn put_code(octets: &mut Wire, state: &mut u32, code: u8, sum: &mut u8) {
     *sum ^= code;
 }
 
-// Puts a unit of some characters, with an STX before it or EM behind them now and then.
+// Puts a unit of some characters, with an STX before it or EM after them now and then.
 fn put_unit(octets: &mut Wire, state: &mut u32, ending: u8) {
     let mut sum = 0u8;
     if next_random(state, 8) == 0 {

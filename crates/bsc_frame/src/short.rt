@@ -24,7 +24,7 @@ pub enum Short {
     Noise,
 }
 
-/// The address of a call, behind its EOT.
+/// The address of a call, after its EOT.
 #[tactic(auto, using(crate::proofs::ReadLemmas::called_end, crate::proofs::ReadLemmas::called_early, crate::proofs::ReadLemmas::called_full, crate::proofs::ReadLemmas::called_wrong, crate::proofs::ReadLemmas::called_more, crate::proofs::ReadLemmas::called_none))]
 fn address_codes(octets: &[u8]) -> Option<ArrayVec<u8, 7>>
     ensures { option_map (λ v. v.items) result ≡ called 7 octets.now }
@@ -49,7 +49,7 @@ fn address_codes(octets: &[u8]) -> Option<ArrayVec<u8, 7>>
     None
 }
 
-/// What a call is, behind its EOT.
+/// What a call is, after its EOT.
 #[tactic(auto, unfolding(crate::specs::Reading::call))]
 fn short_call(octets: &[u8]) -> Short
     ensures { heard_as result ≡ whole_or_noise (call octets.now) }

@@ -9,7 +9,7 @@ use bsc_octet::is_record_char;
 
 const SYN: u8 = 0x16;
 
-/// One more than the most codes of a unit: an STX behind a check, 144 characters, EM, the ending character.
+/// One more than the most codes of a unit: an STX after a check, 144 characters, EM, the ending character.
 const MAX_CODES: usize = 148;
 
 /// How many octets are squeezed before their count is tested.
@@ -30,7 +30,7 @@ pub(crate) fn has_fill(octets: &[u8]) -> bool
     found
 }
 
-/// Puts the octets without fill behind the first ones of the buffer, and gives how many there are then. Each
+/// Puts the octets without fill after the first ones of the buffer, and gives how many there are then. Each
 /// octet is stored, and the next one is stored in its place where it is fill.
 #[inline(always)]
 #[tactic(auto, using(crate::proofs::SqueezeLemmas::squeeze_more, crate::proofs::SqueezeLemmas::squeeze_start, crate::proofs::SqueezeLemmas::squeeze_all))]

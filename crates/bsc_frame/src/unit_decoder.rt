@@ -30,7 +30,7 @@ pub(crate) fn check_of(codes: &[u8]) -> u8
     check
 }
 
-/// The octets behind the check of the unit.
+/// The octets after the check of the unit.
 #[tactic(auto, using(crate::proofs::UnitSteps::check_wrong, crate::proofs::UnitSteps::check_right))]
 fn checked<'a>(unit: &[u8], octets: &'a [u8]) -> Option<&'a [u8]>
     ensures { option_copied result ≡ behind_check unit.now octets.entry.now }
@@ -44,7 +44,7 @@ fn checked<'a>(unit: &[u8], octets: &'a [u8]) -> Option<&'a [u8]>
     Some(&octets[1..])
 }
 
-/// The octets without an STX behind a check.
+/// The octets without an STX after a check.
 fn without_start(behind: bool, octets: &[u8]) -> &[u8]
     ensures { result.now ≡ behind_start behind octets.now }
 {
@@ -108,7 +108,7 @@ fn take_chars(octets: &[u8], draft: &mut Draft) -> Option<u8>
 }
 
 /// Reads the unit of these octets without fill, adds it to the draft, and gives its ending character and
-/// the octets behind its check.
+/// the octets after its check.
 fn take_front<'a>(
     behind: bool,
     front: &[u8],
@@ -131,7 +131,7 @@ fn take_front<'a>(
     Some((ending, rest))
 }
 
-/// Reads the first unit, adds it to the draft, and gives its ending character and the octets behind
+/// Reads the first unit, adds it to the draft, and gives its ending character and the octets after
 /// its check.
 fn take_unit<'a>(behind: bool, octets: &'a [u8], draft: &mut Draft) -> Option<(u8, &'a [u8])>
     requires draft { IsDraft draft.old }
@@ -155,7 +155,7 @@ fn take_unit<'a>(behind: bool, octets: &'a [u8], draft: &mut Draft) -> Option<(u
     take_front(behind, &unit[..count], rest, draft)
 }
 
-/// Reads the units of a text, behind its STX, into an empty draft, and gives the end of the text.
+/// Reads the units of a text, after its STX, into an empty draft, and gives the end of the text.
 #[tactic(auto, using(crate::proofs::UnitSteps::read_start, crate::proofs::UnitSteps::read_stop, crate::proofs::UnitSteps::read_more, crate::proofs::UnitSteps::read_extra, crate::proofs::UnitSteps::read_whole, crate::proofs::UnitSteps::read_all))]
 pub(crate) fn read_units(octets: &[u8], draft: &mut Draft) -> Option<End>
     requires draft { IsDraft draft.old }

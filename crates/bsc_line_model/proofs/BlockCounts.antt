@@ -63,7 +63,7 @@ first_of_waiting laws q n format (r ∷ rs) is short count =
       end = subst (λ (j : ℕ). IsEnd (if nat_eq k (length (r ∷ rs)) then Etx else Etb) j) left (end_by laws f (r ∷ rs) k format short (laws.taken_is f (r ∷ rs)).there (nat_eq k (length (r ∷ rs))) refl);
     }
 
--- a queue of n + 1 blocks has a first one, and behind it n
+-- a queue of n + 1 blocks has a first one, and after it n
 pub has_first : (laws : CutLaws) (q : QueueValue) (n : ℕ) → IsQueue q → block_count q ≡ suc n → HasFirstBlock q n
 has_first laws q n is count = first_of_waiting laws q n is.format (waiting q) refl (laws.rest q.format.full q.known q.offered is.short) count
 

@@ -32,7 +32,7 @@ use Rattle.bsc_line_model.proofs.Staying.{TerminalStays}
 use Rattle.bsc_line_model.proofs.DownControl.{ack_step}
 use Rattle.bsc_line_model.proofs.DownTerminals.{rests_on}
 
--- its block b is unanswered, with n behind it
+-- its block b is unanswered, with n after it
 pub record IsInBlockUp (x : TributaryValue) (n : ℕ) (b : SentBlock) : Type 0 where
   pub mode : x.mode ≡ Sending
   pub phase : x.sender.phase ≡ Unanswered b

@@ -30,7 +30,7 @@ pub record Halts (at : ℕ) (old : LineValue) (stopped : Stopped) (new : LineVal
   pub place : stopped.at ≡ at
   pub refused : Carries (λ (sent : Transmission). Whole sent.message) old (Err stopped.why) new
 
--- so many transmissions, or fewer where one is refused
+-- this many transmissions, or fewer where one is refused
 abbrev pub Walks : ℕ → ℕ → LineValue → Result (Unit {0}) Stopped → LineValue → Type 0
 Walks at zero old (Ok done) new = new ≡ old
 Walks at zero old (Err e) new = ⊥

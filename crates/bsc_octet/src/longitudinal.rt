@@ -16,7 +16,7 @@ pub fn sum(octets: &[u8]) -> u8
     (xor_of(chunks) ^ xor_of_rest(rest)) & 0x7f
 }
 
-/// The exclusive or of the octets behind the last whole chunk.
+/// The exclusive or of the octets after the last whole chunk.
 fn xor_of_rest(octets: &[u8]) -> u8
     ensures { (i : ℕ) → bit_at result i ≡ with_bit i octets.now % 2 }
 {

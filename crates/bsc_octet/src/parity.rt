@@ -47,7 +47,7 @@ pub fn all_odd(octets: &[u8]) -> bool
     rest_is_odd(rest)
 }
 
-/// Whether every octet behind the last whole chunk has odd parity.
+/// Whether every octet after the last whole chunk has odd parity.
 fn rest_is_odd(octets: &[u8]) -> bool
     ensures { IsTrue result ↔ All IsOdd octets.now }
 {

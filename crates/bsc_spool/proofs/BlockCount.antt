@@ -1,4 +1,4 @@
--- How many blocks are left behind the next one.
+-- How many blocks are left after the next one.
 use Rattle.std.proofs.Common.{◌≡◌, ◌≢◌, ℕ, suc, ◌+◌, ◌-◌, ◌<◌, ◌≤◌, List, [], ◌∷◌, length, take, drop, sym, ◌∙◌, ap, arith}
 use Rattle.std.proofs.lemmas.List.{drop-drop, length-drop}
 use Rattle.bsc_block.specs.Format.{FormatValue, IsFormat}

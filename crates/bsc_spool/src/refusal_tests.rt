@@ -54,7 +54,7 @@ fn are_in_order(records: &[Record]) -> bool {
     true
 }
 
-// How many of so many offers came back.
+// How many of this many offers came back.
 fn refused_offers<A: Allocator>(
     rt: &impl Abort,
     queue: &mut Queue<A>,
@@ -106,7 +106,7 @@ fn every_offer_is_out_of_memory(rt: HostRuntime) -> Result<(), Fail> {
     Ok(())
 }
 
-// A queue of so many records.
+// A queue of this many records.
 fn filled(rt: &impl AllocGlobal, count: usize) -> Result<Queue<Global>, Fail> {
     let mut queue = Queue::new(rt.alloc(), Format::new(80, 400)?);
     for place in 0..count {

@@ -14,7 +14,7 @@ fn full_record() -> Result<Record, RecordError>
     Record::read(&[0x41; 80], 80)
 }
 
-// Offers so many full records.
+// Offers this many full records.
 fn offer_full<A: Allocator>(queue: &mut Queue<A>, count: usize) -> Result<(), Fail>
     requires { 80 ≤ queue.old.format.full }
     ensures { queue.new.format ≡ queue.old.format }

@@ -38,7 +38,7 @@ wait_more : (q : QueueValue) (k j : ℕ) → k + j ≤ length (waiting q)
     → j ≤ length (waiting (with_known q k))
 wait_more q k j h = omega (arith, length-drop q.known q.offered, length-drop (q.known + k) q.offered)
 
--- behind ETB a record still waits once the block is marked
+-- after ETB a record still waits once the block is marked
 pub still_waiting : (q : QueueValue) (k : ℕ) (e : End) → AreWaiting k e (length (waiting q))
     → AreWaiting 0 e (length (waiting (with_known q k)))
 still_waiting q k Etb h = wait_more q k 1 h

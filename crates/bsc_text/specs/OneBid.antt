@@ -142,7 +142,7 @@ begun_in b (Offering r ∷ es) = begun_in (after_event b (Offering r)) es
 abbrev pub most_turns : SetupValue → ℕ
 most_turns setup = (setup.tries + 1) * (setup.waits + 1)
 
--- a bid in which so many blocks were begun, the first one included, takes at most so many turns
+-- a bid in which this many blocks were begun, the first one included, takes at most this many turns
 abbrev pub EndsSoon : Type 0
 EndsSoon =
     (b : Bid) (es : List Event) (c : Bid) → Reaches b es c

@@ -11,7 +11,7 @@ use Rattle.bsc_text.specs.declared.phase.Phase.TheVariants.{Idle, Unanswered, He
 use Rattle.bsc_text.specs.Setup.{SetupValue}
 use Rattle.bsc_text.specs.Sender.{SenderValue}
 
--- so many records are among the n that wait, and behind ETB one more
+-- this many records are among the n that wait, and after ETB one more
 abbrev pub AreWaiting : ℕ → End → ℕ → Type 0
 AreWaiting k Etb n = k + 1 ≤ n
 AreWaiting k Etx n = k ≤ n

@@ -17,7 +17,7 @@ abbrev pub other : Parity → Parity
 other Even = Odd
 other Odd = Even
 
--- the acknowledgement of so many blocks: ACK0 where their number is even, ACK1 where it is odd
+-- the acknowledgement of this many blocks: ACK0 where their number is even, ACK1 where it is odd
 abbrev pub ack : Parity → Reply
 ack Even = Ack0
 ack Odd = Ack1

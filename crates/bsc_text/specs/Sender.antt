@@ -145,7 +145,7 @@ pub record ReleaseStep : Type 0 where
   pub queue : QueueValue
   pub answer : Result (Unit {0}) ReleaseError
 
--- so many records are known, and the doubt is over
+-- this many records are known, and the doubt is over
 abbrev pub released : SenderValue → QueueValue → ℕ → ReleaseStep
 released s q count =
     record { sender = with_phase s Idle; queue = queue_of q.format q.offered count; answer = Ok tt }

@@ -24,7 +24,7 @@ own_addresses t = t.poll ∷ t.selects
 abbrev pub HasDistinctAddresses : TerminalValue → Type 0
 HasDistinctAddresses t = AllPairs (λ a b. a ≢ b) (own_addresses t)
 
--- the selection addresses as they lie in a table of four, the polling address behind them
+-- the selection addresses as they lie in a table of four, the polling address after them
 abbrev pub padded : List ℕ → List (List ℕ) → List (List ℕ)
 padded poll selects = selects ++ replicate (4 - length selects) poll
 

@@ -82,7 +82,7 @@ impl Sender {
     }
 
     /// Hears a transmission. A reply is acted on; anything else changes nothing. Condition: in the
-    /// queue wait the records of the unanswered block, behind ETB one more, and while held behind
+    /// queue wait the records of the unanswered block, after ETB one more, and while held after
     /// ETB at least one. (GA27-3004, ACK0, ACK1, NAK, WACK and RVI; the limits are own.)
     pub fn reply<A: Allocator>(&mut self, heard: &Heard, queue: &mut Queue<A>) -> Act
         requires { CountsOn self.old.phase (length (waiting queue.old)) }

@@ -26,7 +26,7 @@ fn setup(tries: u8, waits: u8) -> Result<Setup, SettingError> {
     Setup::new(80, 400, tries, waits)
 }
 
-/// Whether a sender sends a text of so many units with this end.
+/// Whether a sender sends a text of this many units with this end.
 fn sends(act: &Act, count: usize, end: End) -> bool {
     match act {
         Act::Send(text) => text.count() == count && text.end() == end,
@@ -259,7 +259,7 @@ fn a_receiver_without_room_asks_to_wait(rt: HostRuntime) {
     assert!(rt; other.records().is_empty());
 }
 
-/// Has so many texts taken, asking again where a growth is refused, and counts the refusals by NAK
+/// Has this many texts taken, asking again where a growth is refused, and counts the refusals by NAK
 /// and by WACK.
 fn take_texts<A: Allocator>(alloc: A, texts: usize) -> Result<(usize, usize), Fail> {
     let mut receiver = Receiver::new();

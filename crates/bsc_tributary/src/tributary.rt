@@ -64,7 +64,7 @@ impl<A: Allocator> Tributary<A> {
         }
     }
 
-    /// Adds a record to those that the terminal has to send. It comes back where memory is wanting, and
+    /// Adds a record to those that the terminal has to send. It comes back where there is no memory for it, and
     /// then nothing changed. Condition: it is not longer than the full length.
     pub fn offer(&mut self, record: Record) -> Result<(), Record>
         requires { length «record» ≤ self.old.queue.format.full }

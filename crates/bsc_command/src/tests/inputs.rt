@@ -21,7 +21,7 @@ fn one_octet_a_read(rt: HostRuntime) -> Result<(), Fail> {
     Ok(())
 }
 
-/// A read that fails behind good lines, an interrupted one too.
+/// A read that fails after good lines, an interrupted one too.
 #[test]
 fn failing_read(rt: HostRuntime) -> Result<(), Fail> {
     let mut broken = Broken {

@@ -7,7 +7,7 @@ const INPUT: &[u8] = b"16 04\n16 16 02 C8 49 19 1F 07 19 83 1A FF\n16 04";
 
 const PRINTED: &[u8] = b"EOT\nTEXT ETX 2\nunit 4849 EM\nunit - EM\nEOT\n";
 
-/// Each growth is refused in turn: want of memory is told, and what was printed before it stays.
+/// Each growth is refused in turn: out of memory is told, and what was printed before it stays.
 #[test]
 fn each_growth_of_show(rt: HostRuntime) -> Result<(), Fail> {
     let alloc = Refusing::new(rt.alloc());

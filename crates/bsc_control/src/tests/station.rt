@@ -9,7 +9,7 @@ use bsc_text::{SettingError, Setup, Station, Terminal, TerminalError};
 use std::alloc::Allocator;
 use std::test::Fail;
 
-/// Settings that bear so many failures in a row.
+/// Settings that bear this many failures in a row.
 pub(crate) fn setup(tries: u8) -> Result<Setup, SettingError>
     ensures { IfOk result (λ s. s.format.full ≡ 80) }
 {
@@ -71,7 +71,7 @@ pub(crate) fn offer<A: Allocator>(
     }
 }
 
-/// Offers so many empty records for the first selection address of terminal 0.
+/// Offers this many empty records for the first selection address of terminal 0.
 pub(crate) fn offer_empty<A: Allocator>(control: &mut Control<A>, count: usize) -> Result<(), Fail>
     requires { control.old.setup.format.full ≡ 80 }
     ensures { control.new.setup ≡ control.old.setup }

@@ -50,7 +50,7 @@ impl<A: Allocator> Bidder<A> {
         Ok(())
     }
 
-    /// Offers so many empty records.
+    /// Offers this many empty records.
     pub fn offer_empty(&mut self, count: usize) -> Result<(), Fail> {
         for _ in 0..count {
             self.offer()?;

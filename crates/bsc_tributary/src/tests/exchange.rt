@@ -9,7 +9,7 @@ use bsc_text::{SettingError, Setup, Station, Terminal};
 use std::alloc::Allocator;
 use std::test::Fail;
 
-/// Settings that bear so many failures in a row.
+/// Settings that bear this many failures in a row.
 fn setup(tries: u8) -> Result<Setup, SettingError>
     ensures { IfOk result (λ s. s.format.full ≡ 80) }
 {

@@ -1,4 +1,4 @@
--- So many selection addresses were entered behind the polling address.
+-- This many selection addresses were entered after the polling address.
 use Rattle.std.proofs.Common.{◌≡◌, ◌++◌, ◌∷◌, take}
 use Rattle.bsc_control.specs.declared.way.Way.TheVariants.{FromTerminal}
 use Rattle.bsc_control.specs.Addresses.{numbered_selects}

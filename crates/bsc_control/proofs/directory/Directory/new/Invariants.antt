@@ -1,4 +1,4 @@
--- The addresses of so many terminals were entered.
+-- The addresses of this many terminals were entered.
 use Rattle.std.proofs.Common.{◌≡◌, take}
 use Rattle.bsc_control.specs.Addresses.{numbered}
 use Rattle.bsc_control.proofs.directory.Directory.new.Given as goal

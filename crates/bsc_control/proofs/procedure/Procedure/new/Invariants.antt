@@ -1,4 +1,4 @@
--- The parts of so many terminals were made, all of them new.
+-- The parts of this many terminals were made, all of them new.
 use Rattle.std.proofs.Common.{◌≡◌, map, take}
 use Rattle.std.specs.List.{All}
 use Rattle.bsc_control.specs.Peer.{PeerValue, IsPeer, IsNewPeer}
