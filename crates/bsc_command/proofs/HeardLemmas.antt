@@ -5,7 +5,7 @@ use Rattle.bsc_frame.specs.Spells.{Spells, IsFailed, IsNoise}
 use Rattle.bsc_frame.specs.declared.message.Message.{Message}
 use Rattle.bsc_frame.specs.declared.message.Heard.{Heard}
 use Rattle.bsc_frame.specs.declared.message.Heard.TheVariants.{Whole, Failed, Noise}
-use Rattle.bsc_command.specs.Names.{IsHeard}
+use Rattle.bsc_names.specs.Names.{IsHeard}
 
 pub is_heard : (octets : List ℕ) (h : Heard) → ((m : Message) → (h ≡ Whole m) ↔ Spells octets m) → (h ≡ Failed) ↔ IsFailed octets → (h ≡ Noise) ↔ IsNoise octets → IsHeard octets h
 is_heard octets (Whole m) whole failed noise = (whole m).0 refl

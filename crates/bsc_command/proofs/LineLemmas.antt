@@ -6,9 +6,10 @@ use Rattle.std.specs.List.{flat_map}
 use Rattle.std.specs.Str.Lines.{strip_carriage_return}
 use Rattle.std.proofs.KnownBytes.{Appends-nil, Appends-trans}
 use Rattle.bsc_frame.specs.declared.message.Heard.{Heard}
-use Rattle.bsc_command.specs.Names.{Prints}
-use Rattle.bsc_command.specs.Lines.{AreShown, PrintsInput, PrintsLines, StopsAt, is_blank, is_wrong, lines_of, parts_of, transmission}
-use Rattle.bsc_command.specs.Hexadecimal.{octets_of}
+use Rattle.bsc_names.specs.Names.{Prints}
+use Rattle.bsc_input.specs.Lines.{is_blank, lines_of, parts_of}
+use Rattle.bsc_command.specs.Lines.{AreShown, PrintsInput, PrintsLines, StopsAt, is_wrong, transmission}
+use Rattle.bsc_input.specs.Hexadecimal.{octets_of}
 use Rattle.bsc_command.proofs.ListLemmas.{NonePasses, NonePasses-more, position-append, position-none}
 
 AreShown-append : (show : Heard → List ℕ) (xs ys : List (List ℕ)) (t u : List ℕ) → AreShown show xs t → AreShown show ys u → AreShown show (xs ++ ys) (t ++ u)

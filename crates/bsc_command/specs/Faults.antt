@@ -5,8 +5,10 @@ use Rattle.clap.specs.declared.error.Error.{Error}
 use Rattle.clap.specs.declared.error.kind.ErrorKind.TheVariants as kind
 use Rattle.bsc_command.specs.declared.fault.Fault.{Fault}
 use Rattle.bsc_command.specs.declared.fault.Fault.TheVariants.{NotHexadecimal, NotHexadecimalAt, InputTooLong, Input, Output, OutOfMemory, Usage}
-use Rattle.bsc_command.specs.declared.input.InputError.{InputError}
-use Rattle.bsc_command.specs.declared.input.InputError.TheVariants.{TooLong, Device, Memory}
+use Rattle.bsc_input.specs.declared.input.InputError.{InputError}
+use Rattle.bsc_input.specs.declared.input.InputError.TheVariants.{TooLong, Device, Memory}
+use Rattle.bsc_names.specs.declared.error.PrintError.{PrintError}
+use Rattle.bsc_names.specs.declared.error.PrintError.TheVariants as print
 
 -- The exit status: 2 for wrong usage, 1 for every other fault.
 abbrev pub status_of : Fault → ℕ
@@ -23,6 +25,11 @@ abbrev pub input_fault : InputError → Fault
 input_fault TooLong = InputTooLong
 input_fault Device = Input
 input_fault Memory = OutOfMemory
+
+-- The fault of what was not written.
+abbrev pub print_fault : PrintError → Fault
+print_fault print.Output = Output
+print_fault print.Memory = OutOfMemory
 
 -- The faults of printing.
 abbrev pub IsPrintFault : Fault → Type 0

@@ -1,5 +1,3 @@
-pub mod Hexadecimal
-pub mod Names
 pub mod Lines
 pub mod Faults
 pub mod CommandLine

@@ -1,24 +1,12 @@
--- The lines of the command's input, and what is printed for them. All of it is own.
-use Rattle.std.specs.Prelude.{◌≡◌, ℕ, ◌+◌, ◌==◌, ◌&&◌, not, Bool, List, [], ◌∷◌, ◌++◌, map, take, position, Option, Some, None, is_none, if◌then◌else◌}
-use Rattle.std.specs.List.{flat_map, list_all, slice_split}
+-- What is printed for the lines of the command's input. All of it is own.
+use Rattle.std.specs.Prelude.{◌≡◌, ℕ, ◌+◌, ◌&&◌, not, Bool, List, [], ◌∷◌, ◌++◌, take, position, Option, Some, None, is_none, if◌then◌else◌}
+use Rattle.std.specs.List.{flat_map}
 use Rattle.std.specs.Option.{option_to_list}
-use Rattle.std.specs.Str.Lines.{strip_carriage_return}
 use Rattle.std.specs.Io.KnownBytes.{Appends}
 use Rattle.bsc_frame.specs.declared.message.Heard.{Heard}
-use Rattle.bsc_command.specs.Hexadecimal.{is_space, octets_of}
-use Rattle.bsc_command.specs.Names.{IsHeard}
-
--- The parts of the text between its line feeds. What follows the last line feed is a part too.
-abbrev pub parts_of : List ℕ → List (List ℕ)
-parts_of text = slice_split (λ octet. octet == 10) text
-
--- The lines of the text: each part, less one carriage return at its end.
-abbrev pub lines_of : List ℕ → List (List ℕ)
-lines_of text = map strip_carriage_return (parts_of text)
-
--- Spaces alone, or no octet.
-abbrev pub is_blank : List ℕ → Bool
-is_blank line = list_all is_space line
+use Rattle.bsc_input.specs.Hexadecimal.{octets_of}
+use Rattle.bsc_input.specs.Lines.{is_blank, lines_of}
+use Rattle.bsc_names.specs.Names.{IsHeard}
 
 -- Neither blank nor hexadecimal text.
 abbrev pub is_wrong : List ℕ → Bool

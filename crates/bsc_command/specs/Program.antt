@@ -1,8 +1,8 @@
 -- What the program prints for its work. All of it is own.
 use Rattle.std.specs.Prelude.{ℕ, List, Option, IfSome, IsSomeAnd}
 use Rattle.bsc_command.specs.CommandLine.{Asked, names, name, show}
-use Rattle.bsc_command.specs.Hexadecimal.{octets_of}
-use Rattle.bsc_command.specs.Names.{Prints, name_line, unit_lines}
+use Rattle.bsc_input.specs.Hexadecimal.{octets_of}
+use Rattle.bsc_names.specs.Names.{Prints, name_line, unit_lines}
 use Rattle.bsc_command.specs.Lines.{PrintsInput, StopsAt}
 
 -- The work was done with this input: a writer that held old holds new.

@@ -2,7 +2,8 @@
 ghost use Rattle.std.specs.Prelude.{◌≡◌};
 ghost use Rattle.bsc_command.specs.Faults.{status_of};
 
-use crate::InputError;
+use bsc_input::InputError;
+use bsc_names::PrintError;
 use clap::error::ErrorKind;
 use std::alloc::{AllocError, AllocFailed};
 use thiserror::Error;
@@ -72,6 +73,19 @@ impl From<InputError> for Fault {
             InputError::TooLong => Fault::InputTooLong,
             InputError::Device => Fault::Input,
             InputError::Memory => Fault::OutOfMemory,
+        }
+    }
+}
+
+impl From<PrintError> for Fault {
+    ghost use Rattle.bsc_command.specs.Faults.{print_fault};
+
+    ghost from_gives = { λ error fault. fault ≡ print_fault error };
+
+    fn from(error: PrintError) -> Fault {
+        match error {
+            PrintError::Output => Fault::Output,
+            PrintError::Memory => Fault::OutOfMemory,
         }
     }
 }

@@ -2,16 +2,12 @@
 #![tactic(auto)]
 
 mod fault;
-mod hexadecimal;
-mod input;
-mod lines;
 mod naming;
-mod printed;
 mod program;
 mod words;
 
+pub use bsc_input::{InputError, MAX_INPUT, read_input};
 pub use fault::{Fault, status};
-pub use input::{InputError, MAX_INPUT, read_input};
 pub use naming::{name, names, show};
 pub use program::perform;
 pub use words::{Work, help_or_fault, not_text, read_words};

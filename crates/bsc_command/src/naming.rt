@@ -1,15 +1,14 @@
 //! Names of transmissions that are given in hexadecimal text.
 ghost use Rattle.std.specs.Prelude.{◌≡◌, ◌+◌, ◌<◌, ◌^◌, ◌∷◌, [], length, true, false, None, OnOk, IfErr, IsErrOf, IsSomeAnd, ℕ};
-ghost use Rattle.bsc_command.specs.Hexadecimal.{octets_of};
-ghost use Rattle.bsc_command.specs.Names.{Prints, name_line, unit_lines, shown};
+ghost use Rattle.bsc_input.specs.Hexadecimal.{octets_of};
+ghost use Rattle.bsc_names.specs.Names.{Prints, name_line, unit_lines, shown};
 ghost use Rattle.bsc_command.specs.Lines.{PrintsInput, PrintsLines, StopsAt, is_wrong};
 ghost use Rattle.bsc_command.specs.Faults.{IsLineFault, IsNameFault, IsPrintFault};
 
 use crate::Fault;
-use crate::hexadecimal::read_octets;
-use crate::lines::{is_blank, split_line, without_return};
-use crate::printed::{Detail, write_shown};
 use bsc_frame::decode;
+use bsc_input::{is_blank, read_octets, split_line, without_return};
+use bsc_names::{Detail, write_shown};
 use std::alloc::Allocator;
 use std::io::Write;
 
@@ -120,5 +119,6 @@ fn write_transmission<A: Allocator + Copy, W: Write>(
     ensures fault { IfErr result IsPrintFault }
 {
     let heard = decode(octets);
-    write_shown(alloc, detail, &heard, out)
+    write_shown(alloc, detail, &heard, out)?;
+    Ok(())
 }

@@ -1,5 +1,4 @@
-use super::streams::Drip;
-use crate::{Fault, InputError, read_input, show};
+use crate::{Fault, show};
 use refusing_alloc::Refusing;
 use std::test::Fail;
 
@@ -26,28 +25,5 @@ fn each_growth_of_show(rt: HostRuntime) -> Result<(), Fail> {
         }
     }
     assert!(rt; 3 < refused && refused < 49);
-    Ok(())
-}
-
-/// The same of a whole input, at one octet a read.
-#[test]
-fn each_growth_of_an_input(rt: HostRuntime) -> Result<(), Fail> {
-    let alloc = Refusing::new(rt.alloc());
-    let mut refused = 0;
-    for request in 1..20 {
-        alloc.refuse_nth(request);
-        let mut drip = Drip {
-            left: 1000,
-            reads: 0,
-        };
-        let answer = read_input(&alloc, &mut drip);
-        if alloc.refused() == 0 {
-            assert_eq!(rt; answer?.len(), 1000);
-        } else {
-            assert!(rt; answer.err() == Some(InputError::Memory));
-            refused = request;
-        }
-    }
-    assert!(rt; 3 < refused && refused < 19);
     Ok(())
 }

@@ -1,25 +1,6 @@
-//! Readers and writers that fail, and one that counts.
+//! A reader and a writer that fail.
 use std::io;
 use std::io::{Error, ErrorKind, Read, Write};
-
-/// Gives one octet a read, as many as are left, and counts the reads.
-#[derive(Drop)]
-pub struct Drip {
-    pub left: usize,
-    pub reads: usize,
-}
-
-impl Read for Drip {
-    fn read(&mut self, buffer: &mut [u8]) -> io::Result<usize> {
-        self.reads = self.reads.wrapping_add(1);
-        if self.left == 0 || buffer.is_empty() {
-            return Ok(0);
-        }
-        self.left -= 1;
-        buffer[0] = b' ';
-        Ok(1)
-    }
-}
 
 /// Gives the text in one read, and fails at the next.
 #[derive(Drop)]

@@ -1,6 +1,6 @@
 use Rattle.std.proofs.Common.{◌≡◌, Some, sym, ap, ◌∙◌, option_map}
-use Rattle.bsc_command.specs.Hexadecimal.{octets_of}
-use Rattle.bsc_command.specs.Names.{Prints, name_line}
+use Rattle.bsc_input.specs.Hexadecimal.{octets_of}
+use Rattle.bsc_names.specs.Names.{Prints, name_line}
 use Rattle.bsc_command.proofs.ListLemmas.{on_ok}
 use Rattle.bsc_command.proofs.naming.name.Goals as goal
 

@@ -1,7 +1,7 @@
 use Rattle.std.proofs.Common.{◌≡◌, Some, false, sym, ap, ◌∙◌, option_map, rules}
-use Rattle.bsc_command.specs.Hexadecimal.{octets_of}
-use Rattle.bsc_command.specs.Lines.{is_blank}
-use Rattle.bsc_command.specs.Names.{shown}
+use Rattle.bsc_input.specs.Hexadecimal.{octets_of}
+use Rattle.bsc_input.specs.Lines.{is_blank}
+use Rattle.bsc_names.specs.Names.{shown}
 use Rattle.bsc_command.proofs.LineLemmas.{PrintsLines-one}
 use Rattle.bsc_command.proofs.ListLemmas.{on_ok}
 use Rattle.bsc_command.proofs.naming.write_line.Goals as goal

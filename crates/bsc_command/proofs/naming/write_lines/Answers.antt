@@ -1,6 +1,6 @@
 use Rattle.std.proofs.Common.{◌≡◌, ◌∷◌, [], map, sym, ap, ◌∙◌, arith, rules, Err}
 use Rattle.std.specs.Str.Lines.{strip_carriage_return}
-use Rattle.bsc_command.specs.Lines.{lines_of}
+use Rattle.bsc_input.specs.Lines.{lines_of}
 use Rattle.bsc_command.specs.declared.fault.Fault.TheVariants.{NotHexadecimalAt}
 use Rattle.bsc_command.proofs.LineLemmas.{has_printed_more, has_printed_all, has_printed_wrong, lines_left}
 use Rattle.bsc_command.proofs.naming.write_lines.Goals as goal

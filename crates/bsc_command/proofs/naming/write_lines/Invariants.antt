@@ -1,6 +1,6 @@
 use Rattle.std.proofs.Common.{◌≤◌, ◌+◌, length}
-use Rattle.bsc_command.specs.Lines.{lines_of}
-use Rattle.bsc_command.specs.Names.{shown}
+use Rattle.bsc_input.specs.Lines.{lines_of}
+use Rattle.bsc_names.specs.Names.{shown}
 use Rattle.bsc_command.proofs.LineLemmas.{HasPrinted}
 use Rattle.bsc_command.proofs.naming.write_lines.Given as goal
 

@@ -1,12 +1,11 @@
 use Rattle.bsc_command.proofs.HeardLemmas.{is_heard}
-use Rattle.bsc_command.proofs.ListLemmas.{on_ok}
 use Rattle.bsc_command.proofs.naming.write_transmission.Goals as goal
 
 pub returns-clause-ok : goal.returns-clause-ok
 returns-clause-ok g c =
     let decoded = c.decode-heard.ensures in
-    on_ok c.write_shown.result (λ appended. record {
+    record {
       heard = c.decode-heard.result;
       is_heard = is_heard c.args.octets.now c.decode-heard.result decoded.whole decoded.failed decoded.noise;
-      appended = appended;
-    }) c.write_shown.ensures.ok
+      appended = c.in_ok-write_shown.ensures.ok;
+    }

@@ -2,9 +2,9 @@ use Rattle.std.proofs.Common.{take}
 use Rattle.std.specs.List.{flat_map}
 use Rattle.std.proofs.KnownBytes.{Appends-trans}
 use Rattle.bsc_frame.specs.Units.{text_unit}
-use Rattle.bsc_command.specs.Names.{unit_line}
-use Rattle.bsc_command.proofs.ListLemmas.{flat_map-take_more}
-use Rattle.bsc_command.proofs.printed.write_text_units.Goals as goal
+use Rattle.bsc_names.specs.Names.{unit_line}
+use Rattle.bsc_names.proofs.ListLemmas.{flat_map-take_more}
+use Rattle.bsc_names.proofs.printed.write_text_units.Goals as goal
 
 pub units-preserved : goal.units-preserved
 units-preserved g c =

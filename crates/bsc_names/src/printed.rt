@@ -3,17 +3,16 @@ ghost use Rattle.std.specs.Prelude.{◌≡◌, ◌<◌, OnOk, IfErr, length};
 ghost use Rattle.std.specs.Io.KnownBytes.{Appends};
 ghost use Rattle.std.specs.List.{flat_map};
 ghost use Rattle.bsc_frame.specs.Units.{text_unit};
-ghost use Rattle.bsc_command.specs.Names.{end_name, message_name, message_units, name_of, name_line, chars_shown, em_shown, unit_line, shown, units_of};
-ghost use Rattle.bsc_command.specs.Faults.{IsPrintFault};
+ghost use Rattle.bsc_names.specs.Names.{end_name, message_name, message_units, name_of, name_line, chars_shown, em_shown, unit_line, shown, units_of};
 
-use crate::Fault;
+use crate::PrintError;
 use bsc_frame::{End, Heard, Message, Text, Unit};
 use std::alloc::Allocator;
 use std::io::Write;
 
 /// How much is printed for a transmission.
 #[derive(Clone, Copy, Debug, PartialEq, Eq)]
-pub(crate) enum Detail {
+pub enum Detail {
     /// Its name.
     Name,
 
@@ -22,13 +21,13 @@ pub(crate) enum Detail {
 }
 
 /// Writes the octets.
-fn put<W: Write>(octets: &[u8], out: &mut W) -> Result<(), Fault>
+fn put<W: Write>(octets: &[u8], out: &mut W) -> Result<(), PrintError>
     ensures ok { OnOk result (Appends (W.contents out.old) (W.contents out.new) octets.now) }
-    ensures fault { IfErr result (λ fault. fault ≡ Fault.Output) }
+    ensures err { IfErr result (λ error. error ≡ PrintError.Output) }
 {
     match out.write_all(octets) {
         Ok(()) => Ok(()),
-        Err(_) => Err(Fault::Output),
+        Err(_) => Err(PrintError::Output),
     }
 }
 
@@ -43,24 +42,26 @@ fn end_name(end: End) -> &'static str
 }
 
 /// Writes the name of a text.
-fn write_text_name<W: Write>(text: &Text, out: &mut W) -> Result<(), Fault>
+fn write_text_name<W: Write>(text: &Text, out: &mut W) -> Result<(), PrintError>
     ensures ok { OnOk result
         (Appends (W.contents out.old) (W.contents out.new) (message_name (Message.Text text.now))) }
-    ensures fault { IfErr result (λ fault. fault ≡ Fault.Output) }
+    ensures err { IfErr result (λ error. error ≡ PrintError.Output) }
 {
     let end = end_name(text.end());
     let count = text.count();
     match write!(out, "TEXT {end} {count}") {
         Ok(()) => Ok(()),
-        Err(_) => Err(Fault::Output),
+        Err(_) => Err(PrintError::Output),
     }
 }
 
-/// Writes the name of a message.
-fn write_message<W: Write>(message: &Message, out: &mut W) -> Result<(), Fault>
+/// Writes the name of a message, without a line feed: a control sequence by its name, a call with its
+/// address, a text with its end and the number of its units. Where the writer takes no more, a part of
+/// the name may have been written.
+pub fn write_name<W: Write>(message: &Message, out: &mut W) -> Result<(), PrintError>
     ensures ok { OnOk result
         (Appends (W.contents out.old) (W.contents out.new) (message_name message.now)) }
-    ensures fault { IfErr result (λ fault. fault ≡ Fault.Output) }
+    ensures err { IfErr result (λ error. error ≡ PrintError.Output) }
 {
     match message {
         Message::Eot => put(b"EOT", out),
@@ -79,38 +80,38 @@ fn write_message<W: Write>(message: &Message, out: &mut W) -> Result<(), Fault>
 }
 
 /// Writes the name of what is heard.
-pub(crate) fn write_name<W: Write>(heard: &Heard, out: &mut W) -> Result<(), Fault>
+fn write_heard_name<W: Write>(heard: &Heard, out: &mut W) -> Result<(), PrintError>
     ensures ok { OnOk result
         (Appends (W.contents out.old) (W.contents out.new) (name_of heard.now)) }
-    ensures fault { IfErr result (λ fault. fault ≡ Fault.Output) }
+    ensures err { IfErr result (λ error. error ≡ PrintError.Output) }
 {
     match heard {
-        Heard::Whole(message) => write_message(message, out),
+        Heard::Whole(message) => write_name(message, out),
         Heard::Failed => put(b"FAILED", out),
         Heard::Noise => put(b"NOISE", out),
     }
 }
 
 /// Writes the name, and a line feed.
-fn write_name_line<W: Write>(heard: &Heard, out: &mut W) -> Result<(), Fault>
+fn write_name_line<W: Write>(heard: &Heard, out: &mut W) -> Result<(), PrintError>
     ensures ok { OnOk result
         (Appends (W.contents out.old) (W.contents out.new) (name_line heard.now)) }
-    ensures fault { IfErr result (λ fault. fault ≡ Fault.Output) }
+    ensures err { IfErr result (λ error. error ≡ PrintError.Output) }
 {
-    write_name(heard, out)?;
+    write_heard_name(heard, out)?;
     put(b"\n", out)
 }
 
-/// Writes what is printed for what is heard.
-pub(crate) fn write_shown<A: Allocator + Copy, W: Write>(
+/// Writes what is printed for what is heard: its name and a line feed, and with the units a line for
+/// each unit of a text. Where it fails, a part may have been written.
+pub fn write_shown<A: Allocator + Copy, W: Write>(
     alloc: A,
     detail: Detail,
     heard: &Heard,
     out: &mut W,
-) -> Result<(), Fault>
+) -> Result<(), PrintError>
     ensures ok { OnOk result
         (Appends (W.contents out.old) (W.contents out.new) (shown detail heard.now)) }
-    ensures fault { IfErr result IsPrintFault }
 {
     write_name_line(heard, out)?;
     match detail {
@@ -124,10 +125,9 @@ fn write_units<A: Allocator + Copy, W: Write>(
     alloc: A,
     heard: &Heard,
     out: &mut W,
-) -> Result<(), Fault>
+) -> Result<(), PrintError>
     ensures ok { OnOk result
         (Appends (W.contents out.old) (W.contents out.new) (flat_map unit_line (units_of heard.now))) }
-    ensures fault { IfErr result IsPrintFault }
 {
     match heard {
         Heard::Whole(message) => write_message_units(alloc, message, out),
@@ -140,10 +140,9 @@ fn write_message_units<A: Allocator + Copy, W: Write>(
     alloc: A,
     message: &Message,
     out: &mut W,
-) -> Result<(), Fault>
+) -> Result<(), PrintError>
     ensures ok { OnOk result
         (Appends (W.contents out.old) (W.contents out.new) (flat_map unit_line (message_units message.now))) }
-    ensures fault { IfErr result IsPrintFault }
 {
     if let Message::Text(text) = message {
         return write_text_units(alloc, text, out);
@@ -156,10 +155,9 @@ fn write_text_units<A: Allocator + Copy, W: Write>(
     alloc: A,
     text: &Text,
     out: &mut W,
-) -> Result<(), Fault>
+) -> Result<(), PrintError>
     ensures ok { OnOk result
         (Appends (W.contents out.old) (W.contents out.new) (flat_map unit_line text.now.units)) }
-    ensures fault { IfErr result IsPrintFault }
 {
     'units: for place in 0..text.count() {
         write_unit(alloc, text.unit(place), out)?;
@@ -168,10 +166,13 @@ fn write_text_units<A: Allocator + Copy, W: Write>(
 }
 
 /// Writes the line of a unit.
-fn write_unit<A: Allocator, W: Write>(alloc: A, unit: Unit<'_>, out: &mut W) -> Result<(), Fault>
+fn write_unit<A: Allocator, W: Write>(
+    alloc: A,
+    unit: Unit<'_>,
+    out: &mut W,
+) -> Result<(), PrintError>
     ensures ok { OnOk result
         (Appends (W.contents out.old) (W.contents out.new) (unit_line (text_unit unit.entry))) }
-    ensures fault { IfErr result IsPrintFault }
 {
     put(b"unit ", out)?;
     write_chars(alloc, unit.chars, out)?;
@@ -179,11 +180,14 @@ fn write_unit<A: Allocator, W: Write>(alloc: A, unit: Unit<'_>, out: &mut W) -> 
     put(b"\n", out)
 }
 
-/// Writes the codes of characters in hexadecimal text, or a dash where there are none.
-fn write_chars<A: Allocator, W: Write>(alloc: A, chars: &[u8], out: &mut W) -> Result<(), Fault>
+/// Writes the codes of characters in lower case hexadecimal text, or a dash where there are none.
+pub fn write_chars<A: Allocator, W: Write>(
+    alloc: A,
+    chars: &[u8],
+    out: &mut W,
+) -> Result<(), PrintError>
     ensures ok { OnOk result
         (Appends (W.contents out.old) (W.contents out.new) (chars_shown chars.now)) }
-    ensures fault { IfErr result IsPrintFault }
 {
     if chars.is_empty() {
         return put(b"-", out);

@@ -1,8 +1,8 @@
 use Rattle.std.proofs.Common.{◌≡◌, ◌-◌, ◌+◌, ◌==◌, ◌∷◌, length, take, drop, sym, ◌∙◌, ap, arith, length-drop}
 use Rattle.std.specs.List.{slice_split}
 use Rattle.std.proofs.lemmas.List.{take_all}
-use Rattle.bsc_command.proofs.ListLemmas.{slice_split-some, slice_split-none}
-use Rattle.bsc_command.proofs.lines.split_line.Goals as goal
+use Rattle.bsc_input.proofs.SplitLemmas.{slice_split-some, slice_split-none}
+use Rattle.bsc_input.proofs.lines.split_line.Goals as goal
 
 pub returns-in-Some-clause-more : goal.returns-in-Some-clause-more
 returns-in-Some-clause-more c =

@@ -1,7 +1,7 @@
 //! The lines of the command's input.
 ghost use Rattle.std.specs.Prelude.{◌≡◌, ◌==◌, ◌∷◌, ◌+◌, ◌≤◌, [], length, None, IfSome, position};
 ghost use Rattle.std.specs.Str.Lines.{strip_carriage_return};
-ghost use Rattle.bsc_command.specs.Lines.{is_blank as blank, parts_of};
+ghost use Rattle.bsc_input.specs.Lines.{is_blank as blank, parts_of};
 
 /// The place of the first line feed.
 fn line_end(text: &[u8]) -> Option<usize>
@@ -11,7 +11,7 @@ fn line_end(text: &[u8]) -> Option<usize>
 }
 
 /// The first line without its line feed, and what follows that; None where the line ends with the text.
-pub(crate) fn split_line(text: &[u8]) -> (&[u8], Option<&[u8]>)
+pub fn split_line(text: &[u8]) -> (&[u8], Option<&[u8]>)
     ensures last { result.1 ≡ None → parts_of text.now ≡ result.0.now ∷ [] }
     ensures more { IfSome result.1 (λ rest. parts_of text.now ≡ result.0.now ∷ parts_of rest.now) }
     ensures length { IfSome result.1 (λ rest.
@@ -25,7 +25,7 @@ pub(crate) fn split_line(text: &[u8]) -> (&[u8], Option<&[u8]>)
 }
 
 /// The line less one carriage return at its end.
-pub(crate) fn without_return(line: &[u8]) -> &[u8]
+pub fn without_return(line: &[u8]) -> &[u8]
     ensures { result.now ≡ strip_carriage_return line.now }
 {
     if !line.is_empty() && line[line.len() - 1] == b'\r' {
@@ -36,7 +36,7 @@ pub(crate) fn without_return(line: &[u8]) -> &[u8]
 }
 
 /// Whether the line has no octet but spaces.
-pub(crate) fn is_blank(line: &[u8]) -> bool
+pub fn is_blank(line: &[u8]) -> bool
     ensures { result ≡ blank line.now }
 {
     line.iter().all(|&octet| octet == b' ')

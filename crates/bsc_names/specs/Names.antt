@@ -12,8 +12,8 @@ use Rattle.bsc_frame.specs.declared.message.Message.{Message}
 use Rattle.bsc_frame.specs.declared.message.Message.TheVariants.{Eot, Call, Enq, Ack0, Ack1, Nak, Wack, Rvi, Text}
 use Rattle.bsc_frame.specs.declared.message.Heard.{Heard}
 use Rattle.bsc_frame.specs.declared.message.Heard.TheVariants.{Whole, Failed, Noise}
-use Rattle.bsc_command.specs.declared.printed.Detail.{Detail}
-use Rattle.bsc_command.specs.declared.printed.Detail.TheVariants.{Name, Units}
+use Rattle.bsc_names.specs.declared.printed.Detail.{Detail}
+use Rattle.bsc_names.specs.declared.printed.Detail.TheVariants.{Name, Units}
 
 -- What octets are heard as: the message that they spell, a text whose check or form failed, or noise. One
 -- of them holds of all octets, and no octets spell two messages.

@@ -1,6 +1,6 @@
 //! Octets from hexadecimal text.
 ghost use Rattle.std.specs.Prelude.{◌≡◌, IfOk, option_map};
-ghost use Rattle.bsc_command.specs.Hexadecimal.{octets_of, without_spaces as spaceless};
+ghost use Rattle.bsc_input.specs.Hexadecimal.{octets_of, without_spaces as spaceless};
 
 use hex::FromHexError;
 use std::alloc::{AllocError, Allocator};
@@ -19,7 +19,7 @@ fn without_spaces<A: Allocator>(alloc: A, text: &[u8]) -> Result<Vec<u8, A>, All
 }
 
 /// The octets of hexadecimal text, its spaces dropped; None where it is none.
-pub(crate) fn read_octets<A: Allocator + Copy>(
+pub fn read_octets<A: Allocator + Copy>(
     alloc: A,
     text: &[u8],
 ) -> Result<Option<Vec<u8, A>>, AllocError>

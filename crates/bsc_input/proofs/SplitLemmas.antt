@@ -1,0 +1,27 @@
+-- A text is cut at the first octet that passes a test.
+use Rattle.std.proofs.Common.{◌≡◌, ◌≤◌, ℕ, ◌+◌, List, [], ◌∷◌, Bool, true, false, cond, Some, None, length, take, drop, refl, subst, arith}
+use Rattle.std.specs.List.{position, position_or_len, slice_split}
+use Rattle.std.proofs.lemmas.Bool.{ltb-true, ltb-false}
+use Rattle.std.proofs.lemmas.Option.{same_Some}
+use Rattle.std.proofs.lemmas.List.Splits.{slice_split_first, slice_split_none}
+use Rattle.std.proofs.lemmas.List.Sums.{fails_before_first}
+
+-- what a choice of `Some` or `None` says of its test
+test_of_some : (b : Bool) (k i : ℕ) → cond b (Some k) None ≡ Some i → (b ≡ true) × (k ≡ i)
+test_of_some true k i e = (refl, same_Some k i e)
+test_of_some false k i e = cc
+
+test_of_none : (b : Bool) (k : ℕ) → cond b (Some k) None ≡ None → b ≡ false
+test_of_none true k e = cc
+test_of_none false k e = refl
+
+pub slice_split-some : (p : ℕ → Bool) (xs : List ℕ) (i : ℕ) → position p xs ≡ Some i → slice_split p xs ≡ take i xs ∷ slice_split p (drop (i + 1) xs)
+slice_split-some p xs i e =
+    let test = test_of_some _ (position_or_len p xs) i e in
+    let P : ℕ → Type 0 = λ k. slice_split p xs ≡ take k xs ∷ slice_split p (drop (k + 1) xs) in
+    subst P test.1 (slice_split_first p xs 0 (ltb-true _ _ test.0))
+
+pub slice_split-none : (p : ℕ → Bool) (xs : List ℕ) → position p xs ≡ None → slice_split p xs ≡ xs ∷ []
+slice_split-none p xs e =
+    let long : length xs ≤ position_or_len p xs = ltb-false _ _ (test_of_none _ (position_or_len p xs) e) in
+    slice_split_none p xs (λ k d below. fails_before_first p xs k d (omega arith))
