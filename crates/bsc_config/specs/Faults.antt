@@ -1,0 +1,32 @@
+-- The faults of a table, and readings that end with the first fault (own).
+use Rattle.std.specs.Prelude.{◌≡◌, ℕ, List, Result, Ok, Err, string_bytes}
+use Rattle.bsc_config.specs.declared.error.ConfigError.{ConfigError}
+use Rattle.bsc_config.specs.declared.error.ConfigError.TheVariants.{NotToml, UnknownKey, MissingKey, WrongValue, NoTerminal, TooManyTerminals, SameAddresses, EmptyPollList, PollListEntry, Memory}
+use Rattle.bsc_config.specs.declared.key.Key.{Key}
+use Rattle.bsc_config.specs.declared.key.Owner.{Owner}
+
+-- A key of an owner's table, by its name, that no configuration has; a key that is needed and
+-- absent; a key whose value is none of its values.
+pub data Fault : Type 0 where
+  unknown_key : Owner → List ℕ → Fault
+  missing_key : Key → Fault
+  wrong_value : Key → Fault
+
+-- One reading, and then another that may use its value: the first fault is that of both.
+infixl 10 ◌>>=◌
+abbrev pub ◌>>=◌ : {V W : Type 0} → Result V Fault → (V → Result W Fault) → Result W Fault
+(Ok value) >>= next = next value
+(Err fault) >>= next = Err fault
+
+-- The error says the fault of a reading; out of memory may come in place of any answer.
+abbrev pub Reports : {V : Type 0} → ConfigError → Result V Fault → Type 0
+Reports (UnknownKey key) reading = reading ≡ Err (unknown_key key.owner (string_bytes key.name))
+Reports (MissingKey key) reading = reading ≡ Err (missing_key key)
+Reports (WrongValue key) reading = reading ≡ Err (wrong_value key)
+Reports Memory reading = Unit {0}
+Reports _ reading = ⊥
+
+-- An answer of the code, whose values stand for values of the reading, is that of the reading.
+abbrev pub Gives : {X V : Type 0} → (X → V) → Result X ConfigError → Result V Fault → Type 0
+Gives value_of (Ok x) reading = reading ≡ Ok (value_of x)
+Gives value_of (Err error) reading = Reports error reading

@@ -1,0 +1,9 @@
+pub mod Keys
+pub mod Faults
+pub mod Tables
+pub mod Checks
+pub mod Values
+pub mod Settings
+pub mod SettingsValues
+pub mod Refusals
+pub mod Answers

@@ -1,0 +1,23 @@
+-- When a line of what a document says is refused (own).
+use Rattle.std.specs.Prelude.{◌≡◌, ℕ}
+use Rattle.bsc_control.specs.declared.refusal.SetupError.{SetupError}
+use Rattle.bsc_control.specs.declared.refusal.SetupError.TheVariants as setup
+use Rattle.bsc_control.specs.Refusals.{IsRefused}
+use Rattle.bsc_config.specs.declared.error.ConfigError.{ConfigError}
+use Rattle.bsc_config.specs.declared.error.ConfigError.TheVariants.{NoTerminal, TooManyTerminals, SameAddresses, EmptyPollList, PollListEntry, Memory}
+use Rattle.bsc_config.specs.Settings.{ConfigValue}
+
+-- A refusal of a control station in the words of a configuration.
+abbrev pub refusal : SetupError → ConfigError
+refusal setup.NoTerminal = NoTerminal
+refusal setup.TooMany = TooManyTerminals
+refusal (setup.SameAddress first second) = SameAddresses first second
+refusal setup.EmptyPollList = EmptyPollList
+refusal (setup.PollList place) = PollListEntry place
+refusal setup.Memory = Memory
+
+-- A control station with these terminals and this poll list is refused for this reason.
+pub record IsRefusal (config : ConfigValue) (error : ConfigError) : Type 0 where
+  pub reason : SetupError
+  pub same : error ≡ refusal reason
+  pub refused : IsRefused config.terminals config.poll_list reason

@@ -1,0 +1,90 @@
+//! The configuration of a line.
+
+ghost use Rattle.std.specs.Prelude.{◌≡◌, length, IfErr, IfOk};
+ghost use Rattle.bsc_config.specs.Answers.{IsConfig};
+ghost use Rattle.bsc_config.specs.Refusals.{IsRefusal};
+
+use crate::error::ConfigError;
+use crate::settings::Settings;
+use bsc_control::Control;
+use bsc_text::{Setup, Terminal};
+use std::alloc::Global;
+use std::marker::Model;
+
+/// The configuration of a line: its settings, its terminals and its poll list. It has 1 to 64
+/// terminals, whose addresses differ, and 1 to 255 entries in its poll list, each the number of a
+/// terminal; so a control station or a line of it is refused only where there is no memory.
+#[derive(Debug, Drop)]
+pub struct Config {
+    setup: Setup,
+    terminals: Vec<Terminal>,
+    poll_list: Vec<u8>,
+}
+
+impl Model for Config {
+    ghost use Rattle.bsc_config.specs.Settings.{ConfigValue};
+    ghost use Rattle.bsc_config.specs.Answers.{IsConfig};
+
+    ghost Value = { ConfigValue };
+
+    ghost view = { λ c. record { setup = c.setup; terminals = c.terminals.items; poll_list = c.poll_list.items } };
+
+    ghost invariant = { λ c. IsConfig (record { setup = c.setup; terminals = c.terminals.items; poll_list = c.poll_list.items }) };
+}
+
+impl Config {
+    ghost use Rattle.bsc_config.specs.SettingsValues.{settings_value};
+
+    /// The configuration with these settings, or the refusal of a control station that has them.
+    pub(crate) fn new(alloc: Global, settings: Settings) -> Result<Config, ConfigError>
+        ensures value { IfOk result (λ c. c ≡ settings_value settings) }
+        ensures config { IfOk result IsConfig }
+        ensures refused { IfErr result (IsRefusal (settings_value settings)) }
+    {
+        let Settings {
+            setup,
+            terminals,
+            poll_list,
+        } = settings;
+        let control = Control::new(alloc, setup, &terminals, &poll_list)?;
+        drop(control);
+        Ok(Config {
+            setup,
+            terminals,
+            poll_list,
+        })
+    }
+
+    /// How records become blocks, and how much a station bears.
+    pub fn setup(&self) -> Setup
+        ensures value { result ≡ self.now.setup }
+        ensures config { IsConfig self.now }
+    {
+        let _ = &self.terminals;
+        self.setup
+    }
+
+    /// The addresses of each terminal, in the order of their numbers.
+    pub fn terminal_list(&self) -> &[Terminal]
+        ensures value { result.now ≡ self.now.terminals }
+        ensures config { IsConfig self.now }
+    {
+        self.terminals.as_slice()
+    }
+
+    /// The poll list: the number of a terminal for each entry. (GA27-3004, poll list.)
+    pub fn poll_list(&self) -> &[u8]
+        ensures value { result.now ≡ self.now.poll_list }
+        ensures config { IsConfig self.now }
+    {
+        self.poll_list.as_slice()
+    }
+
+    /// How many terminals the line has: 1 to 64.
+    pub fn terminals(&self) -> usize
+        ensures value { result ≡ length self.now.terminals }
+        ensures config { IsConfig self.now }
+    {
+        self.terminals.len()
+    }
+}

@@ -1,0 +1,99 @@
+//! Refuses keys that no configuration has.
+
+ghost use Rattle.std.specs.Prelude.{◌≡◌, option_map, string_bytes};
+ghost use Rattle.toml.specs.View.{items_view, table_view, view};
+ghost use Rattle.bsc_config.specs.Keys.{is_document_key, is_known, is_terminal_key};
+ghost use Rattle.bsc_config.specs.Faults.{Gives};
+ghost use Rattle.bsc_config.specs.Checks.{check_each, check_table, first_unknown, known_keys as known_in_document, known_keys_of as known_in_table};
+
+use crate::error::ConfigError;
+use crate::key::{Owner, UnknownKey};
+use crate::lookup::terminal_tables;
+use std::alloc::Global;
+use toml::{Table, Value};
+
+/// Whether a document may have the key of this name.
+fn is_of_document(name: &str) -> bool
+    ensures { result ≡ is_document_key name.now }
+{
+    name == "version"
+        || name == "full"
+        || name == "block_chars"
+        || name == "tries"
+        || name == "waits"
+        || name == "poll_list"
+        || name == "terminals"
+}
+
+/// Whether the table of a terminal may have the key of this name.
+fn is_of_terminal(name: &str) -> bool
+    ensures { result ≡ is_terminal_key name.now }
+{
+    name == "poll" || name == "select"
+}
+
+/// Whether such a table may have the key of this name.
+fn is_known_name(owner: Owner, name: &str) -> bool
+    ensures { result ≡ is_known owner name.now }
+{
+    match owner {
+        Owner::Document => is_of_document(name),
+        Owner::Terminal { .. } => is_of_terminal(name),
+    }
+}
+
+/// The least name of a key that the table may not have: a table's keys are in the order of their
+/// bytes.
+fn unknown_name(table: &Table, owner: Owner) -> Option<&String>
+    ensures { option_map (λ n. string_bytes n.now) result ≡ first_unknown owner (table_view table.now) }
+{
+    'names: for name in table.keys() {
+        if !is_known_name(owner, name.as_str()) {
+            return Some(name);
+        }
+    }
+    None
+}
+
+/// Refuses the least key that the table may not have.
+fn known_keys_of(alloc: Global, table: &Table, owner: Owner) -> Result<(), ConfigError>
+    ensures { Gives (λ u. u) result (known_in_table owner (table_view table.now)) }
+{
+    match unknown_name(table, owner) {
+        None => Ok(()),
+        Some(name) => match String::from_str(alloc, name.as_str()) {
+            Ok(name) => Err(ConfigError::UnknownKey { key: UnknownKey { owner, name } }),
+            Err(_) => Err(ConfigError::Memory),
+        },
+    }
+}
+
+/// Refuses the least key that the terminal with this number may not have.
+fn terminal_keys_known(alloc: Global, value: &Value, number: usize) -> Result<(), ConfigError>
+    ensures { Gives (λ u. u) result
+        (check_table (known_in_table (Owner.Terminal number)) (view value.now)) }
+{
+    match value.as_table() {
+        Some(table) => known_keys_of(alloc, table, Owner::Terminal { number }),
+        None => Ok(()),
+    }
+}
+
+/// Refuses the least key that a terminal may not have, of the first terminal that has one.
+fn each_terminal_known(alloc: Global, values: &[Value]) -> Result<(), ConfigError>
+    ensures { Gives (λ u. u) result
+        (check_each (λ n. known_in_table (Owner.Terminal n)) 0 (items_view values.now)) }
+{
+    for (number, value) in values.iter().enumerate() {
+        terminal_keys_known(alloc, value, number)?;
+    }
+    Ok(())
+}
+
+/// Refuses the least key that the document may not have, else that of the first terminal.
+pub(crate) fn known_keys(alloc: Global, document: &Table) -> Result<(), ConfigError>
+    ensures { Gives (λ u. u) result (known_in_document (table_view document.now)) }
+{
+    known_keys_of(alloc, document, Owner::Document)?;
+    each_terminal_known(alloc, terminal_tables(document))
+}
