@@ -17,7 +17,7 @@ after_one done x None = refl
 after_one done x (Some xs) = ap Some (sym (append_assoc done (x ∷ []) xs))
 
 pub read_each-next : {V : Type 0} (read : Data → Option V) (vs : List Value) (done : List V) (i : ℕ) (v : Value) (x : V) → i < length vs → v ≡ get_or vs i v → read (view v) ≡ Some x
-  → option_map (λ xs. done ++ xs) (read_each read (items_view (drop i vs))) ≡ option_map (λ xs. (done ++ x ∷ []) ++ xs) (read_each read (items_view (drop (i + 1) vs)))
+    → option_map (λ xs. done ++ xs) (read_each read (items_view (drop i vs))) ≡ option_map (λ xs. (done ++ x ∷ []) ++ xs) (read_each read (items_view (drop (i + 1) vs)))
 read_each-next read vs done i v x below is reads =
     let rest = read_each read (items_view (drop (i + 1) vs)) in
     ap (λ items. option_map (λ xs. done ++ xs) (read_each read items)) (next_item vs i v below is)
@@ -26,7 +26,7 @@ read_each-next read vs done i v x below is reads =
 
 -- where a value can't be read, all of them can't
 pub read_each-stop : {V : Type 0} (read : Data → Option V) (vs : List Value) (done : List V) (i : ℕ) (v : Value) → i < length vs → v ≡ get_or vs i v → read (view v) ≡ None
-  → option_map (λ xs. done ++ xs) (read_each read (items_view (drop i vs))) ≡ None
+    → option_map (λ xs. done ++ xs) (read_each read (items_view (drop i vs))) ≡ None
 read_each-stop read vs done i v below is reads =
     let rest = read_each read (items_view (drop (i + 1) vs)) in
     ap (λ items. option_map (λ xs. done ++ xs) (read_each read items)) (next_item vs i v below is)

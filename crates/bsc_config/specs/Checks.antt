@@ -1,7 +1,8 @@
 -- What is checked of every table of a document before any value is read (own).
 use Rattle.std.specs.Prelude.{ℕ, ◌+◌, List, Option, Some, None, Result, Ok, Err, if◌then◌else◌}
 use Rattle.toml.specs.Data.{Data, table, Items, no_items, item, Members, no_members, member}
-use Rattle.bsc_config.specs.declared.key.Key.TheVariants.{Version, PollList, Terminals, Poll, Select}
+use Rattle.bsc_config.specs.declared.key.Key.TheVariants.{Version, PollList, Terminals, Poll}
+use Rattle.bsc_config.specs.declared.key.Key.TheVariants.{Select}
 use Rattle.bsc_config.specs.declared.key.Owner.{Owner}
 use Rattle.bsc_config.specs.declared.key.Owner.TheVariants.{Document, Terminal}
 use Rattle.bsc_config.specs.Keys.{is_known}
@@ -15,7 +16,8 @@ check_table check _ = Ok tt
 
 -- What is checked of each of these tables, with the number of its terminal, which for the first is
 -- this number.
-abbrev pub check_each : (ℕ → Members → Result (Unit {0}) Fault) → ℕ → Items → Result (Unit {0}) Fault
+abbrev pub check_each :
+    (ℕ → Members → Result (Unit {0}) Fault) → ℕ → Items → Result (Unit {0}) Fault
 check_each check number no_items = Ok tt
 check_each check number (item first rest) =
     check_table (check number) first >>= λ _. check_each check (number + 1) rest

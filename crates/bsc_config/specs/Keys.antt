@@ -1,7 +1,8 @@
 -- The keys of a configuration (own).
-use Rattle.std.specs.Prelude.{ℕ, List, [], ◌++◌, Bool, ◌||◌, bytes_eq, codes, decimal}
+use Rattle.std.specs.Prelude.{ℕ, List, [], ◌∷◌, ◌++◌, Bool, false, ◌||◌, bytes_eq, codes, decimal}
 use Rattle.bsc_config.specs.declared.key.Key.{Key}
-use Rattle.bsc_config.specs.declared.key.Key.TheVariants.{Version, Full, BlockChars, Tries, Waits, PollList, Terminals, Poll, Select}
+use Rattle.bsc_config.specs.declared.key.Key.TheVariants.{Version, Full, BlockChars, Tries, Waits}
+use Rattle.bsc_config.specs.declared.key.Key.TheVariants.{PollList, Terminals, Poll, Select}
 use Rattle.bsc_config.specs.declared.key.Owner.{Owner}
 use Rattle.bsc_config.specs.declared.key.Owner.TheVariants.{Document, Terminal}
 
@@ -28,18 +29,16 @@ abbrev pub prefix_of : Owner → List ℕ
 prefix_of Document = []
 prefix_of (Terminal number) = codes "terminals[" ++ decimal number ++ codes "]."
 
--- The name of a key that a document may have.
-abbrev pub is_document_key : List ℕ → Bool
-is_document_key name =
-    bytes_eq name (codes "version") || (bytes_eq name (codes "full") || (bytes_eq name (codes "block_chars")
-    || (bytes_eq name (codes "tries") || (bytes_eq name (codes "waits") || (bytes_eq name (codes "poll_list")
-    || bytes_eq name (codes "terminals"))))))
+-- The keys that such a table may have.
+abbrev pub keys_of : Owner → List Key
+keys_of Document = Version ∷ Full ∷ BlockChars ∷ Tries ∷ Waits ∷ PollList ∷ Terminals ∷ []
+keys_of (Terminal number) = Poll number ∷ Select number ∷ []
 
--- The name of a key that the table of a terminal may have.
-abbrev pub is_terminal_key : List ℕ → Bool
-is_terminal_key name = bytes_eq name (codes "poll") || bytes_eq name (codes "select")
+-- It is the name of one of these keys.
+abbrev pub names_one_of : List Key → List ℕ → Bool
+names_one_of [] name = false
+names_one_of (key ∷ keys) name = bytes_eq name (name_of key) || names_one_of keys name
 
--- The name of a key that such a table may have.
+-- It is the name of a key that such a table may have.
 abbrev pub is_known : Owner → List ℕ → Bool
-is_known Document name = is_document_key name
-is_known (Terminal number) name = is_terminal_key name
+is_known owner name = names_one_of (keys_of owner) name

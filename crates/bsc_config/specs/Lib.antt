@@ -3,6 +3,8 @@ pub mod Faults
 pub mod Tables
 pub mod Checks
 pub mod Values
+pub mod Numbers
+pub mod Terminals
 pub mod Settings
 pub mod SettingsValues
 pub mod Refusals

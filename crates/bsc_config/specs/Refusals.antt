@@ -4,7 +4,9 @@ use Rattle.bsc_control.specs.declared.refusal.SetupError.{SetupError}
 use Rattle.bsc_control.specs.declared.refusal.SetupError.TheVariants as setup
 use Rattle.bsc_control.specs.Refusals.{IsRefused}
 use Rattle.bsc_config.specs.declared.error.ConfigError.{ConfigError}
-use Rattle.bsc_config.specs.declared.error.ConfigError.TheVariants.{NoTerminal, TooManyTerminals, SameAddresses, EmptyPollList, PollListEntry, Memory}
+use Rattle.bsc_config.specs.declared.error.ConfigError.TheVariants.{NoTerminal, TooManyTerminals}
+use Rattle.bsc_config.specs.declared.error.ConfigError.TheVariants.{SameAddresses, EmptyPollList}
+use Rattle.bsc_config.specs.declared.error.ConfigError.TheVariants.{PollListEntry, Memory}
 use Rattle.bsc_config.specs.Settings.{ConfigValue}
 
 -- A refusal of a control station in the words of a configuration.

@@ -1,7 +1,10 @@
 -- What single values are read as (own).
-use Rattle.std.specs.Prelude.{ℕ, ℤ, pos, negsuc, List, [], ◌∷◌, Option, Some, None, option_map, option_and_then, if◌then◌else◌}
+use Rattle.std.specs.Prelude.{ℕ, ℤ, pos, negsuc, List, [], ◌∷◌, Option, Some, None, Result, ok_or}
+use Rattle.std.specs.Prelude.{option_map, option_and_then, if◌then◌else◌}
 use Rattle.std.specs.Result.{result_ok}
 use Rattle.toml.specs.Data.{Data, Items, no_items, item, as_integer, as_str, as_array}
+use Rattle.bsc_config.specs.declared.key.Key.{Key}
+use Rattle.bsc_config.specs.Faults.{Fault, wrong_value}
 use Rattle.bsc_block.specs.Format.{is_within}
 use Rattle.bsc_frame.specs.Message.{read_address}
 
@@ -22,8 +25,13 @@ address_in value = option_and_then (λ text. result_ok (read_address text)) (as_
 abbrev pub read_each : {V : Type 0} → (Data → Option V) → Items → Option (List V)
 read_each read no_items = Some []
 read_each read (item first rest) =
-    option_and_then (λ value. option_map (λ values. value ∷ values) (read_each read rest)) (read first)
+    option_and_then
+    (λ value. option_map (λ values. value ∷ values) (read_each read rest)) (read first)
 
 -- A list, each of whose items can be read.
 abbrev pub list_in : {V : Type 0} → (Data → Option V) → Data → Option (List V)
 list_in read value = option_and_then (read_each read) (as_array value)
+
+-- What the value at a key is read as; where it can't be read so, it is a wrong value of the key.
+abbrev pub or_wrong : {V : Type 0} → Key → Option V → Result V Fault
+or_wrong key reading = ok_or reading (wrong_value key)

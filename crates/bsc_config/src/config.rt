@@ -22,14 +22,15 @@ pub struct Config {
 }
 
 impl Model for Config {
-    ghost use Rattle.bsc_config.specs.Settings.{ConfigValue};
+    ghost use Rattle.bsc_config.specs.Settings.{ConfigValue, config_of};
     ghost use Rattle.bsc_config.specs.Answers.{IsConfig};
 
     ghost Value = { ConfigValue };
 
-    ghost view = { λ c. record { setup = c.setup; terminals = c.terminals.items; poll_list = c.poll_list.items } };
+    ghost view = { λ c. config_of c.setup c.terminals.items c.poll_list.items };
 
-    ghost invariant = { λ c. IsConfig (record { setup = c.setup; terminals = c.terminals.items; poll_list = c.poll_list.items }) };
+    ghost invariant = { λ c.
+        IsConfig (config_of c.setup c.terminals.items c.poll_list.items) };
 }
 
 impl Config {

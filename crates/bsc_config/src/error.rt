@@ -13,16 +13,18 @@ pub enum ConfigError {
     #[error("config: not toml")]
     NotToml,
 
-    /// A key that no configuration has: the least by its bytes of those of the document, else of
+    /// A key that no configuration has: the least by its bytes of those of the document; else of
     /// those of the first terminal that has one.
     #[error("config: unknown key {key}")]
     UnknownKey { key: UnknownKey },
 
-    /// The first key that is needed and absent, in the order of [`Key`].
+    /// The first key that is needed and absent: `version`, `poll_list`, `terminals`, and then
+    /// `poll` and `select` of each terminal in order.
     #[error("config: missing key {key}")]
     MissingKey { key: Key },
 
-    /// The first key whose value is none of its values, in the order of [`Key`].
+    /// The first key whose value is none that it may have, in the order of [`Key`], the terminals
+    /// one after another.
     #[error("config: wrong value of {key}")]
     WrongValue { key: Key },
 

@@ -2,9 +2,11 @@
 
 ghost use Rattle.std.specs.Prelude.{◌≡◌, option_map, string_bytes};
 ghost use Rattle.toml.specs.View.{items_view, table_view, view};
-ghost use Rattle.bsc_config.specs.Keys.{is_document_key, is_known, is_terminal_key};
+ghost use Rattle.bsc_config.specs.Keys.{is_known};
 ghost use Rattle.bsc_config.specs.Faults.{Gives};
-ghost use Rattle.bsc_config.specs.Checks.{check_each, check_table, first_unknown, known_keys as known_in_document, known_keys_of as known_in_table};
+ghost use Rattle.bsc_config.specs.Checks.{check_each, check_table, first_unknown};
+ghost use Rattle.bsc_config.specs.Checks.{known_keys as known_in_document};
+ghost use Rattle.bsc_config.specs.Checks.{known_keys_of as known_in_table};
 
 use crate::error::ConfigError;
 use crate::key::{Owner, UnknownKey};
@@ -12,40 +14,29 @@ use crate::lookup::terminal_tables;
 use std::alloc::Global;
 use toml::{Table, Value};
 
-/// Whether a document may have the key of this name.
-fn is_of_document(name: &str) -> bool
-    ensures { result ≡ is_document_key name.now }
-{
-    name == "version"
-        || name == "full"
-        || name == "block_chars"
-        || name == "tries"
-        || name == "waits"
-        || name == "poll_list"
-        || name == "terminals"
-}
-
-/// Whether the table of a terminal may have the key of this name.
-fn is_of_terminal(name: &str) -> bool
-    ensures { result ≡ is_terminal_key name.now }
-{
-    name == "poll" || name == "select"
-}
-
-/// Whether such a table may have the key of this name.
+/// Whether such a table may have a key of this name.
 fn is_known_name(owner: Owner, name: &str) -> bool
     ensures { result ≡ is_known owner name.now }
 {
     match owner {
-        Owner::Document => is_of_document(name),
-        Owner::Terminal { .. } => is_of_terminal(name),
+        Owner::Document => {
+            name == "version"
+                || name == "full"
+                || name == "block_chars"
+                || name == "tries"
+                || name == "waits"
+                || name == "poll_list"
+                || name == "terminals"
+        }
+        Owner::Terminal { .. } => name == "poll" || name == "select",
     }
 }
 
 /// The least name of a key that the table may not have: a table's keys are in the order of their
 /// bytes.
 fn unknown_name(table: &Table, owner: Owner) -> Option<&String>
-    ensures { option_map (λ n. string_bytes n.now) result ≡ first_unknown owner (table_view table.now) }
+    ensures { option_map (λ n. string_bytes n.now) result
+        ≡ first_unknown owner (table_view table.now) }
 {
     'names: for name in table.keys() {
         if !is_known_name(owner, name.as_str()) {
@@ -62,7 +53,9 @@ fn known_keys_of(alloc: Global, table: &Table, owner: Owner) -> Result<(), Confi
     match unknown_name(table, owner) {
         None => Ok(()),
         Some(name) => match String::from_str(alloc, name.as_str()) {
-            Ok(name) => Err(ConfigError::UnknownKey { key: UnknownKey { owner, name } }),
+            Ok(name) => Err(ConfigError::UnknownKey {
+                key: UnknownKey { owner, name },
+            }),
             Err(_) => Err(ConfigError::Memory),
         },
     }

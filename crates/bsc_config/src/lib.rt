@@ -10,7 +10,7 @@
 //! | `block_chars` | the most characters that a block counts, 146 to 400 | 400 |
 //! | `tries` | the failures in a row that are borne, 1 to 15 | 3 |
 //! | `waits` | the WACKs that are borne, 1 to 255 | 10 |
-//! | `poll_list` | a list of whole numbers 0 to 255, each the number of a terminal | it is missing |
+//! | `poll_list` | a list of numbers of terminals, each 0 to 255 | it is missing |
 //! | `terminals` | a list of tables with the keys `poll` and `select` | it is missing |
 //!
 //! `poll` is the polling address of a terminal, a text. `select` is its selection address, a text,

@@ -3,7 +3,10 @@
 ghost use Rattle.std.specs.Prelude.{◌≡◌, option_map};
 ghost use Rattle.toml.specs.View.{items_view, table_view, view};
 ghost use Rattle.bsc_config.specs.Faults.{Gives};
-ghost use Rattle.bsc_config.specs.Tables.{are_tables as all_tables, required as required_value, tables_in as tables_of_value, terminal_tables as tables_of_terminals, value_at as value_of_key};
+ghost use Rattle.bsc_config.specs.Tables.{are_tables as all_tables, required as required_value};
+ghost use Rattle.bsc_config.specs.Tables.{tables_in as tables_of_value};
+ghost use Rattle.bsc_config.specs.Tables.{terminal_tables as tables_of_terminals};
+ghost use Rattle.bsc_config.specs.Tables.{value_at as value_of_key};
 
 use crate::error::ConfigError;
 use crate::key::Key;
@@ -48,7 +51,8 @@ pub(crate) fn tables_in(value: &Value) -> Option<&[Value]>
     }
 }
 
-/// The tables of the terminals of a document: none where `terminals` is absent or no list of tables.
+/// The tables of the terminals of a document: none where `terminals` is absent or no list of
+/// tables.
 pub(crate) fn terminal_tables(document: &Table) -> &[Value]
     ensures { items_view result.now ≡ tables_of_terminals (table_view document.now) }
 {

@@ -3,7 +3,9 @@
 ghost use Rattle.std.specs.Prelude.{◌≡◌, ◌≤◌, IfOk};
 ghost use Rattle.toml.specs.View.{table_view};
 ghost use Rattle.bsc_config.specs.Faults.{Gives};
-ghost use Rattle.bsc_config.specs.Settings.{number_at as number_of_key, setup_in as setup_of_document, version_in as version_of_document};
+ghost use Rattle.bsc_config.specs.Numbers.{number_at as number_of_key};
+ghost use Rattle.bsc_config.specs.Numbers.{setup_in as setup_of_document};
+ghost use Rattle.bsc_config.specs.Numbers.{version_in as version_of_document};
 
 use crate::error::ConfigError;
 use crate::key::Key;
@@ -34,7 +36,8 @@ fn number_at(
 ) -> Result<u16, ConfigError>
     requires least { least ≤ absent }
     requires most { absent ≤ most }
-    ensures value { Gives (λ n. n) result (number_of_key key least most absent (table_view document.now)) }
+    ensures value { Gives (λ n. n) result
+        (number_of_key key least most absent (table_view document.now)) }
     ensures least { IfOk result (λ n. least ≤ n) }
     ensures most { IfOk result (λ n. n ≤ most) }
 {

@@ -3,8 +3,8 @@
 ghost use Rattle.std.specs.Prelude.{◌≡◌};
 ghost use Rattle.toml.specs.View.{items_view, table_view};
 ghost use Rattle.bsc_config.specs.Faults.{Gives};
-ghost use Rattle.bsc_config.specs.Settings.{poll_list_in as poll_list_of_document, or_wrong};
-ghost use Rattle.bsc_config.specs.Values.{read_each, whole_number as number_of_value};
+ghost use Rattle.bsc_config.specs.Numbers.{poll_list_in as poll_list_of_document};
+ghost use Rattle.bsc_config.specs.Values.{or_wrong, read_each, whole_number as number_of_value};
 
 use crate::error::ConfigError;
 use crate::key::Key;
@@ -15,7 +15,8 @@ use toml::{Table, Value};
 
 /// The entries that the values are.
 fn entries(alloc: Global, values: &[Value]) -> Result<Vec<u8>, ConfigError>
-    ensures { Gives (λ v. v.items) result (or_wrong Key.PollList (read_each (number_of_value 0 255) (items_view values.now))) }
+    ensures { Gives (λ v. v.items) result
+        (or_wrong Key.PollList (read_each (number_of_value 0 255) (items_view values.now))) }
 {
     let mut entries = Vec::new(alloc);
     for value in values {

@@ -3,7 +3,9 @@
 ghost use Rattle.std.specs.Prelude.{◌≡◌};
 ghost use Rattle.toml.specs.View.{items_view, table_view, view};
 ghost use Rattle.bsc_config.specs.Faults.{Gives};
-ghost use Rattle.bsc_config.specs.Checks.{check_each, check_table, keys_present as present_in_document, terminal_keys_present as present_in_terminal};
+ghost use Rattle.bsc_config.specs.Checks.{check_each, check_table};
+ghost use Rattle.bsc_config.specs.Checks.{keys_present as present_in_document};
+ghost use Rattle.bsc_config.specs.Checks.{terminal_keys_present as present_in_terminal};
 
 use crate::error::ConfigError;
 use crate::key::Key;

@@ -2,7 +2,8 @@
 
 ghost use Rattle.toml.specs.View.{table_view};
 ghost use Rattle.bsc_config.specs.Faults.{Gives};
-ghost use Rattle.bsc_config.specs.Settings.{settings_in as settings_of_document, values_in as values_of_document};
+ghost use Rattle.bsc_config.specs.Settings.{settings_in as settings_of_document};
+ghost use Rattle.bsc_config.specs.Settings.{values_in as values_of_document};
 
 use crate::error::ConfigError;
 use crate::known::known_keys;

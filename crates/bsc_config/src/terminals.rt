@@ -3,8 +3,10 @@
 ghost use Rattle.std.specs.Prelude.{◌≡◌};
 ghost use Rattle.toml.specs.View.{items_view, table_view, view};
 ghost use Rattle.bsc_config.specs.Faults.{Gives};
-ghost use Rattle.bsc_config.specs.Settings.{or_wrong, selects_in as selects_of_value, terminal_in as terminal_of_table, terminal_of_value, terminals_in as terminals_of_document, terminals_of};
-ghost use Rattle.bsc_config.specs.Values.{address_in as address_of_value, read_each};
+ghost use Rattle.bsc_config.specs.Terminals.{selects_in as selects_of_value};
+ghost use Rattle.bsc_config.specs.Terminals.{terminal_in as terminal_of_table, terminal_of_value};
+ghost use Rattle.bsc_config.specs.Terminals.{terminals_in as terminals_of_document, terminals_of};
+ghost use Rattle.bsc_config.specs.Values.{address_in as address_of_value, or_wrong, read_each};
 
 use crate::error::ConfigError;
 use crate::key::Key;
@@ -17,7 +19,8 @@ use toml::{Table, Value};
 
 /// The addresses that the values are; the values are those of this key.
 fn addresses(alloc: Global, values: &[Value], key: Key) -> Result<Vec<Address>, ConfigError>
-    ensures { Gives (λ v. v.items) result (or_wrong key (read_each address_of_value (items_view values.now))) }
+    ensures { Gives (λ v. v.items) result
+        (or_wrong key (read_each address_of_value (items_view values.now))) }
 {
     let mut addresses = Vec::new(alloc);
     for value in values {
@@ -31,7 +34,8 @@ fn addresses(alloc: Global, values: &[Value], key: Key) -> Result<Vec<Address>, 
 
 /// One address in a list of one; the value is that of this key.
 fn single(alloc: Global, value: &Value, key: Key) -> Result<Vec<Address>, ConfigError>
-    ensures { Gives (λ v. v.items) result (or_wrong key (selects_of_value Version.One (view value.now))) }
+    ensures { Gives (λ v. v.items) result
+        (or_wrong key (selects_of_value Version.One (view value.now))) }
 {
     match address_in(value) {
         Some(address) => {
@@ -50,7 +54,8 @@ fn selects_in(
     version: Version,
     key: Key,
 ) -> Result<Vec<Address>, ConfigError>
-    ensures { Gives (λ v. v.items) result (or_wrong key (selects_of_value version (view value.now))) }
+    ensures { Gives (λ v. v.items) result
+        (or_wrong key (selects_of_value version (view value.now))) }
 {
     match version {
         Version::One => single(alloc, value, key),
@@ -96,7 +101,9 @@ fn terminal_of(
 {
     match value.as_table() {
         Some(table) => terminal_in(alloc, table, version, terminal),
-        None => Err(ConfigError::WrongValue { key: Key::Terminals }),
+        None => Err(ConfigError::WrongValue {
+            key: Key::Terminals,
+        }),
     }
 }
 
@@ -122,11 +129,14 @@ pub(crate) fn terminals_in(
     document: &Table,
     version: Version,
 ) -> Result<Vec<Terminal>, ConfigError>
-    ensures { Gives (λ v. v.items) result (terminals_of_document version (table_view document.now)) }
+    ensures { Gives (λ v. v.items) result
+        (terminals_of_document version (table_view document.now)) }
 {
     let value = required(document, Key::Terminals)?;
     match tables_in(value) {
         Some(tables) => each_terminal(alloc, tables, version),
-        None => Err(ConfigError::WrongValue { key: Key::Terminals }),
+        None => Err(ConfigError::WrongValue {
+            key: Key::Terminals,
+        }),
     }
 }

@@ -2,7 +2,8 @@
 
 ghost use Rattle.std.specs.Prelude.{◌≡◌, ◌≤◌, IfSome};
 ghost use Rattle.toml.specs.View.{view};
-ghost use Rattle.bsc_config.specs.Values.{address_in as address_of_value, whole_number as number_of_value};
+ghost use Rattle.bsc_config.specs.Values.{address_in as address_of_value};
+ghost use Rattle.bsc_config.specs.Values.{whole_number as number_of_value};
 
 use bsc_frame::Address;
 use toml::Value;

@@ -2,8 +2,7 @@ use Rattle.std.proofs.Common.{◌≡◌, ◌+◌, ◌++◌, ◌∷◌, [], ◌�
 use Rattle.std.specs.Option.{option_map}
 use Rattle.toml.specs.View.{items_view}
 use Rattle.bsc_config.specs.declared.key.Key.TheVariants as key
-use Rattle.bsc_config.specs.Settings.{or_wrong}
-use Rattle.bsc_config.specs.Values.{read_each, address_in}
+use Rattle.bsc_config.specs.Values.{or_wrong, read_each, address_in}
 use Rattle.bsc_config.proofs.ItemLemmas.{read_each-next, read_each-stop}
 use Rattle.bsc_config.proofs.terminals.addresses.Goals as goal
 

@@ -1,7 +1,7 @@
 use Rattle.std.proofs.Common.{◌≡◌, ◌++◌, drop, Ok}
 use Rattle.toml.specs.View.{items_view}
 use Rattle.bsc_config.specs.Faults.{◌>>=◌}
-use Rattle.bsc_config.specs.Settings.{terminals_of}
+use Rattle.bsc_config.specs.Terminals.{terminals_of}
 use Rattle.bsc_config.proofs.terminals.each_terminal.Given as goal
 
 abbrev pub invariant-loop-number : goal.invariant-loop-number
