@@ -26,7 +26,7 @@ abbrev pub setup_of_numbers : ℕ → ℕ → ℕ → ℕ → SetupValue
 setup_of_numbers full block_chars tries waits = record {
   format = record { full = full; block_chars = block_chars };
   tries = tries;
-  waits = waits
+  waits = waits;
 }
 
 -- The settings of a document.
