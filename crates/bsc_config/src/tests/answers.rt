@@ -2,6 +2,7 @@
 
 use crate::{Config, read_config};
 use std::alloc::Global;
+use std::process::Abort;
 use std::test::Fail;
 
 /// Two terminals of version 1.
@@ -31,10 +32,31 @@ pub(crate) fn answer_to(alloc: Global, text: &[u8]) -> Result<String, Fail> {
     })
 }
 
-/// The text of the answer for a document of these lines, and then two terminals.
-pub(crate) fn answer_with(alloc: Global, lines: &str) -> Result<String, Fail> {
-    let text = format!(in alloc; "{lines}\n{TERMINALS}")?;
-    answer_to(alloc, text.as_bytes())
+/// Each of these documents has its answer.
+pub(crate) fn each_answers(
+    rt: &impl Abort,
+    alloc: Global,
+    documents: &[(&str, &str)],
+) -> Result<(), Fail> {
+    for (document, want) in documents {
+        let answer = answer_to(alloc, document.as_bytes())?;
+        assert_eq!(rt; answer.as_str(), *want, "at {document}");
+    }
+    Ok(())
+}
+
+/// Each of these lines, with two terminals after them, has its answer.
+pub(crate) fn each_answers_with(
+    rt: &impl Abort,
+    alloc: Global,
+    lines: &[(&str, &str)],
+) -> Result<(), Fail> {
+    for (line, want) in lines {
+        let document = format!(in alloc; "{line}\n{TERMINALS}")?;
+        let answer = answer_to(alloc, document.as_bytes())?;
+        assert_eq!(rt; answer.as_str(), *want, "at {line}");
+    }
+    Ok(())
 }
 
 /// The text of the configuration that a document says, or the fault.

@@ -1,6 +1,8 @@
 //! The faults of a document, in their order.
 
-use super::answers::{answer_to, answer_with};
+use super::answers::{answer_to, each_answers, each_answers_with};
+use std::alloc::Global;
+use std::process::Abort;
 use std::test::Fail;
 
 /// Texts that are no TOML document.
@@ -52,10 +54,7 @@ fn unknown_keys(rt: HostRuntime) -> Result<(), Fail> {
             "config: unknown key terminals[0].full",
         ),
     ];
-    for (text, fault) in table {
-        assert_eq!(rt; answer_to(rt.alloc(), text.as_bytes())?.as_str(), fault);
-    }
-    Ok(())
+    each_answers(&rt, rt.alloc(), &table)
 }
 
 /// Keys that are missing, in their order, before any wrong value.
@@ -82,10 +81,7 @@ fn missing_keys(rt: HostRuntime) -> Result<(), Fail> {
             "config: missing key terminals[1].poll",
         ),
     ];
-    for (text, fault) in table {
-        assert_eq!(rt; answer_to(rt.alloc(), text.as_bytes())?.as_str(), fault);
-    }
-    Ok(())
+    each_answers(&rt, rt.alloc(), &table)
 }
 
 /// Wrong values, in the order of the keys and not of the lines, before any refusal.
@@ -121,10 +117,7 @@ fn wrong_values_in_order(rt: HostRuntime) -> Result<(), Fail> {
             "config: wrong value of terminals[0].select",
         ),
     ];
-    for (lines, fault) in table {
-        assert_eq!(rt; answer_with(rt.alloc(), lines)?.as_str(), fault);
-    }
-    Ok(())
+    each_answers_with(&rt, rt.alloc(), &table)
 }
 
 /// What the poll list may not be.
@@ -141,8 +134,8 @@ fn wrong_poll_lists(rt: HostRuntime) -> Result<(), Fail> {
         "{}",
     ];
     for value in values {
-        let lines = format!(in rt.alloc(); "version = 1\npoll_list = {value}")?;
-        let answer = answer_with(rt.alloc(), lines.as_str())?;
+        let document = format!(in rt.alloc(); "version = 1\npoll_list = {value}\nterminals = []")?;
+        let answer = answer_to(rt.alloc(), document.as_bytes())?;
         assert_eq!(rt;
             answer.as_str(),
             "config: wrong value of poll_list",
@@ -165,55 +158,83 @@ fn wrong_lists_of_terminals(rt: HostRuntime) -> Result<(), Fail> {
         "{poll = \"A\", select = \"a\"}",
     ];
     for value in values {
-        let text = format!(in rt.alloc(); "version = 1\npoll_list = [0]\nterminals = {value}")?;
-        let answer = answer_to(rt.alloc(), text.as_bytes())?;
+        let document = format!(in rt.alloc(); "version = 1\npoll_list = [0]\nterminals = {value}")?;
+        let answer = answer_to(rt.alloc(), document.as_bytes())?;
         assert_eq!(rt;
             answer.as_str(),
             "config: wrong value of terminals",
             "at {value}"
         );
     }
-    let table = "version = 1\npoll_list = [0]\n[terminals]\npoll = \"A\"\nselect = \"a\"\n";
-    let answer = answer_to(rt.alloc(), table.as_bytes())?;
+    Ok(())
+}
+
+/// A table in place of a list of terminals.
+#[test]
+fn a_table_of_terminals(rt: HostRuntime) -> Result<(), Fail> {
+    let document = b"version = 1\npoll_list = [0]\n[terminals]\npoll = \"A\"\nselect = \"a\"\n";
+    let answer = answer_to(rt.alloc(), document)?;
     assert_eq!(rt; answer.as_str(), "config: wrong value of terminals");
     Ok(())
 }
 
-/// What addresses may not be, in both versions; a polling address comes before the selection
-/// addresses of its terminal, and a terminal before the next.
-#[test]
-fn wrong_addresses(rt: HostRuntime) -> Result<(), Fail> {
-    let table = [
-        ("1", "\"\"", "\"a\"", "poll"),
-        ("1", "\"ABCDEFGH\"", "1", "poll"),
-        ("1", "\"A B\"", "1", "poll"),
-        ("1", "\"é\"", "1", "poll"),
-        ("2", "[\"A\"]", "[\"a\"]", "poll"),
-        ("2", "65", "[\"a\"]", "poll"),
-        ("1", "\"A\"", "\"\"", "select"),
-        ("1", "\"A\"", "\"abcdefgh\"", "select"),
-        ("1", "\"A\"", "\"a\\u007f\"", "select"),
-        ("1", "\"A\"", "[\"a\"]", "select"),
-        ("2", "\"A\"", "\"a\"", "select"),
-        ("2", "\"A\"", "[]", "select"),
-        ("2", "\"A\"", "[\"a\", \"\"]", "select"),
-        ("2", "\"A\"", "[\"a\", 1]", "select"),
-        (
-            "2",
-            "\"A\"",
-            "[\"a\", \"c\", \"d\", \"e\", \"f\"]",
-            "select",
-        ),
-        ("2", "\"A\"", "[[\"a\"]]", "select"),
-    ];
-    for (version, poll, select, key) in table {
-        let terminal = format!(in rt.alloc(); "[[terminals]]\npoll = {poll}\nselect = {select}\n")?;
-        let text = format!(in rt.alloc();
-            "version = {version}\npoll_list = [0]\n{terminal}[[terminals]]\npoll = 1\nselect = 1\n"
+/// The first terminal of a document of this version is this table, and its value of this key is
+/// wrong, before that of the second terminal.
+fn each_is_wrong(
+    rt: &impl Abort,
+    alloc: Global,
+    version: u8,
+    key: &str,
+    tables: &[&str],
+) -> Result<(), Fail> {
+    for table in tables {
+        let document = format!(in alloc;
+            "version = {version}\npoll_list = [0]\nterminals = [{table}, {{poll = 1, select = 1}}]"
         )?;
-        let fault = format!(in rt.alloc(); "config: wrong value of terminals[0].{key}")?;
-        let answer = answer_to(rt.alloc(), text.as_bytes())?;
-        assert_eq!(rt; answer.as_str(), fault.as_str(), "at {poll} {select}");
+        let fault = format!(in alloc; "config: wrong value of terminals[0].{key}")?;
+        let answer = answer_to(alloc, document.as_bytes())?;
+        assert_eq!(rt; answer.as_str(), fault.as_str(), "at {table}");
     }
     Ok(())
+}
+
+/// What a polling address may not be, whatever the selection address is.
+#[test]
+fn wrong_polling_addresses(rt: HostRuntime) -> Result<(), Fail> {
+    let tables = [
+        "{poll = \"\", select = \"a\"}",
+        "{poll = \"ABCDEFGH\", select = 1}",
+        "{poll = \"A B\", select = \"a\"}",
+        "{poll = \"é\", select = 1}",
+        "{poll = [\"A\"], select = \"a\"}",
+        "{poll = 65, select = \"a\"}",
+    ];
+    each_is_wrong(&rt, rt.alloc(), 1, "poll", &tables)
+}
+
+/// What the selection address of version 1 may not be.
+#[test]
+fn wrong_selection_addresses(rt: HostRuntime) -> Result<(), Fail> {
+    let tables = [
+        "{poll = \"A\", select = \"\"}",
+        "{poll = \"A\", select = \"abcdefgh\"}",
+        "{poll = \"A\", select = \"a\\u007f\"}",
+        "{poll = \"A\", select = 97}",
+        "{poll = \"A\", select = [\"a\"]}",
+    ];
+    each_is_wrong(&rt, rt.alloc(), 1, "select", &tables)
+}
+
+/// What the selection addresses of version 2 may not be.
+#[test]
+fn wrong_lists_of_selection_addresses(rt: HostRuntime) -> Result<(), Fail> {
+    let tables = [
+        "{poll = \"A\", select = \"a\"}",
+        "{poll = \"A\", select = []}",
+        "{poll = \"A\", select = [\"a\", \"\"]}",
+        "{poll = \"A\", select = [1, \"a\"]}",
+        "{poll = \"A\", select = [[\"a\"]]}",
+        "{poll = \"A\", select = [\"a\", \"c\", \"d\", \"e\", \"f\"]}",
+    ];
+    each_is_wrong(&rt, rt.alloc(), 2, "select", &tables)
 }

@@ -1,6 +1,6 @@
 //! Configurations that no line can be made of, in the order of the refusals.
 
-use super::answers::{answer_to, answer_with};
+use super::answers::{answer_to, each_answers, each_answers_with};
 use std::alloc::Global;
 use std::test::Fail;
 
@@ -23,45 +23,55 @@ fn many_terminals(
     Ok(text)
 }
 
-/// No terminal, 64 and 65.
+/// No terminal.
+#[test]
+fn no_terminal(rt: HostRuntime) -> Result<(), Fail> {
+    let document = b"version = 1\npoll_list = []\nterminals = []\n";
+    let answer = answer_to(rt.alloc(), document)?;
+    assert_eq!(rt; answer.as_str(), "config: no terminal");
+    Ok(())
+}
+
+/// 64 terminals, and 65 of the same addresses.
 #[test]
 fn numbers_of_terminals(rt: HostRuntime) -> Result<(), Fail> {
-    let alloc = rt.alloc();
-    let none = "version = 1\npoll_list = []\nterminals = []\n";
-    assert_eq!(rt;
-        answer_to(alloc, none.as_bytes())?.as_str(),
-        "config: no terminal"
-    );
-    let most = many_terminals(alloc, "[63]", 64, false)?;
-    assert_eq!(rt; answer_to(alloc, most.as_bytes())?.as_str(), "read");
-    let more = many_terminals(alloc, "[]", 65, true)?;
-    assert_eq!(rt;
-        answer_to(alloc, more.as_bytes())?.as_str(),
-        "config: too many terminals"
-    );
-    Ok(())
+    let most = many_terminals(rt.alloc(), "[63]", 64, false)?;
+    let more = many_terminals(rt.alloc(), "[]", 65, true)?;
+    let table = [
+        (most.as_str(), "read"),
+        (more.as_str(), "config: too many terminals"),
+    ];
+    each_answers(&rt, rt.alloc(), &table)
 }
 
 /// Addresses that are the same, with their numbers, before a poll list that is empty.
 #[test]
 fn same_addresses(rt: HostRuntime) -> Result<(), Fail> {
     let table = [
-        ("\"A\"", "[\"A\"]", "\"B\"", "[\"b\"]", "0 and 1"),
-        ("\"A\"", "[\"a\", \"c\"]", "\"B\"", "[\"c\"]", "2 and 4"),
-        ("\"A\"", "[\"a\", \"c\"]", "\"A\"", "[\"c\"]", "0 and 3"),
-        ("\"A\"", "[\"a\", \"a\"]", "\"A\"", "[\"a\"]", "1 and 2"),
+        (
+            "{poll = \"A\", select = [\"A\"]}, {poll = \"B\", select = [\"b\"]}",
+            "0 and 1",
+        ),
+        (
+            "{poll = \"A\", select = [\"a\", \"c\"]}, {poll = \"B\", select = [\"c\"]}",
+            "2 and 4",
+        ),
+        (
+            "{poll = \"A\", select = [\"a\", \"c\"]}, {poll = \"A\", select = [\"c\"]}",
+            "0 and 3",
+        ),
+        (
+            "{poll = \"A\", select = [\"a\", \"a\"]}, {poll = \"A\", select = [\"a\"]}",
+            "1 and 2",
+        ),
     ];
-    for (poll, select, next_poll, next_select, numbers) in table {
-        let first = format!(in rt.alloc(); "{{poll = {poll}, select = {select}}}")?;
-        let second = format!(in rt.alloc(); "{{poll = {next_poll}, select = {next_select}}}")?;
-        let text = format!(in rt.alloc();
-            "version = 2\npoll_list = []\nterminals = [{first}, {second}]\n"
+    for (terminals, numbers) in table {
+        let document = format!(in rt.alloc();
+            "version = 2\npoll_list = []\nterminals = [{terminals}]\n"
         )?;
         let fault = format!(in rt.alloc(); "config: addresses {numbers} are the same")?;
-        assert_eq!(rt;
-            answer_to(rt.alloc(), text.as_bytes())?.as_str(),
-            fault.as_str()
-        );
+        let answer = answer_to(rt.alloc(), document.as_bytes())?;
+        assert_eq!(rt; answer.as_str(), fault.as_str());
     }
     Ok(())
 }
@@ -70,34 +80,32 @@ fn same_addresses(rt: HostRuntime) -> Result<(), Fail> {
 #[test]
 fn poll_lists(rt: HostRuntime) -> Result<(), Fail> {
     let table = [
-        ("[]", "config: poll list is empty"),
-        ("[0, 1, 2, 3]", "config: poll list entry 2 is wrong"),
-        ("[255]", "config: poll list entry 0 is wrong"),
-        ("[1]", "read"),
+        ("version = 1\npoll_list = []", "config: poll list is empty"),
+        (
+            "version = 1\npoll_list = [0, 1, 2, 3]",
+            "config: poll list entry 2 is wrong",
+        ),
+        (
+            "version = 1\npoll_list = [255]",
+            "config: poll list entry 0 is wrong",
+        ),
+        ("version = 1\npoll_list = [1]", "read"),
     ];
-    for (list, want) in table {
-        let lines = format!(in rt.alloc(); "version = 1\npoll_list = {list}")?;
-        assert_eq!(rt;
-            answer_with(rt.alloc(), lines.as_str())?.as_str(),
-            want,
-            "at {list}"
-        );
-    }
-    Ok(())
+    each_answers_with(&rt, rt.alloc(), &table)
 }
 
 /// 255 entries of a poll list, and one more.
 #[test]
 fn lengths_of_poll_lists(rt: HostRuntime) -> Result<(), Fail> {
-    let alloc = rt.alloc();
-    let mut lines = String::from_str(alloc, "version = 1\npoll_list = [")?;
+    let mut entries = String::new(rt.alloc());
     for _ in 0..255u16 {
-        lines.push_str("0, ")?;
+        entries.push_str("0, ")?;
     }
-    let most = format!(in alloc; "{lines}]")?;
-    assert_eq!(rt; answer_with(alloc, most.as_str())?.as_str(), "read");
-    let more = format!(in alloc; "{lines}0]")?;
-    let answer = answer_with(alloc, more.as_str())?;
-    assert_eq!(rt; answer.as_str(), "config: poll list entry 255 is wrong");
-    Ok(())
+    let most = format!(in rt.alloc(); "version = 1\npoll_list = [{entries}]")?;
+    let more = format!(in rt.alloc(); "version = 1\npoll_list = [{entries}0]")?;
+    let table = [
+        (most.as_str(), "read"),
+        (more.as_str(), "config: poll list entry 255 is wrong"),
+    ];
+    each_answers_with(&rt, rt.alloc(), &table)
 }
