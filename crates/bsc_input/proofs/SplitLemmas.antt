@@ -1,6 +1,7 @@
 -- A text is cut at the first octet that passes a test.
-use Rattle.std.proofs.Common.{◌≡◌, ◌≤◌, ℕ, ◌+◌, List, [], ◌∷◌, Bool, true, false, cond, Some, None, length, take, drop, refl, subst, arith}
-use Rattle.std.specs.List.{position, position_or_len, slice_split}
+use Rattle.std.proofs.Common.{◌≡◌, ◌≤◌, ℕ, ◌+◌, List, [], ◌∷◌, Bool, true, false, cond, Some, None, length, take, drop, refl, ap, subst, arith}
+use Rattle.std.specs.List.{before_first, position, position_or_len, slice_split}
+use Rattle.std.proofs.lemmas.List.{take_all}
 use Rattle.std.proofs.lemmas.Bool.{ltb-true, ltb-false}
 use Rattle.std.proofs.lemmas.Option.{same_Some}
 use Rattle.std.proofs.lemmas.List.Splits.{slice_split_first, slice_split_none}
@@ -14,6 +15,13 @@ test_of_some false k i e = cc
 test_of_none : (b : Bool) (k : ℕ) → cond b (Some k) None ≡ None → b ≡ false
 test_of_none true k e = cc
 test_of_none false k e = refl
+
+-- what stands before that octet
+pub before_first-some : (p : ℕ → Bool) (xs : List ℕ) (i : ℕ) → position p xs ≡ Some i → before_first p xs ≡ take i xs
+before_first-some p xs i e = ap (λ k. take k xs) (test_of_some _ (position_or_len p xs) i e).1
+
+pub before_first-none : (p : ℕ → Bool) (xs : List ℕ) → position p xs ≡ None → before_first p xs ≡ xs
+before_first-none p xs e = take_all (position_or_len p xs) xs (ltb-false _ _ (test_of_none _ (position_or_len p xs) e))
 
 pub slice_split-some : (p : ℕ → Bool) (xs : List ℕ) (i : ℕ) → position p xs ≡ Some i → slice_split p xs ≡ take i xs ∷ slice_split p (drop (i + 1) xs)
 slice_split-some p xs i e =

@@ -1,12 +1,13 @@
 -- The lines of a text. All of it is own.
-use Rattle.std.specs.Prelude.{ℕ, ◌==◌, Bool, List, map}
-use Rattle.std.specs.List.{list_all, slice_split}
+use Rattle.std.specs.Prelude.{ℕ, Bool, List, map}
+use Rattle.std.specs.List.{list_all}
 use Rattle.std.specs.Str.Lines.{strip_carriage_return}
 use Rattle.bsc_input.specs.Hexadecimal.{is_space}
+use Rattle.bsc_input.specs.Parts.{parts_at}
 
 -- The parts of the text between its line feeds. What follows the last line feed is a part too.
 abbrev pub parts_of : List ℕ → List (List ℕ)
-parts_of text = slice_split (λ octet. octet == 10) text
+parts_of text = parts_at 10 text
 
 -- The lines of the text: each part, less one carriage return at its end.
 abbrev pub lines_of : List ℕ → List (List ℕ)

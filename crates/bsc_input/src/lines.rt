@@ -1,14 +1,9 @@
 //! The lines of the command's input.
-ghost use Rattle.std.specs.Prelude.{◌≡◌, ◌==◌, ◌∷◌, ◌+◌, ◌≤◌, [], length, None, IfSome, position};
+ghost use Rattle.std.specs.Prelude.{◌≡◌, ◌∷◌, ◌+◌, ◌≤◌, [], length, None, IfSome};
 ghost use Rattle.std.specs.Str.Lines.{strip_carriage_return};
 ghost use Rattle.bsc_input.specs.Lines.{is_blank as blank, parts_of};
 
-/// The place of the first line feed.
-fn line_end(text: &[u8]) -> Option<usize>
-    ensures { result ≡ position (λ octet. octet == 10) text.now }
-{
-    text.iter().position(|&octet| octet == b'\n')
-}
+use crate::split_at_first;
 
 /// The first line without its line feed, and what follows that; None where the line ends with the text.
 pub fn split_line(text: &[u8]) -> (&[u8], Option<&[u8]>)
@@ -18,10 +13,7 @@ pub fn split_line(text: &[u8]) -> (&[u8], Option<&[u8]>)
         length result.0.now + 1 + length rest.now ≡ length text.now) }
     ensures within { length result.0.now ≤ length text.now }
 {
-    match line_end(text) {
-        Some(end) => (&text[..end], Some(&text[end + 1..])),
-        None => (text, None),
-    }
+    split_at_first(text, b'\n')
 }
 
 /// The line less one carriage return at its end.

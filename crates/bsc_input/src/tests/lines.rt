@@ -1,4 +1,4 @@
-use crate::{is_blank, split_line, without_return};
+use crate::{is_blank, split_at_first, split_line, without_return};
 use std::test::Fail;
 
 /// The first line and the rest, where there is one: a line feed at the end has an empty line after it.
@@ -13,6 +13,21 @@ fn first_line(rt: HostRuntime) -> Result<(), Fail> {
     ];
     for (text, line, rest) in table {
         assert!(rt; split_line(text) == (line, rest));
+    }
+    Ok(())
+}
+
+/// A text is cut at the first octet of the value, and not at another one.
+#[test]
+fn first_space(rt: HostRuntime) -> Result<(), Fail> {
+    let table: [(&[u8], &[u8], Option<&[u8]>); 4] = [
+        (b"ab cd e", b"ab", Some(b"cd e")),
+        (b" ab", b"", Some(b"ab")),
+        (b"ab ", b"ab", Some(b"")),
+        (b"a\nb", b"a\nb", None),
+    ];
+    for (text, word, rest) in table {
+        assert!(rt; split_at_first(text, b' ') == (word, rest));
     }
     Ok(())
 }

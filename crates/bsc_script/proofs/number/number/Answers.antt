@@ -1,0 +1,22 @@
+use Rattle.std.proofs.Common.{◌≡◌, true, take, arith, sym}
+use Rattle.std.specs.Str.Parse.{digits_value}
+use Rattle.std.proofs.lemmas.Int.Digits.{digits_value_more}
+use Rattle.bsc_script.specs.Numbers.{has_digits}
+use Rattle.bsc_script.proofs.DigitLemmas.{below_thousand, digit_at}
+use Rattle.bsc_script.proofs.number.number.Goals as goal
+
+pub overflow_add-number : goal.overflow_add-number
+overflow_add-number c =
+    let digits : has_digits c.args.most c.args.word.now ≡ true = sym c.if-not-has_digits.ensures in
+    let front : c.loop-digit.number ≡ digits_value 10 (take c.loop-digit.digit-index c.args.word.now) = c.loop-digit.invariant in
+    let small = below_thousand c.args.most c.args.word.now c.loop-digit.digit-index c.requires digits in
+    let digit = digit_at c.args.most c.args.word.now c.loop-digit.digit-index digits c.loop-digit-test.true in
+    omega arith
+
+pub loop-digit-preserved : goal.loop-digit-preserved
+loop-digit-preserved c =
+    let digits : has_digits c.args.most c.args.word.now ≡ true = sym c.if-not-has_digits.ensures in
+    let front : c.loop-digit.number ≡ digits_value 10 (take c.loop-digit.digit-index c.args.word.now) = c.loop-digit.invariant in
+    let more = digits_value_more 10 c.args.word.now c.loop-digit.digit-index c.loop-digit-test.true in
+    let digit = digit_at c.args.most c.args.word.now c.loop-digit.digit-index digits c.loop-digit-test.true in
+    omega arith

@@ -1,0 +1,115 @@
+-- What the lines of a script ask for: the events, and the line of each. All of it is own.
+use Rattle.std.specs.Prelude.{ℕ, Bool, true, false, List, [], codes, Option, Some, None, option_map, unwrap_or, if◌then◌else◌}
+use Rattle.std.specs.Option.{option_and_then}
+use Rattle.std.specs.Str.{bytes_eq}
+use Rattle.bsc_control.specs.declared.way.Way.{Way}
+use Rattle.bsc_control.specs.declared.way.Way.TheVariants.{FromTerminal, ToTerminal}
+use Rattle.bsc_script.specs.declared.keyword.Keyword.{Keyword}
+use Rattle.bsc_script.specs.declared.keyword.Keyword.TheVariants.{OfferAt, OfferFor, OfferTo, Carry, Lose, Heard, HeardEach, Silence, Ready, Unready, UrgentAt, UrgentFor, Release}
+use Rattle.bsc_script.specs.Numbers.{terminal_of, select_of}
+use Rattle.bsc_script.specs.Transmissions.{transmission_of, items_of}
+use Rattle.bsc_script.specs.Words.{first_word, after_word, words_of}
+
+-- What happens. Terminals and selection addresses are numbers, whether the line has them or not.
+pub data Event : Type 0 where
+  -- the codes of a record are offered at a terminal
+  offer_at : ℕ → List ℕ → Event
+  -- they are offered for a selection address of a terminal
+  offer_for : ℕ → ℕ → List ℕ → Event
+  -- what is pending is carried as it was sent
+  carry : Event
+  -- what is pending is lost
+  lose : Event
+  -- what is pending is heard as these octets
+  heard : List ℕ → Event
+  -- what the control station sent is heard by each terminal as its item
+  heard_each : List (Option (List ℕ)) → Event
+  -- nothing is heard for the time of a time-out
+  silence : Event
+  -- a terminal takes selections, or it does not
+  ready : ℕ → Bool → Event
+  -- a terminal has something urgent
+  urgent_at : ℕ → Event
+  -- the control station has something urgent for a terminal
+  urgent_for : ℕ → Event
+  -- a doubt about what went this way is ended
+  release : ℕ → Way → Event
+
+-- The first words of lines.
+abbrev pub keyword_of : List ℕ → Option Keyword
+keyword_of word =
+    if bytes_eq word (codes "offer-at") then Some OfferAt else
+    if bytes_eq word (codes "offer-for") then Some OfferFor else
+    if bytes_eq word (codes "offer-to") then Some OfferTo else
+    if bytes_eq word (codes "carry") then Some Carry else
+    if bytes_eq word (codes "lose") then Some Lose else
+    if bytes_eq word (codes "heard") then Some Heard else
+    if bytes_eq word (codes "heard-each") then Some HeardEach else
+    if bytes_eq word (codes "silence") then Some Silence else
+    if bytes_eq word (codes "ready") then Some Ready else
+    if bytes_eq word (codes "unready") then Some Unready else
+    if bytes_eq word (codes "urgent-at") then Some UrgentAt else
+    if bytes_eq word (codes "urgent-for") then Some UrgentFor else
+    if bytes_eq word (codes "release") then Some Release else None
+
+-- The codes of a record that is the rest of a line: what follows the space after the number, or none
+-- where that space is missing.
+abbrev pub codes_after : List ℕ → List ℕ
+codes_after rest = unwrap_or (after_word rest) []
+
+-- `T RECORD`, at a terminal.
+abbrev pub offer_at_of : List ℕ → Option Event
+offer_at_of rest = option_map (λ t. offer_at t (codes_after rest)) (terminal_of (first_word rest))
+
+-- `T RECORD`, for the first selection address of a terminal.
+abbrev pub offer_for_of : List ℕ → Option Event
+offer_for_of rest = option_map (λ t. offer_for t 0 (codes_after rest)) (terminal_of (first_word rest))
+
+-- `S RECORD`, for a selection address of this terminal.
+abbrev pub offer_select_of : ℕ → List ℕ → Option Event
+offer_select_of t rest = option_map (λ s. offer_for t s (codes_after rest)) (select_of (first_word rest))
+
+-- `T S RECORD`, for a selection address of a terminal.
+abbrev pub offer_to_of : List ℕ → Option Event
+offer_to_of rest = option_and_then (λ t. option_and_then (offer_select_of t) (after_word rest)) (terminal_of (first_word rest))
+
+-- The ways: `from`, `to` for address 0, and `to S`.
+abbrev pub way_of : List ℕ → Option Way
+way_of words =
+    if bytes_eq words (codes "from") then Some FromTerminal else
+    if bytes_eq words (codes "to") then Some (ToTerminal 0) else
+    if bytes_eq (first_word words) (codes "to") then option_map (λ s. ToTerminal s) (option_and_then select_of (after_word words)) else None
+
+-- `T` and a way.
+abbrev pub release_of : List ℕ → Option Event
+release_of rest = option_and_then (λ t. option_map (release t) (option_and_then way_of (after_word rest))) (terminal_of (first_word rest))
+
+-- The events of a word that stands with nothing after it.
+abbrev pub event_alone : Keyword → Option Event
+event_alone Carry = Some carry
+event_alone Lose = Some lose
+event_alone Silence = Some silence
+event_alone _ = None
+
+-- The events of a word with the rest of the line, which a space parts.
+abbrev pub event_with : Keyword → List ℕ → Option Event
+event_with OfferAt rest = offer_at_of rest
+event_with OfferFor rest = offer_for_of rest
+event_with OfferTo rest = offer_to_of rest
+event_with Heard rest = option_map heard (transmission_of rest)
+event_with HeardEach rest = option_map heard_each (items_of (words_of rest))
+event_with Ready rest = option_map (λ t. ready t true) (terminal_of rest)
+event_with Unready rest = option_map (λ t. ready t false) (terminal_of rest)
+event_with UrgentAt rest = option_map urgent_at (terminal_of rest)
+event_with UrgentFor rest = option_map urgent_for (terminal_of rest)
+event_with Release rest = release_of rest
+event_with _ rest = None
+
+-- The event of a word, alone or with the rest of the line.
+abbrev pub event_by : Option (List ℕ) → Keyword → Option Event
+event_by None keyword = event_alone keyword
+event_by (Some rest) keyword = event_with keyword rest
+
+-- The event of a line: None where the line is no event.
+abbrev pub event_of : List ℕ → Option Event
+event_of line = option_and_then (event_by (after_word line)) (keyword_of (first_word line))

@@ -1,0 +1,6 @@
+pub mod Words
+pub mod Numbers
+pub mod Transmissions
+pub mod Events
+pub mod Actions
+pub mod Script

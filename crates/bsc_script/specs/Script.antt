@@ -1,0 +1,31 @@
+-- A script as a whole. All of it is own.
+use Rattle.std.specs.Prelude.{ℕ, ◌+◌, ◌==◌, Bool, true, List, [], ◌∷◌, ◌++◌, Option, Some, None, Result, Ok, Err, if◌then◌else◌}
+use Rattle.bsc_input.specs.Lines.{lines_of}
+use Rattle.bsc_script.specs.Events.{Event, event_of}
+use Rattle.bsc_script.specs.Actions.{NumberedEvent}
+
+-- A line that is skipped: it is empty, or its first character is #.
+abbrev pub is_skipped : List ℕ → Bool
+is_skipped [] = true
+is_skipped (octet ∷ more) = octet == 35
+
+-- These events, and then those of further lines, or the number of the first of them that is no event.
+abbrev pub after_these : List NumberedEvent → Result (List NumberedEvent) ℕ → Result (List NumberedEvent) ℕ
+after_these events (Ok more) = Ok (events ++ more)
+after_these events (Err number) = Err number
+
+-- The line of this number is no event; or it is one, and others follow.
+abbrev pub with_line : ℕ → Option Event → Result (List NumberedEvent) ℕ → Result (List NumberedEvent) ℕ
+with_line number None rest = Err number
+with_line number (Some event) rest = after_these (record { line = number; event = event } ∷ []) rest
+
+-- The events of lines, of which the first has this number, in order; or the number of the first line that
+-- is neither skipped nor an event.
+abbrev pub events_from : ℕ → List (List ℕ) → Result (List NumberedEvent) ℕ
+events_from number [] = Ok []
+events_from number (line ∷ more) =
+    if is_skipped line then events_from (number + 1) more else with_line number (event_of line) (events_from (number + 1) more)
+
+-- The events of a text, whose lines are counted from 1; or the number of its first wrong line.
+abbrev pub events_of : List ℕ → Result (List NumberedEvent) ℕ
+events_of text = events_from 1 (lines_of text)

@@ -1,0 +1,31 @@
+-- Octets that are put on the line, in hexadecimal text. All of it is own.
+use Rattle.std.specs.Prelude.{ℕ, ◌&&◌, nat_le, Bool, List, [], ◌∷◌, length, codes, Option, Some, None, option_map, if◌then◌else◌}
+use Rattle.std.specs.Option.{option_and_then}
+use Rattle.std.specs.Str.{bytes_eq}
+use Rattle.bsc_input.specs.Hexadecimal.{octets_of}
+
+-- 1 to 2,048 octets, as many as a socket record carries.
+abbrev pub is_carried : List ℕ → Bool
+is_carried octets = nat_le 1 (length octets) && nat_le (length octets) 2048
+
+-- These octets, where a socket record carries them.
+abbrev pub carried : List ℕ → Option (List ℕ)
+carried octets = if is_carried octets then Some octets else None
+
+-- The octets that hexadecimal text gives, its spaces dropped. None where it is no such text, or has no
+-- octet or more than 2,048.
+abbrev pub transmission_of : List ℕ → Option (List ℕ)
+transmission_of text = option_and_then carried (octets_of text)
+
+-- What one terminal hears: octets, or nothing where the word is a dash. None where it is neither.
+abbrev pub item_of : List ℕ → Option (Option (List ℕ))
+item_of word = if bytes_eq word (codes "-") then Some None else option_map Some (transmission_of word)
+
+-- An item before others, where there are items.
+abbrev pub item_before : Option (List (Option (List ℕ))) → Option (List ℕ) → Option (List (Option (List ℕ)))
+item_before items item = option_map (λ more. item ∷ more) items
+
+-- What each terminal hears, a word each. None where a word gives nothing.
+abbrev pub items_of : List (List ℕ) → Option (List (Option (List ℕ)))
+items_of [] = Some []
+items_of (word ∷ more) = option_and_then (item_before (items_of more)) (item_of word)

@@ -1,0 +1,51 @@
+//! Numbers in decimal digits.
+ghost use Rattle.std.specs.Prelude.{◌≡◌, ◌≤◌};
+ghost use Rattle.std.specs.Char.{is_ascii_digit};
+ghost use Rattle.std.specs.List.{list_all};
+ghost use Rattle.bsc_script.specs.Numbers.{has_digits as digits, number_of, select_of, terminal_of};
+
+/// Whether all characters are decimal digits.
+fn are_digits(word: &[u8]) -> bool
+    ensures { result ≡ list_all is_ascii_digit word.now }
+{
+    word.iter().all(|&octet| octet.is_ascii_digit())
+}
+
+/// Whether the word has at least one digit, at most this many, and nothing else.
+fn has_digits(word: &[u8], most: usize) -> bool
+    ensures { result ≡ digits most word.now }
+{
+    if word.is_empty() || most < word.len() {
+        return false;
+    }
+    are_digits(word)
+}
+
+/// The number of at most this many digits. None where the word is none.
+fn number(word: &[u8], most: usize) -> Option<usize>
+    requires { most ≤ 3 }
+    ensures { result ≡ number_of most word.now }
+{
+    if !has_digits(word, most) {
+        return None;
+    }
+    let mut number = 0;
+    for &digit in word {
+        number = number * 10 + usize::from(digit - b'0');
+    }
+    Some(number)
+}
+
+/// The number of a terminal: one to three digits.
+pub(crate) fn terminal(word: &[u8]) -> Option<usize>
+    ensures { result ≡ terminal_of word.now }
+{
+    number(word, 3)
+}
+
+/// The number of a selection address: one digit.
+pub(crate) fn select(word: &[u8]) -> Option<usize>
+    ensures { result ≡ select_of word.now }
+{
+    number(word, 1)
+}

@@ -1,0 +1,2 @@
+//! What no contract says.
+mod lines;

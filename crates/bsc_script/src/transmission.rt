@@ -1,0 +1,49 @@
+//! Octets that are put on a line in place of what was sent.
+ghost use Rattle.std.specs.Prelude.{◌≡◌, IfOk, option_map};
+ghost use Rattle.bsc_carrier.specs.Record.{IsCarried};
+ghost use Rattle.bsc_script.specs.Transmissions.{transmission_of};
+
+use bsc_input::read_octets;
+use std::alloc::{AllocError, Allocator};
+use std::marker::Model;
+
+/// The octets of one transmission: 1 to 2,048, as many as a socket record carries (own).
+#[derive(Drop)]
+pub struct Transmission<A: Allocator> {
+    octets: Vec<u8, A>,
+}
+
+impl<A: Allocator> Model for Transmission<A> {
+    ghost use Rattle.std.specs.Prelude.{ℕ, List};
+    ghost use Rattle.bsc_carrier.specs.Record.{IsCarried};
+
+    ghost Value = { List ℕ };
+
+    ghost view = { λ t. t.octets.items };
+
+    ghost invariant = { λ t. IsCarried t.octets.items };
+}
+
+impl<A: Allocator> Transmission<A> {
+    /// The octets.
+    pub fn as_slice(&self) -> &[u8]
+        ensures value { result.now ≡ self.now }
+        ensures carried { IsCarried self.now }
+    {
+        self.octets.as_slice()
+    }
+}
+
+/// The octets of hexadecimal text, its spaces dropped. None where it is no such text, or has no octet
+/// or more than 2,048.
+pub(crate) fn read_transmission<A: Allocator + Copy>(
+    alloc: A,
+    text: &[u8],
+) -> Result<Option<Transmission<A>>, AllocError>
+    ensures { IfOk result (λ t. t ≡ transmission_of text.now) }
+{
+    match read_octets(alloc, text)? {
+        Some(octets) if (1..=2048).contains(&octets.len()) => Ok(Some(Transmission { octets })),
+        _ => Ok(None),
+    }
+}

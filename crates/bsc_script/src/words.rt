@@ -1,0 +1,16 @@
+//! The words of a line, which stand one space apart.
+ghost use Rattle.std.specs.Prelude.{◌≡◌, ◌∷◌, ◌<◌, [], IfSome, None, length, option_map};
+ghost use Rattle.bsc_script.specs.Words.{after_word, first_word, words_of};
+
+use bsc_input::split_at_first;
+
+/// The first word, and what follows the space after it; None where there is no space.
+pub(crate) fn split_word(text: &[u8]) -> (&[u8], Option<&[u8]>)
+    ensures word { result.0.now ≡ first_word text.now }
+    ensures rest { option_map (λ rest. rest.now) result.1 ≡ after_word text.now }
+    ensures last { result.1 ≡ None → words_of text.now ≡ result.0.now ∷ [] }
+    ensures more { IfSome result.1 (λ rest. words_of text.now ≡ result.0.now ∷ words_of rest.now) }
+    ensures shorter { IfSome result.1 (λ rest. length rest.now < length text.now) }
+{
+    split_at_first(text, b' ')
+}
