@@ -10,11 +10,11 @@ returns-in-None-clause-ok g c =
     let lines : lines_of c.lines.left.now ≡ c.without_return-line.result.now ∷ [] = ap (map strip_carriage_return) (c.split_line.ensures.last c.in-None.is) ∙ ap (λ l. l ∷ []) (sym c.without_return-line.ensures) in
     let here = rw lines at c.lines.invariant.events in
     elim c.if-not-is_skipped.branch [
-      then-not-is_skipped+in_ok-read_step+in_ok-push w ↦
-        all_read _ (c.lines.before + 1 + 1) (take_line c.lines.steps.items c.if-not-is_skipped.steps.items w.in_ok-read_step.field-0 (c.lines.before + 1) c.without_return-line.result.now [] here
+      | then-not-is_skipped+in_ok-read_step+in_ok-push w ↦
+          all_read _ (c.lines.before + 1 + 1) (take_line c.lines.steps.items c.if-not-is_skipped.steps.items w.in_ok-read_step.field-0 (c.lines.before + 1) c.without_return-line.result.now [] here
           (sym c.is_skipped.ensures ∙ w.if-not-is_skipped.true) w.in_ok-read_step.ensures.line w.in_ok-read_step.ensures.event (ap (λ v. v.items) w.steps-is ∙ w.in_ok-push.ensures.items))
-    | else-not-is_skipped w ↦
-        all_read _ (c.lines.before + 1 + 1) (keep_line c.lines.steps.items c.if-not-is_skipped.steps.items (c.lines.before + 1) c.without_return-line.result.now [] here
+      | else-not-is_skipped w ↦
+          all_read _ (c.lines.before + 1 + 1) (keep_line c.lines.steps.items c.if-not-is_skipped.steps.items (c.lines.before + 1) c.without_return-line.result.now [] here
           (sym c.is_skipped.ensures ∙ w.if-not-is_skipped.false) (ap (λ v. v.items) w.steps-is))
     ]
 
@@ -26,11 +26,11 @@ lines-preserved g c =
     let long = rw c.in-Some.is at c.split_line.ensures.length in
     record {
       events = elim c.if-not-is_skipped.branch [
-        then-not-is_skipped+in_ok-read_step+in_ok-push w ↦
-          (take_line c.lines.steps.items c.if-not-is_skipped.steps.items w.in_ok-read_step.field-0 (c.lines.before + 1) c.without_return-line.result.now (lines_of c.in-Some.rest.now) here
+        | then-not-is_skipped+in_ok-read_step+in_ok-push w ↦
+            (take_line c.lines.steps.items c.if-not-is_skipped.steps.items w.in_ok-read_step.field-0 (c.lines.before + 1) c.without_return-line.result.now (lines_of c.in-Some.rest.now) here
             (sym c.is_skipped.ensures ∙ w.if-not-is_skipped.true) w.in_ok-read_step.ensures.line w.in_ok-read_step.ensures.event (ap (λ v. v.items) w.steps-is ∙ w.in_ok-push.ensures.items))
-      | else-not-is_skipped w ↦
-          (keep_line c.lines.steps.items c.if-not-is_skipped.steps.items (c.lines.before + 1) c.without_return-line.result.now (lines_of c.in-Some.rest.now) here
+        | else-not-is_skipped w ↦
+            (keep_line c.lines.steps.items c.if-not-is_skipped.steps.items (c.lines.before + 1) c.without_return-line.result.now (lines_of c.in-Some.rest.now) here
             (sym c.is_skipped.ensures ∙ w.if-not-is_skipped.false) (ap (λ v. v.items) w.steps-is))
       ];
       counted = omega (arith, long);
