@@ -26,18 +26,18 @@ chosen false x y z h = inr (refl, h)
 -- ---- the codes of a call
 
 -- a code that passes the test of an address
-record IsPlain (c : ℕ) : Type 0 where
-  low : 33 ≤ c
-  high : c ≤ 126
+pub record IsPlain (c : ℕ) : Type 0 where
+  pub low : 33 ≤ c
+  pub high : c ≤ 126
 
 plain_from : (c : ℕ) (b : Bool) → nat_le 33 c ≡ b → (b && nat_le c 126) ≡ true → IsPlain c
 plain_from c true e h = record { low = grind (arith, nat_tests); high = grind (arith, nat_tests) }
 plain_from c false e h = cc
 
-plain : (c : ℕ) → IsTrue (is_address_code c) → IsPlain c
+pub plain : (c : ℕ) → IsTrue (is_address_code c) → IsPlain c
 plain c h = plain_from c (nat_le 33 c) refl h
 
-plain_odd : (c o : ℕ) → IsPlain c → (o ≡ 0x85) ⊎ ((o ≡ 0x16) ⊎ (o ≡ 0xff)) → (odd_octet c == o) ≡ false
+pub plain_odd : (c o : ℕ) → IsPlain c → (o ≡ 0x85) ⊎ ((o ≡ 0x16) ⊎ (o ≡ 0xff)) → (odd_octet c == o) ≡ false
 plain_odd c o p h = test_false (odd_octet c) o (λ e. elim (odd_cases c) [
   | inl k ↦ elim h [ inl u ↦ absurd (omega arith) | inr v ↦ elim v [ inl u ↦ absurd (omega arith) | inr u ↦ absurd (omega arith) ] ]
   | inr k ↦ elim h [ inl u ↦ absurd (omega arith) | inr v ↦ elim v [ inl u ↦ absurd (omega arith) | inr u ↦ absurd (omega arith) ] ]

@@ -113,7 +113,7 @@ spelled_heard octets m e =
 
 -- ---- failed
 
-failed_begins : (body : List ℕ) → heard_body body ≡ Failed → (rest : List ℕ) × (body ≡ 0x02 ∷ rest)
+pub failed_begins : (body : List ℕ) → heard_body body ≡ Failed → (rest : List ℕ) × (body ≡ 0x02 ∷ rest)
 unfolding heard_body control
 failed_begins [] e = absurd cc
 failed_begins (x ∷ rest) e = elim (chosen (x == 0x02) _ _ _ e) [

@@ -18,3 +18,12 @@ pub mod ShortLemmas
 pub mod SqueezeLemmas
 pub mod SameLemmas
 pub mod MessageLemmas
+pub mod PlaceLemmas
+pub mod BodyOddLemmas
+pub mod TurnedLemmas
+pub mod InsideLemmas
+pub mod LongerLemmas
+pub mod DamagedText
+pub mod DamagedCall
+pub mod DamagedLemmas
+pub mod TurnedBitLemmas

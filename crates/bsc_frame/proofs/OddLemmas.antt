@@ -19,11 +19,11 @@ odd_append : (xs ys : List ℕ) → AllByRecursion IsOdd xs → AllByRecursion I
 odd_append [] ys h k = k
 odd_append (x ∷ xs) ys h k = (h.0, odd_append xs ys h.1 k)
 
-syn_odd : IsOdd 0x16
+pub syn_odd : IsOdd 0x16
 unfolding odd_octet ones
 syn_odd = IsOdd-odd_octet 0x16 (omega arith)
 
-fill_odd : (fill : List ℕ) → AreAll 0x16 fill → AllByRecursion IsOdd fill
+pub fill_odd : (fill : List ℕ) → AreAll 0x16 fill → AllByRecursion IsOdd fill
 fill_odd [] h = tt
 fill_odd (x ∷ fill) h = (rw h.0 syn_odd, fill_odd fill h.1)
 

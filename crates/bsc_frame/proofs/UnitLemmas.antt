@@ -21,7 +21,7 @@ use Rattle.bsc_frame.proofs.ControlLemmas.{chosen, some_is}
 use Rattle.bsc_frame.proofs.GatherLemmas.{gathered_reads, gathered_read, EndsUnit-last, IsOther, IsRun}
 
 -- what stands after a step that succeeded
-bind_some : {A B : Type 0} (o : Option A) (f : A → Option B) (y : B) → (o >>= f) ≡ Some y → (x : A) × (o ≡ Some x) × (f x ≡ Some y)
+pub bind_some : {A B : Type 0} (o : Option A) (f : A → Option B) (y : B) → (o >>= f) ≡ Some y → (x : A) × (o ≡ Some x) × (f x ≡ Some y)
 bind_some None f y e = cc
 bind_some (Some x) f y e = (x, refl, e)
 
@@ -277,7 +277,7 @@ pub record ReadsUnits (n : ℕ) (behind : Bool) (octets : List ℕ) (t : TextVal
   pub most : length t.units ≤ n
   pub each : AllByRecursion IsUnit t.units
 
-before_some : (u : TextUnit) (o : Option TextValue) (t : TextValue) → before_units u o ≡ Some t
+pub before_some : (u : TextUnit) (o : Option TextValue) (t : TextValue) → before_units u o ≡ Some t
     → (s : TextValue) × (o ≡ Some s) × (record { units = u ∷ s.units; end = s.end } ≡ t)
 before_some u None t e = cc
 before_some u (Some s) t e = (s, refl, some_is _ _ e)

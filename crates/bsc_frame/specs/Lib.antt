@@ -8,3 +8,4 @@ pub mod Spells
 pub mod Reading
 pub mod Short
 pub mod Same
+pub mod TurnedBits

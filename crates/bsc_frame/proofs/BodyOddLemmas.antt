@@ -1,0 +1,93 @@
+-- Each octet of a body has odd parity, but for the PAD of a call.
+use Rattle.std.proofs.Common.{◌≡◌, inl, inr, ℕ, ◌<◌, false, refl, arith, List, [], ◌∷◌, ◌++◌, map, IsTrue, nat_le}
+use Rattle.std.specs.List.{AllByRecursion}
+use Rattle.std.specs.Int.Count.{ones}
+use Rattle.bsc_octet.specs.Octet.{IsOdd, odd_octet}
+use Rattle.bsc_octet.proofs.ParityLemmas.{IsOdd-odd_octet}
+use Rattle.bsc_frame.specs.Addresses.{is_address_code}
+use Rattle.bsc_frame.specs.Spells.{AreAll, IsBody, IsCall}
+use Rattle.bsc_frame.specs.TurnedBits.{IsBodyOctet}
+use Rattle.bsc_frame.specs.declared.message.Message.{Message}
+use Rattle.bsc_frame.specs.declared.message.Message.TheVariants.{Eot, Call, Enq, Ack0, Ack1, Nak, Wack, Rvi, Text}
+use Rattle.bsc_frame.proofs.ControlLemmas.{IsPlain, plain}
+use Rattle.bsc_frame.proofs.OddLemmas.{units_odd, fill_odd}
+use Rattle.bsc_frame.proofs.PlaceLemmas.{all_both}
+
+pub eot_odd : IsOdd 0x04
+unfolding odd_octet ones
+eot_odd = IsOdd-odd_octet 0x04 (omega arith)
+
+pub enq_odd : IsOdd 0x85
+unfolding odd_octet ones
+enq_odd = IsOdd-odd_octet 0x05 (omega arith)
+
+pub nak_odd : IsOdd 0x15
+unfolding odd_octet ones
+nak_odd = IsOdd-odd_octet 0x15 (omega arith)
+
+pub dle_odd : IsOdd 0x10
+unfolding odd_octet ones
+dle_odd = IsOdd-odd_octet 0x10 (omega arith)
+
+pub stx_odd : IsOdd 0x02
+unfolding odd_octet ones
+stx_odd = IsOdd-odd_octet 0x02 (omega arith)
+
+pub ack0_odd : IsOdd 0xb0
+unfolding odd_octet ones
+ack0_odd = IsOdd-odd_octet 0x30 (omega arith)
+
+pub ack1_odd : IsOdd 0x31
+unfolding odd_octet ones
+ack1_odd = IsOdd-odd_octet 0x31 (omega arith)
+
+pub wack_odd : IsOdd 0x3b
+unfolding odd_octet ones
+wack_odd = IsOdd-odd_octet 0x3b (omega arith)
+
+pub rvi_odd : IsOdd 0xbc
+unfolding odd_octet ones
+rvi_odd = IsOdd-odd_octet 0x3c (omega arith)
+
+-- ---- calls
+
+pub address_odd : (a : List ℕ) → AllByRecursion (λ c. IsTrue (is_address_code c)) a → AllByRecursion IsOdd (map odd_octet a)
+address_odd [] h = tt
+address_odd (c ∷ a) h = let k = plain c h.0 in (IsOdd-odd_octet c (omega (arith, k.high)), address_odd a h.1)
+
+-- the octets of a call after its EOT and PAD
+pub called_odd : (syns a : List ℕ) → AreAll 0x16 syns → AllByRecursion (λ c. IsTrue (is_address_code c)) a → AllByRecursion IsOdd (syns ++ map odd_octet a ++ 0x85 ∷ [])
+called_odd syns a s h =
+    all_both IsOdd (syns ++ map odd_octet a) (0x85 ∷ []) (all_both IsOdd syns (map odd_octet a) (fill_odd syns s) (address_odd a h)) (enq_odd, tt)
+
+-- ---- all
+
+odd_fits : (m : Message) (octets : List ℕ) → AllByRecursion IsOdd octets → AllByRecursion (IsBodyOctet m) octets
+odd_fits m [] h = tt
+odd_fits m (x ∷ octets) h = (inl h.0, odd_fits m octets h.1)
+
+pads_fit : (a pads : List ℕ) → AreAll 0xff pads → AllByRecursion (IsBodyOctet (Call a)) pads
+pads_fit a [] h = tt
+pads_fit a (x ∷ pads) h = (inr ((a, refl), h.0), pads_fit a pads h.1)
+
+call_fits : (a body : List ℕ) → IsCall a body → AllByRecursion (IsBodyOctet (Call a)) body
+call_fits a body c =
+    rw c.whole (
+      inl eot_odd,
+      all_both (IsBodyOctet (Call a)) (c.pads ++ c.syns ++ map odd_octet a) (0x85 ∷ [])
+          (all_both (IsBodyOctet (Call a)) (c.pads ++ c.syns) (map odd_octet a)
+          (all_both (IsBodyOctet (Call a)) c.pads c.syns (pads_fit a c.pads c.are_pads) (odd_fits (Call a) c.syns (fill_odd c.syns c.are_syns)))
+          (odd_fits (Call a) (map odd_octet a) (address_odd a c.address.each)))
+          (inl enq_odd, tt),
+    )
+
+pub body_fits : (m : Message) (body : List ℕ) → IsBody m body → AllByRecursion (IsBodyOctet m) body
+body_fits Eot body h = rw h (inl eot_odd, tt)
+body_fits (Call a) body h = call_fits a body h
+body_fits Enq body h = rw h (inl enq_odd, tt)
+body_fits Nak body h = rw h (inl nak_odd, tt)
+body_fits Ack0 body h = rw h (inl dle_odd, (inl ack0_odd, tt))
+body_fits Ack1 body h = rw h (inl dle_odd, (inl ack1_odd, tt))
+body_fits Wack body h = rw h (inl dle_odd, (inl wack_odd, tt))
+body_fits Rvi body h = rw h (inl dle_odd, (inl rvi_odd, tt))
+body_fits (Text t) body h = rw h.whole (odd_fits (Text t) (0x02 ∷ h.rest) (stx_odd, units_odd false t.units t.end h.rest h.units h.text.each))

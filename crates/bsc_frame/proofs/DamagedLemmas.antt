@@ -1,0 +1,360 @@
+-- What is heard of a message of which one octet has the other parity.
+use Rattle.std.proofs.Common.{◌≡◌, ◌≢◌, ◌⊎◌, ◌↔◌, inl, inr, ℕ, zero, suc, ◌+◌, ◌%◌, ◌<◌, ◌≤◌, ◌==◌, false, true, refl, sym, ap, subst, ◌∙◌, arith, List, [], ◌∷◌, ◌++◌, length, get_or, set, length-set, map, length-append, append_assoc, append-nil}
+use Rattle.std.specs.List.{AllByRecursion}
+use Rattle.bsc_octet.specs.Octet.{IsOdd, odd_octet}
+use Rattle.bsc_frame.specs.Addresses.{IsAddress}
+use Rattle.bsc_frame.specs.Texts.{TextValue, IsText}
+use Rattle.bsc_frame.specs.Units.{units_wire}
+use Rattle.bsc_frame.specs.Message.{IsMessage}
+use Rattle.bsc_frame.specs.Wire.{wire, framed}
+use Rattle.bsc_frame.specs.Spells.{Spells, IsBody, Carries, AreAll, IsFailed, IsNoise}
+use Rattle.bsc_frame.specs.TurnedBits.{with_octet, with_turned_bit, turned, HaveOtherParity, IsSomeCall, IsSomeText, IsLeadingPad, IsCallFill, IsFillIn}
+use Rattle.bsc_frame.specs.Reading.{is_octet, begins, is_pad_octet}
+use Rattle.bsc_frame.specs.declared.message.Message.{Message}
+use Rattle.bsc_frame.specs.declared.message.Message.TheVariants.{Eot, Call, Enq, Ack0, Ack1, Nak, Wack, Rvi, Text}
+use Rattle.bsc_frame.specs.declared.message.Heard.TheVariants.{Whole, Failed, Noise}
+use Rattle.bsc_frame.proofs.ReadLemmas.{test_false}
+use Rattle.bsc_frame.proofs.OddLemmas.{syn_odd}
+use Rattle.bsc_frame.proofs.HeardLemmas.{heard_spelled, heard_failed, length-wire, one_message}
+use Rattle.bsc_frame.proofs.UnitLemmas.{wire_units}
+use Rattle.bsc_frame.proofs.BodyOddLemmas.{eot_odd, enq_odd, nak_odd, dle_odd, stx_odd, ack0_odd, ack1_odd, wack_odd, rvi_odd}
+use Rattle.bsc_frame.proofs.PlaceLemmas.{around, parted, all_here}
+use Rattle.bsc_frame.proofs.InsideLemmas.{Inside, inside, failed_inside, Behind, behind, first_is_odd, starts_wrong, pad_or_not}
+use Rattle.bsc_frame.proofs.DamagedText.{heads, tails, not_both_odd, not_same, lost_text}
+use Rattle.bsc_frame.proofs.DamagedCall.{pad_even, call_tail, spared_call}
+
+-- ---- bodies of one and of two octets
+
+-- the rest of a body that begins with the octet of a control character alone is empty
+no_more : (x : ℕ) (n : Message) (y : ℕ) → x ≢ 0x10 → x ≢ 0x02 → IsBody n (x ∷ y ∷ []) → ⊥
+no_more x Eot y p q h = omega (arith, ap length h)
+no_more x (Call a) y p q h =
+    omega (
+      arith,
+      ap length h.whole,
+      h.address.some,
+      length-append (0x04 ∷ h.pads ++ h.syns ++ map odd_octet a) (0x85 ∷ []),
+      length-append (0x04 ∷ h.pads ++ h.syns) (map odd_octet a),
+      some_codes a h.address.some,
+    )
+  where
+    some_codes : (b : List ℕ) → 0 < length b → 0 < length (map odd_octet b)
+    some_codes [] l = l
+    some_codes (c ∷ b) l = omega arith
+no_more x Enq y p q h = omega (arith, ap length h)
+no_more x Nak y p q h = omega (arith, ap length h)
+no_more x Ack0 y p q h = p (heads h)
+no_more x Ack1 y p q h = p (heads h)
+no_more x Wack y p q h = p (heads h)
+no_more x Rvi y p q h = p (heads h)
+no_more x (Text t) y p q h = q (heads h.whole)
+
+lost_single : (x : ℕ) (n : Message) (before : List ℕ) (o : ℕ) (after : List ℕ) (new : ℕ) → x ≢ 0x10 → x ≢ 0x02
+    → 0xff ∷ [] ≡ before ++ o ∷ after → HaveOtherParity new o → Behind x (before ++ new ∷ after) n → ⊥
+lost_single x n (y ∷ before) o after new p q whole other b = omega (arith, ap length whole, length-append before (o ∷ after))
+lost_single x n [] o after new p q whole other b =
+    let was : o ≡ 0xff = sym (heads whole) in
+    let none : after ≡ [] = sym (tails whole) in
+    by_body b.body b.trail (b.is_body) (sym (rw none at b.whole)) b.are_trail (rw was at other)
+  where
+    by_body : (body trail : List ℕ) → IsBody n (x ∷ body) → body ++ trail ≡ new ∷ [] → AreAll 0xff trail → HaveOtherParity new 0xff → ⊥
+    by_body [] [] h e k d = omega (arith, ap length e)
+    by_body [] (t ∷ trail) h e k d = not_same new 0xff d (sym (heads e) ∙ k.0)
+    by_body (z ∷ []) trail h e k d = no_more x n z p q h
+    by_body (z ∷ w ∷ body) trail h e k d = omega (arith, ap length e)
+
+-- the rest of a reply after DLE
+record Reply (body : List ℕ) : Type 0 where
+  second : ℕ
+  whole : body ≡ second ∷ []
+  odd : IsOdd second
+
+reply_body : (n : Message) (body : List ℕ) → IsBody n (0x10 ∷ body) → Reply body
+reply_body Eot body h = absurd (omega (arith, heads h))
+reply_body (Call a) body h = absurd (omega (arith, heads h.whole))
+reply_body Enq body h = absurd (omega (arith, heads h))
+reply_body Nak body h = absurd (omega (arith, heads h))
+reply_body Ack0 body h = record { second = 0xb0; whole = tails h; odd = ack0_odd }
+reply_body Ack1 body h = record { second = 0x31; whole = tails h; odd = ack1_odd }
+reply_body Wack body h = record { second = 0x3b; whole = tails h; odd = wack_odd }
+reply_body Rvi body h = record { second = 0xbc; whole = tails h; odd = rvi_odd }
+reply_body (Text t) body h = absurd (omega (arith, heads h.whole))
+
+lost_reply : (y : ℕ) (n : Message) (before : List ℕ) (o : ℕ) (after : List ℕ) (new : ℕ) → IsOdd y
+    → y ∷ 0xff ∷ [] ≡ before ++ o ∷ after → HaveOtherParity new o → Behind 0x10 (before ++ new ∷ after) n → ⊥
+lost_reply y n [] o after new odd whole other b =
+    let r = reply_body n b.body b.is_body in
+    let was : y ≡ o = heads whole in
+    let all : new ∷ after ≡ r.second ∷ b.trail = b.whole ∙ ap (λ z. z ++ b.trail) r.whole in
+    not_both_odd new o other (subst IsOdd (sym (heads all)) r.odd) (subst IsOdd was odd)
+lost_reply y n (x ∷ []) o after new odd whole other b =
+    let r = reply_body n b.body b.is_body in
+    let was : 0xff ≡ o = heads (tails whole) in
+    let all : x ∷ new ∷ after ≡ r.second ∷ b.trail = b.whole ∙ ap (λ z. z ++ b.trail) r.whole in
+    let pads : AreAll 0xff (new ∷ after) = subst (AreAll 0xff) (sym (tails all)) b.are_trail in
+    not_same new o other (pads.0 ∙ was)
+lost_reply y n (x ∷ z ∷ before) o after new odd whole other b = omega (arith, ap length whole, length-append before (o ∷ after))
+
+-- ---- what is sent for each message
+
+-- a body, as it is sent
+pub record Sent (m : Message) : Type 0 where
+  pub body : List ℕ
+  pub whole : wire m ≡ framed body
+  pub is_body : IsBody m body
+
+pub sent_of : (m : Message) → IsMessage m → Sent m
+sent_of Eot h = record { body = 0x04 ∷ []; whole = refl; is_body = refl }
+sent_of (Call a) h = record {
+  body = 0x04 ∷ 0xff ∷ 0x16 ∷ 0x16 ∷ [] ++ map odd_octet a ++ 0x85 ∷ [];
+  whole = refl;
+  is_body = record { pads = 0xff ∷ []; syns = 0x16 ∷ 0x16 ∷ []; whole = refl; are_pads = (refl, tt); are_syns = (refl, (refl, tt)); address = h };
+}
+sent_of Enq h = record { body = 0x85 ∷ []; whole = refl; is_body = refl }
+sent_of Nak h = record { body = 0x15 ∷ []; whole = refl; is_body = refl }
+sent_of Ack0 h = record { body = 0x10 ∷ 0xb0 ∷ []; whole = refl; is_body = refl }
+sent_of Ack1 h = record { body = 0x10 ∷ 0x31 ∷ []; whole = refl; is_body = refl }
+sent_of Wack h = record { body = 0x10 ∷ 0x3b ∷ []; whole = refl; is_body = refl }
+sent_of Rvi h = record { body = 0x10 ∷ 0xbc ∷ []; whole = refl; is_body = refl }
+sent_of (Text t) h = record {
+  body = 0x02 ∷ units_wire t.units t.end;
+  whole = refl;
+  is_body = record { rest = units_wire t.units t.end; whole = refl; units = wire_units false t.units t.end; text = h };
+}
+
+-- what follows the first octet of a body, heard with one octet of the other parity, is no message, or that octet is fill
+abbrev LostBehind : Message → ℕ → List ℕ → Type 0
+LostBehind m x tail =
+    (n : Message) (before : List ℕ) (o : ℕ) (after : List ℕ) (new : ℕ) → tail ≡ before ++ o ∷ after → HaveOtherParity new o
+    → Inside (x ∷ before ++ new ∷ after) n → IsSomeCall m × IsCallFill (suc (suc (suc (length before)))) new
+
+-- the octets of a message from its first on, and what they are worth with one octet changed
+record Shape (m : Message) : Type 0 where
+  x : ℕ
+  tail : List ℕ
+  whole : wire m ≡ 0x16 ∷ 0x16 ∷ x ∷ tail
+  odd : IsOdd x
+  other : (x == 0x16) ≡ false
+  lost : LostBehind m x tail
+  starts_text : x ≡ 0x02 → IsSomeText m
+
+shape : (m : Message) → IsMessage m → Shape m
+shape Eot h = record {
+  x = 0x04;
+  tail = 0xff ∷ [];
+  whole = refl;
+  odd = eot_odd;
+  other = refl;
+  lost = λ n before o after new w p i. absurd (lost_single 0x04 n before o after new (λ e. omega (arith, e)) (λ e. omega (arith, e)) w p (behind 0x04 (before ++ new ∷ after) n i));
+  starts_text = λ e. absurd (omega (arith, e));
+}
+shape (Call a) h = record {
+  x = 0x04;
+  tail = call_tail a;
+  whole = refl;
+  odd = eot_odd;
+  other = refl;
+  lost = λ n before o after new w p i. ((a, refl), spared_call a n before o after new h w p (behind 0x04 (before ++ new ∷ after) n i));
+  starts_text = λ e. absurd (omega (arith, e));
+}
+shape Enq h = record {
+  x = 0x85;
+  tail = 0xff ∷ [];
+  whole = refl;
+  odd = enq_odd;
+  other = refl;
+  lost = λ n before o after new w p i. absurd (lost_single 0x85 n before o after new (λ e. omega (arith, e)) (λ e. omega (arith, e)) w p (behind 0x85 (before ++ new ∷ after) n i));
+  starts_text = λ e. absurd (omega (arith, e));
+}
+shape Nak h = record {
+  x = 0x15;
+  tail = 0xff ∷ [];
+  whole = refl;
+  odd = nak_odd;
+  other = refl;
+  lost = λ n before o after new w p i. absurd (lost_single 0x15 n before o after new (λ e. omega (arith, e)) (λ e. omega (arith, e)) w p (behind 0x15 (before ++ new ∷ after) n i));
+  starts_text = λ e. absurd (omega (arith, e));
+}
+shape Ack0 h = record {
+  x = 0x10;
+  tail = 0xb0 ∷ 0xff ∷ [];
+  whole = refl;
+  odd = dle_odd;
+  other = refl;
+  lost = λ n before o after new w p i. absurd (lost_reply 0xb0 n before o after new ack0_odd w p (behind 0x10 (before ++ new ∷ after) n i));
+  starts_text = λ e. absurd (omega (arith, e));
+}
+shape Ack1 h = record {
+  x = 0x10;
+  tail = 0x31 ∷ 0xff ∷ [];
+  whole = refl;
+  odd = dle_odd;
+  other = refl;
+  lost = λ n before o after new w p i. absurd (lost_reply 0x31 n before o after new ack1_odd w p (behind 0x10 (before ++ new ∷ after) n i));
+  starts_text = λ e. absurd (omega (arith, e));
+}
+shape Wack h = record {
+  x = 0x10;
+  tail = 0x3b ∷ 0xff ∷ [];
+  whole = refl;
+  odd = dle_odd;
+  other = refl;
+  lost = λ n before o after new w p i. absurd (lost_reply 0x3b n before o after new wack_odd w p (behind 0x10 (before ++ new ∷ after) n i));
+  starts_text = λ e. absurd (omega (arith, e));
+}
+shape Rvi h = record {
+  x = 0x10;
+  tail = 0xbc ∷ 0xff ∷ [];
+  whole = refl;
+  odd = dle_odd;
+  other = refl;
+  lost = λ n before o after new w p i. absurd (lost_reply 0xbc n before o after new rvi_odd w p (behind 0x10 (before ++ new ∷ after) n i));
+  starts_text = λ e. absurd (omega (arith, e));
+}
+shape (Text t) h = record {
+  x = 0x02;
+  tail = units_wire t.units t.end ++ 0xff ∷ [];
+  whole = refl;
+  odd = stx_odd;
+  other = refl;
+  lost = λ n before o after new w p i. absurd (lost_text t n before o after new h w p i);
+  starts_text = λ e. (t, refl);
+}
+
+-- ---- where a message is spelled still
+
+by_place : (m : Message) (s : Shape m) (place new : ℕ) (n : Message) → place < length (0x16 ∷ 0x16 ∷ s.x ∷ s.tail) → HaveOtherParity new (get_or (0x16 ∷ 0x16 ∷ s.x ∷ s.tail) place 0)
+    → Spells (set (0x16 ∷ 0x16 ∷ s.x ∷ s.tail) place new) n → IsFillIn m place new
+by_place m s zero new n l p h = elim (pad_or_not new) [
+  | inl k ↦ inl (refl, k)
+  | inr k ↦
+      let noise = starts_wrong new (0x16 ∷ s.x ∷ s.tail) k (test_false new 0x16 (not_same new 0x16 p)) in
+      let whole = heard_spelled (new ∷ 0x16 ∷ s.x ∷ s.tail) n h in
+      absurd (let both : Whole n ≡ Noise = sym whole ∙ noise in cc)
+]
+by_place m s (suc zero) new n l p h =
+    let i = inside (0x16 ∷ []) (new ∷ s.x ∷ s.tail) n (refl, tt) (λ e. cc) (test_false new 0x16 (not_same new 0x16 p)) h in
+    absurd (not_both_odd new 0x16 p (first_is_odd new (s.x ∷ s.tail) n i) syn_odd)
+by_place m s (suc (suc zero)) new n l p h =
+    let i = inside (0x16 ∷ 0x16 ∷ []) (new ∷ s.tail) n (refl, (refl, tt)) (λ e. cc) (test_false new 0x16 (λ e. not_both_odd new s.x p (rw e syn_odd) s.odd)) h in
+    absurd (not_both_odd new s.x p (first_is_odd new s.tail n i) s.odd)
+by_place m s (suc (suc (suc place))) new n l p h =
+    let r = around s.tail place (omega arith) in
+    let i = inside (0x16 ∷ 0x16 ∷ []) (s.x ∷ r.before ++ new ∷ r.after) n (refl, (refl, tt)) (λ e. cc) s.other (rw (r.changed new) at h) in
+    let k = s.lost n r.before r.here r.after new r.whole (rw r.is_here at p) i in
+    inr (rw r.long at k)
+
+pub spelled_fill : (m : Message) → IsMessage m → (place new : ℕ) (n : Message) → place < length (wire m) → HaveOtherParity new (get_or (wire m) place 0)
+    → Spells (set (wire m) place new) n → IsFillIn m place new
+spelled_fill m h place new n l p k =
+    let s = shape m h in
+    by_place m s place new n (rw s.whole at l) (rw s.whole at p) (rw s.whole at k)
+
+small : (m : Message) → IsMessage m → (place new : ℕ) → length (set (wire m) place new) ≤ 2048
+small m h place new = omega (arith, length-set (wire m) place new, length-wire m h)
+
+pad_spells : (m : Message) (body : List ℕ) (new : ℕ) → length (set (framed body) 0 new) ≤ 2048 → IsBody m body → (new ≡ 0x55) ⊎ (new ≡ 0xaa) → Spells (set (framed body) 0 new) m
+pad_spells m body new l h k = record {
+  small = l;
+  body = body;
+  carried = record { pads = new ∷ []; syns = 0x16 ∷ []; trail = 0xff ∷ []; whole = refl; are_pads = (k, tt); are_syns = (refl, tt); some_syn = λ e. cc; are_trail = (refl, tt) };
+  is_body = h;
+}
+
+call_spells : (a body : List ℕ) → length (framed body) ≤ 2048 → IsBody (Call a) body → Spells (framed body) (Call a)
+call_spells a body l h = record {
+  small = l;
+  body = body;
+  carried = record { pads = []; syns = 0x16 ∷ 0x16 ∷ []; trail = 0xff ∷ []; whole = refl; are_pads = tt; are_syns = (refl, (refl, tt)); some_syn = λ e. cc; are_trail = (refl, tt) };
+  is_body = h;
+}
+
+fill_in_call : (a : List ℕ) (h : IsAddress a) (place new : ℕ) → IsCallFill place new → Spells (set (wire (Call a)) place new) (Call a)
+fill_in_call a h place new (inl k) =
+    rw (k.0, k.1) (call_spells a (0x04 ∷ 0x16 ∷ 0x16 ∷ 0x16 ∷ [] ++ map odd_octet a ++ 0x85 ∷ []) (small (Call a) h 3 0x16)
+    (record { pads = []; syns = 0x16 ∷ 0x16 ∷ 0x16 ∷ []; whole = refl; are_pads = tt; are_syns = (refl, (refl, (refl, tt))); address = h }))
+fill_in_call a h place new (inr k) =
+    rw (k.0, k.1) (call_spells a (0x04 ∷ 0xff ∷ 0xff ∷ 0x16 ∷ [] ++ map odd_octet a ++ 0x85 ∷ []) (small (Call a) h 4 0xff)
+    (record { pads = 0xff ∷ 0xff ∷ []; syns = 0x16 ∷ []; whole = refl; are_pads = (refl, (refl, tt)); are_syns = (refl, tt); address = h }))
+
+pub fill_spells : (m : Message) → IsMessage m → (place new : ℕ) → IsFillIn m place new → Spells (set (wire m) place new) m
+fill_spells m h place new (inl k) =
+    let s = sent_of m h in
+    let long : length (set (framed s.body) 0 new) ≤ 2048 = rw s.whole at (small m h 0 new) in
+    rw (k.0, s.whole) (pad_spells m s.body new long s.is_body k.1)
+fill_spells m h place new (inr k) =
+    let call : m ≡ Call k.0.0 = k.0.1 in
+    subst (λ (w : Message). Spells (set (wire w) place new) w) (sym call) (fill_in_call k.0.0 (subst (λ (w : Message). IsMessage w) call h) place new k.1)
+
+-- ---- where a text has failed
+
+text_fails : (t : TextValue) → IsText t → (place new : ℕ) → 2 < place → place < length (wire (Text t)) → HaveOtherParity new (get_or (wire (Text t)) place 0) → IsFailed (set (wire (Text t)) place new)
+text_fails t h zero new u l p = absurd (omega arith)
+text_fails t h (suc zero) new u l p = absurd (omega arith)
+text_fails t h (suc (suc zero)) new u l p = absurd (omega arith)
+text_fails t h (suc (suc (suc place))) new u l p = record {
+  small = small (Text t) h (suc (suc (suc place))) new;
+  rest = set (units_wire t.units t.end ++ 0xff ∷ []) place new;
+  carried = record {
+    pads = [];
+    syns = 0x16 ∷ 0x16 ∷ [];
+    trail = [];
+    whole = sym (append-nil (set (wire (Text t)) (suc (suc (suc place))) new));
+    are_pads = tt;
+    are_syns = (refl, (refl, tt));
+    some_syn = λ e. cc;
+    are_trail = tt;
+  };
+  none = λ n k. elim (spelled_fill (Text t) h (suc (suc (suc place))) new n l p k) [
+    | inl f ↦ omega (arith, f.0)
+    | inr f ↦ let e : Text t ≡ Call f.0.0 = f.0.1 in cc
+  ];
+}
+
+by_failed_place : (m : Message) (s : Shape m) (place new : ℕ) → (IsLeadingPad place new → ⊥) → place < length (0x16 ∷ 0x16 ∷ s.x ∷ s.tail) → HaveOtherParity new (get_or (0x16 ∷ 0x16 ∷ s.x ∷ s.tail) place 0)
+    → IsFailed (set (0x16 ∷ 0x16 ∷ s.x ∷ s.tail) place new) → (2 < place) × IsSomeText m
+by_failed_place m s zero new q l p f = elim (pad_or_not new) [
+  | inl k ↦ absurd (q (refl, k))
+  | inr k ↦
+      let noise = starts_wrong new (0x16 ∷ s.x ∷ s.tail) k (test_false new 0x16 (not_same new 0x16 p)) in
+      let failed = heard_failed (new ∷ 0x16 ∷ s.x ∷ s.tail) f in
+      absurd (let both : Failed ≡ Noise = sym failed ∙ noise in cc)
+]
+by_failed_place m s (suc zero) new q l p f =
+    let k = failed_inside (0x16 ∷ []) (new ∷ s.x ∷ s.tail) (refl, tt) (λ e. cc) (test_false new 0x16 (not_same new 0x16 p)) f in
+    absurd (not_both_odd new 0x16 p (rw (heads k.1) stx_odd) syn_odd)
+by_failed_place m s (suc (suc zero)) new q l p f =
+    let k = failed_inside (0x16 ∷ 0x16 ∷ []) (new ∷ s.tail) (refl, (refl, tt)) (λ e. cc) (test_false new 0x16 (λ e. not_both_odd new s.x p (rw e syn_odd) s.odd)) f in
+    absurd (not_both_odd new s.x p (rw (heads k.1) stx_odd) s.odd)
+by_failed_place m s (suc (suc (suc place))) new q l p f =
+    let k = failed_inside (0x16 ∷ 0x16 ∷ []) (s.x ∷ set s.tail place new) (refl, (refl, tt)) (λ e. cc) s.other f in
+    (omega arith, s.starts_text (heads k.1))
+
+pub failed_place : (m : Message) → IsMessage m → (place new : ℕ) → place < length (wire m) → HaveOtherParity new (get_or (wire m) place 0)
+    → IsFailed (set (wire m) place new) ↔ ((2 < place) × IsSomeText m)
+failed_place m h place new l p = (there, back)
+  where
+    there : IsFailed (set (wire m) place new) → (2 < place) × IsSomeText m
+    there f =
+        let s = shape m h in
+        by_failed_place m s place new (λ k. f.none m (fill_spells m h place new (inl k))) (rw s.whole at l) (rw s.whole at p) (rw s.whole at f)
+
+    back : (2 < place) × IsSomeText m → IsFailed (set (wire m) place new)
+    back k =
+        let text : m ≡ Text k.1.0 = k.1.1 in
+        subst (λ (w : Message). IsFailed (set (wire w) place new)) (sym text)
+        (text_fails k.1.0 (subst (λ (w : Message). IsMessage w) text h) place new k.0 (subst (λ (w : Message). place < length (wire w)) text l) (subst (λ (w : Message). HaveOtherParity new (get_or (wire w) place 0)) text p))
+
+-- ---- the laws
+
+pub spelled_where : (m n : Message) (place new : ℕ) → IsMessage m → place < length (wire m) → HaveOtherParity new (get_or (wire m) place 0)
+    → Spells (set (wire m) place new) n ↔ ((n ≡ m) × IsFillIn m place new)
+spelled_where m n place new h l p = (there, back)
+  where
+    there : Spells (set (wire m) place new) n → (n ≡ m) × IsFillIn m place new
+    there k =
+        let fill = spelled_fill m h place new n l p k in
+        (one_message (set (wire m) place new) n m k (fill_spells m h place new fill), fill)
+
+    back : (n ≡ m) × IsFillIn m place new → Spells (set (wire m) place new) n
+    back k = subst (λ (w : Message). Spells (set (wire m) place new) w) (sym k.0) (fill_spells m h place new k.1)

@@ -1,0 +1,66 @@
+-- Lists around a place, and two ways to part one list.
+use Rattle.std.proofs.Common.{◌≡◌, ◌⊎◌, inl, inr, ℕ, zero, suc, ◌<◌, ◌≤◌, refl, sym, ap, ◌∙◌, arith, List, [], ◌∷◌, ◌++◌, length, get_or, set}
+use Rattle.std.specs.List.{AllByRecursion}
+
+-- a list around a place
+pub record Around (xs : List ℕ) (place : ℕ) : Type 0 where
+  pub before : List ℕ
+  pub here : ℕ
+  pub after : List ℕ
+  pub whole : xs ≡ before ++ here ∷ after
+  pub long : length before ≡ place
+  pub is_here : get_or xs place 0 ≡ here
+  pub changed : (o : ℕ) → set xs place o ≡ before ++ o ∷ after
+
+pub around : (xs : List ℕ) (place : ℕ) → place < length xs → Around xs place
+around [] place l = absurd (omega arith)
+around (x ∷ xs) zero l = record { before = []; here = x; after = xs; whole = refl; long = refl; is_here = refl; changed = λ o. refl }
+around (x ∷ xs) (suc place) l =
+    let r = around xs place (omega arith) in
+    record {
+      before = x ∷ r.before;
+      here = r.here;
+      after = r.after;
+      whole = ap (λ z. x ∷ z) r.whole;
+      long = ap suc r.long;
+      is_here = r.is_here;
+      changed = λ o. ap (λ z. x ∷ z) (r.changed o);
+    }
+
+-- where the octet after a front stands in a list of two parts
+pub record InFirst (xs ys front : List ℕ) (o : ℕ) (back : List ℕ) : Type 0 where
+  pub more : List ℕ
+  pub first : xs ≡ front ++ o ∷ more
+  pub rest : back ≡ more ++ ys
+
+pub record InSecond (xs ys front : List ℕ) (o : ℕ) (back : List ℕ) : Type 0 where
+  pub more : List ℕ
+  pub first : front ≡ xs ++ more
+  pub rest : ys ≡ more ++ o ∷ back
+
+pub parted : (xs ys front : List ℕ) (o : ℕ) (back : List ℕ) → xs ++ ys ≡ front ++ o ∷ back → InFirst xs ys front o back ⊎ InSecond xs ys front o back
+parted [] ys front o back e = inr (record { more = front; first = refl; rest = e })
+parted (x ∷ xs) ys [] o back e =
+    let head : x ≡ o = cc in
+    let tail : xs ++ ys ≡ back = cc in
+    inl (record { more = xs; first = ap (λ z. z ∷ xs) head; rest = sym tail })
+parted (x ∷ xs) ys (y ∷ front) o back e =
+    let head : x ≡ y = cc in
+    let tail : xs ++ ys ≡ front ++ o ∷ back = cc in
+    elim (parted xs ys front o back tail) [
+      | inl r ↦ inl (record { more = r.more; first = ap (λ z. z ∷ xs) head ∙ ap (λ z. y ∷ z) r.first; rest = r.rest })
+      | inr r ↦ inr (record { more = r.more; first = ap (λ z. z ∷ front) (sym head) ∙ ap (λ z. x ∷ z) r.first; rest = r.rest })
+    ]
+
+-- what holds of each member
+pub all_here : (P : ℕ → Type 0) (front : List ℕ) (o : ℕ) (back : List ℕ) → AllByRecursion P (front ++ o ∷ back) → P o
+all_here P [] o back h = h.0
+all_here P (x ∷ front) o back h = all_here P front o back h.1
+
+pub all_after : (P : ℕ → Type 0) (front back : List ℕ) → AllByRecursion P (front ++ back) → AllByRecursion P back
+all_after P [] back h = h
+all_after P (x ∷ front) back h = all_after P front back h.1
+
+pub all_both : (P : ℕ → Type 0) (xs ys : List ℕ) → AllByRecursion P xs → AllByRecursion P ys → AllByRecursion P (xs ++ ys)
+all_both P [] ys h k = k
+all_both P (x ∷ xs) ys h k = (h.0, all_both P xs ys h.1 k)

@@ -1,0 +1,5 @@
+use Rattle.bsc_frame.proofs.BodyOddLemmas.{body_fits}
+use Rattle.bsc_frame.proofs.laws.odd_parity.Goals as goal
+
+pub returns : goal.returns
+returns c = body_fits

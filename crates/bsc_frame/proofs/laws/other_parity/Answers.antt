@@ -1,0 +1,8 @@
+use Rattle.bsc_frame.proofs.DamagedLemmas.{spelled_where, failed_place}
+use Rattle.bsc_frame.proofs.laws.other_parity.Goals as goal
+
+pub returns-clause-spelled : goal.returns-clause-spelled
+returns-clause-spelled c = spelled_where
+
+pub returns-clause-failed : goal.returns-clause-failed
+returns-clause-failed c = λ m place octet h. failed_place m h place octet

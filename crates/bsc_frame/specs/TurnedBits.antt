@@ -1,0 +1,46 @@
+-- Octets of which one was changed on the line, as noise does it (GA27-3004: VRC and LRC checking; which
+-- changes are found is own).
+use Rattle.std.specs.Prelude.{◌≡◌, ◌≢◌, ◌⊎◌, ℕ, ◌^◌, ◌%◌, List, slice_index, slice_set, bit_xor, count_ones}
+use Rattle.bsc_octet.specs.Octet.{IsOdd}
+use Rattle.bsc_frame.specs.Texts.{TextValue}
+use Rattle.bsc_frame.specs.declared.message.Message.{Message}
+use Rattle.bsc_frame.specs.declared.message.Message.TheVariants.{Call, Text}
+
+-- The octets with another octet at the place.
+abbrev pub with_octet : ℕ → ℕ → List ℕ → List ℕ
+with_octet place octet octets = slice_set octets place octet
+
+-- An octet with this bit turned, 0 for the lowest: 0 becomes 1, and 1 becomes 0.
+abbrev pub turned : ℕ → ℕ → ℕ
+turned bit octet = bit_xor octet (2 ^ bit)
+
+-- The octets with this bit of the octet at the place turned.
+abbrev pub with_turned_bit : ℕ → ℕ → List ℕ → List ℕ
+with_turned_bit place bit octets = with_octet place (turned bit (slice_index octets place)) octets
+
+-- One of two octets has an odd number of ones, and the other an even number.
+abbrev pub HaveOtherParity : ℕ → ℕ → Type 0
+HaveOtherParity a b = count_ones a % 2 ≢ count_ones b % 2
+
+-- The message is a call, a text.
+abbrev pub IsSomeCall : Message → Type 0
+IsSomeCall m = (a : List ℕ) × (m ≡ Call a)
+
+abbrev pub IsSomeText : Message → Type 0
+IsSomeText m = (t : TextValue) × (m ≡ Text t)
+
+-- An octet that may stand in the body of a message: one of odd parity, and in a call also PAD.
+abbrev pub IsBodyOctet : Message → ℕ → Type 0
+IsBodyOctet m octet = IsOdd octet ⊎ (IsSomeCall m × (octet ≡ 0xff))
+
+-- A leading pad in place of the first SYN.
+abbrev pub IsLeadingPad : ℕ → ℕ → Type 0
+IsLeadingPad place octet = (place ≡ 0) × ((octet ≡ 0x55) ⊎ (octet ≡ 0xaa))
+
+-- In a call, SYN in place of the PAD after EOT, or PAD in place of the SYN after that.
+abbrev pub IsCallFill : ℕ → ℕ → Type 0
+IsCallFill place octet = ((place ≡ 3) × (octet ≡ 0x16)) ⊎ ((place ≡ 4) × (octet ≡ 0xff))
+
+-- The octet, put in this place of what is sent for the message, is still fill there.
+abbrev pub IsFillIn : Message → ℕ → ℕ → Type 0
+IsFillIn m place octet = IsLeadingPad place octet ⊎ (IsSomeCall m × IsCallFill place octet)
