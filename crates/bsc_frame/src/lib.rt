@@ -29,4 +29,6 @@ pub use text::{End, Text, Unit};
 #[cfg(test)]
 mod plain;
 #[cfg(test)]
+mod spoiled;
+#[cfg(test)]
 mod tests;

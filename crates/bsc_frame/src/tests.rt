@@ -4,7 +4,7 @@ ghost use Rattle.std.specs.Prelude.{◌<◌};
 use crate::{Address, AddressError, End, Heard, Message, Text, Unit, Wire, decode, encode};
 
 // What is heard, without its contents.
-fn kind(heard: &Heard) -> &'static str {
+pub(crate) fn kind(heard: &Heard) -> &'static str {
     match heard {
         Heard::Whole(Message::Eot) => "EOT",
         Heard::Whole(Message::Call(_)) => "CALL",
@@ -29,7 +29,7 @@ fn calls(octets: &[u8], codes: &[u8]) -> bool {
 }
 
 // Whether the octets are heard as a text of these units, each by its characters and its mark.
-fn is_text_of(octets: &[u8], units: &[(&[u8], bool)], end: End) -> bool {
+pub(crate) fn is_text_of(octets: &[u8], units: &[(&[u8], bool)], end: End) -> bool {
     let Heard::Whole(Message::Text(text)) = decode(octets) else {
         return false;
     };
