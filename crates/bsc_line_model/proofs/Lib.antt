@@ -31,6 +31,7 @@ pub mod RunsKeep
 pub mod UpMoves
 pub mod NewChannels
 pub mod OctetsHeard
+pub mod TurnedBits
 pub mod BlockCounts
 pub mod Staying
 pub mod DownControl

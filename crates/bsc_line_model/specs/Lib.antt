@@ -15,3 +15,4 @@ pub mod StepLaws
 pub mod Headline
 pub mod Octets
 pub mod Rounds
+pub mod TurnedBits

@@ -9,10 +9,11 @@ ghost use Rattle.bsc_line_model.specs.Headline.{RunsKeepRecords};
 ghost use Rattle.bsc_line_model.specs.Octets.{FairInOctets};
 ghost use Rattle.bsc_line_model.specs.Rounds.{RunsDeliverVisit, RunsDeliverRound, SeesLast, SeesEarlier};
 ghost use Rattle.bsc_line_model.specs.Together.{AreSound};
+ghost use Rattle.bsc_line_model.specs.TurnedBits.{TurnedIsFair, TurnedAlikeIsFair, TurnedEachIsFair, TurnedForSomeIsFair};
 
 use crate::bids::bid_laws;
 use bsc_block::laws::cut_into_blocks;
-use bsc_frame::laws::reading;
+use bsc_frame::laws::{one_bit, one_reading, reading};
 use bsc_tributary::laws::own_addresses;
 
 /// Every event leaves a line a line.
@@ -86,6 +87,20 @@ pub fn fair_in_octets()
     ensures { FairInOctets }
 {
     reading();
+}
+
+/// One turned bit in a transmission is heard fairly, so it never costs the line's trust: by the
+/// control station, by terminals that all hear the same, and by terminals of which each hears
+/// another bit turned, or nothing. Where the message is no call, other terminals may hear the whole.
+pub fn turned_bits()
+    ensures heard { TurnedIsFair }
+    ensures alike { TurnedAlikeIsFair }
+    ensures each { TurnedEachIsFair }
+    ensures some { TurnedForSomeIsFair }
+{
+    reading();
+    one_reading();
+    one_bit();
 }
 
 /// On a new line nothing is offered, known or spooled.

@@ -1,0 +1,50 @@
+-- A transmission of which one bit was turned on the line is heard fairly (GA27-3004: VRC checking;
+-- own).
+use Rattle.std.specs.Prelude.{◌≡◌, ◌⊎◌, ◌<◌, ℕ, false, List, length, Option, None, Some}
+use Rattle.bsc_frame.specs.Message.{IsMessage}
+use Rattle.bsc_frame.specs.Wire.{wire}
+use Rattle.bsc_frame.specs.TurnedBits.{with_turned_bit}
+use Rattle.bsc_frame.specs.declared.message.Message.{Message}
+use Rattle.bsc_text.specs.Fair.{IsFairlyHeard}
+use Rattle.bsc_line_model.specs.Hearing.{heard_in, all_hear}
+use Rattle.bsc_line_model.specs.Trust.{EachOf, IsHeardFairly, is_call}
+
+-- the octets are what is sent for the message, but for one bit of one octet, which was turned
+pub record IsTurned (sent : Message) (octets : List ℕ) : Type 0 where
+  pub place : ℕ
+  pub bit : ℕ
+  pub within : place < length (wire sent)
+  pub is_bit : bit < 8
+  pub whole : octets ≡ with_turned_bit place bit (wire sent)
+
+-- nothing arrives, or the message with one bit turned
+abbrev pub IsSpoiled : Message → Option (List ℕ) → Type 0
+IsSpoiled sent None = Unit {0}
+IsSpoiled sent (Some octets) = IsTurned sent octets
+
+-- the control station hears it fairly
+abbrev pub TurnedIsFair : Type 0
+TurnedIsFair =
+    (sent : Message) (item : Option (List ℕ)) → IsMessage sent → IsSpoiled sent item
+    → IsFairlyHeard sent (heard_in item)
+
+-- so do the n terminals, where they all hear the same
+abbrev pub TurnedAlikeIsFair : Type 0
+TurnedAlikeIsFair =
+    (sent : Message) (n : ℕ) (item : Option (List ℕ)) → IsMessage sent → IsSpoiled sent item
+    → IsHeardFairly sent n (all_hear (heard_in item))
+
+-- and where each hears an item of its own, with one bit turned or none at all
+abbrev pub TurnedEachIsFair : Type 0
+TurnedEachIsFair =
+    (sent : Message) (n : ℕ) (items : ℕ → Option (List ℕ)) → IsMessage sent
+    → EachOf n (λ t. IsSpoiled sent (items t))
+    → IsHeardFairly sent n (λ t. heard_in (items t))
+
+-- of a message that is no call some terminals may also hear the whole
+abbrev pub TurnedForSomeIsFair : Type 0
+TurnedForSomeIsFair =
+    (sent : Message) (n : ℕ) (items : ℕ → Option (List ℕ)) → IsMessage sent
+    → is_call sent ≡ false
+    → EachOf n (λ t. (items t ≡ Some (wire sent)) ⊎ IsSpoiled sent (items t))
+    → IsHeardFairly sent n (λ t. heard_in (items t))
