@@ -2,7 +2,7 @@
 use Rattle.std.proofs.Common.{◌≡◌, ℕ, ◌+◌, ◌<◌, List, [], ◌∷◌, ◌++◌, Option, Some, None, length, drop, get_or, refl, ap, sym, ◌∙◌, append_assoc}
 use Rattle.std.specs.Option.{option_map, option_and_then}
 use Rattle.toml.specs.declared.value.Value.{Value}
-use Rattle.toml.specs.Data.{Data, Items, item}
+use Rattle.toml.specs.Data.{Data, item}
 use Rattle.toml.specs.View.{items_view, view}
 use Rattle.toml.proofs.Views.{items_view-drop}
 use Rattle.bsc_config.specs.Values.{read_each}

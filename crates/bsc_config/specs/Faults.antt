@@ -1,10 +1,8 @@
 -- The faults of a table, and readings that end with the first fault (own).
 use Rattle.std.specs.Prelude.{◌≡◌, ℕ, List, Result, Ok, Err, string_bytes}
 use Rattle.bsc_config.specs.declared.error.ConfigError.{ConfigError}
-use Rattle.bsc_config.specs.declared.error.ConfigError.TheVariants.{NotToml, UnknownKey, MissingKey}
-use Rattle.bsc_config.specs.declared.error.ConfigError.TheVariants.{WrongValue, NoTerminal}
-use Rattle.bsc_config.specs.declared.error.ConfigError.TheVariants.{TooManyTerminals, SameAddresses}
-use Rattle.bsc_config.specs.declared.error.ConfigError.TheVariants.{EmptyPollList, PollListEntry}
+use Rattle.bsc_config.specs.declared.error.ConfigError.TheVariants.{UnknownKey, MissingKey}
+use Rattle.bsc_config.specs.declared.error.ConfigError.TheVariants.{WrongValue}
 use Rattle.bsc_config.specs.declared.error.ConfigError.TheVariants.{Memory}
 use Rattle.bsc_config.specs.declared.key.Key.{Key}
 use Rattle.bsc_config.specs.declared.key.Owner.{Owner}

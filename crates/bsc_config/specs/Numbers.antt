@@ -1,5 +1,5 @@
 -- The version, the settings and the poll list of a document (own).
-use Rattle.std.specs.Prelude.{ℕ, List, Option, Some, None, Result, Ok, Err, option_map}
+use Rattle.std.specs.Prelude.{ℕ, List, Option, Some, None, Result, Ok, option_map}
 use Rattle.std.specs.Prelude.{if◌then◌else◌, nat_eq}
 use Rattle.toml.specs.Data.{Data, Members}
 use Rattle.bsc_text.specs.Setup.{SetupValue}

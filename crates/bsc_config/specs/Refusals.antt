@@ -1,5 +1,5 @@
 -- When a line of what a document says is refused (own).
-use Rattle.std.specs.Prelude.{◌≡◌, ℕ}
+use Rattle.std.specs.Prelude.{◌≡◌}
 use Rattle.bsc_control.specs.declared.refusal.SetupError.{SetupError}
 use Rattle.bsc_control.specs.declared.refusal.SetupError.TheVariants as setup
 use Rattle.bsc_control.specs.Refusals.{IsRefused}

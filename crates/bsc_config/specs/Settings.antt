@@ -1,5 +1,5 @@
 -- What a document says: the settings, terminals and poll list, or its first fault (own).
-use Rattle.std.specs.Prelude.{ℕ, List, Result, Ok, Err}
+use Rattle.std.specs.Prelude.{ℕ, List, Result, Ok}
 use Rattle.toml.specs.Data.{Members}
 use Rattle.bsc_text.specs.Setup.{SetupValue}
 use Rattle.bsc_text.specs.Terminal.{TerminalValue}

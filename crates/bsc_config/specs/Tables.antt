@@ -1,7 +1,7 @@
 -- What stands at the keys of a table (own).
 use Rattle.std.specs.Prelude.{Bool, true, ◌&&◌, is_some, Option, Some, None, Result, ok_or}
 use Rattle.std.specs.Prelude.{unwrap_or, option_and_then, if◌then◌else◌}
-use Rattle.toml.specs.Data.{Data, array, Items, no_items, item, Members, get_member, as_table}
+use Rattle.toml.specs.Data.{Data, Items, no_items, item, Members, get_member, as_table}
 use Rattle.toml.specs.Data.{as_array}
 use Rattle.bsc_config.specs.declared.key.Key.{Key}
 use Rattle.bsc_config.specs.declared.key.Key.TheVariants.{Terminals}

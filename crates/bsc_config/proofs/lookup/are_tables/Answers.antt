@@ -1,4 +1,4 @@
-use Rattle.std.proofs.Common.{◌≡◌, ◌+◌, ◌&&◌, ◌∙◌, ap, sym, drop}
+use Rattle.std.proofs.Common.{◌+◌, ◌&&◌, ◌∙◌, ap, sym, drop}
 use Rattle.toml.specs.View.{items_view}
 use Rattle.bsc_config.specs.Tables.{are_tables}
 use Rattle.bsc_config.proofs.ItemLemmas.{next_item}

@@ -1,6 +1,5 @@
 use Rattle.std.proofs.Common.{◌≡◌, drop}
 use Rattle.toml.specs.View.{items_view}
-use Rattle.bsc_config.specs.declared.key.Owner.TheVariants.{Terminal}
 use Rattle.bsc_config.specs.Checks.{check_each, terminal_keys_present}
 use Rattle.bsc_config.proofs.present.each_terminal_has_keys.Given as goal
 

@@ -1,7 +1,6 @@
-use Rattle.std.proofs.Common.{◌≡◌, ◌+◌, ◌++◌, ◌∷◌, [], ◌∙◌, ap, sym, drop}
+use Rattle.std.proofs.Common.{◌+◌, ◌++◌, ◌∙◌, ap, sym, drop}
 use Rattle.std.specs.Option.{option_map}
 use Rattle.toml.specs.View.{items_view}
-use Rattle.bsc_config.specs.declared.key.Key.TheVariants as key
 use Rattle.bsc_config.specs.Values.{or_wrong, read_each, address_in}
 use Rattle.bsc_config.proofs.ItemLemmas.{read_each-next, read_each-stop}
 use Rattle.bsc_config.proofs.terminals.addresses.Goals as goal
