@@ -8,7 +8,8 @@ before_octet value text = before_first (λ octet. octet == value) text
 
 -- What follows the first octet of this value. None where there is none.
 abbrev pub after_octet : ℕ → List ℕ → Option (List ℕ)
-after_octet value text = option_map (λ place. drop (place + 1) text) (position (λ octet. octet == value) text)
+after_octet value text =
+    option_map (λ place. drop (place + 1) text) (position (λ octet. octet == value) text)
 
 -- The parts between the octets of this value. What follows the last of them is a part too.
 abbrev pub parts_at : ℕ → List ℕ → List (List ℕ)

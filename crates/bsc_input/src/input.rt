@@ -25,10 +25,11 @@ pub enum InputError {
     Memory,
 }
 
-/// The whole input, of at most `MAX_INPUT` octets, in at most one read more than that. An error leaves
-/// the reader where its last read left it.
+/// The whole input, of at most `MAX_INPUT` octets, in at most one read more than that. An error
+/// leaves the reader where its last read left it.
 pub fn read_input<A: Allocator, R: Read>(alloc: A, reader: &mut R) -> Result<Vec<u8, A>, InputError>
-    ensures whole { IfOk result (λ v. IfSome (R.remaining reader.old) (λ octets. v.items ≡ octets)) }
+    ensures whole { IfOk result (λ v.
+        IfSome (R.remaining reader.old) (λ octets. v.items ≡ octets)) }
     ensures end { OnOk result (IsAtEnd (R.remaining reader.new)) }
     ensures fits { IfOk result (λ v. length v.items ≤ MAX_INPUT) }
     ensures too_long { IsErrOf result InputError.TooLong →

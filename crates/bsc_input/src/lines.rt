@@ -5,7 +5,8 @@ ghost use Rattle.bsc_input.specs.Lines.{is_blank as blank, parts_of};
 
 use crate::split_at_first;
 
-/// The first line without its line feed, and what follows that; None where the line ends with the text.
+/// The first line without its line feed, and what follows that; None where the line ends with the
+/// text.
 pub fn split_line(text: &[u8]) -> (&[u8], Option<&[u8]>)
     ensures last { result.1 ≡ None → parts_of text.now ≡ result.0.now ∷ [] }
     ensures more { IfSome result.1 (λ rest. parts_of text.now ≡ result.0.now ∷ parts_of rest.now) }

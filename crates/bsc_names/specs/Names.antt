@@ -1,4 +1,5 @@
--- What is printed for a transmission: its name, and for a text a line for each unit. All of it is own.
+-- What is printed for a transmission: its name, and for a text a line for each unit. All of it is
+-- own.
 use Rattle.std.specs.Prelude.{ℕ, Bool, ◌==◌, List, [], ◌∷◌, ◌++◌, length, Option, codes, if◌then◌else◌}
 use Rattle.std.specs.List.{flat_map}
 use Rattle.std.specs.Fmt.{decimal}
@@ -15,8 +16,8 @@ use Rattle.bsc_frame.specs.declared.message.Heard.TheVariants.{Whole, Failed, No
 use Rattle.bsc_names.specs.declared.printed.Detail.{Detail}
 use Rattle.bsc_names.specs.declared.printed.Detail.TheVariants.{Name, Units}
 
--- What octets are heard as: the message that they spell, a text whose check or form failed, or noise. One
--- of them holds of all octets, and no octets spell two messages.
+-- What octets are heard as: the message that they spell, a text whose check or form failed, or noise.
+-- One of them holds of all octets, and no octets spell two messages.
 abbrev pub IsHeard : List ℕ → Heard → Type 0
 IsHeard octets (Whole message) = Spells octets message
 IsHeard octets Failed = IsFailed octets
@@ -27,7 +28,8 @@ abbrev pub end_name : End → List ℕ
 end_name Etb = codes "ETB"
 end_name Etx = codes "ETX"
 
--- A control sequence by its name, a call with its address, a text with its end and the number of its units.
+-- A control sequence by its name, a call with its address, a text with its end and the number of its
+-- units.
 abbrev pub message_name : Message → List ℕ
 message_name Eot = codes "EOT"
 message_name (Call address) = codes "CALL " ++ address
@@ -37,7 +39,8 @@ message_name Ack1 = codes "ACK1"
 message_name Nak = codes "NAK"
 message_name Wack = codes "WACK"
 message_name Rvi = codes "RVI"
-message_name (Text text) = codes "TEXT " ++ end_name text.end ++ codes " " ++ decimal (length text.units)
+message_name (Text text) =
+    codes "TEXT " ++ end_name text.end ++ codes " " ++ decimal (length text.units)
 
 -- The name of what is heard.
 abbrev pub name_of : Heard → List ℕ
@@ -81,7 +84,8 @@ shown Name heard = name_line heard
 shown Units heard = unit_lines heard
 
 -- A writer that held old holds new: what is shown of the octets, as they are heard, was appended.
-pub record Prints (show : Heard → List ℕ) (octets : List ℕ) (old new : Option (List ℕ)) : Type 0 where
+pub record Prints (show : Heard → List ℕ) (octets : List ℕ) (old new : Option (List ℕ))
+    : Type 0 where
   pub heard : Heard
   pub is_heard : IsHeard octets heard
   pub appended : Appends old new (show heard)

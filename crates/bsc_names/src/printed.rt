@@ -55,9 +55,9 @@ fn write_text_name<W: Write>(text: &Text, out: &mut W) -> Result<(), PrintError>
     }
 }
 
-/// Writes the name of a message, without a line feed: a control sequence by its name, a call with its
-/// address, a text with its end and the number of its units. Where the writer takes no more, a part of
-/// the name may have been written.
+/// Writes the name of a message, without a line feed: a control sequence by its name, a call with
+/// its address, a text with its end and the number of its units. After an error a part of the name
+/// may have been written.
 pub fn write_name<W: Write>(message: &Message, out: &mut W) -> Result<(), PrintError>
     ensures ok { OnOk result
         (Appends (W.contents out.old) (W.contents out.new) (message_name message.now)) }
@@ -102,8 +102,8 @@ fn write_name_line<W: Write>(heard: &Heard, out: &mut W) -> Result<(), PrintErro
     put(b"\n", out)
 }
 
-/// Writes what is printed for what is heard: its name and a line feed, and with the units a line for
-/// each unit of a text. Where it fails, a part may have been written.
+/// Writes what is printed for what is heard: its name and a line feed, and with the units a line
+/// for each unit of a text. After an error a part may have been written.
 pub fn write_shown<A: Allocator + Copy, W: Write>(
     alloc: A,
     detail: Detail,
@@ -127,7 +127,8 @@ fn write_units<A: Allocator + Copy, W: Write>(
     out: &mut W,
 ) -> Result<(), PrintError>
     ensures ok { OnOk result
-        (Appends (W.contents out.old) (W.contents out.new) (flat_map unit_line (units_of heard.now))) }
+        (Appends (W.contents out.old) (W.contents out.new)
+        (flat_map unit_line (units_of heard.now))) }
 {
     match heard {
         Heard::Whole(message) => write_message_units(alloc, message, out),
@@ -142,7 +143,8 @@ fn write_message_units<A: Allocator + Copy, W: Write>(
     out: &mut W,
 ) -> Result<(), PrintError>
     ensures ok { OnOk result
-        (Appends (W.contents out.old) (W.contents out.new) (flat_map unit_line (message_units message.now))) }
+        (Appends (W.contents out.old) (W.contents out.new)
+        (flat_map unit_line (message_units message.now))) }
 {
     if let Message::Text(text) = message {
         return write_text_units(alloc, text, out);
@@ -181,6 +183,7 @@ fn write_unit<A: Allocator, W: Write>(
 }
 
 /// Writes the codes of characters in lower case hexadecimal text, or a dash where there are none.
+/// After an error a part may have been written.
 pub fn write_chars<A: Allocator, W: Write>(
     alloc: A,
     chars: &[u8],

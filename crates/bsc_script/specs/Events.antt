@@ -52,37 +52,55 @@ keyword_of word =
     if bytes_eq word (codes "urgent-for") then Some UrgentFor else
     if bytes_eq word (codes "release") then Some Release else None
 
--- The codes of a record that is the rest of a line: what follows the space after the number, or none
--- where that space is missing.
+-- The terminal that the first word names.
+abbrev pub first_terminal : List ℕ → Option ℕ
+first_terminal rest = terminal_of (first_word rest)
+
+-- The selection address that the first word names.
+abbrev pub first_select : List ℕ → Option ℕ
+first_select rest = select_of (first_word rest)
+
+-- The codes of a record that ends the line, after a word: what follows the space, or none where that
+-- space is missing.
 abbrev pub codes_after : List ℕ → List ℕ
 codes_after rest = unwrap_or (after_word rest) []
 
 -- `T RECORD`, at a terminal.
 abbrev pub offer_at_of : List ℕ → Option Event
-offer_at_of rest = option_map (λ t. offer_at t (codes_after rest)) (terminal_of (first_word rest))
+offer_at_of rest = option_map (λ t. offer_at t (codes_after rest)) (first_terminal rest)
 
 -- `T RECORD`, for the first selection address of a terminal.
 abbrev pub offer_for_of : List ℕ → Option Event
-offer_for_of rest = option_map (λ t. offer_for t 0 (codes_after rest)) (terminal_of (first_word rest))
+offer_for_of rest = option_map (λ t. offer_for t 0 (codes_after rest)) (first_terminal rest)
 
 -- `S RECORD`, for a selection address of this terminal.
 abbrev pub offer_select_of : ℕ → List ℕ → Option Event
-offer_select_of t rest = option_map (λ s. offer_for t s (codes_after rest)) (select_of (first_word rest))
+offer_select_of t rest = option_map (λ s. offer_for t s (codes_after rest)) (first_select rest)
 
 -- `T S RECORD`, for a selection address of a terminal.
 abbrev pub offer_to_of : List ℕ → Option Event
-offer_to_of rest = option_and_then (λ t. option_and_then (offer_select_of t) (after_word rest)) (terminal_of (first_word rest))
+offer_to_of rest =
+    option_and_then (λ t. option_and_then (offer_select_of t) (after_word rest)) (first_terminal rest)
+
+-- `to S`: the way to this selection address.
+abbrev pub way_to : List ℕ → Option Way
+way_to words = option_map (λ s. ToTerminal s) (option_and_then select_of (after_word words))
 
 -- The ways: `from`, `to` for address 0, and `to S`.
 abbrev pub way_of : List ℕ → Option Way
 way_of words =
     if bytes_eq words (codes "from") then Some FromTerminal else
     if bytes_eq words (codes "to") then Some (ToTerminal 0) else
-    if bytes_eq (first_word words) (codes "to") then option_map (λ s. ToTerminal s) (option_and_then select_of (after_word words)) else None
+    if bytes_eq (first_word words) (codes "to") then way_to words else None
+
+-- A way, after a word.
+abbrev pub way_after : List ℕ → Option Way
+way_after rest = option_and_then way_of (after_word rest)
 
 -- `T` and a way.
 abbrev pub release_of : List ℕ → Option Event
-release_of rest = option_and_then (λ t. option_map (release t) (option_and_then way_of (after_word rest))) (terminal_of (first_word rest))
+release_of rest =
+    option_and_then (λ t. option_map (release t) (way_after rest)) (first_terminal rest)
 
 -- The events of a word that stands with nothing after it.
 abbrev pub event_alone : Keyword → Option Event
@@ -91,7 +109,7 @@ event_alone Lose = Some lose
 event_alone Silence = Some silence
 event_alone _ = None
 
--- The events of a word with the rest of the line, which a space parts.
+-- The events of a word with the rest of the line, which follows the space after it.
 abbrev pub event_with : Keyword → List ℕ → Option Event
 event_with OfferAt rest = offer_at_of rest
 event_with OfferFor rest = offer_for_of rest

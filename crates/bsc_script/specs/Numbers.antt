@@ -6,7 +6,8 @@ use Rattle.std.specs.Str.Parse.{digits_value}
 
 -- At least one digit, at most this many, and nothing else.
 abbrev pub has_digits : ℕ → List ℕ → Bool
-has_digits most word = not (length word == 0) && nat_le (length word) most && list_all is_ascii_digit word
+has_digits most word =
+    not (length word == 0) && nat_le (length word) most && list_all is_ascii_digit word
 
 -- The number that they stand for.
 abbrev pub number_of : ℕ → List ℕ → Option ℕ

@@ -9,23 +9,28 @@ abbrev pub is_skipped : List ℕ → Bool
 is_skipped [] = true
 is_skipped (octet ∷ more) = octet == 35
 
--- These events, and then those of further lines, or the number of the first of them that is no event.
-abbrev pub after_these : List NumberedEvent → Result (List NumberedEvent) ℕ → Result (List NumberedEvent) ℕ
+-- The events of lines in order, each with its number; or the number of the first line that is neither
+-- skipped nor an event.
+abbrev pub Reading : Type 0
+Reading = Result (List NumberedEvent) ℕ
+
+-- These events before those of further lines, where no further line is wrong.
+abbrev pub after_these : List NumberedEvent → Reading → Reading
 after_these events (Ok more) = Ok (events ++ more)
 after_these events (Err number) = Err number
 
--- The line of this number is no event; or it is one, and others follow.
-abbrev pub with_line : ℕ → Option Event → Result (List NumberedEvent) ℕ → Result (List NumberedEvent) ℕ
+-- The line of this number is no event; or it is one, and further lines follow it.
+abbrev pub with_line : ℕ → Option Event → Reading → Reading
 with_line number None rest = Err number
 with_line number (Some event) rest = after_these (record { line = number; event = event } ∷ []) rest
 
--- The events of lines, of which the first has this number, in order; or the number of the first line that
--- is neither skipped nor an event.
-abbrev pub events_from : ℕ → List (List ℕ) → Result (List NumberedEvent) ℕ
+-- The reading of lines, of which the first has this number.
+abbrev pub events_from : ℕ → List (List ℕ) → Reading
 events_from number [] = Ok []
 events_from number (line ∷ more) =
-    if is_skipped line then events_from (number + 1) more else with_line number (event_of line) (events_from (number + 1) more)
+    if is_skipped line then events_from (number + 1) more
+    else with_line number (event_of line) (events_from (number + 1) more)
 
--- The events of a text, whose lines are counted from 1; or the number of its first wrong line.
-abbrev pub events_of : List ℕ → Result (List NumberedEvent) ℕ
+-- The reading of a text, whose lines are counted from 1.
+abbrev pub events_of : List ℕ → Reading
 events_of text = events_from 1 (lines_of text)

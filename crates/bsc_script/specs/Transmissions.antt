@@ -12,20 +12,25 @@ is_carried octets = nat_le 1 (length octets) && nat_le (length octets) 2048
 abbrev pub carried : List ℕ → Option (List ℕ)
 carried octets = if is_carried octets then Some octets else None
 
--- The octets that hexadecimal text gives, its spaces dropped. None where it is no such text, or has no
--- octet or more than 2,048.
+-- The octets that hexadecimal text gives, its spaces dropped. None where it is no such text, or has
+-- no octet or more than 2,048.
 abbrev pub transmission_of : List ℕ → Option (List ℕ)
 transmission_of text = option_and_then carried (octets_of text)
 
--- What one terminal hears: octets, or nothing where the word is a dash. None where it is neither.
-abbrev pub item_of : List ℕ → Option (Option (List ℕ))
-item_of word = if bytes_eq word (codes "-") then Some None else option_map Some (transmission_of word)
+-- What one terminal hears: these octets, or nothing.
+abbrev pub Item : Type 0
+Item = Option (List ℕ)
 
--- An item before others, where there are items.
-abbrev pub item_before : Option (List (Option (List ℕ))) → Option (List ℕ) → Option (List (Option (List ℕ)))
+-- The item of a word: octets, or nothing where it is a dash. None where it is neither.
+abbrev pub item_of : List ℕ → Option Item
+item_of word =
+    if bytes_eq word (codes "-") then Some None else option_map Some (transmission_of word)
+
+-- An item before others, where there are others.
+abbrev pub item_before : Option (List Item) → Item → Option (List Item)
 item_before items item = option_map (λ more. item ∷ more) items
 
--- What each terminal hears, a word each. None where a word gives nothing.
-abbrev pub items_of : List (List ℕ) → Option (List (Option (List ℕ)))
+-- The items of words. None where a word has none.
+abbrev pub items_of : List (List ℕ) → Option (List Item)
 items_of [] = Some []
 items_of (word ∷ more) = option_and_then (item_before (items_of more)) (item_of word)

@@ -10,7 +10,7 @@ first_word text = before_octet 32 text
 abbrev pub after_word : List ℕ → Option (List ℕ)
 after_word text = after_octet 32 text
 
--- The words between the spaces. Between two spaces side by side there is a word without characters, and
--- so there is before a space that begins the text and after one that ends it.
+-- The words between the spaces. Between two spaces side by side there is a word without characters,
+-- and so there is before a space that begins the text and after one that ends it.
 abbrev pub words_of : List ℕ → List (List ℕ)
 words_of text = parts_at 32 text

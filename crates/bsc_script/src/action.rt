@@ -5,8 +5,8 @@ use bsc_control::Way;
 use std::alloc::Allocator;
 
 /// What one line of a script asks for (own). Terminals are counted from 0, and so are the selection
-/// addresses of each. Whether the line has the terminal and the address that are named, takes the record
-/// and has something pending, shows only when the line is asked.
+/// addresses of each. Whether the terminal and the address that are named exist, whether the record is
+/// taken and whether something is pending shows only when the event is run.
 #[derive(Drop)]
 pub enum Action<'a, A: Allocator> {
     /// A record of these codes is offered at a terminal, for the control station.
@@ -15,7 +15,8 @@ pub enum Action<'a, A: Allocator> {
         codes: &'a [u8],
     },
 
-    /// A record of these codes is offered at the control station, for a selection address of a terminal.
+    /// A record of these codes is offered at the control station, for a selection address of a
+    /// terminal.
     OfferFor {
         terminal: usize,
         select: usize,

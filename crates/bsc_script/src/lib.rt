@@ -2,20 +2,23 @@
 //!
 //! | line | event |
 //! |---|---|
-//! | `offer-at T RECORD` | the record is offered at the terminal, for the control station |
-//! | `offer-for T RECORD` | the record is offered at the control station, for the terminal's first selection address |
-//! | `offer-to T S RECORD` | the same, for its selection address S |
+//! | `offer-at T RECORD` | the record is offered at terminal T, for the control station |
+//! | `offer-for T RECORD` | it is offered at the control station, for T's first selection address |
+//! | `offer-to T S RECORD` | the same, for T's selection address S |
 //! | `carry` | what is pending is carried |
 //! | `lose` | what is pending is lost |
 //! | `heard HEX` | what is pending is heard as these octets |
-//! | `heard-each ITEM ITEM ..` | what the control station sent is heard by each terminal as its item, which is hexadecimal text, or `-` where the terminal hears nothing |
+//! | `heard-each ITEM ITEM ..` | what the control station sent is heard by each terminal as its item |
 //! | `silence` | nothing is heard for the time of a time-out |
-//! | `ready T`, `unready T` | the terminal takes selections, or it does not |
-//! | `urgent-at T`, `urgent-for T` | the terminal, or the control station for it, has something urgent |
-//! | `release T from`, `release T to`, `release T to S` | the doubt about what was sent from the terminal, or to its selection address S, is ended; without S it is address 0 |
+//! | `ready T`, `unready T` | terminal T takes selections, or it does not |
+//! | `urgent-at T`, `urgent-for T` | terminal T, or the control station for it, is urgent |
+//! | `release T from` | the doubt about what terminal T sent is ended |
+//! | `release T to`, `release T to S` | the same of what was sent to its address 0, or S |
 //!
-//! T has one to three decimal digits, S has one. Words stand one space apart. Empty lines, and lines
-//! that begin with `#`, are skipped and counted.
+//! T has one to three decimal digits, S has one. HEX is hexadecimal text; an ITEM is hexadecimal text
+//! without spaces, or `-` where the terminal hears nothing. Words stand one space apart. RECORD is what
+//! follows the space before it, up to the end of the line; where that space is missing, it is empty.
+//! Empty lines, and lines that begin with `#`, are skipped and counted.
 #![tactic(auto)]
 
 mod action;

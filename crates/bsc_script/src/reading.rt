@@ -79,7 +79,8 @@ fn action_with<'a, A: Allocator + Copy>(
     }
 }
 
-/// The codes of a record that ends the line: those after the space, or none where there is no space.
+/// The codes of a record that ends the line: those after the space, or none where there is no
+/// space.
 fn codes_after(rest: Option<&[u8]>) -> &[u8]
     ensures { result.now ≡ unwrap_or (option_map (λ r. r.now) rest.entry) [] }
 {
@@ -166,7 +167,8 @@ fn read_items<A: Allocator + Copy>(
     alloc: A,
     text: &[u8],
 ) -> Result<Option<Vec<Option<Transmission<A>>, A>>, AllocError>
-    ensures { IfOk result (λ items. option_map (λ v. v.items) items ≡ items_of (words_of text.now)) }
+    ensures { IfOk result (λ items.
+        option_map (λ v. v.items) items ≡ items_of (words_of text.now)) }
 {
     let mut items = Vec::new(alloc);
     let mut left = text;
@@ -201,7 +203,8 @@ fn read_item<A: Allocator + Copy>(
 
 /// `T`, where the terminal is ready or not.
 fn ready<'a, A: Allocator>(rest: &[u8], ready: bool) -> Option<Action<'a, A>>
-    ensures { option_map event_in result ≡ option_map (λ t. events.ready t ready) (terminal_of rest.now) }
+    ensures { option_map event_in result ≡
+        option_map (λ t. events.ready t ready) (terminal_of rest.now) }
 {
     let terminal = terminal(rest)?;
     Some(Action::Ready { terminal, ready })

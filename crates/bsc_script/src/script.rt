@@ -14,7 +14,8 @@ use thiserror::Error;
 /// Why a text is not read as a script.
 #[derive(Clone, Copy, Debug, PartialEq, Eq, Error)]
 pub enum ScriptError {
-    /// The line with this number, counted from 1, is the first that is neither skipped nor an event.
+    /// The line with this number, counted from 1, is the first that is neither skipped nor an
+    /// event.
     #[error("script line {line}: not an event")]
     NotAnEvent { line: u64 },
 
@@ -76,8 +77,8 @@ fn is_skipped(line: &[u8]) -> bool
     line.is_empty() || line[0] == b'#'
 }
 
-/// The events of the text's lines. `NotAnEvent` comes where a line is wrong, with the number of the first
-/// such line; `Memory` may come in its place.
+/// The events of the text's lines. `NotAnEvent` comes where a line is wrong, with the number of the
+/// first such line; `Memory` may come in its place.
 pub fn read_script<'a, A: Allocator + Copy>(
     alloc: A,
     text: &'a [u8],

@@ -1,5 +1,4 @@
-//! What no contract says: the lines that stand in documents, calls that succeed, and growths that are
-//! refused.
+//! What no contract says: scripts that are read, texts of errors, and growths that are refused.
 mod forms;
 mod lines;
 mod refusals;

@@ -34,8 +34,8 @@ impl<A: Allocator> Transmission<A> {
     }
 }
 
-/// The octets of hexadecimal text, its spaces dropped. None where it is no such text, or has no octet
-/// or more than 2,048.
+/// The octets of hexadecimal text, its spaces dropped. None where it is no such text, or has no
+/// octet or more than 2,048.
 pub(crate) fn read_transmission<A: Allocator + Copy>(
     alloc: A,
     text: &[u8],

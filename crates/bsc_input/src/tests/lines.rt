@@ -1,7 +1,8 @@
 use crate::{is_blank, split_at_first, split_line, without_return};
 use std::test::Fail;
 
-/// The first line and the rest, where there is one: a line feed at the end has an empty line after it.
+/// The first line and the rest, where there is one: a line feed at the end has an empty line after
+/// it.
 #[test]
 fn first_line(rt: HostRuntime) -> Result<(), Fail> {
     let table: [(&[u8], &[u8], Option<&[u8]>); 5] = [

@@ -12,7 +12,7 @@ returns-in-None-clause-ok g c =
     elim c.if-not-is_skipped.branch [
       | then-not-is_skipped+in_ok-read_step+in_ok-push w ↦
           all_read _ (c.lines.before + 1 + 1) (take_line c.lines.steps.items c.if-not-is_skipped.steps.items w.in_ok-read_step.field-0 (c.lines.before + 1) c.without_return-line.result.now [] here
-          (sym c.is_skipped.ensures ∙ w.if-not-is_skipped.true) w.in_ok-read_step.ensures.line w.in_ok-read_step.ensures.event (ap (λ v. v.items) w.steps-is ∙ w.in_ok-push.ensures.items))
+          (sym c.is_skipped.ensures ∙ w.if-not-is_skipped.true) w.in_ok-read_step.ensures.line w.in_ok-read_step.ensures.event (rw w.steps-is w.in_ok-push.ensures.items))
       | else-not-is_skipped w ↦
           all_read _ (c.lines.before + 1 + 1) (keep_line c.lines.steps.items c.if-not-is_skipped.steps.items (c.lines.before + 1) c.without_return-line.result.now [] here
           (sym c.is_skipped.ensures ∙ w.if-not-is_skipped.false) (ap (λ v. v.items) w.steps-is))
@@ -28,7 +28,7 @@ lines-preserved g c =
       events = elim c.if-not-is_skipped.branch [
         | then-not-is_skipped+in_ok-read_step+in_ok-push w ↦
             (take_line c.lines.steps.items c.if-not-is_skipped.steps.items w.in_ok-read_step.field-0 (c.lines.before + 1) c.without_return-line.result.now (lines_of c.in-Some.rest.now) here
-            (sym c.is_skipped.ensures ∙ w.if-not-is_skipped.true) w.in_ok-read_step.ensures.line w.in_ok-read_step.ensures.event (ap (λ v. v.items) w.steps-is ∙ w.in_ok-push.ensures.items))
+            (sym c.is_skipped.ensures ∙ w.if-not-is_skipped.true) w.in_ok-read_step.ensures.line w.in_ok-read_step.ensures.event (rw w.steps-is w.in_ok-push.ensures.items))
         | else-not-is_skipped w ↦
             (keep_line c.lines.steps.items c.if-not-is_skipped.steps.items (c.lines.before + 1) c.without_return-line.result.now (lines_of c.in-Some.rest.now) here
             (sym c.is_skipped.ensures ∙ w.if-not-is_skipped.false) (ap (λ v. v.items) w.steps-is))
