@@ -27,3 +27,5 @@ pub mod DamagedText
 pub mod DamagedCall
 pub mod DamagedLemmas
 pub mod TurnedBitLemmas
+pub mod SumChanges
+pub mod LeastDamage

@@ -1,10 +1,11 @@
 -- Octets of which one was changed on the line, as noise does it (GA27-3004: VRC and LRC checking; which
 -- changes are found is own).
-use Rattle.std.specs.Prelude.{◌≡◌, ◌≢◌, ◌⊎◌, ℕ, ◌^◌, ◌%◌, List, slice_index, slice_set, bit_xor, count_ones}
+use Rattle.std.specs.Prelude.{◌≡◌, ◌≢◌, ◌⊎◌, ℕ, ◌^◌, ◌%◌, true, List, [], ◌∷◌, slice_index, slice_set, bit_xor, count_ones}
 use Rattle.bsc_octet.specs.Octet.{IsOdd}
 use Rattle.bsc_frame.specs.Texts.{TextValue}
 use Rattle.bsc_frame.specs.declared.message.Message.{Message}
 use Rattle.bsc_frame.specs.declared.message.Message.TheVariants.{Call, Text}
+use Rattle.bsc_frame.specs.declared.text.End.TheVariants.{Etx}
 
 -- The octets with another octet at the place.
 abbrev pub with_octet : ℕ → ℕ → List ℕ → List ℕ
@@ -44,3 +45,11 @@ IsCallFill place octet = ((place ≡ 3) × (octet ≡ 0x16)) ⊎ ((place ≡ 4) 
 -- The octet, put in this place of what is sent for the message, is still fill there.
 abbrev pub IsFillIn : Message → ℕ → ℕ → Type 0
 IsFillIn m place octet = IsLeadingPad place octet ⊎ (IsSomeCall m × IsCallFill place octet)
+
+-- A text of one unit of two characters with its mark.
+abbrev pub two_chars : ℕ → ℕ → Message
+two_chars c d = Text (record { units = record { chars = c ∷ d ∷ []; em = true } ∷ []; end = Etx })
+
+-- The octets with the lowest and the highest bit of the octet at the place turned.
+abbrev pub with_two_turned_bits : ℕ → List ℕ → List ℕ
+with_two_turned_bits place octets = with_turned_bit place 0 (with_turned_bit place 7 octets)
