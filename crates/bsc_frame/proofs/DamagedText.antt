@@ -27,7 +27,7 @@ pub not_same : (a b : ℕ) → HaveOtherParity a b → a ≡ b → ⊥
 not_same a b h e = h (ap (λ x. count_ones x % 2) e)
 
 -- a body that begins with STX
-text_body : (n : Message) (body : List ℕ) → IsBody n (0x02 ∷ body) → (s : TextValue) × AreUnits false s.units s.end body × IsText s
+pub text_body : (n : Message) (body : List ℕ) → IsBody n (0x02 ∷ body) → (s : TextValue) × AreUnits false s.units s.end body × IsText s
 text_body Eot body h = absurd (omega (arith, heads h))
 text_body (Call a) body h = absurd (omega (arith, heads h.whole))
 text_body Enq body h = absurd (omega (arith, heads h))
@@ -38,7 +38,7 @@ text_body Wack body h = absurd (omega (arith, heads h))
 text_body Rvi body h = absurd (omega (arith, heads h))
 text_body (Text s) body h = (s, rw (tails h.whole) h.units, h.text)
 
-some_after : (front back : List ℕ) (o : ℕ) → 0 < length (front ++ o ∷ back)
+pub some_after : (front back : List ℕ) (o : ℕ) → 0 < length (front ++ o ∷ back)
 some_after front back o = omega (arith, length-append front (o ∷ back))
 
 pub lost_text : (t : TextValue) (n : Message) (before : List ℕ) (o : ℕ) (after : List ℕ) (new : ℕ) → IsText t

@@ -29,3 +29,5 @@ pub mod DamagedLemmas
 pub mod TurnedBitLemmas
 pub mod SumChanges
 pub mod LeastDamage
+pub mod ChangedUnits
+pub mod ChangedText

@@ -358,7 +358,7 @@ units_at_read (suc n) behind (u ∷ v ∷ us) end octets a some most each =
 
 -- ---- what is sent for units
 
-filled_plain : (codes : List ℕ) → AreFilled codes (map odd_octet codes)
+pub filled_plain : (codes : List ℕ) → AreFilled codes (map odd_octet codes)
 filled_plain [] = refl
 filled_plain (c ∷ codes) = ([], map odd_octet codes, tt, refl, filled_plain codes)
 

@@ -61,7 +61,7 @@ unfolding units_at
 units_next zero behind s u e rest p h = absurd (omega arith)
 units_next (suc n) behind s u e rest p h = let less : suc n - 1 ≡ n = omega arith in rw (less, h) refl
 
-units_stop : (n : ℕ) (behind : Bool) (s : List ℕ) → unit_at behind s ≡ None → units_at n behind s ≡ None
+pub units_stop : (n : ℕ) (behind : Bool) (s : List ℕ) → unit_at behind s ≡ None → units_at n behind s ≡ None
 unfolding units_at
 units_stop zero behind s h = refl
 units_stop (suc n) behind s h = rw h refl

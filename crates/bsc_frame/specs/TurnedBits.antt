@@ -1,8 +1,9 @@
 -- Octets of which one was changed on the line, as noise does it (GA27-3004: VRC and LRC checking; which
 -- changes are found is own).
-use Rattle.std.specs.Prelude.{◌≡◌, ◌≢◌, ◌⊎◌, ℕ, ◌^◌, ◌%◌, true, List, [], ◌∷◌, slice_index, slice_set, bit_xor, count_ones}
+use Rattle.std.specs.Prelude.{◌≡◌, ◌≢◌, ◌⊎◌, ℕ, ◌^◌, ◌%◌, ◌<◌, true, false, List, [], ◌∷◌, slice_index, slice_set, bit_xor, count_ones}
 use Rattle.bsc_octet.specs.Octet.{IsOdd}
 use Rattle.bsc_frame.specs.Texts.{TextValue}
+use Rattle.bsc_frame.specs.Reading.{is_ending_octet}
 use Rattle.bsc_frame.specs.declared.message.Message.{Message}
 use Rattle.bsc_frame.specs.declared.message.Message.TheVariants.{Call, Text}
 use Rattle.bsc_frame.specs.declared.text.End.TheVariants.{Etx}
@@ -53,3 +54,12 @@ two_chars c d = Text (record { units = record { chars = c ∷ d ∷ []; em = tru
 -- The octets with the lowest and the highest bit of the octet at the place turned.
 abbrev pub with_two_turned_bits : ℕ → List ℕ → List ℕ
 with_two_turned_bits place octets = with_turned_bit place 0 (with_turned_bit place 7 octets)
+
+-- Another octet with odd parity in place of one: neither ends a unit, and the new one is not SYN.
+pub record IsOtherOctet (old new : ℕ) : Type 0 where
+  pub octet : new < 256
+  pub odd : IsOdd new
+  pub differs : new ≢ old
+  pub no_fill : new ≢ 0x16
+  pub no_end : is_ending_octet new ≡ false
+  pub was_no_end : is_ending_octet old ≡ false

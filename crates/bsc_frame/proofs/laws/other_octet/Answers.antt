@@ -1,0 +1,5 @@
+use Rattle.bsc_frame.proofs.ChangedText.{other_octet_lost}
+use Rattle.bsc_frame.proofs.laws.other_octet.Goals as goal
+
+pub returns : goal.returns
+returns c = other_octet_lost
