@@ -1,0 +1,19 @@
+-- Items that cross a cable one after the other.
+use Rattle.std.proofs.Common.{◌≡◌, ◌<◌, ◌≤◌, ℕ, ◌+◌, List, ◌∷◌, [], ◌++◌, length, take, map, Option, None, Some, option_map, get_or, refl, sym, ◌∙◌, ap, subst, arith}
+use Rattle.std.proofs.lemmas.List.{take_more, length-take-le, map-append}
+use Rattle.bsc_carrier.specs.Cable.{CableValue}
+use Rattle.bsc_run.specs.Crossing.{ItemCrosses, ItemsCross, one_more}
+
+-- the next item crosses
+pub items_cross_more : {S W : Type 0} (contents remaining : S → Option (List ℕ)) (octets : Option W → Option (List ℕ))
+    (items : List (Option (List ℕ))) (words : List (Option W)) (t : ℕ) (item : Option (List ℕ)) (word : Option W)
+    (old mid new : CableValue S) → t < length items → item ≡ get_or items t item
+    → ItemsCross contents remaining (take t items) (map octets words) old mid
+    → ItemCrosses contents remaining t item (octets word) mid new
+    → ItemsCross contents remaining (take (t + 1) items) (map octets (words ++ word ∷ [])) old new
+items_cross_more {S} contents remaining octets items words t item word old mid new below is before crossed =
+    let all : take (t + 1) items ≡ take t items ++ item ∷ [] =
+        take_more items t item below ∙ ap (λ x. take t items ++ x ∷ []) (sym is) in
+    let place : length (take t items) ≡ t = length-take-le t items (omega arith) in
+    rw (all, map-append octets words (word ∷ []))
+    (one_more item (octets word) before (subst (λ (k : ℕ). ItemCrosses contents remaining k item (octets word) mid new) (sym place) crossed))

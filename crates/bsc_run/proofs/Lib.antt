@@ -1,0 +1,4 @@
+pub mod Appending
+pub mod Pending
+pub mod Items
+pub mod Speaking

@@ -1,0 +1,18 @@
+use Rattle.std.proofs.Common.{◌∙◌}
+use Rattle.std.specs.List.{flat_map}
+use Rattle.bsc_text.specs.Sender.{is_in_doubt}
+use Rattle.bsc_line_model.specs.Line.{channel_of, phase_of}
+use Rattle.bsc_line_model.specs.Offers.{select_count}
+use Rattle.bsc_run.specs.Printed.{channel_name, counts_shown, doubt_shown, record_line}
+use Rattle.bsc_run.proofs.Appending.{four_on_ok}
+use Rattle.bsc_run.proofs.report.write_channel.Goals as goal
+
+pub returns : goal.returns
+returns g c =
+    let l = c.args.line.now in
+    let t = c.args.terminal in
+    let way = c.args.way in
+    let name = rw c.addresses.ensures.value at c.in_ok-write_channel_name.ensures in
+    let doubt = rw (c.doubt_text.ensures, c.in_doubt.ensures.value) at c.in_ok-put.ensures in
+    let records = rw c.spooled.ensures.value at c.write_records.ensures in
+    four_on_ok (g.W.Write.contents c.args.out.now) (g.W.Write.contents c.write_channel_name.new.out) (g.W.Write.contents c.write_counts.new.out) (g.W.Write.contents c.put.new.out) (g.W.Write.contents c.write_records.new.out) (channel_name (select_count l t) t way) (counts_shown (channel_of l t way)) (doubt_shown (is_in_doubt (phase_of l t way))) (flat_map record_line (channel_of l t way).spooled) c.write_records.result name c.in_ok-write_counts.ensures doubt records

@@ -1,0 +1,7 @@
+use Rattle.std.specs.Io.KnownBytes.{Appends}
+use Rattle.bsc_control.specs.declared.way.Way.TheVariants.{ToTerminal}
+use Rattle.bsc_run.specs.Printed.{each_below, channel_lines}
+use Rattle.bsc_run.proofs.report.write_terminal.Given as goal
+
+abbrev pub invariant-selects : goal.invariant-selects
+invariant-selects g l = Appends (g.W.Write.contents l.initial.out) (g.W.Write.contents l.out) (each_below (λ s. channel_lines l.line l.terminal (ToTerminal s)) l.select)

@@ -1,0 +1,18 @@
+-- When each terminal may be given something to hear (own).
+use Rattle.std.specs.Prelude.{◌≡◌, ◌≢◌, ℕ, None}
+use Rattle.bsc_line_model.specs.declared.error.LineError.{LineError}
+use Rattle.bsc_line_model.specs.declared.error.LineError.TheVariants.{NothingSent, NotControl, WrongCount}
+use Rattle.bsc_line_model.specs.Line.{LineValue, terminal_count}
+use Rattle.bsc_line_model.specs.Runs.{IsFromTerminal, IsFromControl}
+
+-- the control station's transmission is pending, and this many items are one for each terminal
+pub record WasSent (l : LineValue) (count : ℕ) : Type 0 where
+  pub control : IsFromControl l
+  pub one_each : count ≡ terminal_count l
+
+-- why this many items are not heard
+abbrev pub IsRefusedEach : LineValue → ℕ → LineError → Type 0
+IsRefusedEach l count NothingSent = l.pending ≡ None
+IsRefusedEach l count NotControl = IsFromTerminal l
+IsRefusedEach l count WrongCount = IsFromControl l × (count ≢ terminal_count l)
+IsRefusedEach l count _ = ⊥

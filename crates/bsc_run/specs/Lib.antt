@@ -1,0 +1,9 @@
+pub mod Faults
+pub mod Printed
+pub mod Crossing
+pub mod Speaking
+pub mod Hearing
+pub mod Events
+pub mod Actions
+pub mod Steps
+pub mod Plays

@@ -1,0 +1,62 @@
+-- What a run of a script does and prints (own).
+use Rattle.std.specs.Prelude.{⊤, ◌≡◌, ◌⊎◌, ℕ, List, [], ◌∷◌, ◌++◌, Option, Result, Ok, Err}
+use Rattle.std.specs.Io.KnownBytes.{Appends}
+use Rattle.bsc_carrier.specs.Cable.{CableValue}
+use Rattle.bsc_line_model.specs.declared.error.LineError.{LineError}
+use Rattle.bsc_line_model.specs.Line.{LineValue}
+use Rattle.bsc_line_model.specs.Kept.{IsLine}
+use Rattle.bsc_run.specs.Actions.{NumberedEvent}
+use Rattle.bsc_run.specs.declared.error.RunError.{RunError}
+use Rattle.bsc_run.specs.declared.error.RunError.TheVariants.{Refused}
+use Rattle.bsc_run.specs.Printed.{report_of}
+use Rattle.bsc_run.specs.Steps.{Accepts, Refuses, trace_after}
+
+-- the event is the first that is refused: nothing goes over the cable and nothing is printed
+pub record Stops {S : Type 0} (step : NumberedEvent) (old : LineValue) (before : CableValue S)
+    (result : Result (Unit {0}) RunError) (new : LineValue) (after : CableValue S) (text : List ℕ)
+    : Type 0 where
+  pub why : LineError
+  pub answer : result ≡ Err (Refused step.line why)
+  pub refused : Refuses step.event why old new
+  pub untouched : after ≡ before
+  pub nothing : text ≡ []
+
+-- of the streams of a cable: what was written to one, and what one has left to give
+module _ {S : Type 0} (contents remaining : S → Option (List ℕ)) where
+  -- the event is accepted, and a run of the rest goes on from its line and its cable, and prints
+  -- what is left of the text
+  pub record GoesOn (step : NumberedEvent) (old : LineValue) (before : CableValue S) (text : List ℕ)
+      (Rest : LineValue → CableValue S → List ℕ → Type 0) : Type 0 where
+    pub mid : LineValue
+    pub between : CableValue S
+    pub rest : List ℕ
+    pub line : IsLine mid
+    pub accepted : Accepts contents remaining step.event old before mid between
+    pub printed : text ≡ trace_after step.event mid ++ rest
+    pub goes : Rest mid between rest
+
+  -- the events are done in order, up to the first that is refused, and this text is printed
+  abbrev pub Plays : List NumberedEvent → LineValue → CableValue S → Result (Unit {0}) RunError →
+      LineValue → CableValue S → List ℕ → Type 0
+  Plays [] old before (Ok done) new after text = (new ≡ old) × (after ≡ before) × (text ≡ [])
+  Plays [] old before (Err e) new after text = ⊥
+  Plays (step ∷ steps) old before result new after text =
+      Stops step old before result new after text
+      ⊎ GoesOn step old before text
+        (λ mid between rest. Plays steps mid between result new after rest)
+
+  -- what was written is what a run of the events prints, and then the report of the line that it
+  -- leaves
+  pub record Runs (steps : List NumberedEvent) (old : LineValue) (before : CableValue S)
+      (result : Result (Unit {0}) RunError) (after : CableValue S) (held holds : Option (List ℕ))
+      : Type 0 where
+    pub new : LineValue
+    pub text : List ℕ
+    pub plays : Plays steps old before result new after text
+    pub written : Appends held holds (text ++ report_of new)
+
+-- a run that no fault broke off: it came to the end of the script, or to a refused event
+abbrev pub WhereWhole : Result (Unit {0}) RunError → Type 0 → Type 0
+WhereWhole (Ok done) P = P
+WhereWhole (Err (Refused line why)) P = P
+WhereWhole (Err _) P = ⊤

@@ -1,0 +1,206 @@
+//! What each event of a script does to the line and the cable.
+
+ghost use Rattle.std.specs.Prelude.{◌≡◌, ◌≢◌, ℕ, length, map, option_map, None, Some, Ok, Err, OnOk, IfErr};
+ghost use Rattle.bsc_frame.specs.declared.message.Message.{Message as MessageValue};
+ghost use Rattle.bsc_frame.specs.Wire.{wire};
+ghost use Rattle.bsc_carrier.specs.Record.{IsCarried};
+ghost use Rattle.bsc_line_model.specs.declared.error.LineError.{LineError as Why};
+ghost use Rattle.bsc_line_model.specs.declared.event.Event.TheVariants as event;
+ghost use Rattle.bsc_line_model.specs.Hearing.{octets_in};
+ghost use Rattle.bsc_line_model.specs.Kept.{IsLine};
+ghost use Rattle.bsc_line_model.specs.Runs.{Does};
+ghost use Rattle.bsc_run.specs.Actions.{event_in};
+ghost use Rattle.bsc_run.specs.Crossing.{connection_count};
+ghost use Rattle.bsc_run.specs.Events.{carry, heard as heard_event, heard_each};
+ghost use Rattle.bsc_run.specs.Faults.{told};
+ghost use Rattle.bsc_run.specs.Hearing.{IsRefusedEach, WasSent};
+ghost use Rattle.bsc_run.specs.Speaking.{Fits};
+ghost use Rattle.bsc_run.specs.Steps.{Acts, Sends};
+
+use crate::crossing::{cross, cross_each, slices};
+use crate::error::StepError;
+use crate::step::{Action, Transmission};
+use bsc_carrier::{Cable, Octets};
+use bsc_frame::laws::one_reading;
+use bsc_line::{Line, LineError, Speaker};
+use std::alloc::Allocator;
+use std::io::{Read, Write};
+
+/// Does what a line of the script asks for. Nothing goes over the cable where it is refused.
+pub(crate) fn act<
+    S: Read + Write + Drop,
+    A: Allocator,
+    B: Allocator,
+    C: Allocator,
+    E: Allocator + Copy,
+>(
+    alloc: E,
+    line: &mut Line<B>,
+    action: &Action<'_, C>,
+    cable: &mut Cable<S, A>,
+) -> Result<(), StepError>
+    requires { Fits line.old cable.old }
+    ensures { Acts S.contents S.remaining (event_in action.now) line.old cable.old result line.new
+        cable.new }
+{
+    match action {
+        Action::OfferAt { terminal, codes } => tell(line.offer_at(*terminal, codes)),
+        Action::OfferFor {
+            terminal,
+            select,
+            codes,
+        } => tell(line.offer_for(*terminal, *select, codes)),
+        Action::Carry => carry_pending(line, cable),
+        Action::Lose => tell(line.carry(None)),
+        Action::Heard { octets } => carry_given(line, octets, cable),
+        Action::HeardEach { items } => carry_items(alloc, line, items, cable),
+        Action::Silence => tell(line.silence()),
+        Action::Ready { terminal, ready } => tell(line.set_ready(*terminal, *ready)),
+        Action::UrgentAt { terminal } => tell(line.set_urgent_at(*terminal)),
+        Action::UrgentFor { terminal } => tell(line.set_urgent_for(*terminal)),
+        Action::Release { terminal, way } => tell(line.release(*terminal, *way)),
+    }
+}
+
+/// The answer of a line, as that of a step.
+fn tell(answer: Result<(), LineError>) -> Result<(), StepError>
+    ensures { result ≡ told answer }
+{
+    match answer {
+        Ok(()) => Ok(()),
+        Err(why) => Err(StepError::Refused(why)),
+    }
+}
+
+/// What is pending goes over the cable, and is heard as the octets that were read.
+fn carry_pending<S: Read + Write + Drop, A: Allocator, B: Allocator>(
+    line: &mut Line<B>,
+    cable: &mut Cable<S, A>,
+) -> Result<(), StepError>
+    requires { Fits line.old cable.old }
+    ensures { Acts S.contents S.remaining carry line.old cable.old result line.new cable.new }
+{
+    let mut read = Octets::new();
+    send_pending(line, cable, &mut read)?;
+    hear(line, read.as_slice());
+    Ok(())
+}
+
+/// These octets go over the cable in place of what is pending, which is heard as those that were
+/// read.
+fn carry_given<S: Read + Write + Drop, A: Allocator, B: Allocator, C: Allocator>(
+    line: &mut Line<B>,
+    octets: &Transmission<C>,
+    cable: &mut Cable<S, A>,
+) -> Result<(), StepError>
+    requires { Fits line.old cable.old }
+    ensures { Acts S.contents S.remaining (heard_event octets.now) line.old cable.old result line.new
+        cable.new }
+{
+    let mut read = Octets::new();
+    send_given(line, octets.as_slice(), cable, &mut read)?;
+    hear(line, read.as_slice());
+    Ok(())
+}
+
+/// What is pending goes over the cable: the octets that were read.
+fn send_pending<S: Read + Write + Drop, A: Allocator, B: Allocator>(
+    line: &Line<B>,
+    cable: &mut Cable<S, A>,
+    read: &mut Octets,
+) -> Result<(), StepError>
+    requires { Fits line.now cable.old }
+    ensures sends { OnOk result
+        (Sends S.contents S.remaining wire line.now read.new.items cable.old cable.new) }
+    ensures refused { (why : Why) → result ≡ Err (StepError.Refused why) →
+        (why ≡ LineError.NothingSent) × (line.now.pending ≡ None) × (cable.new ≡ cable.old) }
+    ensures count { connection_count cable.new ≡ connection_count cable.old }
+{
+    one_reading();
+    match line.pending() {
+        None => Err(StepError::Refused(LineError::NothingSent)),
+        Some((speaker, octets)) => Ok(cross(cable, speaker, octets, read)?),
+    }
+}
+
+/// These octets go over the cable in place of what is pending: the octets that were read.
+fn send_given<S: Read + Write + Drop, A: Allocator, B: Allocator>(
+    line: &Line<B>,
+    octets: &[u8],
+    cable: &mut Cable<S, A>,
+    read: &mut Octets,
+) -> Result<(), StepError>
+    requires fits { Fits line.now cable.old }
+    requires carried { IsCarried octets.now }
+    ensures sends { OnOk result (Sends S.contents S.remaining (λ (message : MessageValue). octets.now)
+        line.now read.new.items cable.old cable.new) }
+    ensures refused { (why : Why) → result ≡ Err (StepError.Refused why) →
+        (why ≡ LineError.NothingSent) × (line.now.pending ≡ None) × (cable.new ≡ cable.old) }
+    ensures count { connection_count cable.new ≡ connection_count cable.old }
+{
+    match line.pending() {
+        None => Err(StepError::Refused(LineError::NothingSent)),
+        Some((speaker, _)) => Ok(cross(cable, speaker, octets, read)?),
+    }
+}
+
+/// What is pending is heard as these octets.
+fn hear<B: Allocator>(line: &mut Line<B>, octets: &[u8])
+    requires { line.old.pending ≢ None }
+    ensures does { Does (event.Carry (Some octets.entry)) line.old (Ok tt) line.new }
+    ensures line { IsLine line.new }
+{
+    line.carry(Some(octets)).unwrap();
+}
+
+/// Each item goes over the connection of its number, and each terminal hears the octets that its end
+/// read.
+fn carry_items<
+    S: Read + Write + Drop,
+    A: Allocator,
+    B: Allocator,
+    C: Allocator,
+    E: Allocator + Copy,
+>(
+    alloc: E,
+    line: &mut Line<B>,
+    items: &[Option<Transmission<C>>],
+    cable: &mut Cable<S, A>,
+) -> Result<(), StepError>
+    requires { Fits line.old cable.old }
+    ensures { Acts S.contents S.remaining (heard_each items.now) line.old cable.old result line.new
+        cable.new }
+{
+    check_items(line, items.len())?;
+    let words = cross_each(alloc, cable, items)?;
+    let words = slices(alloc, &words)?;
+    hear_each(line, &words);
+    Ok(())
+}
+
+/// Whether the control station is sending, and this many items are one for each terminal.
+fn check_items<B: Allocator>(line: &Line<B>, count: usize) -> Result<(), LineError>
+    ensures right { OnOk result (WasSent line.now count) }
+    ensures wrong { IfErr result (λ why. IsRefusedEach line.now count why) }
+{
+    match line.pending() {
+        None => Err(LineError::NothingSent),
+        Some((Speaker::Terminal(_), _)) => Err(LineError::NotControl),
+        Some((Speaker::Control, _)) => {
+            if count == line.terminals() {
+                Ok(())
+            } else {
+                Err(LineError::WrongCount)
+            }
+        }
+    }
+}
+
+/// Each terminal hears its word.
+fn hear_each<B: Allocator>(line: &mut Line<B>, words: &[Option<&[u8]>])
+    requires { WasSent line.old (length words.entry.now) }
+    ensures does { Does (event.CarryEach words.entry) line.old (Ok tt) line.new }
+    ensures line { IsLine line.new }
+{
+    line.carry_each(words).unwrap();
+}

@@ -1,0 +1,99 @@
+//! What crosses the cable.
+
+ghost use Rattle.std.specs.Prelude.{◌≡◌, ◌≤◌, ◌<◌, length, map, option_map, OnOk, IfOk};
+ghost use Rattle.std.specs.Result.{result_err};
+ghost use Rattle.bsc_carrier.specs.Record.{IsCarried};
+ghost use Rattle.bsc_line_model.specs.Hearing.{octets_in};
+ghost use Rattle.bsc_run.specs.Crossing.{connection_count, HasConnection, Crosses, ItemCrosses, ItemsCross};
+
+use crate::error::StepError;
+use crate::step::Transmission;
+use bsc_carrier::{Cable, CarrierError, Octets};
+use bsc_line::Speaker;
+use std::alloc::{AllocError, Allocator};
+use std::io::{Read, Write};
+
+/// The octets go over the cable from this station to those that hear it: the octets that came.
+pub(crate) fn cross<S: Read + Write + Drop, A: Allocator>(
+    cable: &mut Cable<S, A>,
+    speaker: Speaker,
+    octets: &[u8],
+    heard: &mut Octets,
+) -> Result<(), CarrierError>
+    requires connected { HasConnection speaker cable.old }
+    requires carried { IsCarried octets.now }
+    ensures crossed { OnOk result
+        (Crosses S.contents S.remaining speaker octets.now heard.new.items cable.old cable.new) }
+    ensures count { connection_count cable.new ≡ connection_count cable.old }
+    ensures fault { cable.new.fault ≡ result_err result }
+{
+    match speaker {
+        Speaker::Control => cable.down(octets, heard),
+        Speaker::Terminal(terminal) => cable.up(terminal, octets, heard),
+    }
+}
+
+/// Each item goes over the connection of its number, one after the other: what came of each.
+pub(crate) fn cross_each<S: Read + Write + Drop, A: Allocator, B: Allocator, C: Allocator>(
+    alloc: C,
+    cable: &mut Cable<S, A>,
+    items: &[Option<Transmission<B>>],
+) -> Result<Vec<Option<Octets>, C>, StepError>
+    requires { length items.now ≤ connection_count cable.old }
+    ensures crossed { IfOk result (λ heard. ItemsCross S.contents S.remaining
+        items.now (map (option_map (λ w. w.items)) heard.items) cable.old cable.new) }
+    ensures count { connection_count cable.new ≡ connection_count cable.old }
+{
+    let mut heard = Vec::new(alloc);
+    'items: for (terminal, item) in items.iter().enumerate() {
+        let word = cross_item(cable, terminal, item)?;
+        heard.push(word)?;
+    }
+    Ok(heard)
+}
+
+/// An item goes over the connection of this number: what came of it.
+fn cross_item<S: Read + Write + Drop, A: Allocator, B: Allocator>(
+    cable: &mut Cable<S, A>,
+    terminal: usize,
+    item: &Option<Transmission<B>>,
+) -> Result<Option<Octets>, CarrierError>
+    requires { terminal < connection_count cable.old }
+    ensures crossed { IfOk result (λ word. ItemCrosses S.contents S.remaining terminal
+        item.now (option_map (λ w. w.items) word) cable.old cable.new) }
+    ensures count { connection_count cable.new ≡ connection_count cable.old }
+{
+    match item {
+        None => Ok(None),
+        Some(sent) => {
+            let mut heard = Octets::new();
+            cable.down_to(terminal, sent.as_slice(), &mut heard)?;
+            Ok(Some(heard))
+        }
+    }
+}
+
+/// The octets of each word.
+pub(crate) fn slices<'a, C: Allocator>(
+    alloc: C,
+    words: &'a [Option<Octets>],
+) -> Result<Vec<Option<&'a [u8]>, C>, AllocError>
+    ensures { IfOk result (λ slices.
+        map octets_in slices.items ≡ map (option_map (λ w. w.items)) words.now) }
+{
+    let mut slices = Vec::new(alloc);
+    'words: for word in words {
+        slices.push(slice_of(word))?;
+    }
+    Ok(slices)
+}
+
+/// The octets of a word.
+fn slice_of(word: &Option<Octets>) -> Option<&[u8]>
+    ensures { octets_in result ≡ option_map (λ w. w.items) word.now }
+{
+    match word {
+        Some(octets) => Some(octets.as_slice()),
+        None => None,
+    }
+}

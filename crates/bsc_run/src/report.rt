@@ -1,0 +1,154 @@
+//! The report of a line: what each channel offered, known and spooled, the records that arrived,
+//! and whether the line is trusted.
+
+ghost use Rattle.std.specs.Prelude.{◌≡◌, ◌<◌, OnOk};
+ghost use Rattle.std.specs.List.{flat_map};
+ghost use Rattle.std.specs.Io.KnownBytes.{Appends};
+ghost use Rattle.bsc_line_model.specs.Line.{terminal_count, IsChannel, channel_of};
+ghost use Rattle.bsc_line_model.specs.Offers.{select_count};
+ghost use Rattle.bsc_run.specs.Printed.{channel_name, counts_shown, doubt_shown, record_line, channel_lines, terminal_lines, trust_line, report_of};
+
+use crate::trace::put;
+use bsc_block::Record;
+use bsc_control::Way;
+use bsc_line::Line;
+use bsc_names::{PrintError, write_chars};
+use std::alloc::Allocator;
+use std::io::Write;
+
+/// Writes the report of a line: for each terminal what its channels have and the records that
+/// arrived on them, and whether the line is trusted.
+pub fn write_report<A: Allocator + Copy, B: Allocator, W: Write>(
+    alloc: A,
+    line: &Line<B>,
+    out: &mut W,
+) -> Result<(), PrintError>
+    ensures { OnOk result
+        (Appends (W.contents out.old) (W.contents out.new) (report_of line.now)) }
+{
+    'terminals: for terminal in 0..line.terminals() {
+        write_terminal(alloc, line, terminal, out)?;
+    }
+    put(trust_text(line.trusted()), out)
+}
+
+/// The last line.
+fn trust_text(trusted: bool) -> &'static [u8]
+    ensures { result.now ≡ trust_line trusted }
+{
+    if trusted { b"trusted\n" } else { b"not trusted\n" }
+}
+
+/// Writes the lines of a terminal.
+fn write_terminal<A: Allocator + Copy, B: Allocator, W: Write>(
+    alloc: A,
+    line: &Line<B>,
+    terminal: usize,
+    out: &mut W,
+) -> Result<(), PrintError>
+    requires { terminal < terminal_count line.now }
+    ensures { OnOk result
+        (Appends (W.contents out.old) (W.contents out.new) (terminal_lines line.now terminal)) }
+{
+    write_channel(alloc, line, terminal, Way::FromTerminal, out)?;
+    'selects: for select in 0..line.addresses(terminal) {
+        write_channel(alloc, line, terminal, Way::ToTerminal(select), out)?;
+    }
+    Ok(())
+}
+
+/// Writes the lines of a channel.
+fn write_channel<A: Allocator + Copy, B: Allocator, W: Write>(
+    alloc: A,
+    line: &Line<B>,
+    terminal: usize,
+    way: Way,
+    out: &mut W,
+) -> Result<(), PrintError>
+    requires { IsChannel line.now terminal way }
+    ensures { OnOk result
+        (Appends (W.contents out.old) (W.contents out.new) (channel_lines line.now terminal way)) }
+{
+    write_channel_name(line.addresses(terminal), terminal, way, out)?;
+    write_counts(line, terminal, way, out)?;
+    put(doubt_text(line.in_doubt(terminal, way)), out)?;
+    write_records(alloc, line.spooled(terminal, way), out)
+}
+
+/// Writes the name of a channel of a terminal that has this many selection addresses.
+fn write_channel_name<W: Write>(
+    addresses: usize,
+    terminal: usize,
+    way: Way,
+    out: &mut W,
+) -> Result<(), PrintError>
+    ensures { OnOk result
+        (Appends (W.contents out.old) (W.contents out.new) (channel_name addresses terminal way)) }
+{
+    let written = match way {
+        Way::FromTerminal => write!(out, "from {terminal}"),
+        Way::ToTerminal(_) if addresses == 1 => write!(out, "to {terminal}"),
+        Way::ToTerminal(select) => write!(out, "to {terminal}.{select}"),
+    };
+    match written {
+        Ok(()) => Ok(()),
+        Err(_) => Err(PrintError::Output),
+    }
+}
+
+/// Writes how many records a channel has offered, known and spooled.
+fn write_counts<B: Allocator, W: Write>(
+    line: &Line<B>,
+    terminal: usize,
+    way: Way,
+    out: &mut W,
+) -> Result<(), PrintError>
+    requires { IsChannel line.now terminal way }
+    ensures { OnOk result
+        (Appends (W.contents out.old) (W.contents out.new)
+        (counts_shown (channel_of line.now terminal way))) }
+{
+    let offered = line.offered(terminal, way).len();
+    let known = line.known(terminal, way);
+    let spooled = line.spooled(terminal, way).len();
+    match write!(out, ": offered {offered}, known {known}, spooled {spooled}") {
+        Ok(()) => Ok(()),
+        Err(_) => Err(PrintError::Output),
+    }
+}
+
+/// The end of a channel's line.
+fn doubt_text(doubt: bool) -> &'static [u8]
+    ensures { result.now ≡ doubt_shown doubt }
+{
+    if doubt { b", in doubt\n" } else { b"\n" }
+}
+
+/// Writes a line for each record.
+fn write_records<A: Allocator + Copy, W: Write>(
+    alloc: A,
+    records: &[Record],
+    out: &mut W,
+) -> Result<(), PrintError>
+    ensures { OnOk result
+        (Appends (W.contents out.old) (W.contents out.new) (flat_map record_line records.now)) }
+{
+    'records: for record in records {
+        write_record(alloc, record.chars(), out)?;
+    }
+    Ok(())
+}
+
+/// Writes the line of a record of these characters.
+fn write_record<A: Allocator, W: Write>(
+    alloc: A,
+    chars: &[u8],
+    out: &mut W,
+) -> Result<(), PrintError>
+    ensures { OnOk result
+        (Appends (W.contents out.old) (W.contents out.new) (record_line chars.now)) }
+{
+    put(b"  ", out)?;
+    write_chars(alloc, chars, out)?;
+    put(b"\n", out)
+}
