@@ -2,3 +2,5 @@ pub mod Appending
 pub mod Pending
 pub mod Items
 pub mod Speaking
+pub mod Acting
+pub mod Playing

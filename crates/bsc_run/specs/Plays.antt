@@ -1,5 +1,5 @@
 -- What a run of a script does and prints (own).
-use Rattle.std.specs.Prelude.{⊤, ◌≡◌, ◌⊎◌, ℕ, List, [], ◌∷◌, ◌++◌, Option, Result, Ok, Err}
+use Rattle.std.specs.Prelude.{⊤, ◌≡◌, ◌⊎◌, ℕ, List, [], ◌∷◌, ◌++◌, Option, Result, Ok, Err, OnOk}
 use Rattle.std.specs.Io.KnownBytes.{Appends}
 use Rattle.bsc_carrier.specs.Cable.{CableValue}
 use Rattle.bsc_line_model.specs.declared.error.LineError.{LineError}
@@ -9,6 +9,7 @@ use Rattle.bsc_run.specs.Actions.{NumberedEvent}
 use Rattle.bsc_run.specs.declared.error.RunError.{RunError}
 use Rattle.bsc_run.specs.declared.error.RunError.TheVariants.{Refused}
 use Rattle.bsc_run.specs.Printed.{report_of}
+use Rattle.bsc_run.specs.Speaking.{Fits}
 use Rattle.bsc_run.specs.Steps.{Accepts, Refuses, trace_after}
 
 -- the event is the first that is refused: nothing goes over the cable and nothing is printed
@@ -45,12 +46,30 @@ module _ {S : Type 0} (contents remaining : S → Option (List ℕ)) where
       ⊎ GoesOn step old before text
         (λ mid between rest. Plays steps mid between result new after rest)
 
+  -- one event of a script is done or refused, and what is printed for it was written
+  pub record TakesStep (step : NumberedEvent) (old : LineValue) (before : CableValue S)
+      (result : Result (Unit {0}) RunError) (new : LineValue) (after : CableValue S)
+      (held holds : Option (List ℕ)) : Type 0 where
+    pub accepted : OnOk result (Accepts contents remaining step.event old before new after)
+    pub fits : OnOk result (Fits new after)
+    pub printed : OnOk result (Appends held holds (trace_after step.event new))
+    pub refused : (line : ℕ) (why : LineError) → result ≡ Err (Refused line why)
+        → (line ≡ step.line) × Refuses step.event why old new × (after ≡ before)
+        × Appends held holds []
+
+  -- what was written is what a run of the events prints
+  pub record Played (steps : List NumberedEvent) (old : LineValue) (before : CableValue S)
+      (result : Result (Unit {0}) RunError) (new : LineValue) (after : CableValue S)
+      (held holds : Option (List ℕ)) : Type 0 where
+    pub text : List ℕ
+    pub plays : Plays steps old before result new after text
+    pub written : Appends held holds text
+
   -- what was written is what a run of the events prints, and then the report of the line that it
   -- leaves
   pub record Runs (steps : List NumberedEvent) (old : LineValue) (before : CableValue S)
-      (result : Result (Unit {0}) RunError) (after : CableValue S) (held holds : Option (List ℕ))
-      : Type 0 where
-    pub new : LineValue
+      (result : Result (Unit {0}) RunError) (new : LineValue) (after : CableValue S)
+      (held holds : Option (List ℕ)) : Type 0 where
     pub text : List ℕ
     pub plays : Plays steps old before result new after text
     pub written : Appends held holds (text ++ report_of new)

@@ -1,5 +1,5 @@
 -- What the events of a script do to a line and a cable (own).
-use Rattle.std.specs.Prelude.{◌≡◌, ℕ, List, [], length, map, Option, None, Some, Result, Ok, Err, OnOk}
+use Rattle.std.specs.Prelude.{◌≡◌, ℕ, Bool, true, false, if◌then◌else◌, List, [], length, map, Option, None, Some, Result, Ok, Err, OnOk}
 use Rattle.std.specs.Borrow.{Bor}
 use Rattle.bsc_frame.specs.declared.message.Message.{Message}
 use Rattle.bsc_frame.specs.Wire.{wire}
@@ -92,12 +92,16 @@ module _ {S : Type 0} (contents remaining : S → Option (List ℕ)) where
     pub refused : (why : LineError) → result ≡ Err (Refused why)
         → Refuses asked why old new × (after ≡ before)
 
+-- something is heard, or was to be heard
+abbrev pub is_heard : Asked → Bool
+is_heard carry = true
+is_heard lose = true
+is_heard (heard given) = true
+is_heard (heard_each items) = true
+is_heard silence = true
+is_heard _ = false
+
 -- what is printed after an accepted event: what is then pending, where something was heard or was to
 -- be heard
 abbrev pub trace_after : Asked → LineValue → List ℕ
-trace_after carry l = pending_line l.pending
-trace_after lose l = pending_line l.pending
-trace_after (heard given) l = pending_line l.pending
-trace_after (heard_each items) l = pending_line l.pending
-trace_after silence l = pending_line l.pending
-trace_after _ l = []
+trace_after asked l = if is_heard asked then pending_line l.pending else []

@@ -198,7 +198,7 @@ fn check_items<B: Allocator>(line: &Line<B>, count: usize) -> Result<(), LineErr
 
 /// Each terminal hears its word.
 fn hear_each<B: Allocator>(line: &mut Line<B>, words: &[Option<&[u8]>])
-    requires { WasSent line.old (length words.entry.now) }
+    requires { WasSent line.old (length words.now) }
     ensures does { Does (event.CarryEach words.entry) line.old (Ok tt) line.new }
     ensures line { IsLine line.new }
 {

@@ -5,9 +5,11 @@
 mod actions;
 mod crossing;
 mod error;
+mod play;
 mod report;
 mod step;
 mod trace;
 
 pub use error::RunError;
+pub use play::run_on;
 pub use step::{Action, Step, Transmission};

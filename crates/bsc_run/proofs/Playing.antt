@@ -1,0 +1,76 @@
+-- What has been played of a script so far.
+use Rattle.std.proofs.Common.{◌≡◌, ◌<◌, ℕ, zero, suc, ◌+◌, List, [], ◌∷◌, ◌++◌, length, map, drop, get_or, inl, inr, Option, None, Some, Result, Ok, Err, refl, sym, ◌∙◌, ap, subst, arith, append_assoc, append-nil, add-one}
+use Rattle.std.specs.Io.KnownBytes.{Appends}
+use Rattle.std.proofs.KnownBytes.{Appends-nil, Appends-trans}
+use Rattle.bsc_carrier.specs.Cable.{CableValue}
+use Rattle.bsc_line_model.specs.declared.error.LineError.{LineError}
+use Rattle.bsc_line_model.specs.Line.{LineValue}
+use Rattle.bsc_line_model.specs.Kept.{IsLine}
+use Rattle.bsc_run.specs.Actions.{NumberedEvent}
+use Rattle.bsc_run.specs.declared.error.RunError.{RunError}
+use Rattle.bsc_run.specs.declared.error.RunError.TheVariants.{Refused}
+use Rattle.bsc_run.specs.Plays.{Plays, Played, TakesStep, WhereWhole}
+use Rattle.bsc_run.specs.Steps.{Accepts, trace_after}
+
+drop_map_suc : {X Y : Type 0} (f : X → Y) (xs : List X) (i : ℕ) (x : X) → i < length xs → x ≡ get_or xs i x → drop i (map f xs) ≡ f x ∷ drop (suc i) (map f xs)
+drop_map_suc f [] i x h e = absurd (omega arith)
+drop_map_suc f (y ∷ ys) zero x h e = ap (λ z. f z ∷ map f ys) (sym e)
+drop_map_suc f (y ∷ ys) (suc i) x h e = drop_map_suc f ys i x (omega arith) e
+
+-- the first of what is left
+pub drop_map : {X Y : Type 0} (f : X → Y) (xs : List X) (i : ℕ) (x : X) → i < length xs → x ≡ get_or xs i x → drop i (map f xs) ≡ f x ∷ drop (i + 1) (map f xs)
+drop_map f xs i x h e = rw add-one (drop_map_suc f xs i x h e)
+
+module _ {S : Type 0} (contents remaining : S → Option (List ℕ)) (all : List NumberedEvent) (first : LineValue) (before : CableValue S) where
+  -- what was written so far, and a run of what is left makes a run of all
+  pub record HasPlayed (left : List NumberedEvent) (mid : LineValue) (between : CableValue S) (held holds : Option (List ℕ)) : Type 0 where
+    pub text : List ℕ
+    pub written : Appends held holds text
+    pub goes : (result : Result (Unit {0}) RunError) (new : LineValue) (after : CableValue S) (rest : List ℕ)
+        → Plays contents remaining left mid between result new after rest → Plays contents remaining all first before result new after (text ++ rest)
+
+  -- an event is accepted
+  pub has_played_more : (step : NumberedEvent) (left : List NumberedEvent) (mid new : LineValue) (between after : CableValue S) (a b c : Option (List ℕ))
+      → HasPlayed (step ∷ left) mid between a b → IsLine new → Accepts contents remaining step.event mid between new after
+      → Appends b c (trace_after step.event new) → HasPlayed left new after a c
+  has_played_more step left mid new between after a b c h line accepted written = record {
+    text = h.text ++ trace_after step.event new;
+    written = Appends-trans a b c h.text (trace_after step.event new) h.written written;
+    goes = λ result last end rest p.
+      rw (append_assoc h.text (trace_after step.event new) rest)
+      (h.goes result last end (trace_after step.event new ++ rest)
+      (inr record { mid = new; between = after; rest = rest; line = line; accepted = accepted; printed = refl; goes = p }));
+  }
+
+  -- no event is left
+  pub has_played_all : (mid : LineValue) (between : CableValue S) (a b : Option (List ℕ)) → HasPlayed [] mid between a b
+      → Played contents remaining all first before (Ok tt) mid between a b
+  has_played_all mid between a b h = record {
+    text = h.text ++ [];
+    plays = h.goes (Ok tt) mid between [] (refl, refl, refl);
+    written = rw (append-nil h.text) h.written;
+  }
+
+  -- the next event is refused, or a fault breaks it off
+  pub has_played_stop : (step : NumberedEvent) (left : List NumberedEvent) (mid new : LineValue) (between after : CableValue S) (a b c : Option (List ℕ)) (error : RunError)
+      → HasPlayed (step ∷ left) mid between a b → TakesStep contents remaining step mid between (Err error) new after b c
+      → WhereWhole (Err error) (Played contents remaining all first before (Err error) new after a c)
+  has_played_stop step left mid new between after a b c (Refused line why) h t =
+      let r = t.refused line why refl in
+      record {
+        text = h.text ++ [];
+        plays = h.goes (Err (Refused line why)) new after [] (inl record {
+          why = why;
+          answer = ap (λ n. Err (Refused n why)) r.0;
+          refused = r.1;
+          untouched = r.2;
+          nothing = refl;
+        });
+        written = Appends-trans a b c h.text [] h.written r.3;
+      }
+  has_played_stop step left mid new between after a b c _ h t = tt
+
+-- nothing was played yet
+pub has_played_none : {S : Type 0} (contents remaining : S → Option (List ℕ)) (all : List NumberedEvent) (first : LineValue) (before : CableValue S) (a : Option (List ℕ))
+    → HasPlayed contents remaining all first before all first before a a
+has_played_none contents remaining all first before a = record { text = []; written = Appends-nil a; goes = λ result new after rest p. p }

@@ -1,0 +1,134 @@
+//! The events of a script in their order, what is printed after each, and the report.
+
+ghost use Rattle.std.specs.Prelude.{◌≡◌, map, OnOk};
+ghost use Rattle.std.specs.Io.KnownBytes.{Appends};
+ghost use Rattle.bsc_run.specs.Actions.{event_in, numbered};
+ghost use Rattle.bsc_run.specs.Plays.{TakesStep, Played, Runs, WhereWhole};
+ghost use Rattle.bsc_run.specs.Speaking.{Fits};
+ghost use Rattle.bsc_run.specs.Steps.{is_heard as is_heard_event, trace_after};
+
+use crate::actions::act;
+use crate::error::RunError;
+use crate::report::write_report;
+use crate::step::{Action, Step};
+use crate::trace::write_pending;
+use bsc_carrier::Cable;
+use bsc_line::Line;
+use bsc_names::PrintError;
+use std::alloc::Allocator;
+use std::io::{Read, Write};
+
+/// Runs the events of a script on a line, over a cable, in their order and up to the first that is
+/// refused. What is pending is printed after each event that is heard or was to be heard, and the
+/// report at the end, also where an event is refused. After `Output`, `Socket` and `Memory` there is
+/// no report, and what was written before stays.
+pub fn run_on<
+    S: Read + Write + Drop,
+    A: Allocator,
+    B: Allocator,
+    C: Allocator,
+    E: Allocator + Copy,
+    W: Write,
+>(
+    alloc: E,
+    line: &mut Line<B>,
+    steps: &[Step<'_, C>],
+    cable: &mut Cable<S, A>,
+    out: &mut W,
+) -> Result<(), RunError>
+    requires { Fits line.old cable.old }
+    ensures { WhereWhole result (Runs S.contents S.remaining (map numbered steps.now)
+        line.old cable.old result line.new cable.new (W.contents out.old) (W.contents out.new)) }
+{
+    match play(alloc, line, steps, cable, out) {
+        Ok(()) => Ok(write_report(alloc, line, out)?),
+        Err(RunError::Refused { line: number, why }) => {
+            write_report(alloc, line, out)?;
+            Err(RunError::Refused { line: number, why })
+        }
+        Err(fault) => Err(fault),
+    }
+}
+
+/// Does the events in their order, up to the first that is refused, and prints what is pending after
+/// them.
+fn play<
+    S: Read + Write + Drop,
+    A: Allocator,
+    B: Allocator,
+    C: Allocator,
+    E: Allocator + Copy,
+    W: Write,
+>(
+    alloc: E,
+    line: &mut Line<B>,
+    steps: &[Step<'_, C>],
+    cable: &mut Cable<S, A>,
+    out: &mut W,
+) -> Result<(), RunError>
+    requires { Fits line.old cable.old }
+    ensures { WhereWhole result (Played S.contents S.remaining (map numbered steps.now)
+        line.old cable.old result line.new cable.new (W.contents out.old) (W.contents out.new)) }
+{
+    'steps: for step in steps {
+        if let Err(error) = take(alloc, line, step, cable, out) {
+            return Err(error);
+        }
+    }
+    Ok(())
+}
+
+/// Does one event, and prints what is then pending where something was heard or was to be heard.
+fn take<
+    S: Read + Write + Drop,
+    A: Allocator,
+    B: Allocator,
+    C: Allocator,
+    E: Allocator + Copy,
+    W: Write,
+>(
+    alloc: E,
+    line: &mut Line<B>,
+    step: &Step<'_, C>,
+    cable: &mut Cable<S, A>,
+    out: &mut W,
+) -> Result<(), RunError>
+    requires { Fits line.old cable.old }
+    ensures { TakesStep S.contents S.remaining (numbered step.now) line.old cable.old result
+        line.new cable.new (W.contents out.old) (W.contents out.new) }
+{
+    match act(alloc, line, &step.action, cable) {
+        Ok(()) => Ok(write_trace(alloc, &step.action, line, out)?),
+        Err(error) => Err(error.at(step.line)),
+    }
+}
+
+/// Writes what is pending after this action, where something was heard or was to be heard.
+fn write_trace<B: Allocator, C: Allocator, E: Allocator + Copy, W: Write>(
+    alloc: E,
+    action: &Action<'_, C>,
+    line: &Line<B>,
+    out: &mut W,
+) -> Result<(), PrintError>
+    ensures { OnOk result (Appends (W.contents out.old) (W.contents out.new)
+        (trace_after (event_in action.now) line.now)) }
+{
+    if is_heard(action) {
+        return write_pending(alloc, line, out);
+    }
+    Ok(())
+}
+
+/// Whether something is heard, or was to be heard.
+fn is_heard<C: Allocator>(action: &Action<'_, C>) -> bool
+    ensures { result ≡ is_heard_event (event_in action.now) }
+{
+    match action {
+        Action::Carry
+        | Action::Lose
+        | Action::Heard { .. }
+        | Action::HeardEach { .. }
+        | Action::Silence => true,
+        _ => false,
+    }
+}
