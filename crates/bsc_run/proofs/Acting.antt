@@ -14,7 +14,9 @@ use Rattle.bsc_line_model.specs.Offers.{OffersAt, OffersFor}
 use Rattle.bsc_line_model.specs.Runs.{Does}
 use Rattle.bsc_run.specs.Events.{Event as Asked, offer_at, offer_for, heard_each}
 use Rattle.bsc_run.specs.Crossing.{connection_count, ItemsCross}
-use Rattle.bsc_run.specs.Faults.{told}
+use Rattle.bsc_run.specs.declared.error.StepError.{StepError}
+use Rattle.bsc_run.specs.declared.error.StepError.TheVariants as step
+use Rattle.bsc_run.specs.Faults.{told, IsFault}
 use Rattle.bsc_run.specs.Hearing.{IsRefusedEach}
 use Rattle.bsc_run.specs.Speaking.{Fits}
 use Rattle.bsc_run.specs.Steps.{MayBe, Refuses, Sends, HearsOctets, Crossing, Acts}
@@ -83,6 +85,14 @@ module _ {S : Type 0} (contents remaining : S → Option (List ℕ)) where
     fits = fits_after (event.CarryEach words) old new before after f d line count;
     refused = λ w q. cc;
   }
+
+-- a fault breaks it off
+pub acts_fault : {S : Type 0} (contents remaining : S → Option (List ℕ)) (asked : Asked) (old new : LineValue) (before after : CableValue S) (e : StepError)
+    → IsFault e → Acts contents remaining asked old before (Err e) new after
+acts_fault contents remaining asked old new before after (step.Refused w) h = absurd h
+acts_fault contents remaining asked old new before after step.Output h = record { accepted = tt; fits = tt; refused = λ w q. cc }
+acts_fault contents remaining asked old new before after step.Socket h = record { accepted = tt; fits = tt; refused = λ w q. cc }
+acts_fault contents remaining asked old new before after step.Memory h = record { accepted = tt; fits = tt; refused = λ w q. cc }
 
 -- items that are not one for each terminal, or that are not to be heard, are refused whatever was heard
 pub refuses_items : (items : List (Option (List ℕ))) (old : LineValue) (w : LineError) → IsRefusedEach old (length items) w → Refuses (heard_each items) w old old

@@ -1,8 +1,10 @@
 -- Items that cross a cable one after the other.
-use Rattle.std.proofs.Common.{◌≡◌, ◌<◌, ◌≤◌, ℕ, ◌+◌, List, ◌∷◌, [], ◌++◌, length, take, map, Option, None, Some, option_map, get_or, refl, sym, ◌∙◌, ap, subst, arith}
-use Rattle.std.proofs.lemmas.List.{take_more, length-take-le, map-append}
+use Rattle.std.proofs.Common.{◌≡◌, ◌<◌, ◌≤◌, ℕ, ◌+◌, List, ◌∷◌, [], ◌++◌, length, take, map, Option, None, Some, option_map, get_or, refl, sym, ◌∙◌, ap, subst, arith, length-append}
+use Rattle.std.proofs.lemmas.List.{take_more, length-take-le, map-append, length-map}
+use Rattle.std.specs.Borrow.{Bor}
 use Rattle.bsc_carrier.specs.Cable.{CableValue}
-use Rattle.bsc_run.specs.Crossing.{ItemCrosses, ItemsCross, one_more}
+use Rattle.bsc_line_model.specs.Hearing.{octets_in}
+use Rattle.bsc_run.specs.Crossing.{ItemCrosses, ItemsCross, none, one_more}
 
 -- the next item crosses
 pub items_cross_more : {S W : Type 0} (contents remaining : S → Option (List ℕ)) (octets : Option W → Option (List ℕ))
@@ -17,3 +19,17 @@ items_cross_more {S} contents remaining octets items words t item word old mid n
     let place : length (take t items) ≡ t = length-take-le t items (omega arith) in
     rw (all, map-append octets words (word ∷ []))
     (one_more item (octets word) before (subst (λ (k : ℕ). ItemCrosses contents remaining k item (octets word) mid new) (sym place) crossed))
+
+-- as many words come as items went
+length_crossed : {S : Type 0} {contents remaining : S → Option (List ℕ)} {items heard : List (Option (List ℕ))} {old new : CableValue S}
+    → ItemsCross contents remaining items heard old new → length heard ≡ length items
+length_crossed none = refl
+length_crossed (one_more {items} {heard} item word before crossed) =
+    length-append heard (word ∷ []) ∙ ap (λ (n : ℕ). n + 1) (length_crossed before) ∙ sym (length-append items (item ∷ []))
+
+pub slices_count : {S W : Type 0} (contents remaining : S → Option (List ℕ)) (octets : Option W → Option (List ℕ))
+    (items : List (Option (List ℕ))) (words : List (Option W)) (slices : List (Option (Bor (List ℕ)))) (old new : CableValue S)
+    → ItemsCross contents remaining items (map octets words) old new → map octets_in slices ≡ map octets words
+    → length slices ≡ length items
+slices_count contents remaining octets items words slices old new crossed same =
+    sym (length-map octets_in slices) ∙ ap length same ∙ length_crossed crossed

@@ -22,6 +22,11 @@ abbrev pub told : Result (Unit {0}) LineError → Result (Unit {0}) StepError
 told (Ok done) = Ok done
 told (Err why) = Err (step.Refused why)
 
+-- a fault, and no refusal
+abbrev pub IsFault : StepError → Type 0
+IsFault (step.Refused why) = ⊥
+IsFault _ = Unit {0}
+
 -- the error of the step of this line of the script
 abbrev pub fault_at : ℕ → StepError → RunError
 fault_at line step.Output = Output

@@ -1,9 +1,10 @@
 //! What crosses the cable.
 
-ghost use Rattle.std.specs.Prelude.{◌≡◌, ◌≤◌, ◌<◌, length, map, option_map, OnOk, IfOk};
+ghost use Rattle.std.specs.Prelude.{◌≡◌, ◌≤◌, ◌<◌, length, map, option_map, OnOk, IfOk, IfErr};
 ghost use Rattle.std.specs.Result.{result_err};
 ghost use Rattle.bsc_carrier.specs.Record.{IsCarried};
 ghost use Rattle.bsc_line_model.specs.Hearing.{octets_in};
+ghost use Rattle.bsc_run.specs.Faults.{IsFault};
 ghost use Rattle.bsc_run.specs.Crossing.{connection_count, HasConnection, Crosses, ItemCrosses, ItemsCross};
 
 use crate::error::StepError;
@@ -42,6 +43,7 @@ pub(crate) fn cross_each<S: Read + Write + Drop, A: Allocator, B: Allocator, C: 
     requires { length items.now ≤ connection_count cable.old }
     ensures crossed { IfOk result (λ heard. ItemsCross S.contents S.remaining
         items.now (map (option_map (λ w. w.items)) heard.items) cable.old cable.new) }
+    ensures faults { IfErr result IsFault }
     ensures count { connection_count cable.new ≡ connection_count cable.old }
 {
     let mut heard = Vec::new(alloc);
