@@ -32,4 +32,4 @@ pub slices_count : {S W : Type 0} (contents remaining : S → Option (List ℕ))
     → ItemsCross contents remaining items (map octets words) old new → map octets_in slices ≡ map octets words
     → length slices ≡ length items
 slices_count contents remaining octets items words slices old new crossed same =
-    sym (length-map octets_in slices) ∙ ap length same ∙ length_crossed crossed
+    sym (length-map slices octets_in) ∙ ap length same ∙ length_crossed crossed
