@@ -12,7 +12,7 @@ use Rattle.bsc_line_model.specs.Line.{LineValue}
 use Rattle.bsc_line_model.specs.Kept.{IsLine}
 use Rattle.bsc_line_model.specs.Offers.{OffersAt, OffersFor}
 use Rattle.bsc_line_model.specs.Runs.{Does}
-use Rattle.bsc_run.specs.Events.{Event as Asked, offer_at, offer_for, heard_each}
+use Rattle.bsc_script.specs.Events.{Event as Asked, offer_at, offer_for, heard_each}
 use Rattle.bsc_run.specs.Crossing.{connection_count, ItemsCross}
 use Rattle.bsc_run.specs.declared.error.StepError.{StepError}
 use Rattle.bsc_run.specs.declared.error.StepError.TheVariants as step

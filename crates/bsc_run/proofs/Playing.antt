@@ -6,7 +6,7 @@ use Rattle.bsc_carrier.specs.Cable.{CableValue}
 use Rattle.bsc_line_model.specs.declared.error.LineError.{LineError}
 use Rattle.bsc_line_model.specs.Line.{LineValue}
 use Rattle.bsc_line_model.specs.Kept.{IsLine}
-use Rattle.bsc_run.specs.Actions.{NumberedEvent}
+use Rattle.bsc_script.specs.Actions.{NumberedEvent}
 use Rattle.bsc_run.specs.declared.error.RunError.{RunError}
 use Rattle.bsc_run.specs.declared.error.RunError.TheVariants.{Refused}
 use Rattle.bsc_run.specs.declared.error.StepError.{StepError}

@@ -3,6 +3,8 @@ use Rattle.std.proofs.Common.{◌≡◌, ◌<◌, ◌≤◌, ℕ, ◌+◌, zero,
 use Rattle.std.proofs.lemmas.List.{length-set}
 use Rattle.bsc_frame.specs.declared.message.Message.{Message}
 use Rattle.bsc_frame.specs.declared.message.Heard.{Heard}
+use Rattle.bsc_text.specs.Setup.{SetupValue}
+use Rattle.bsc_text.specs.Terminal.{TerminalValue}
 use Rattle.bsc_carrier.specs.Cable.{CableValue}
 use Rattle.bsc_control.specs.declared.way.Way.{Way}
 use Rattle.bsc_control.specs.declared.way.Way.TheVariants.{FromTerminal, ToTerminal}
@@ -17,7 +19,7 @@ use Rattle.bsc_line_model.specs.Hearing.{heard_at}
 use Rattle.bsc_line_model.specs.Terminals.{or_first, first_answer, answer_of, line_owner}
 use Rattle.bsc_line_model.specs.Carries.{IsCarriedBy, OwnerActs}
 use Rattle.bsc_line_model.specs.Offers.{ReleasesWay}
-use Rattle.bsc_line_model.specs.Kept.{IsLine}
+use Rattle.bsc_line_model.specs.Kept.{IsLine, IsNewLine}
 use Rattle.bsc_line_model.specs.Runs.{Does}
 use Rattle.bsc_run.specs.Crossing.{connection_count}
 use Rattle.bsc_run.specs.Speaking.{IsStation, IsSpeakerThere, Fits}
@@ -106,4 +108,13 @@ fits_after e old new before after f d line count = record {
   line = line;
   connections = count ∙ f.connections ∙ sym (count_kept e old new d);
   speaker = speaker_moved old new new.pending (count_kept e old new d) (speaker_there e old new d f.speaker);
+}
+
+-- nobody speaks on a new line
+pub new_line_fits : {S : Type 0} (setup : SetupValue) (given : List TerminalValue) (poll_list : List ℕ) (l : LineValue) (c : CableValue S)
+    → IsNewLine setup given poll_list l → IsLine l → connection_count c ≡ length given → Fits l c
+new_line_fits setup given poll_list l c new line count = record {
+  line = line;
+  connections = count ∙ sym new.terminals.count;
+  speaker = there_by l l.pending None new.pending tt;
 }

@@ -3,7 +3,6 @@ pub mod Printed
 pub mod Crossing
 pub mod Speaking
 pub mod Hearing
-pub mod Events
-pub mod Actions
 pub mod Steps
 pub mod Plays
+pub mod Runs

@@ -11,7 +11,7 @@ use Rattle.bsc_line_model.specs.declared.event.Event.TheVariants as event
 use Rattle.bsc_line_model.specs.Hearing.{octets_in}
 use Rattle.bsc_line_model.specs.Line.{LineValue}
 use Rattle.bsc_line_model.specs.Runs.{Does}
-use Rattle.bsc_run.specs.Events.{Event as Asked, offer_at, offer_for, carry, lose, heard, heard_each, silence, ready, urgent_at, urgent_for, release}
+use Rattle.bsc_script.specs.Events.{Event as Asked, offer_at, offer_for, carry, lose, heard, heard_each, silence, ready, urgent_at, urgent_for, release}
 use Rattle.bsc_run.specs.declared.error.StepError.{StepError}
 use Rattle.bsc_run.specs.declared.error.StepError.TheVariants.{Refused}
 use Rattle.bsc_run.specs.Crossing.{Crosses, ItemsCross}

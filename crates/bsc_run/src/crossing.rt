@@ -8,7 +8,7 @@ ghost use Rattle.bsc_run.specs.Faults.{IsFault};
 ghost use Rattle.bsc_run.specs.Crossing.{connection_count, HasConnection, Crosses, ItemCrosses, ItemsCross};
 
 use crate::error::StepError;
-use crate::step::Transmission;
+use bsc_script::Transmission;
 use bsc_carrier::{Cable, CarrierError, Octets};
 use bsc_line::Speaker;
 use std::alloc::{AllocError, Allocator};

@@ -2,7 +2,7 @@
 
 ghost use Rattle.std.specs.Prelude.{◌≡◌, map, OnOk};
 ghost use Rattle.std.specs.Io.KnownBytes.{Appends};
-ghost use Rattle.bsc_run.specs.Actions.{event_in, numbered};
+ghost use Rattle.bsc_script.specs.Actions.{event_in, numbered};
 ghost use Rattle.bsc_run.specs.Plays.{TakesStep, Played, Runs, WhereWhole};
 ghost use Rattle.bsc_run.specs.Speaking.{Fits};
 ghost use Rattle.bsc_run.specs.Steps.{is_heard as is_heard_event, trace_after};
@@ -10,7 +10,7 @@ ghost use Rattle.bsc_run.specs.Steps.{is_heard as is_heard_event, trace_after};
 use crate::actions::act;
 use crate::error::RunError;
 use crate::report::write_report;
-use crate::step::{Action, Step};
+use bsc_script::{Action, Step};
 use crate::trace::write_pending;
 use bsc_carrier::Cable;
 use bsc_line::Line;

@@ -1,6 +1,6 @@
 use Rattle.std.proofs.Common.{refl, None}
 use Rattle.bsc_line_model.specs.declared.event.Event.TheVariants as event
-use Rattle.bsc_run.specs.Events.{lose, silence, ready, urgent_at, urgent_for, release}
+use Rattle.bsc_script.specs.Events.{lose, silence, ready, urgent_at, urgent_for, release}
 use Rattle.bsc_run.proofs.Acting.{acts_as, offers_at, offers_for}
 use Rattle.bsc_run.proofs.actions.act.Goals as goal
 

@@ -1,5 +1,5 @@
 use Rattle.bsc_frame.specs.Wire.{wire}
-use Rattle.bsc_run.specs.Events.{carry}
+use Rattle.bsc_script.specs.Events.{carry}
 use Rattle.bsc_run.proofs.Acting.{hears_octets}
 use Rattle.bsc_run.proofs.actions.carry_pending.Goals as goal
 

@@ -1,5 +1,5 @@
 use Rattle.std.proofs.Common.{map, drop, ◌+◌, arith}
-use Rattle.bsc_run.specs.Actions.{numbered}
+use Rattle.bsc_script.specs.Actions.{numbered}
 use Rattle.bsc_run.proofs.Playing.{drop_map, drop_map_all, has_played_none, has_played_more, has_played_all, has_played_stop}
 use Rattle.bsc_run.proofs.play.play.Goals as goal
 

@@ -1,5 +1,5 @@
 use Rattle.std.proofs.Common.{map, drop}
-use Rattle.bsc_run.specs.Actions.{numbered}
+use Rattle.bsc_script.specs.Actions.{numbered}
 use Rattle.bsc_run.specs.Speaking.{Fits}
 use Rattle.bsc_run.proofs.Playing.{HasPlayed}
 use Rattle.bsc_run.proofs.play.play.Given as goal

@@ -1,6 +1,6 @@
 use Rattle.std.proofs.Common.{map, Ok, Err}
 use Rattle.bsc_run.specs.declared.error.RunError.TheVariants.{Refused}
-use Rattle.bsc_run.specs.Actions.{numbered}
+use Rattle.bsc_script.specs.Actions.{numbered}
 use Rattle.bsc_run.proofs.Playing.{runs_reported}
 use Rattle.bsc_run.proofs.play.run_on.Goals as goal
 

@@ -1,0 +1,8 @@
+//! Whole runs: over loopback connections of which the test holds both ends, and over streams in
+//! memory that give what they are told to.
+
+mod faults;
+mod fixtures;
+mod refusals;
+mod runs;
+mod streams;
