@@ -4,3 +4,4 @@ pub mod Items
 pub mod Speaking
 pub mod Acting
 pub mod Playing
+pub mod LineRuns

@@ -125,3 +125,9 @@ runs_reported contents remaining steps old new before after result a b c p writt
   plays = p.plays;
   written = Appends-trans a b c p.text (report_of new) p.written written;
 }
+
+-- what holds of a run that no fault broke off
+pub where_whole : {P Q : Type 0} (r : Result (Unit {0}) RunError) → (P → Q) → WhereWhole r P → WhereWhole r Q
+where_whole (Ok done) f p = f p
+where_whole (Err (Refused line why)) f p = f p
+where_whole (Err _) f p = p

@@ -6,3 +6,4 @@ pub mod Hearing
 pub mod Steps
 pub mod Plays
 pub mod Runs
+pub mod LineRuns

@@ -3,6 +3,7 @@
 ghost use Rattle.std.specs.Prelude.{◌≡◌, map, OnOk};
 ghost use Rattle.std.specs.Io.KnownBytes.{Appends};
 ghost use Rattle.bsc_script.specs.Actions.{event_in, numbered};
+ghost use Rattle.bsc_run.specs.LineRuns.{RunsLine};
 ghost use Rattle.bsc_run.specs.Plays.{TakesStep, Played, Runs, WhereWhole};
 ghost use Rattle.bsc_run.specs.Speaking.{Fits};
 ghost use Rattle.bsc_run.specs.Steps.{is_heard as is_heard_event, trace_after};
@@ -37,8 +38,12 @@ pub fn run_on<
     out: &mut W,
 ) -> Result<(), RunError>
     requires { Fits line.old cable.old }
-    ensures { WhereWhole result (Runs S.contents S.remaining (map numbered steps.now)
+    ensures does { WhereWhole result (Runs S.contents S.remaining (map numbered steps.now)
         line.old cable.old result line.new cable.new (W.contents out.old) (W.contents out.new)) }
+
+    // The line went through a run of its own events, so that what is promised of every run of a line
+    // holds of it.
+    ensures line { WhereWhole result (RunsLine line.old result line.new) }
 {
     match play(alloc, line, steps, cable, out) {
         Ok(()) => Ok(write_report(alloc, line, out)?),

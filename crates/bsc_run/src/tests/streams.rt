@@ -56,7 +56,7 @@ pub(crate) struct Fused<S: Drop> {
 impl<S: Drop> Fused<S> {
     fn count_call(&mut self) -> io::Result<()> {
         if self.calls == 0 {
-            return Err(Error::from(ErrorKind::Interrupted));
+            return Err(Error::from(ErrorKind::BrokenPipe));
         }
         self.calls -= 1;
         Ok(())
