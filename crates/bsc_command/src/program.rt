@@ -26,5 +26,6 @@ pub fn perform<A: Allocator + Copy, R: Read, W: Write>(
         Work::Names => names(alloc, &read_input(alloc, input)?, out),
         Work::Name(text) => name(alloc, text.as_str(), out),
         Work::Show => show(alloc, &read_input(alloc, input)?, out),
+        Work::Run { .. } => Err(Fault::OutOfMemory),
     }
 }

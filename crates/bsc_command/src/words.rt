@@ -1,8 +1,8 @@
 //! The words of the command line.
 ghost use Rattle.std.specs.Prelude.{◌≡◌, ◌⊎◌, ◌≢◌, [], map, IfOk, IfErr, OnOk, codes, false, string_bytes, unwrap_or};
-ghost use Rattle.clap.specs.Words.{app_of, kind_of, HasKind, first_value, found_of, rule_of, subcommand_rows_of};
+ghost use Rattle.clap.specs.Words.{app_of, kind_of, HasKind, first_value, found_of, rows_of, rule_of, subcommand_rows_of};
 ghost use Rattle.clap.specs.declared.builder.command.Command.TheViews.{out-Command};
-ghost use Rattle.bsc_command.specs.CommandLine.{IsHelp, bscline_app, name_app, program_app, show_app, required, faults_at, asked, asked_of, asked_sub};
+ghost use Rattle.bsc_command.specs.CommandLine.{IsHelp, bscline_app, flag, is_true_text, name_app, program_app, required, run_app, show_app, faults_at, asked, asked_of, asked_run, asked_sub};
 
 use crate::Fault;
 use clap::error::ErrorKind;
@@ -21,17 +21,36 @@ pub enum Work {
 
     /// The names of the lines of standard input, with the units of texts.
     Show,
+
+    /// A line of this configuration and the events of this script, by their paths; `-` is standard
+    /// input. With `check` both are only read.
+    Run {
+        config: String,
+        script: String,
+        check: bool,
+    },
 }
 
-/// The argument of `name`.
-fn hex_argument<'a>(alloc: Global) -> Arg<'a>
-    ensures rule { rule_of result ≡ required (codes "HEX") }
+/// An argument that has to be there.
+fn required_argument<'a>(alloc: Global, id: &'a str, help: &'a str) -> Arg<'a>
+    ensures rule { rule_of result ≡ required id.now }
     ensures local { result.global ≡ false }
 {
-    Arg::new(alloc, "HEX")
-        .help("The octets in hexadecimal text; spaces are dropped")
+    Arg::new(alloc, id)
+        .help(help)
         .required(true)
         .action(ArgAction::Set)
+}
+
+/// The flag `--check`.
+fn check_flag<'a>(alloc: Global) -> Arg<'a>
+    ensures rule { rule_of result ≡ flag (codes "check") }
+    ensures local { result.global ≡ false }
+{
+    Arg::new(alloc, "check")
+        .help("Read and check both, and run nothing")
+        .long("check")
+        .action(ArgAction::SetTrue)
 }
 
 /// `name HEX`.
@@ -41,7 +60,7 @@ fn name_command<'a>(alloc: Global) -> Result<Command<'a>, AllocError>
 {
     Command::new(alloc, "name")
         .about("Print the name of one transmission")
-        .arg(hex_argument(alloc))
+        .arg(required_argument(alloc, "HEX", "The octets in hexadecimal text; spaces are dropped"))
 }
 
 /// `show`.
@@ -50,6 +69,20 @@ fn show_command<'a>(alloc: Global) -> Command<'a>
     ensures local { (out-Command result).has_globals ≡ false }
 {
     Command::new(alloc, "show").about("Print the names of standard input, with the units of texts")
+}
+
+/// `run CONFIG SCRIPT`, and `run --check CONFIG SCRIPT`.
+fn run_command<'a>(alloc: Global) -> Result<Command<'a>, AllocError>
+    ensures app { IfOk result (λ c. app_of c ≡ run_app) }
+    ensures local { IfOk result (λ c. (out-Command c).has_globals ≡ false) }
+{
+    let config = required_argument(alloc, "CONFIG", "The configuration, in TOML; - is standard input");
+    let script = required_argument(alloc, "SCRIPT", "The events, one a line; - is standard input");
+    Command::new(alloc, "run")
+        .about("Run a line over loopback sockets, and print what is on it")
+        .arg(config)?
+        .arg(script)?
+        .arg(check_flag(alloc))
 }
 
 /// The program without its commands.
@@ -66,7 +99,8 @@ fn command_line<'a>(alloc: Global) -> Result<Command<'a>, AllocError>
     ensures { IfOk result (λ c. app_of c ≡ bscline_app) }
 {
     let named = program(alloc).subcommand(name_command(alloc)?)?;
-    named.subcommand(show_command(alloc))
+    let shown = named.subcommand(show_command(alloc))?;
+    shown.subcommand(run_command(alloc)?)
 }
 
 /// The text of a value that the command requires.
@@ -79,6 +113,27 @@ fn text_of(alloc: Global, matches: &ArgMatches<'_>, id: &str) -> Result<String, 
     }
 }
 
+/// Whether the flag was given. `clap` has the text `true` for one that was.
+fn is_given(matches: &ArgMatches<'_>, id: &str) -> bool
+    ensures { result ≡ is_true_text (unwrap_or (first_value (found_of matches.now) id.now) []) }
+{
+    match matches.get_str(id) {
+        Some(text) => text == "true",
+        None => false,
+    }
+}
+
+/// The run that the matches of `run` ask for.
+fn run_of(alloc: Global, matches: &ArgMatches<'_>) -> Result<Work, AllocError>
+    ensures { IfOk result (λ w. asked w ≡ asked_run (rows_of (found_of matches.now))) }
+{
+    Ok(Work::Run {
+        config: text_of(alloc, matches, "CONFIG")?,
+        script: text_of(alloc, matches, "SCRIPT")?,
+        check: is_given(matches, "check"),
+    })
+}
+
 /// The work that the matches ask for.
 fn work_of(alloc: Global, matches: &ArgMatches<'_>) -> Result<Work, AllocError>
     ensures { IfOk result (λ w. asked w ≡ asked_sub (subcommand_rows_of matches.now)) }
@@ -87,6 +142,7 @@ fn work_of(alloc: Global, matches: &ArgMatches<'_>) -> Result<Work, AllocError>
         None => Ok(Work::Names),
         Some((sub, inner)) => match sub {
             "name" => Ok(Work::Name(text_of(alloc, inner, "HEX")?)),
+            "run" => run_of(alloc, inner),
             _ => Ok(Work::Show),
         },
     }
