@@ -1,0 +1,103 @@
+//! A cable whose connections are TCP connections of the loopback address, both ends in this process.
+//! It is a crate of its own since all else of the line does without sockets.
+#![tactic(auto)]
+
+ghost use Rattle.std.specs.Prelude.{◌≡◌, ◌≤◌, length, IfOk, None};
+
+use bsc_carrier::Cable;
+use std::alloc::{AllocError, AllocFailed, Allocator};
+use std::io;
+use std::net::{Net, OpenListener, OpenStream, SocketAddr, TcpListener};
+use std::time::Duration;
+use thiserror::Error;
+
+#[cfg(test)]
+mod tests;
+
+/// How many seconds an end waits for octets, and for room for octets, before its read or write
+/// fails. What one end has written the other can read at once, so an end that waits this long waits
+/// for nothing. (own)
+pub const TIME_OUT_SECONDS: u64 = 5;
+
+/// Why there are no connections.
+#[derive(Clone, Copy, Debug, PartialEq, Eq, Error)]
+pub enum LoopbackError {
+    /// The system refused a socket or a setting of it, or another process connected in our place.
+    #[error("cannot make the sockets")]
+    Sockets,
+
+    /// A growth was refused.
+    #[error("out of memory")]
+    Memory,
+}
+
+impl From<io::Error> for LoopbackError {
+    ghost use Rattle.std.specs.Prelude.{◌≡◌};
+    ghost use Rattle.bsc_loopback.specs.declared.LoopbackError.TheVariants.{Sockets};
+
+    ghost from_gives = { λ _ error. error ≡ Sockets };
+
+    fn from(_error: io::Error) -> LoopbackError {
+        LoopbackError::Sockets
+    }
+}
+
+impl<T: Drop> From<AllocFailed<T>> for LoopbackError {
+    ghost use Rattle.std.specs.Prelude.{◌≡◌};
+    ghost use Rattle.bsc_loopback.specs.declared.LoopbackError.TheVariants.{Memory};
+
+    ghost from_gives = { λ _ error. error ≡ Memory };
+
+    fn from(_error: AllocFailed<T>) -> LoopbackError {
+        LoopbackError::Memory
+    }
+}
+
+/// A cable of this many new connections over the loopback address. Each end sends its octets at once,
+/// and waits for `TIME_OUT_SECONDS` at most. `Sockets` comes where the system refuses a socket, as
+/// where too many files are open, or where the peer of an accepted connection is not our own end.
+pub fn connect<R: Net, A: Allocator + Copy>(
+    rt: &R,
+    alloc: A,
+    count: usize,
+) -> Result<Cable<R::Stream, A>, LoopbackError>
+    requires least { 1 ≤ count }
+    requires most { count ≤ 64 }
+    ensures count { IfOk result (λ cable. length cable.control_ends ≡ count) }
+    ensures fault { IfOk result (λ cable. cable.fault ≡ None) }
+{
+    let listener = TcpListener::bind(rt, "127.0.0.1:0")?;
+    let address = listener.local_addr()?;
+    let mut control_ends = Vec::new(alloc);
+    let mut terminal_ends = Vec::new(alloc);
+    'connections: for _ in 0..count {
+        let (near, far) = connect_one(rt, &listener, address)?;
+        control_ends.push(near)?;
+        terminal_ends.push(far)?;
+    }
+    Ok(Cable::new(control_ends, terminal_ends))
+}
+
+/// The two ends of a new connection.
+fn connect_one<R: Net>(
+    rt: &R,
+    listener: &R::Listener,
+    address: SocketAddr,
+) -> Result<(R::Stream, R::Stream), LoopbackError> {
+    let near = rt.connect(address)?;
+    let (far, peer) = listener.accept()?;
+    if peer != near.local_addr()? {
+        return Err(LoopbackError::Sockets);
+    }
+    set_up(&near)?;
+    set_up(&far)?;
+    Ok((near, far))
+}
+
+/// Octets leave at once, and nothing waits without end.
+fn set_up<S: OpenStream>(end: &S) -> io::Result<()> {
+    let time_out = Some(Duration::from_secs(TIME_OUT_SECONDS));
+    end.set_nodelay(true)?;
+    end.set_read_timeout(time_out)?;
+    end.set_write_timeout(time_out)
+}
