@@ -1,16 +1,30 @@
 -- The faults of the command. All of it is own.
-use Rattle.std.specs.Prelude.{◌≡◌, ◌≢◌, ℕ}
+use Rattle.std.specs.Prelude.{◌≡◌, ◌≢◌, ◌⊎◌, ℕ, List, string_bytes}
 use Rattle.clap.specs.Words.{kind_of}
 use Rattle.clap.specs.declared.error.Error.{Error}
 use Rattle.clap.specs.declared.error.kind.ErrorKind.TheVariants as kind
 use Rattle.bsc_command.specs.declared.fault.Fault.{Fault}
-use Rattle.bsc_command.specs.declared.fault.Fault.TheVariants.{NotHexadecimal, NotHexadecimalAt, InputTooLong, Input, Output, OutOfMemory, Usage}
+use Rattle.bsc_command.specs.declared.fault.Fault.TheVariants.{NotHexadecimal, NotHexadecimalAt, InputTooLong, Input, Output, OutOfMemory}
+use Rattle.bsc_command.specs.declared.fault.Fault.TheVariants.{CannotRead, FileTooLong, Config, Script, Sockets, Run, Usage}
+use Rattle.bsc_config.specs.declared.error.ConfigError.{ConfigError}
+use Rattle.bsc_config.specs.declared.error.ConfigError.TheVariants as config
+use Rattle.bsc_script.specs.declared.script.ScriptError.{ScriptError}
+use Rattle.bsc_script.specs.declared.script.ScriptError.TheVariants as script
+use Rattle.bsc_loopback.specs.declared.LoopbackError.{LoopbackError}
+use Rattle.bsc_loopback.specs.declared.LoopbackError.TheVariants as loopback
+use Rattle.bsc_run.specs.declared.error.RunError.{RunError}
+use Rattle.bsc_run.specs.declared.error.RunError.TheVariants as run
 use Rattle.bsc_input.specs.declared.input.InputError.{InputError}
 use Rattle.bsc_input.specs.declared.input.InputError.TheVariants.{TooLong, Device, Memory}
 use Rattle.bsc_names.specs.declared.error.PrintError.{PrintError}
 use Rattle.bsc_names.specs.declared.error.PrintError.TheVariants as print
 
--- The exit status: 2 for wrong usage, 1 for every other fault.
+-- The exit status of a run that did not do all of the script: 3 where the line refused an event.
+abbrev pub run_status : RunError → ℕ
+run_status (run.Refused line why) = 3
+run_status _ = 1
+
+-- The exit status: 2 for wrong usage, 3 for a refused event, 1 for every other fault.
 abbrev pub status_of : Fault → ℕ
 status_of NotHexadecimal = 1
 status_of (NotHexadecimalAt line) = 1
@@ -18,6 +32,12 @@ status_of InputTooLong = 1
 status_of Input = 1
 status_of Output = 1
 status_of OutOfMemory = 1
+status_of (CannotRead path) = 1
+status_of (FileTooLong path) = 1
+status_of (Config error) = 1
+status_of (Script error) = 1
+status_of Sockets = 1
+status_of (Run error) = run_status error
 status_of (Usage text) = 2
 
 -- The fault of an input that was not read.
@@ -30,6 +50,27 @@ input_fault Memory = OutOfMemory
 abbrev pub print_fault : PrintError → Fault
 print_fault print.Output = Output
 print_fault print.Memory = OutOfMemory
+
+-- The fault of a configuration that is refused.
+abbrev pub config_fault : ConfigError → Fault
+config_fault config.Memory = OutOfMemory
+config_fault error = Config error
+
+-- The fault of a script that is refused.
+abbrev pub script_fault : ScriptError → Fault
+script_fault script.Memory = OutOfMemory
+script_fault error = Script error
+
+-- The fault of connections that were not made.
+abbrev pub loopback_fault : LoopbackError → Fault
+loopback_fault loopback.Sockets = Sockets
+loopback_fault loopback.Memory = OutOfMemory
+
+-- The fault of a run that did not do all of the script.
+abbrev pub run_fault : RunError → Fault
+run_fault run.Output = Output
+run_fault run.Memory = OutOfMemory
+run_fault error = Run error
 
 -- The faults of printing.
 abbrev pub IsPrintFault : Fault → Type 0
@@ -46,6 +87,35 @@ IsNameFault fault = IsPrintFault fault
 abbrev pub IsLineFault : Fault → Type 0
 IsLineFault (NotHexadecimalAt line) = Unit {0}
 IsLineFault fault = IsPrintFault fault
+
+-- The fault of a file that was not read: it names the path, unless memory ran out.
+abbrev pub IsPathFault : List ℕ → InputError → Fault → Type 0
+IsPathFault path TooLong (FileTooLong named) = string_bytes named ≡ path
+IsPathFault path Device (CannotRead named) = string_bytes named ≡ path
+IsPathFault path error OutOfMemory = Unit {0}
+IsPathFault path error _ = ⊥
+
+-- The faults of reading the text of a configuration or of a script.
+abbrev pub IsTextFault : Fault → Type 0
+IsTextFault InputTooLong = Unit {0}
+IsTextFault Input = Unit {0}
+IsTextFault (FileTooLong path) = Unit {0}
+IsTextFault (CannotRead path) = Unit {0}
+IsTextFault OutOfMemory = Unit {0}
+IsTextFault _ = ⊥
+
+-- The faults of running a script that was read, on a line.
+abbrev pub IsLineRunFault : Fault → Type 0
+IsLineRunFault Sockets = Unit {0}
+IsLineRunFault (Run error) = Unit {0}
+IsLineRunFault fault = IsPrintFault fault
+
+-- The faults of a run.
+abbrev pub IsRunFault : Fault → Type 0
+IsRunFault (Config error) = Unit {0}
+IsRunFault (Script error) = Unit {0}
+IsRunFault (Usage text) = Unit {0}
+IsRunFault fault = IsTextFault fault ⊎ IsLineRunFault fault
 
 -- The fault of words that `clap` refuses: out of memory is told apart from wrong usage.
 pub record IsWordsFault (error : Error) (fault : Fault) : Type 0 where

@@ -2,14 +2,19 @@
 ghost use Rattle.std.specs.Prelude.{◌≡◌};
 ghost use Rattle.bsc_command.specs.Faults.{status_of};
 
+use bsc_config::ConfigError;
 use bsc_input::InputError;
+use bsc_loopback::LoopbackError;
 use bsc_names::PrintError;
+use bsc_run::RunError;
+use bsc_script::ScriptError;
 use clap::error::ErrorKind;
 use std::alloc::{AllocError, AllocFailed};
 use thiserror::Error;
 
 /// Why the command ends without having done its work. The text is one line of standard error, after
-/// the program's name.
+/// the program's name. Those of a configuration, of a script and of a run are told by the error of
+/// the crate that reads or runs it; but out of memory is always `OutOfMemory`.
 #[derive(Debug, Drop, Error)]
 pub enum Fault {
     /// The one transmission to be named is not in hexadecimal text.
@@ -36,6 +41,30 @@ pub enum Fault {
     /// A growth was refused. It may stand in place of any other fault.
     #[error("out of memory")]
     OutOfMemory,
+
+    /// The file at this path could not be opened or read.
+    #[error("cannot read {path}")]
+    CannotRead { path: String },
+
+    /// The file at this path has more octets than are read.
+    #[error("{path} is too long")]
+    FileTooLong { path: String },
+
+    /// The configuration is refused.
+    #[error("{error}")]
+    Config { error: ConfigError },
+
+    /// The script has a line that is no event.
+    #[error("{error}")]
+    Script { error: ScriptError },
+
+    /// The connections of the line could not be made.
+    #[error("cannot make the sockets")]
+    Sockets,
+
+    /// The run did not do all of the script.
+    #[error("{error}")]
+    Run { error: RunError },
 
     /// The words of the command line are no command. The text is that of `clap`, which is printed as
     /// it stands.
@@ -90,6 +119,59 @@ impl From<PrintError> for Fault {
     }
 }
 
+impl From<ConfigError> for Fault {
+    ghost use Rattle.bsc_command.specs.Faults.{config_fault};
+
+    ghost from_gives = { λ error fault. fault ≡ config_fault error };
+
+    fn from(error: ConfigError) -> Fault {
+        match error {
+            ConfigError::Memory => Fault::OutOfMemory,
+            error => Fault::Config { error },
+        }
+    }
+}
+
+impl From<ScriptError> for Fault {
+    ghost use Rattle.bsc_command.specs.Faults.{script_fault};
+
+    ghost from_gives = { λ error fault. fault ≡ script_fault error };
+
+    fn from(error: ScriptError) -> Fault {
+        match error {
+            ScriptError::Memory => Fault::OutOfMemory,
+            error => Fault::Script { error },
+        }
+    }
+}
+
+impl From<LoopbackError> for Fault {
+    ghost use Rattle.bsc_command.specs.Faults.{loopback_fault};
+
+    ghost from_gives = { λ error fault. fault ≡ loopback_fault error };
+
+    fn from(error: LoopbackError) -> Fault {
+        match error {
+            LoopbackError::Sockets => Fault::Sockets,
+            LoopbackError::Memory => Fault::OutOfMemory,
+        }
+    }
+}
+
+impl From<RunError> for Fault {
+    ghost use Rattle.bsc_command.specs.Faults.{run_fault};
+
+    ghost from_gives = { λ error fault. fault ≡ run_fault error };
+
+    fn from(error: RunError) -> Fault {
+        match error {
+            RunError::Output => Fault::Output,
+            RunError::Memory => Fault::OutOfMemory,
+            error => Fault::Run { error },
+        }
+    }
+}
+
 impl From<clap::Error> for Fault {
     ghost use Rattle.bsc_command.specs.Faults.{IsWordsFault};
 
@@ -104,12 +186,16 @@ impl From<clap::Error> for Fault {
     }
 }
 
-/// The exit status of the program: 2 for wrong usage, 1 for every other fault.
+/// The exit status of the program: 2 for wrong usage, 3 where the line refused an event of a script,
+/// and 1 for every other fault.
 pub fn status(fault: &Fault) -> u8
     ensures { result ≡ status_of fault.now }
 {
     match fault {
         Fault::Usage(_) => 2,
+        Fault::Run {
+            error: RunError::Refused { .. },
+        } => 3,
         _ => 1,
     }
 }

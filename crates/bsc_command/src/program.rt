@@ -1,31 +1,41 @@
-//! The work of the program, over any reader and any writer.
-ghost use Rattle.std.specs.Prelude.{◌≡◌, ◌⊎◌, ℕ, OnOk};
+//! The work of the program, over any reader, any writer and any host.
+ghost use Rattle.std.specs.Prelude.{◌≡◌, ◌⊎◌, ℕ, OnOk, List, true};
 ghost use Rattle.bsc_command.specs.Program.{IsDone, StopsAtLine};
-ghost use Rattle.bsc_command.specs.CommandLine.{asked};
+ghost use Rattle.bsc_command.specs.CommandLine.{asked, run as run_asked};
 
-use crate::{Fault, Work, name, names, read_input, show};
-use std::alloc::Allocator;
+use crate::running::run;
+use crate::{Fault, Host, Work, name, names, read_input, show};
+use std::alloc::Global;
 use std::io::{Read, Write};
 
 /// Does the work. The input is read where the work asks for it, and as a whole before anything is
-/// printed.
-pub fn perform<A: Allocator + Copy, R: Read, W: Write>(
-    alloc: A,
+/// printed. A run reads its files and makes its connections by the host; what it prints is told by
+/// `bsc_run::run_line`, and nothing where it only checks.
+pub fn perform<R: Read, H: Host, W: Write>(
+    alloc: Global,
     work: &Work,
     input: &mut R,
+    host: &mut H,
     out: &mut W,
 ) -> Result<(), Fault>
     ensures ok { OnOk result
         (IsDone (asked work.now) (R.remaining input.old) (W.contents out.old) (W.contents out.new)) }
     ensures wrong { (n : ℕ) → result ≡ Err (Fault.NotHexadecimalAt n) →
-        StopsAtLine (asked work.now) n (R.remaining input.old) (W.contents out.old) (W.contents out.new) }
+        StopsAtLine (asked work.now) n (R.remaining input.old)
+        (W.contents out.old) (W.contents out.new) }
     ensures unread { (result ≡ Err Fault.InputTooLong) ⊎ (result ≡ Err Fault.Input) →
+        out.new ≡ out.old }
+    ensures checked { (config script : List ℕ) → asked work.now ≡ run_asked config script true →
         out.new ≡ out.old }
 {
     match work {
         Work::Names => names(alloc, &read_input(alloc, input)?, out),
         Work::Name(text) => name(alloc, text.as_str(), out),
         Work::Show => show(alloc, &read_input(alloc, input)?, out),
-        Work::Run { .. } => Err(Fault::OutOfMemory),
+        Work::Run {
+            config,
+            script,
+            check,
+        } => run(alloc, config.as_str(), script.as_str(), *check, input, host, out),
     }
 }

@@ -179,6 +179,28 @@ fn not_text_error(alloc: Global) -> Result<Error, AllocError>
     command_line.error(ErrorKind::InvalidValue, "a word is not UTF-8")
 }
 
+/// The answer where the configuration and the script are both standard input, as `clap` has it for
+/// any other values that do not go together.
+pub(crate) fn two_standard_inputs(alloc: Global) -> Error
+    ensures { (kind_of result ≡ ErrorKind.ArgumentConflict) ⊎ (kind_of result ≡ ErrorKind.OutOfMemory) }
+{
+    match two_standard_inputs_error(alloc) {
+        Ok(error) => error,
+        Err(error) => Error::from(error),
+    }
+}
+
+/// The same, unless memory ran out.
+fn two_standard_inputs_error(alloc: Global) -> Result<Error, AllocError>
+    ensures { IfOk result (λ e. kind_of e ≡ ErrorKind.ArgumentConflict) }
+{
+    let mut command_line = command_line(alloc)?;
+    command_line.error(
+        ErrorKind::ArgumentConflict,
+        "CONFIG and SCRIPT cannot both be standard input",
+    )
+}
+
 /// Prints the help or the version, where the words asked for one. Every other answer of `clap` is a
 /// fault, and nothing is printed.
 pub fn help_or_fault<W: Write>(error: Error, out: &mut W) -> Result<(), Fault>

@@ -2,10 +2,14 @@
 //! its exit status how that went. All else is in the library `bsc_command`.
 #![tactic(auto)]
 
+mod host;
+
 use bsc_command::{Fault, help_or_fault, not_text, perform, read_words, status};
+use host::Machine;
 use std::io::{BufWriter, ErrorKind, Write};
 use std::process::ExitCode;
-use std::rt::Env;
+use std::net::Net;
+use std::rt::{Env, Files};
 use std::{env, io};
 
 fn main(rt: HostRuntime) -> ExitCode {
@@ -28,7 +32,7 @@ fn report<R: Eprint>(rt: &R, fault: &Fault) {
 }
 
 /// Runs the command with a buffer before standard output. What was printed before a fault leaves it too.
-fn run<R: AllocGlobal + Env + Input + Print>(rt: &R) -> Result<(), Fault> {
+fn run<R: AllocGlobal + Env + Files + Input + Net + Print>(rt: &R) -> Result<(), Fault> {
     let Ok(mut out) = BufWriter::new(rt.alloc(), io::writer(rt)) else {
         return Err(Fault::OutOfMemory);
     };
@@ -40,7 +44,7 @@ fn run<R: AllocGlobal + Env + Input + Print>(rt: &R) -> Result<(), Fault> {
 }
 
 /// Does what the command line asks for.
-fn obey<R: AllocGlobal + Env + Input, W: Write>(rt: &R, out: &mut W) -> Result<(), Fault> {
+fn obey<R: AllocGlobal + Env + Files + Input + Net, W: Write>(rt: &R, out: &mut W) -> Result<(), Fault> {
     let alloc = rt.alloc();
     let arguments = arguments(rt)?;
     let mut words = Vec::new(alloc);
@@ -48,7 +52,10 @@ fn obey<R: AllocGlobal + Env + Input, W: Write>(rt: &R, out: &mut W) -> Result<(
         words.push(argument.as_str())?;
     }
     match read_words(alloc, &words) {
-        Ok(work) => perform(alloc, &work, &mut rt.reader(), out),
+        Ok(work) => {
+            let mut host = Machine { runtime: rt };
+            perform(alloc, &work, &mut rt.reader(), &mut host, out)
+        }
         Err(error) => help_or_fault(error, out),
     }
 }
