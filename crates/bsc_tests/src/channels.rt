@@ -3,6 +3,7 @@
 ghost use Rattle.std.specs.Prelude.{◌<◌, IsTrue};
 ghost use Rattle.bsc_line_model.specs.Line.{IsChannel, terminal_count};
 
+use crate::events::NONE;
 use bsc_block::Record;
 use bsc_control::Way;
 use bsc_line::Line;
@@ -12,39 +13,66 @@ use std::process::Abort;
 /// The channel to the first selection address of a terminal.
 pub(crate) const TO_FIRST: Way = Way::ToTerminal(0);
 
-/// What a channel has: the records that were offered, how many of them the sending end knows to
-/// have arrived, the records that arrived, and whether the sending end is in doubt.
+/// What a channel has: records were offered, the sending end knows of some of them to have arrived,
+/// and records arrived.
 #[derive(Clone, Copy)]
-pub(crate) struct Expected<'a> {
-    pub(crate) offered: &'a [&'a [u8]],
-    pub(crate) known: usize,
-    pub(crate) spooled: &'a [&'a [u8]],
-    pub(crate) in_doubt: bool,
+pub(crate) enum Has<'a> {
+    /// Each of these records arrived once, in order, and the sending end knows it.
+    Delivered(&'a [&'a [u8]]),
+
+    /// These records wait, and none of them arrived.
+    Waiting(&'a [&'a [u8]]),
+
+    /// Of the offered records the sending end knows that this many arrived, and it is not in doubt;
+    /// these arrived.
+    Arrived {
+        offered: &'a [&'a [u8]],
+        known: usize,
+        spooled: &'a [&'a [u8]],
+    },
+
+    /// Of the offered records the sending end knows that this many arrived, and it is in doubt;
+    /// these arrived.
+    InDoubt {
+        offered: &'a [&'a [u8]],
+        known: usize,
+        spooled: &'a [&'a [u8]],
+    },
 }
 
-/// Of the offered records the sending end knows that this many arrived, and it is not in doubt;
-/// these arrived.
-pub(crate) fn arrived<'a>(
+/// The same for each: the offered records, how many of them the sending end knows to have arrived,
+/// the records that arrived, and whether the sending end is in doubt.
+#[derive(Clone, Copy)]
+struct Ends<'a> {
     offered: &'a [&'a [u8]],
     known: usize,
     spooled: &'a [&'a [u8]],
-) -> Expected<'a> {
-    Expected {
-        offered,
-        known,
-        spooled,
-        in_doubt: false,
+    in_doubt: bool,
+}
+
+impl<'a> Has<'a> {
+    fn ends(&self) -> Ends<'a> {
+        let (offered, known, spooled, in_doubt) = match *self {
+            Has::Delivered(records) => (records, records.len(), records, false),
+            Has::Waiting(records) => (records, 0, NONE, false),
+            Has::Arrived {
+                offered,
+                known,
+                spooled,
+            } => (offered, known, spooled, false),
+            Has::InDoubt {
+                offered,
+                known,
+                spooled,
+            } => (offered, known, spooled, true),
+        };
+        Ends {
+            offered,
+            known,
+            spooled,
+            in_doubt,
+        }
     }
-}
-
-/// Each of these records arrived once, in order, and the sending end knows it.
-pub(crate) fn delivered<'a>(records: &'a [&'a [u8]]) -> Expected<'a> {
-    arrived(records, records.len(), records)
-}
-
-/// These records wait, and none of them arrived.
-pub(crate) fn waiting<'a>(records: &'a [&'a [u8]]) -> Expected<'a> {
-    arrived(records, 0, &[])
 }
 
 /// Whether the line has such a channel.
@@ -67,19 +95,19 @@ fn are_exactly(records: &[Record], expected: &[&[u8]]) -> bool {
             .all(|(record, chars)| record.chars() == *chars)
 }
 
-/// Compares a channel of the line with what is expected of it.
-pub(crate) fn compare<A: Allocator>(
-    rt: &impl Abort,
+/// Whether the line has such a channel, and that has this.
+pub(crate) fn has_left<A: Allocator>(
     line: &Line<A>,
     terminal: usize,
     way: Way,
-    expected: Expected<'_>,
-) {
-    assert!(rt; is_channel(line, terminal, way));
-    assert!(rt; are_exactly(line.offered(terminal, way), expected.offered));
-    assert_eq!(rt; line.known(terminal, way), expected.known);
-    assert!(rt; are_exactly(line.spooled(terminal, way), expected.spooled));
-    assert_eq!(rt; line.in_doubt(terminal, way), expected.in_doubt);
+    expected: &Has<'_>,
+) -> bool {
+    let ends = expected.ends();
+    is_channel(line, terminal, way)
+        && are_exactly(line.offered(terminal, way), ends.offered)
+        && line.known(terminal, way) == ends.known
+        && are_exactly(line.spooled(terminal, way), ends.spooled)
+        && line.in_doubt(terminal, way) == ends.in_doubt
 }
 
 /// Whether what arrived on a channel is the first of what was offered, in order and each record

@@ -4,7 +4,7 @@ use bsc_control::SetupError;
 use bsc_frame::Address;
 use bsc_line::Line;
 use bsc_text::{SettingError, Setup, Terminal};
-use std::alloc::Allocator;
+use std::alloc::{Allocator, Global};
 use std::test::Fail;
 
 /// Blocks of up to 400 characters of records of up to 80, and this many failures in a row are
@@ -16,6 +16,27 @@ pub(crate) fn setup(tries: u8) -> Result<Setup, SettingError> {
 /// A terminal with this polling address and these selection addresses.
 pub(crate) fn terminal_of(poll: &[u8], selects: &[Address]) -> Result<Terminal, Fail> {
     Ok(Terminal::new(Address::read(poll)?, selects)?)
+}
+
+/// The codes of a terminal's polling address, and those of its selection addresses.
+pub(crate) type Codes<'a> = (&'a [u8], &'a [&'a [u8]]);
+
+/// The addresses of these codes.
+fn addresses_of(alloc: Global, codes: &[&[u8]]) -> Result<Vec<Address>, Fail> {
+    let mut addresses = Vec::new(alloc);
+    for address in codes {
+        addresses.push(Address::read(address)?)?;
+    }
+    Ok(addresses)
+}
+
+/// The terminals of these codes.
+pub(crate) fn terminals_of(alloc: Global, codes: &[Codes<'_>]) -> Result<Vec<Terminal>, Fail> {
+    let mut terminals = Vec::new(alloc);
+    for (poll, selects) in codes {
+        terminals.push(terminal_of(poll, &addresses_of(alloc, selects)?)?)?;
+    }
+    Ok(terminals)
 }
 
 /// Terminal 0, which is polled by A and selected by a, and terminal 1, polled by B and selected by
@@ -83,12 +104,4 @@ pub(crate) fn refusal<A: Allocator + Copy>(
     poll_list: &[u8],
 ) -> Result<Option<SetupError>, Fail> {
     Ok(Line::new(alloc, setup(3)?, terminals, poll_list).err())
-}
-
-/// Offers this many empty records for the first selection address of terminal 0.
-pub(crate) fn offer_empty<A: Allocator>(line: &mut Line<A>, count: usize) -> Result<(), Fail> {
-    for _ in 0..count {
-        line.offer_for(0, 0, b"")?;
-    }
-    Ok(())
 }

@@ -1,60 +1,106 @@
 //! Transmissions of the control station that each terminal hears differently.
 
-use crate::channels::{TO_FIRST, arrived, compare, delivered};
+use crate::channels::Has::{Arrived, Delivered};
+use crate::events::{HI, NONE, OFFER_AT, OFFER_FOR};
 use crate::fixtures::line_of_two;
 use crate::octets::{
     ACK0, ACK1, BROKEN_TEXT, CALL_POLL_A, CALL_POLL_B, CALL_SELECT_A, EOT, NAK, NOISE, TEXT_HI,
 };
-use crate::play::Step::{Carry, HearEach, Silence};
-use crate::play::{QUIET, control, play, terminal};
-use bsc_control::Way;
+use crate::play::Then::{Done, Quiet, Sent};
+use crate::play::{Part, passes};
+use bsc_control::Way::{FromTerminal, ToTerminal};
+use bsc_line::Event;
+use bsc_line::Event::{CarrySent, Silence};
+use bsc_line::Speaker::{Control, Terminal};
 use std::test::Fail;
 
-/// The record of these exchanges.
-const HI: &[&[u8]] = &[b"HI"];
+/// Terminal 0 hears nothing, and terminal 1 noise.
+const NOISE_AT_SECOND: Event<'static> = Event::CarryEach {
+    heard: &[None, Some(NOISE)],
+};
+
+/// Terminal 0 hears a broken text, and terminal 1 nothing.
+const BROKEN_AT_FIRST: Event<'static> = Event::CarryEach {
+    heard: &[Some(BROKEN_TEXT), None],
+};
+
+/// Terminal 0 hears the text of HI, and terminal 1 nothing.
+const TEXT_AT_FIRST: Event<'static> = Event::CarryEach {
+    heard: &[Some(TEXT_HI), None],
+};
+
+/// Each terminal hears the call that polls it.
+const TWO_CALLS: Event<'static> = Event::CarryEach {
+    heard: &[Some(CALL_POLL_A), Some(CALL_POLL_B)],
+};
 
 #[test]
 fn each_terminal_hears_its_own_item(rt: HostRuntime) -> Result<(), Fail> {
-    let mut line = line_of_two(rt.alloc())?;
-    line.offer_for(0, 0, b"HI")?;
-    for (step, pending) in [
-        (Silence, control(CALL_SELECT_A)),
-        (HearEach(&[None, Some(NOISE)]), QUIET),
-        (Silence, control(CALL_SELECT_A)),
-        (Carry, terminal(0, ACK0)),
-        (Carry, control(TEXT_HI)),
-        (HearEach(&[Some(BROKEN_TEXT), None]), terminal(0, NAK)),
-        (Carry, control(TEXT_HI)),
-        (HearEach(&[Some(TEXT_HI), None]), terminal(0, ACK1)),
-    ] {
-        play(&rt, &mut line, &[(step, pending)]);
-        assert!(rt; line.trusted());
-    }
-    compare(&rt, &line, 0, TO_FIRST, arrived(HI, 0, HI));
-    Ok(())
+    const EXCHANGE: &[Part<'static>] = &[Part {
+        steps: &[
+            (OFFER_FOR, Done),
+            (Silence, Sent(Control, CALL_SELECT_A)),
+            (NOISE_AT_SECOND, Quiet),
+            (Silence, Sent(Control, CALL_SELECT_A)),
+            (CarrySent, Sent(Terminal(0), ACK0)),
+            (CarrySent, Sent(Control, TEXT_HI)),
+            (BROKEN_AT_FIRST, Sent(Terminal(0), NAK)),
+            (CarrySent, Sent(Control, TEXT_HI)),
+            (TEXT_AT_FIRST, Sent(Terminal(0), ACK1)),
+        ],
+        trusted: true,
+        left: &[(
+            0,
+            ToTerminal(0),
+            Arrived {
+                offered: HI,
+                known: 0,
+                spooled: HI,
+            },
+        )],
+    }];
+    passes(&rt, line_of_two(rt.alloc()), EXCHANGE)
 }
+
+/// HI is offered at terminal 1.
+const OFFER_AT_SECOND: Event<'static> = Event::OfferAt {
+    terminal: 1,
+    codes: b"HI",
+};
 
 #[test]
 fn two_terminals_that_hear_different_calls_lose_a_record(rt: HostRuntime) -> Result<(), Fail> {
-    let mut line = line_of_two(rt.alloc())?;
-    line.offer_at(0, b"HI")?;
-    line.offer_at(1, b"HI")?;
-    play(&rt, &mut line, &[(Silence, control(CALL_POLL_A))]);
-    assert!(rt; line.trusted());
-    let different = HearEach(&[Some(CALL_POLL_A), Some(CALL_POLL_B)]);
-    play(&rt, &mut line, &[(different, terminal(0, TEXT_HI))]);
-    assert!(rt; !line.trusted());
-    play(
-        &rt,
-        &mut line,
-        &[
-            (Carry, control(ACK1)),
-            (Carry, terminal(0, EOT)),
-            (Carry, control(CALL_POLL_B)),
-        ],
-    );
-    compare(&rt, &line, 0, Way::FromTerminal, delivered(HI));
-    compare(&rt, &line, 1, Way::FromTerminal, arrived(HI, 1, &[]));
-    assert!(rt; !line.trusted());
-    Ok(())
+    const EXCHANGE: &[Part<'static>] = &[
+        Part {
+            steps: &[
+                (OFFER_AT, Done),
+                (OFFER_AT_SECOND, Done),
+                (Silence, Sent(Control, CALL_POLL_A)),
+            ],
+            trusted: true,
+            left: &[],
+        },
+        Part {
+            steps: &[
+                (TWO_CALLS, Sent(Terminal(0), TEXT_HI)),
+                (CarrySent, Sent(Control, ACK1)),
+                (CarrySent, Sent(Terminal(0), EOT)),
+                (CarrySent, Sent(Control, CALL_POLL_B)),
+            ],
+            trusted: false,
+            left: &[
+                (0, FromTerminal, Delivered(HI)),
+                (
+                    1,
+                    FromTerminal,
+                    Arrived {
+                        offered: HI,
+                        known: 1,
+                        spooled: NONE,
+                    },
+                ),
+            ],
+        },
+    ];
+    passes(&rt, line_of_two(rt.alloc()), EXCHANGE)
 }

@@ -7,6 +7,8 @@ mod channels;
 #[cfg(test)]
 mod doubt;
 #[cfg(test)]
+mod events;
+#[cfg(test)]
 mod fixtures;
 #[cfg(test)]
 mod hearings;

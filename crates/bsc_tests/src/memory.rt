@@ -1,88 +1,139 @@
 //! Each growth of a line refused in turn.
 
-ghost use Rattle.std.specs.Prelude.{◌<◌};
+ghost use Rattle.std.specs.Prelude.{◌<◌, length};
 
-use crate::channels::{TO_FIRST, are_sound, compare, delivered, waiting};
-use crate::fixtures::{line_of_two, offer_empty, setup, two_terminals};
+use crate::channels::Has::{Delivered, Waiting};
+use crate::channels::{are_sound, has_left};
+use crate::events::{HI, NONE, OFFER_AT, SEVEN};
+use crate::fixtures::{line_of_two, setup, two_terminals};
 use crate::octets::{
     ACK0, ACK1, CALL_POLL_A, CALL_SELECT_A, ENQ, EOT, NAK, TEXT_HI, TEXT_LAST_SEVEN, WACK,
 };
-use crate::play::Step::{Carry, Silence};
-use crate::play::{QUIET, control, play, terminal};
+use crate::play::Then::{Done, Sent};
+use crate::play::{Left, Part, play, wrong_left};
+use crate::runs::{Run, wrong_run};
+use crate::selecting::SEVEN_OFFERED;
+use bsc_control::Way::{FromTerminal, ToTerminal};
 use bsc_control::{SetupError, Way};
-use bsc_line::{Event, Line, LineError, Stopped};
+use bsc_line::Event::{CarrySent, Silence};
+use bsc_line::Speaker::{Control, Terminal};
+use bsc_line::{Line, LineError, Stopped};
 use refusing_alloc::Refusing;
-use std::alloc::Allocator;
-use std::process::Abort;
+use std::alloc::{AllocError, Allocator, Global};
 use std::test::Fail;
 
-/// A hundred times the record HI.
-const HUNDRED: [&[u8]; 100] = [b"HI"; 100];
+/// A new line, as `line_of_two` makes it; None where it is out of memory.
+fn line_within<'a>(alloc: &'a Refusing) -> Result<Option<Line<&'a Refusing>>, Fail> {
+    let (setup, terminals) = (setup(3)?, two_terminals()?);
+    match Line::new(alloc, setup, &terminals, &[0, 1]) {
+        Ok(line) => Ok(Some(line)),
+        Err(SetupError::Memory) => Ok(None),
+        Err(error) => Err(error.into()),
+    }
+}
+
+/// Makes a line, of whose requests for memory the one of this number is refused: whether it is
+/// quiet; None where it is out of memory.
+fn is_quiet_new(alloc: &Refusing, request: usize) -> Result<Option<bool>, Fail> {
+    alloc.refuse_nth(request);
+    match line_within(alloc)? {
+        Some(line) => Ok(Some(line.pending().is_none())),
+        None => Ok(None),
+    }
+}
 
 #[test]
 fn each_growth_of_a_new_line_is_refused_in_turn(rt: HostRuntime) -> Result<(), Fail> {
     let alloc = Refusing::new(rt.alloc());
-    let terminals = two_terminals()?;
     for request in 1..100 {
-        alloc.refuse_nth(request);
-        let made = Line::new(&alloc, setup(3)?, &terminals, &[0, 1]);
+        let made = is_quiet_new(&alloc, request)?;
         if alloc.refused() == 0 {
-            assert_eq!(rt; made?.pending(), QUIET);
-            assert!(rt; request > 1);
+            assert_eq!(rt; (made, request > 1), (Some(true), true));
             return Ok(());
         }
-        assert_eq!(rt; made.err(), Some(SetupError::Memory));
+        assert_eq!(rt; made, None);
     }
     Err("no end of growths".into())
+}
+
+/// The record HI this often.
+fn repeated(alloc: Global, count: usize) -> Result<Vec<&'static [u8]>, AllocError> {
+    let mut records = Vec::new(alloc);
+    for _ in 0..count {
+        records.push(b"HI".as_slice())?;
+    }
+    Ok(records)
 }
 
 /// Offers HI on this way from or to terminal 0.
 fn offer<A: Allocator>(line: &mut Line<A>, way: Way) -> Result<(), LineError> {
     match way {
-        Way::FromTerminal => line.offer_at(0, b"HI"),
-        Way::ToTerminal(select) => line.offer_for(0, select, b"HI"),
+        FromTerminal => line.offer_at(0, b"HI"),
+        ToTerminal(select) => line.offer_for(0, select, b"HI"),
     }
 }
 
+/// Whether these records wait on this way of a trusted line, on which terminal 0 is polled.
+fn waits<A: Allocator>(line: &Line<A>, way: Way, records: &[&[u8]]) -> bool {
+    let is_polling = line.pending() == Some((Control, CALL_POLL_A));
+    is_polling && line.trusted() && has_left(line, 0, way, &Waiting(records))
+}
+
 /// Offers HI on this way where it was offered this often, and once more where memory is refused:
-/// the line then is as it was.
-fn offer_until_taken(
-    rt: &impl Abort,
+/// whether the line is as it was after a refusal, and HI waits once more after that.
+fn offers_once_more(
     alloc: &Refusing,
     line: &mut Line<&Refusing>,
     way: Way,
+    hundred: &[&[u8]],
     before: usize,
-) -> Result<(), Fail>
-    requires { before < 100 }
+) -> Result<bool, LineError>
+    requires { before < length hundred.now }
 {
     let refusals = alloc.refused();
     let answer = offer(line, way);
     if alloc.refused() > refusals {
-        assert_eq!(rt; answer, Err(LineError::Memory));
-        assert_eq!(rt; line.pending(), control(CALL_POLL_A));
-        assert!(rt; line.trusted());
-        compare(rt, line, 0, way, waiting(&HUNDRED[..before]));
+        if answer != Err(LineError::Memory) || !waits(line, way, &hundred[..before]) {
+            return Ok(false);
+        }
         offer(line, way)?;
     } else {
-        assert_eq!(rt; answer, Ok(()));
+        answer?;
     }
-    compare(rt, line, 0, way, waiting(&HUNDRED[..before + 1]));
-    Ok(())
+    Ok(waits(line, way, &hundred[..before + 1]))
+}
+
+/// Offers HI a hundred times on this way of a new line, of whose requests for memory the one of
+/// this number is refused: how many were refused, if each offer was then made good.
+fn refusals_of_offers(
+    alloc: &Refusing,
+    way: Way,
+    request: usize,
+    hundred: &[&[u8]],
+) -> Result<usize, Fail> {
+    alloc.refuse_none();
+    let mut line = line_of_two(alloc)?;
+    line.silence()?;
+    alloc.refuse_nth(request);
+    for before in 0..hundred.len() {
+        if !offers_once_more(alloc, &mut line, way, hundred, before)? {
+            return Err("an offer went otherwise".into());
+        }
+    }
+    Ok(alloc.refused())
 }
 
 #[test]
 fn each_growth_of_an_offer_is_refused_in_turn(rt: HostRuntime) -> Result<(), Fail> {
+    const CASES: &[(usize, usize)] = &[(1, 1), (2, 1), (3, 1), (4, 1), (5, 1), (20, 0)];
     let alloc = Refusing::new(rt.alloc());
-    for way in [Way::FromTerminal, TO_FIRST] {
-        for (request, refusals) in [(1, 1), (2, 1), (3, 1), (4, 1), (5, 1), (20, 0)] {
-            alloc.refuse_none();
-            let mut line = line_of_two(&alloc)?;
-            play(&rt, &mut line, &[(Silence, control(CALL_POLL_A))]);
-            alloc.refuse_nth(request);
-            for before in 0..100usize {
-                offer_until_taken(&rt, &alloc, &mut line, way, before)?;
-            }
-            assert_eq!(rt; alloc.refused(), refusals);
+    let hundred = repeated(rt.alloc(), 100)?;
+    for way in [FromTerminal, ToTerminal(0)] {
+        for (request, refusals) in CASES {
+            assert_eq!(rt;
+                refusals_of_offers(&alloc, way, *request, &hundred)?,
+                *refusals
+            );
         }
     }
     Ok(())
@@ -90,87 +141,103 @@ fn each_growth_of_an_offer_is_refused_in_turn(rt: HostRuntime) -> Result<(), Fai
 
 #[test]
 fn a_run_is_out_of_memory_at_an_offer_only(rt: HostRuntime) -> Result<(), Fail> {
-    let alloc = Refusing::new(rt.alloc());
-    let mut line = line_of_two(&alloc)?;
-    let events = [
-        Event::Silence,
-        Event::OfferAt {
-            terminal: 0,
-            codes: b"HI",
-        },
-        Event::CarrySent,
-        Event::CarrySent,
-    ];
-    alloc.refuse_from(1);
-    let stopped = Stopped {
+    const STOPPED: Stopped = Stopped {
         at: 1,
         why: LineError::Memory,
     };
-    assert_eq!(rt; line.run(&events), Err(stopped));
-    assert_eq!(rt; line.pending(), control(CALL_POLL_A));
-    compare(&rt, &line, 0, Way::FromTerminal, delivered(&[]));
+    const REFUSED: &[Run<'static>] = &[(
+        &[Silence, OFFER_AT, CarrySent, CarrySent],
+        Err(STOPPED),
+        Some((Control, CALL_POLL_A)),
+    )];
+    const NOT_OFFERED: Left<'static> = &[(0, FromTerminal, Delivered(NONE))];
+
+    // Then the offer has memory, and there is no room for the text.
+    const TAKEN: &[Run<'static>] = &[(
+        &[OFFER_AT, CarrySent, CarrySent],
+        Ok(()),
+        Some((Control, NAK)),
+    )];
+    const WAITING: Left<'static> = &[(0, FromTerminal, Waiting(HI))];
+    let alloc = Refusing::new(rt.alloc());
+    let mut line = line_of_two(&alloc)?;
+    alloc.refuse_from(1);
+    let wrong_offered = wrong_run(&mut line, REFUSED).or(wrong_left(&line, NOT_OFFERED));
     alloc.refuse_nth(2);
-    assert_eq!(rt; line.run(&events[1..]), Ok(()));
-    assert_eq!(rt; alloc.refused(), 1);
-    assert_eq!(rt; line.pending(), control(NAK));
-    compare(&rt, &line, 0, Way::FromTerminal, waiting(&[b"HI"]));
+    let wrong_taken = wrong_run(&mut line, TAKEN).or(wrong_left(&line, WAITING));
+    assert_eq!(rt;
+        (wrong_offered, wrong_taken, alloc.refused()),
+        (None, None, 1)
+    );
     Ok(())
+}
+
+/// Plays an exchange on a new line, and then one of which the first request for memory is refused:
+/// how many requests were refused.
+fn refusals_of_exchange(
+    alloc: &Refusing,
+    before: &[Part<'_>],
+    exchange: &[Part<'_>],
+) -> Result<usize, Fail> {
+    let mut line = line_of_two(alloc)?;
+    play(&mut line, before)?;
+    alloc.refuse_nth(1);
+    play(&mut line, exchange)?;
+    Ok(alloc.refused())
 }
 
 #[test]
 fn a_selection_waits_for_room(rt: HostRuntime) -> Result<(), Fail> {
-    let alloc = Refusing::new(rt.alloc());
-    let mut line = line_of_two(&alloc)?;
-    offer_empty(&mut line, 7)?;
-    alloc.refuse_nth(1);
-    play(
-        &rt,
-        &mut line,
-        &[
-            (Silence, control(CALL_SELECT_A)),
-            (Carry, terminal(0, WACK)),
-            (Carry, control(ENQ)),
-            (Carry, terminal(0, ACK0)),
-            (Carry, control(TEXT_LAST_SEVEN)),
-            (Carry, terminal(0, ACK1)),
-            (Carry, control(CALL_POLL_A)),
+    const EXCHANGE: &[Part<'static>] = &[Part {
+        steps: &[
+            (Silence, Sent(Control, CALL_SELECT_A)),
+            (CarrySent, Sent(Terminal(0), WACK)),
+            (CarrySent, Sent(Control, ENQ)),
+            (CarrySent, Sent(Terminal(0), ACK0)),
+            (CarrySent, Sent(Control, TEXT_LAST_SEVEN)),
+            (CarrySent, Sent(Terminal(0), ACK1)),
+            (CarrySent, Sent(Control, CALL_POLL_A)),
         ],
+        trusted: true,
+        left: &[(0, ToTerminal(0), Delivered(SEVEN))],
+    }];
+    let alloc = Refusing::new(rt.alloc());
+    assert_eq!(rt;
+        refusals_of_exchange(&alloc, &[SEVEN_OFFERED], EXCHANGE)?,
+        1
     );
-    assert_eq!(rt; alloc.refused(), 1);
-    compare(&rt, &line, 0, TO_FIRST, delivered(&[b"".as_slice(); 7]));
-    assert!(rt; line.trusted());
     Ok(())
 }
 
 #[test]
 fn a_text_is_asked_for_again_until_there_is_room(rt: HostRuntime) -> Result<(), Fail> {
-    let alloc = Refusing::new(rt.alloc());
-    let mut line = line_of_two(&alloc)?;
-    line.offer_at(0, b"HI")?;
-    alloc.refuse_nth(1);
-    play(
-        &rt,
-        &mut line,
-        &[
-            (Silence, control(CALL_POLL_A)),
-            (Carry, terminal(0, TEXT_HI)),
-            (Carry, control(NAK)),
-            (Carry, terminal(0, TEXT_HI)),
-            (Carry, control(ACK1)),
-            (Carry, terminal(0, EOT)),
+    const OFFERED: &[Part<'static>] = &[Part {
+        steps: &[(OFFER_AT, Done)],
+        trusted: true,
+        left: &[(0, FromTerminal, Waiting(HI))],
+    }];
+    const EXCHANGE: &[Part<'static>] = &[Part {
+        steps: &[
+            (Silence, Sent(Control, CALL_POLL_A)),
+            (CarrySent, Sent(Terminal(0), TEXT_HI)),
+            (CarrySent, Sent(Control, NAK)),
+            (CarrySent, Sent(Terminal(0), TEXT_HI)),
+            (CarrySent, Sent(Control, ACK1)),
+            (CarrySent, Sent(Terminal(0), EOT)),
         ],
-    );
-    assert_eq!(rt; alloc.refused(), 1);
-    compare(&rt, &line, 0, Way::FromTerminal, delivered(&[b"HI"]));
-    assert!(rt; line.trusted());
+        trusted: true,
+        left: &[(0, FromTerminal, Delivered(HI))],
+    }];
+    let alloc = Refusing::new(rt.alloc());
+    assert_eq!(rt; refusals_of_exchange(&alloc, OFFERED, EXCHANGE)?, 1);
     Ok(())
 }
 
 /// Makes a line, and once more where memory is refused.
 fn made_twice<'a>(alloc: &'a Refusing) -> Result<Line<&'a Refusing>, Fail> {
-    match Line::new(alloc, setup(3)?, &two_terminals()?, &[0, 1]) {
-        Err(SetupError::Memory) => line_of_two(alloc),
-        made => Ok(made?),
+    match line_within(alloc)? {
+        Some(line) => Ok(line),
+        None => line_of_two(alloc),
     }
 }
 
@@ -182,32 +249,55 @@ fn offer_twice<A: Allocator>(line: &mut Line<A>, way: Way) -> Result<(), LineErr
     }
 }
 
-/// Eight records each way of terminal 0, which asks for the line, are delivered, though memory may
-/// be refused once.
-fn delivers_eight_each_way(rt: &impl Abort, alloc: &Refusing) -> Result<(), Fail> {
-    let mut line = made_twice(alloc)?;
+/// Offers HI eight times on each way of terminal 0, each once more where memory is refused.
+fn offer_eight_each_way<A: Allocator>(line: &mut Line<A>) -> Result<(), LineError> {
     for _ in 0..8 {
-        offer_twice(&mut line, TO_FIRST)?;
-        offer_twice(&mut line, Way::FromTerminal)?;
-    }
-    line.set_urgent_at(0)?;
-    line.silence()?;
-    for _ in 0..30 {
-        line.carry_sent()?;
-        assert!(rt; line.trusted() && are_sound(&line));
-    }
-    for way in [Way::FromTerminal, TO_FIRST] {
-        compare(rt, &line, 0, way, delivered(&HUNDRED[..8]));
+        offer_twice(line, ToTerminal(0))?;
+        offer_twice(line, FromTerminal)?;
     }
     Ok(())
 }
 
+/// Carries 30 transmissions, up to the first after which the line is not trusted or a channel is
+/// not sound, whose number this is.
+fn first_unsound<A: Allocator>(line: &mut Line<A>) -> Result<Option<usize>, LineError> {
+    for number in 0..30usize {
+        line.carry_sent()?;
+        if !line.trusted() || !are_sound(line) {
+            return Ok(Some(number));
+        }
+    }
+    Ok(None)
+}
+
+/// Eight records each way of terminal 0, which asks for the line, are delivered, though memory may
+/// be refused once: the first transmission after which the line is not sound, and the first channel
+/// on which they were not delivered.
+fn eight_each_way(
+    alloc: &Refusing,
+    left: Left<'_>,
+) -> Result<(Option<usize>, Option<usize>), Fail> {
+    let mut line = made_twice(alloc)?;
+    offer_eight_each_way(&mut line)?;
+    line.set_urgent_at(0)?;
+    line.silence()?;
+    let unsound = first_unsound(&mut line)?;
+    Ok((unsound, wrong_left(&line, left)))
+}
+
+/// HI eight times.
+const HI_EIGHT_TIMES: &[&[u8]] = &[b"HI", b"HI", b"HI", b"HI", b"HI", b"HI", b"HI", b"HI"];
+
 #[test]
 fn each_growth_of_an_exchange_is_refused_in_turn(rt: HostRuntime) -> Result<(), Fail> {
+    const LEFT: Left<'static> = &[
+        (0, FromTerminal, Delivered(HI_EIGHT_TIMES)),
+        (0, ToTerminal(0), Delivered(HI_EIGHT_TIMES)),
+    ];
     let alloc = Refusing::new(rt.alloc());
     for request in 1..100 {
         alloc.refuse_nth(request);
-        delivers_eight_each_way(&rt, &alloc)?;
+        assert_eq!(rt; eight_each_way(&alloc, LEFT)?, (None, None));
         if alloc.refused() == 0 {
             return Ok(());
         }

@@ -1,76 +1,78 @@
 //! Polled terminals and their records.
 
-use crate::channels::{TO_FIRST, compare, delivered};
+use crate::channels::Has::Delivered;
+use crate::events::{HI, LOSE, NONE, OFFER_AT};
 use crate::fixtures::line_of_two;
 use crate::octets::{ACK0, ACK1, CALL_POLL_A, CALL_POLL_B, ENQ, EOT, TEXT_HI};
-use crate::play::Step::{Carry, Lose, Silence};
-use crate::play::{Pending, QUIET, Step, control, play, terminal};
-use bsc_control::Way;
-use std::process::Abort;
+use crate::play::Then::{Done, Quiet, Sent};
+use crate::play::{Left, Part, passes};
+use bsc_control::Way::{FromTerminal, ToTerminal};
+use bsc_line::Event::{CarrySent, Silence};
+use bsc_line::Speaker::{Control, Terminal};
 use std::test::Fail;
 
-/// Plays an exchange on a new line on which HI was offered at terminal 0, and compares all channels
-/// after it: HI arrived once, and the line is trusted.
-fn delivers_hi(
-    rt: &(impl Abort + AllocGlobal),
-    exchange: &[(Step<'_>, Pending<'_>)],
-) -> Result<(), Fail> {
-    let mut line = line_of_two(rt.alloc())?;
-    line.offer_at(0, b"HI")?;
-    play(rt, &mut line, exchange);
-    assert!(rt; line.trusted());
-    compare(rt, &line, 0, Way::FromTerminal, delivered(&[b"HI"]));
-    for (number, way) in [(0, TO_FIRST), (1, Way::FromTerminal), (1, TO_FIRST)] {
-        compare(rt, &line, number, way, delivered(&[]));
-    }
-    Ok(())
-}
+/// HI arrived once, from terminal 0, and nothing on the other channels.
+const HI_ALONE: Left<'static> = &[
+    (0, FromTerminal, Delivered(HI)),
+    (0, ToTerminal(0), Delivered(NONE)),
+    (1, FromTerminal, Delivered(NONE)),
+    (1, ToTerminal(0), Delivered(NONE)),
+];
 
 #[test]
 fn a_polled_terminal_delivers_its_record(rt: HostRuntime) -> Result<(), Fail> {
-    delivers_hi(
-        &rt,
-        &[
-            (Silence, control(CALL_POLL_A)),
-            (Carry, terminal(0, TEXT_HI)),
-            (Carry, control(ACK1)),
-            (Carry, terminal(0, EOT)),
-            (Carry, control(CALL_POLL_B)),
-            (Carry, terminal(1, EOT)),
-            (Carry, control(CALL_POLL_A)),
+    const EXCHANGE: &[Part<'static>] = &[Part {
+        steps: &[
+            (OFFER_AT, Done),
+            (Silence, Sent(Control, CALL_POLL_A)),
+            (CarrySent, Sent(Terminal(0), TEXT_HI)),
+            (CarrySent, Sent(Control, ACK1)),
+            (CarrySent, Sent(Terminal(0), EOT)),
+            (CarrySent, Sent(Control, CALL_POLL_B)),
+            (CarrySent, Sent(Terminal(1), EOT)),
+            (CarrySent, Sent(Control, CALL_POLL_A)),
         ],
-    )
+        trusted: true,
+        left: HI_ALONE,
+    }];
+    passes(&rt, line_of_two(rt.alloc()), EXCHANGE)
 }
 
 #[test]
 fn a_lost_acknowledgement_is_asked_for_again(rt: HostRuntime) -> Result<(), Fail> {
-    delivers_hi(
-        &rt,
-        &[
-            (Silence, control(CALL_POLL_A)),
-            (Carry, terminal(0, TEXT_HI)),
-            (Carry, control(ACK1)),
-            (Lose, QUIET),
-            (Silence, terminal(0, ENQ)),
-            (Carry, control(ACK1)),
-            (Carry, terminal(0, EOT)),
+    const EXCHANGE: &[Part<'static>] = &[Part {
+        steps: &[
+            (OFFER_AT, Done),
+            (Silence, Sent(Control, CALL_POLL_A)),
+            (CarrySent, Sent(Terminal(0), TEXT_HI)),
+            (CarrySent, Sent(Control, ACK1)),
+            (LOSE, Quiet),
+            (Silence, Sent(Terminal(0), ENQ)),
+            (CarrySent, Sent(Control, ACK1)),
+            (CarrySent, Sent(Terminal(0), EOT)),
         ],
-    )
+        trusted: true,
+        left: HI_ALONE,
+    }];
+    passes(&rt, line_of_two(rt.alloc()), EXCHANGE)
 }
 
 #[test]
 fn a_lost_text_is_sent_again(rt: HostRuntime) -> Result<(), Fail> {
-    delivers_hi(
-        &rt,
-        &[
-            (Silence, control(CALL_POLL_A)),
-            (Carry, terminal(0, TEXT_HI)),
-            (Lose, QUIET),
-            (Silence, terminal(0, ENQ)),
-            (Carry, control(ACK0)),
-            (Carry, terminal(0, TEXT_HI)),
-            (Carry, control(ACK1)),
-            (Carry, terminal(0, EOT)),
+    const EXCHANGE: &[Part<'static>] = &[Part {
+        steps: &[
+            (OFFER_AT, Done),
+            (Silence, Sent(Control, CALL_POLL_A)),
+            (CarrySent, Sent(Terminal(0), TEXT_HI)),
+            (LOSE, Quiet),
+            (Silence, Sent(Terminal(0), ENQ)),
+            (CarrySent, Sent(Control, ACK0)),
+            (CarrySent, Sent(Terminal(0), TEXT_HI)),
+            (CarrySent, Sent(Control, ACK1)),
+            (CarrySent, Sent(Terminal(0), EOT)),
         ],
-    )
+        trusted: true,
+        left: HI_ALONE,
+    }];
+    passes(&rt, line_of_two(rt.alloc()), EXCHANGE)
 }
