@@ -1,0 +1,93 @@
+//! What a line shows of a channel.
+
+ghost use Rattle.std.specs.Prelude.{IsTrue};
+ghost use Rattle.bsc_line_model.specs.Line.{IsChannel};
+
+use bsc_block::Record;
+use bsc_control::Way;
+use bsc_frame::Address;
+use bsc_line::Line;
+use std::alloc::Allocator;
+
+/// How many records were offered, are known to have arrived, and arrived; and whether the sending
+/// end is in doubt.
+#[derive(Clone, Copy, Debug, PartialEq, Eq)]
+pub(crate) struct View {
+    pub(crate) offered: usize,
+    pub(crate) known: usize,
+    pub(crate) spooled: usize,
+    pub(crate) in_doubt: bool,
+}
+
+/// A channel, the address that names it, and what was last seen of it.
+#[derive(Clone, Copy)]
+pub(crate) struct Channel {
+    pub(crate) terminal: usize,
+    pub(crate) way: Way,
+    pub(crate) address: Address,
+    pub(crate) view: View,
+    /// Digests of the records that were offered and that arrived.
+    pub(crate) offered: u64,
+    pub(crate) spooled: u64,
+}
+
+/// Whether the line has such a channel.
+pub(crate) fn is_channel<A: Allocator>(line: &Line<A>, terminal: usize, way: Way) -> bool
+    ensures { IsTrue result → IsChannel line.now terminal way }
+{
+    terminal < line.terminals()
+        && match way {
+            Way::FromTerminal => true,
+            Way::ToTerminal(select) => select < line.addresses(terminal),
+        }
+}
+
+/// What is to be seen of a channel, where the line has it.
+pub(crate) fn look<A: Allocator>(line: &Line<A>, terminal: usize, way: Way) -> Option<View> {
+    if !is_channel(line, terminal, way) {
+        return None;
+    }
+    Some(View {
+        offered: line.offered(terminal, way).len(),
+        known: line.known(terminal, way),
+        spooled: line.spooled(terminal, way).len(),
+        in_doubt: line.in_doubt(terminal, way),
+    })
+}
+
+/// The records from this place on; none where there are fewer.
+fn tail(records: &[Record], from: usize) -> &[Record] {
+    if from <= records.len() {
+        &records[from..]
+    } else {
+        &[]
+    }
+}
+
+/// The records that were offered on a channel from this place on.
+pub(crate) fn offered_from<A: Allocator>(
+    line: &Line<A>,
+    terminal: usize,
+    way: Way,
+    from: usize,
+) -> &[Record] {
+    if is_channel(line, terminal, way) {
+        tail(line.offered(terminal, way), from)
+    } else {
+        &[]
+    }
+}
+
+/// The records that arrived on a channel from this place on.
+pub(crate) fn spooled_from<A: Allocator>(
+    line: &Line<A>,
+    terminal: usize,
+    way: Way,
+    from: usize,
+) -> &[Record] {
+    if is_channel(line, terminal, way) {
+        tail(line.spooled(terminal, way), from)
+    } else {
+        &[]
+    }
+}

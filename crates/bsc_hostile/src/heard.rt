@@ -1,0 +1,115 @@
+//! What a station heard of a transmission, in few words.
+
+use bsc_frame::{Heard, Message, Wire, decode, encode};
+
+/// What octets are heard as.
+#[derive(Clone, Copy, Debug, PartialEq, Eq)]
+pub(crate) enum Kind {
+    Eot,
+    Call,
+    Enq,
+    Nak,
+    Ack,
+    Wack,
+    Rvi,
+    Text,
+    Failed,
+    Noise,
+}
+
+/// What a station heard, and whether that is the message that was sent.
+#[derive(Clone, Copy, Debug, PartialEq, Eq)]
+pub(crate) struct Hearing {
+    pub(crate) kind: Kind,
+    pub(crate) itself: bool,
+}
+
+/// Nothing was heard, or noise.
+const NOTHING: Hearing = Hearing {
+    kind: Kind::Noise,
+    itself: false,
+};
+
+impl Default for Hearing {
+    fn default() -> Hearing {
+        NOTHING
+    }
+}
+
+impl Kind {
+    /// The kind of a message.
+    pub(crate) fn of(message: &Message) -> Kind {
+        match message {
+            Message::Eot => Kind::Eot,
+            Message::Call(_) => Kind::Call,
+            Message::Enq => Kind::Enq,
+            Message::Ack0 => Kind::Ack,
+            Message::Ack1 => Kind::Ack,
+            Message::Nak => Kind::Nak,
+            Message::Wack => Kind::Wack,
+            Message::Rvi => Kind::Rvi,
+            Message::Text(_) => Kind::Text,
+        }
+    }
+
+    /// Whether this is a reply by which a sender may learn that its block arrived.
+    pub(crate) fn is_positive(self) -> bool {
+        matches!(self, Kind::Ack | Kind::Wack | Kind::Rvi)
+    }
+
+    /// Whether this takes the line from a terminal that sends.
+    pub(crate) fn takes_line(self) -> bool {
+        matches!(self, Kind::Eot | Kind::Call)
+    }
+}
+
+/// The kind of what is heard.
+fn kind_of(heard: &Heard) -> Kind {
+    match heard {
+        Heard::Whole(message) => Kind::of(message),
+        Heard::Failed => Kind::Failed,
+        Heard::Noise => Kind::Noise,
+    }
+}
+
+/// Whether the message that is heard is sent as these octets. Messages are told apart by what is
+/// sent for them, and not by `==`.
+pub(crate) fn is_sent_as(message: &Message, octets: &[u8]) -> bool {
+    let mut wire = Wire::new();
+    encode(message, &mut wire);
+    wire.as_slice() == octets
+}
+
+/// Whether a message is heard that is sent as these octets.
+fn is_itself(heard: &Heard, sent: &[u8]) -> bool {
+    match heard {
+        Heard::Whole(message) => is_sent_as(message, sent),
+        Heard::Failed => false,
+        Heard::Noise => false,
+    }
+}
+
+/// What is heard where these octets arrive, or nothing, and those were sent.
+pub(crate) fn hear(sent: &[u8], heard: Option<&[u8]>) -> Hearing {
+    match heard {
+        Some(octets) => hear_octets(sent, octets),
+        None => NOTHING,
+    }
+}
+
+/// What is heard where these octets arrive, and those were sent.
+fn hear_octets(sent: &[u8], octets: &[u8]) -> Hearing {
+    let heard = decode(octets);
+    Hearing {
+        kind: kind_of(&heard),
+        itself: is_itself(&heard, sent),
+    }
+}
+
+/// What the station of this number heard; noise where it heard nothing.
+pub(crate) fn kind_at(hearings: &[Hearing], station: usize) -> Kind {
+    match hearings.get(station) {
+        Some(hearing) => hearing.kind,
+        None => Kind::Noise,
+    }
+}

@@ -1,0 +1,117 @@
+//! What is pending: whether its sender may send it.
+
+use crate::broken::Broken;
+use crate::channel::{Channel, look, offered_from};
+use crate::heard::{Kind, is_sent_as};
+use crate::records::carried;
+use bsc_control::Way;
+use bsc_frame::{Address, Heard, Message, Text, Wire, decode};
+use bsc_line::{Line, Speaker};
+use std::alloc::Allocator;
+
+/// A transmission that nobody has heard yet.
+#[derive(Drop)]
+pub(crate) struct Sent {
+    pub(crate) speaker: Speaker,
+    pub(crate) kind: Kind,
+    pub(crate) octets: Wire,
+}
+
+/// Whether a station of this kind sends messages of this kind: the control station sends EOT only
+/// in a call, and only it calls.
+fn sends(speaker: Speaker, kind: Kind) -> bool {
+    match speaker {
+        Speaker::Control => kind != Kind::Eot,
+        Speaker::Terminal(_) => kind != Kind::Call,
+    }
+}
+
+/// The channel that has this address.
+pub(crate) fn find<'a>(channels: &'a [Channel], address: &Address) -> Option<&'a Channel> {
+    channels
+        .iter()
+        .find(|channel| channel.address.codes() == address.codes())
+}
+
+/// Whether the control station may call this address: it is one of the line, and a selection
+/// address only where records wait for it without doubt.
+fn is_due(channels: &[Channel], address: &Address) -> bool {
+    match find(channels, address) {
+        None => false,
+        Some(channel) => {
+            let view = channel.view;
+            channel.way == Way::FromTerminal || (view.known < view.offered && !view.in_doubt)
+        }
+    }
+}
+
+/// Whether the text carries the next records of this channel, at least one.
+fn carries_next<A: Allocator>(line: &Line<A>, terminal: usize, way: Way, text: &Text) -> bool {
+    let Some(view) = look(line, terminal, way) else {
+        return false;
+    };
+    let next = offered_from(line, terminal, way, view.known);
+    match carried(text, next) {
+        Some(count) => count > 0,
+        None => false,
+    }
+}
+
+/// Whether a text that this station sent carries the next records of its channel. The channel of
+/// the control station's text is told only where the line is trusted.
+fn is_next<A: Allocator>(
+    line: &Line<A>,
+    speaker: Speaker,
+    addressed: Option<(usize, Way)>,
+    text: &Text,
+) -> bool {
+    match speaker {
+        Speaker::Terminal(terminal) => carries_next(line, terminal, Way::FromTerminal, text),
+        Speaker::Control => match addressed {
+            Some((_, Way::FromTerminal)) => false,
+            Some((terminal, way)) => carries_next(line, terminal, way, text),
+            None => !line.trusted(),
+        },
+    }
+}
+
+/// What is pending, where its sender may send it.
+pub(crate) fn read_pending<A: Allocator>(
+    line: &Line<A>,
+    channels: &[Channel],
+    addressed: Option<(usize, Way)>,
+) -> Result<Option<Sent>, Broken> {
+    let Some((speaker, octets)) = line.pending() else {
+        return Ok(None);
+    };
+    let Heard::Whole(message) = decode(octets) else {
+        return Err(Broken::Message);
+    };
+    let kind = Kind::of(&message);
+    if !is_sent_as(&message, octets) || !sends(speaker, kind) {
+        return Err(Broken::Message);
+    }
+    check_content(line, channels, speaker, addressed, &message)?;
+    let mut copy = Wire::new();
+    let _ = copy.try_extend_from_slice(octets);
+    Ok(Some(Sent {
+        speaker,
+        kind,
+        octets: copy,
+    }))
+}
+
+/// Whether a call or a text says what its sender may say.
+fn check_content<A: Allocator>(
+    line: &Line<A>,
+    channels: &[Channel],
+    speaker: Speaker,
+    addressed: Option<(usize, Way)>,
+    message: &Message,
+) -> Result<(), Broken> {
+    match message {
+        Message::Call(address) if !is_due(channels, address) => Err(Broken::Call),
+        Message::Text(text) if !is_next(line, speaker, addressed, text) => Err(Broken::Text),
+        _ => Ok(()),
+    }
+}

@@ -1,0 +1,120 @@
+//! What was seen on a line, in numbers.
+
+use crate::channel::View;
+use crate::heard::Kind;
+use crate::step::Effect;
+use bsc_line::LineError;
+
+/// How often what happened. The numbers wrap at the greatest number of 64 bits.
+#[derive(Clone, Copy, Debug, Default, PartialEq, Eq)]
+pub struct Tally {
+    /// Events that were accepted.
+    pub events: u64,
+
+    /// Events that were refused.
+    pub refusals: u64,
+
+    /// Refusals for want of room in memory, among the others.
+    pub out_of_memory: u64,
+
+    /// Offers that were accepted.
+    pub offers: u64,
+
+    /// Texts whose records arrived.
+    pub blocks: u64,
+
+    /// Records that arrived.
+    pub records: u64,
+
+    /// Times that a sending end learned that records arrived.
+    pub learned: u64,
+
+    /// Doubts that began.
+    pub doubts: u64,
+
+    /// Doubts that were ended by a release.
+    pub releases: u64,
+
+    /// Calls, texts, ENQ, NAK, WACK and RVI that were sent.
+    pub calls: u64,
+    pub texts: u64,
+    pub enquiries: u64,
+    pub naks: u64,
+    pub wacks: u64,
+    pub rvis: u64,
+}
+
+/// One more.
+fn add(count: &mut u64) {
+    *count = count.wrapping_add(1);
+}
+
+impl Tally {
+    /// Counts an answer.
+    pub(crate) fn count_answer(&mut self, answer: Result<(), LineError>) {
+        match answer {
+            Ok(()) => add(&mut self.events),
+            Err(LineError::Memory) => {
+                add(&mut self.refusals);
+                add(&mut self.out_of_memory);
+            }
+            Err(_) => add(&mut self.refusals),
+        }
+    }
+
+    /// Counts what an accepted event did to all channels.
+    pub(crate) fn count_effect(&mut self, effect: Effect) {
+        match effect {
+            Effect::Offered { .. } => add(&mut self.offers),
+            Effect::Released { .. } => add(&mut self.releases),
+            _ => {}
+        }
+    }
+
+    /// Counts how a channel moved.
+    pub(crate) fn count_move(&mut self, before: View, after: View) {
+        let landed = after.spooled.saturating_sub(before.spooled);
+        if landed > 0 {
+            add(&mut self.blocks);
+            self.records = self.records.wrapping_add(landed as u64);
+        }
+        if before.known != after.known {
+            add(&mut self.learned);
+        }
+        if after.in_doubt && !before.in_doubt {
+            add(&mut self.doubts);
+        }
+    }
+
+    /// Counts what was sent.
+    pub(crate) fn count_sent(&mut self, kind: Kind) {
+        match kind {
+            Kind::Call => add(&mut self.calls),
+            Kind::Text => add(&mut self.texts),
+            Kind::Enq => add(&mut self.enquiries),
+            Kind::Nak => add(&mut self.naks),
+            Kind::Wack => add(&mut self.wacks),
+            Kind::Rvi => add(&mut self.rvis),
+            _ => {}
+        }
+    }
+
+    /// Adds the numbers of another line.
+    pub fn add(&mut self, other: &Tally) {
+        self.events = self.events.wrapping_add(other.events);
+        self.refusals = self.refusals.wrapping_add(other.refusals);
+        self.out_of_memory = self.out_of_memory.wrapping_add(other.out_of_memory);
+        self.offers = self.offers.wrapping_add(other.offers);
+        self.blocks = self.blocks.wrapping_add(other.blocks);
+        self.records = self.records.wrapping_add(other.records);
+        self.learned = self.learned.wrapping_add(other.learned);
+        self.doubts = self.doubts.wrapping_add(other.doubts);
+        self.releases = self.releases.wrapping_add(other.releases);
+        self.calls = self.calls.wrapping_add(other.calls);
+        self.texts = self.texts.wrapping_add(other.texts);
+        self.enquiries = self.enquiries.wrapping_add(other.enquiries);
+        self.naks = self.naks.wrapping_add(other.naks);
+        self.wacks = self.wacks.wrapping_add(other.wacks);
+        self.rvis = self.rvis.wrapping_add(other.rvis);
+    }
+}

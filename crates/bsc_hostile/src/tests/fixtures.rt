@@ -1,0 +1,59 @@
+//! The line of these tests, and a player that watches it.
+
+use crate::{Broken, Watch};
+use bsc_frame::Address;
+use bsc_line::{Event, Line, LineError};
+use bsc_text::{Setup, Terminal};
+use std::alloc::Global;
+use std::test::Fail;
+
+/// A line with a watch on it.
+#[derive(Drop)]
+pub(crate) struct Watched {
+    pub(crate) line: Line<Global>,
+    watch: Watch,
+}
+
+/// A terminal with these addresses.
+fn terminal(poll: &[u8], select: &[u8]) -> Result<Terminal, Fail> {
+    Ok(Terminal::new(Address::read(poll)?, &[Address::read(select)?])?)
+}
+
+impl Watched {
+    /// A new line: terminal 0 is polled by A and selected by a, terminal 1 is polled by B and
+    /// selected by b, and they are called in turn.
+    pub(crate) fn new(alloc: Global) -> Result<Watched, Fail> {
+        let setup = Setup::new(80, 400, 3, 10)?;
+        let terminals = [terminal(b"A", b"a")?, terminal(b"B", b"b")?];
+        Ok(Watched {
+            line: Line::new(alloc, setup, &terminals, &[0, 1])?,
+            watch: Watch::new(alloc, setup, &terminals)?,
+        })
+    }
+
+    /// Plays an event.
+    pub(crate) fn play(&mut self, event: &Event<'_>) -> Result<Result<(), LineError>, Broken> {
+        self.watch.play(&mut self.line, event)
+    }
+
+    /// Plays an event this many times.
+    pub(crate) fn repeat(&mut self, count: usize, event: &Event<'_>) -> Result<(), Broken> {
+        for _ in 0..count {
+            let _ = self.play(event)?;
+        }
+        Ok(())
+    }
+
+    /// What is pending is heard as it was sent, this many times, or a silence passes where nothing
+    /// is pending. Then all records are compared.
+    pub(crate) fn go_on(&mut self, count: usize) -> Result<(), Broken> {
+        for _ in 0..count {
+            let event = match self.line.pending() {
+                Some(_) => Event::CarrySent,
+                None => Event::Silence,
+            };
+            let _ = self.play(&event)?;
+        }
+        self.watch.see_all(&self.line)
+    }
+}

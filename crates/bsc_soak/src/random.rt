@@ -1,0 +1,51 @@
+//! The numbers that lines and events are made of.
+
+ghost use Rattle.std.specs.Prelude.{◌<◌};
+
+/// The generator xorshift64*.
+#[derive(Drop)]
+pub struct Random {
+    state: u64,
+}
+
+impl Random {
+    pub fn new(seed: u64) -> Random {
+        Random {
+            state: seed.wrapping_mul(0x9e37_79b9_7f4a_7c15) | 1,
+        }
+    }
+
+    fn word(&mut self) -> u64 {
+        self.state ^= self.state >> 12;
+        self.state ^= self.state << 25;
+        self.state ^= self.state >> 27;
+        self.state.wrapping_mul(0x2545_f491_4f6c_dd1d)
+    }
+
+    /// A number below the bound; 0 where that is 0.
+    pub fn below(&mut self, bound: usize) -> usize
+        ensures { 0 < bound → result < bound }
+    {
+        let number = (self.word() >> 32) as usize;
+        if bound == 0 { 0 } else { number % bound }
+    }
+
+    /// Whether one in this many comes up.
+    pub fn one_in(&mut self, many: usize) -> bool {
+        self.below(many) == 0
+    }
+
+    /// One of these numbers, or one from 1 to the last of them.
+    pub fn setting(&mut self, least: usize, middle: usize, most: usize) -> usize {
+        match self.below(4) {
+            0 => least,
+            1 => middle,
+            2 => most,
+            _ => least.saturating_add(self.below(most.saturating_sub(least).saturating_add(1))),
+        }
+    }
+
+    pub fn octet(&mut self) -> u8 {
+        self.below(256) as u8
+    }
+}
