@@ -15,6 +15,7 @@ mod pending;
 mod records;
 mod refusals;
 mod step;
+mod taking;
 mod tally;
 mod watch;
 

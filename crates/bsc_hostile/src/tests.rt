@@ -4,3 +4,4 @@ mod exchanges;
 mod fixtures;
 mod hearings;
 mod named;
+mod unseen;

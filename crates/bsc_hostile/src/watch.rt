@@ -4,6 +4,10 @@ mod answers;
 mod history;
 mod moves;
 
+ghost use Rattle.std.specs.Prelude.{IfOk};
+ghost use Rattle.bsc_line_model.specs.Runs.{Does};
+ghost use Rattle.bsc_line_model.specs.Kept.{IsLine};
+
 use crate::broken::Broken;
 use crate::channel::{Channel, View};
 use crate::fairness::is_fair;
@@ -12,6 +16,7 @@ use crate::pending::Sent;
 use crate::records::EMPTY;
 use crate::refusals::{may_answer, refusal};
 use crate::step::{Effect, effect_of, is_sound};
+use crate::taking::take;
 use crate::tally::Tally;
 use arrayvec::ArrayVec;
 use bsc_control::Way;
@@ -87,14 +92,6 @@ fn hear_each(hearings: &mut Hearings, sent: &[u8], items: &[Option<&[u8]>]) {
     }
 }
 
-/// The answer of the line to an event.
-fn take<A: Allocator>(line: &mut Line<A>, event: &Event<'_>) -> Result<(), LineError> {
-    match line.run(&[*event]) {
-        Ok(()) => Ok(()),
-        Err(stopped) => Err(stopped.why),
-    }
-}
-
 /// The octets that the terminal of this number hears at an event, or the control station where all
 /// hear the same.
 fn octets_heard<'a>(event: &Event<'a>, sent: &'a [u8], terminal: usize) -> &'a [u8] {
@@ -160,7 +157,10 @@ impl Watch {
         &mut self,
         line: &mut Line<A>,
         event: &Event<'_>,
-    ) -> Result<Result<(), LineError>, Broken> {
+    ) -> Result<Result<(), LineError>, Broken>
+        ensures does { IfOk result (λ answer. Does event.now line.old answer line.new) }
+        ensures line { IsLine line.new }
+    {
         let speaker = self.speaker();
         let refusal = refusal(line, self.setup, speaker, event);
         self.hear(event);

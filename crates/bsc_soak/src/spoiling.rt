@@ -56,7 +56,7 @@ fn front(random: &mut Random, mut octets: Vec<u8>) -> Vec<u8> {
 /// The octets and some pads after them, sometimes too many to be read.
 fn padded(random: &mut Random, mut octets: Vec<u8>) -> Result<Vec<u8>, AllocError> {
     let count = if random.one_in(64) {
-        2048
+        2048usize.saturating_add(random.below(2))
     } else {
         octets.len().saturating_add(random.below(4))
     };

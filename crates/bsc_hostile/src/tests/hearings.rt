@@ -32,20 +32,41 @@ fn play(stage: Stage, sent: &Sent, event: &Event<'_>) -> Result<Result<(), Broke
     })
 }
 
-/// These octets are heard in place of the transmission: by all who hear it, and where these are the
-/// terminals also by each of them, while the other one hears the transmission or nothing.
-fn hear(rt: &impl Abort, stage: Stage, sent: &Sent, octets: &[u8]) -> Result<(), Fail> {
+/// Terminal 0 hears the first of these in place of the transmission, and terminal 1 the second.
+fn play_each<'a>(
+    stage: Stage,
+    sent: &Sent,
+    first: Option<&'a [u8]>,
+    second: Option<&'a [u8]>,
+) -> Result<Result<(), Broken>, Fail> {
+    let items = [first, second];
+    play(stage, sent, &Event::CarryEach { heard: &items })
+}
+
+/// These octets are heard by one terminal, while the other one hears the transmission or nothing.
+fn hear_by_one<'a>(
+    rt: &impl Abort,
+    stage: Stage,
+    sent: &'a Sent,
+    octets: &'a [u8],
+) -> Result<(), Fail> {
     let heard = Some(octets);
     let whole = Some(sent.octets.as_slice());
-    let by_each = [[heard, whole], [whole, heard], [heard, None], [None, heard]];
-    let by_all = play(stage, sent, &Event::Carry { heard })?;
-    assert_eq!(rt; by_all, Ok(()), "{} heard as {octets:?}", sent.place);
-    if !sent.by_control {
-        return Ok(());
-    }
-    for items in &by_each {
-        let seen = play(stage, sent, &Event::CarryEach { heard: items })?;
+    for (first, second) in [(heard, whole), (whole, heard), (heard, None), (None, heard)] {
+        let seen = play_each(stage, sent, first, second)?;
         assert_eq!(rt; seen, Ok(()), "{} heard as {octets:?} by one", sent.place);
+    }
+    Ok(())
+}
+
+/// These octets are heard in place of the transmission, by all who hear it, and where these are the
+/// terminals also by one of them.
+fn hear(rt: &impl Abort, stage: Stage, sent: &Sent, octets: &[u8]) -> Result<(), Fail> {
+    let heard = Some(octets);
+    let seen = play(stage, sent, &Event::Carry { heard })?;
+    assert_eq!(rt; seen, Ok(()), "{} heard as {octets:?}", sent.place);
+    if sent.by_control {
+        hear_by_one(rt, stage, sent, octets)?;
     }
     Ok(())
 }

@@ -1,0 +1,30 @@
+//! An event as a call of the line.
+
+ghost use Rattle.bsc_line_model.specs.Runs.{Does};
+ghost use Rattle.bsc_line_model.specs.Kept.{IsLine};
+
+use bsc_line::{Event, Line, LineError};
+use std::alloc::Allocator;
+
+/// Makes the call of the line that the event names.
+pub(crate) fn take<A: Allocator>(line: &mut Line<A>, event: &Event<'_>) -> Result<(), LineError>
+    ensures does { Does event.now line.old result line.new }
+    ensures line { IsLine line.new }
+{
+    match event {
+        Event::OfferAt { terminal, codes } => line.offer_at(*terminal, codes),
+        Event::OfferFor {
+            terminal,
+            select,
+            codes,
+        } => line.offer_for(*terminal, *select, codes),
+        Event::Carry { heard } => line.carry(*heard),
+        Event::CarryEach { heard } => line.carry_each(heard),
+        Event::CarrySent => line.carry_sent(),
+        Event::Silence => line.silence(),
+        Event::Ready { terminal, ready } => line.set_ready(*terminal, *ready),
+        Event::UrgentAt { terminal } => line.set_urgent_at(*terminal),
+        Event::UrgentFor { terminal } => line.set_urgent_for(*terminal),
+        Event::Release { terminal, way } => line.release(*terminal, *way),
+    }
+}

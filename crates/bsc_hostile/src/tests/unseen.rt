@@ -1,0 +1,54 @@
+//! What happens on a line without its watch is told at the next event.
+
+use crate::Broken;
+use crate::tests::exchanges::{POLLED, begin};
+use bsc_line::Event;
+use std::alloc::Global;
+use std::test::Fail;
+
+/// HI is offered at terminal 1.
+const HI_AT: Event<'static> = Event::OfferAt {
+    terminal: 1,
+    codes: b"HI",
+};
+
+/// Terminal 1 asks for the line.
+const URGENT_AT: Event<'static> = Event::UrgentAt { terminal: 1 };
+
+/// What is pending is heard as EOT.
+const AS_EOT: Event<'static> = Event::Carry {
+    heard: Some(b"\x16\x04"),
+};
+
+/// What is pending is lost.
+const LOST: Event<'static> = Event::Carry { heard: None };
+
+/// What the watch says of an event, where another one happened without it while the transmission of
+/// this number was pending.
+fn told(
+    alloc: Global,
+    place: usize,
+    unseen: &Event<'_>,
+    event: &Event<'_>,
+) -> Result<Option<Broken>, Fail> {
+    let mut watched = begin(alloc, POLLED, place)?;
+    watched.line.run(&[*unseen])?;
+    Ok(watched.play(event).err())
+}
+
+#[test]
+fn what_happens_unseen_is_told(rt: HostRuntime) -> Result<(), Fail> {
+    for (place, unseen, event, broken) in [
+        (0, HI_AT, URGENT_AT, Broken::Offered),
+        (0, Event::CarrySent, URGENT_AT, Broken::Pending),
+        (0, LOST, Event::CarrySent, Broken::Answer),
+        (1, Event::CarrySent, URGENT_AT, Broken::Spooled),
+        (2, Event::CarrySent, URGENT_AT, Broken::Known),
+        (2, AS_EOT, URGENT_AT, Broken::Trust),
+        (4, Event::CarrySent, Event::CarrySent, Broken::Pending),
+    ] {
+        let seen = told(rt.alloc(), place, &unseen, &event)?;
+        assert_eq!(rt; seen, Some(broken), "transmission {place}");
+    }
+    Ok(())
+}
