@@ -9,13 +9,16 @@ use bsc_line::LineError;
 #[derive(Clone, Copy, Debug, Default, PartialEq, Eq)]
 pub struct Tally {
     /// Events that were accepted.
-    pub events: u64,
+    pub accepted: u64,
 
     /// Events that were refused.
-    pub refusals: u64,
+    pub refused: u64,
 
-    /// Refusals for want of room in memory, among the others.
+    /// Offers that were refused by `Memory`.
     pub out_of_memory: u64,
+
+    /// Releases that were refused by `CountMismatch`.
+    pub mismatches: u64,
 
     /// Offers that were accepted.
     pub offers: u64,
@@ -53,12 +56,18 @@ impl Tally {
     /// Counts an answer.
     pub(crate) fn count_answer(&mut self, answer: Result<(), LineError>) {
         match answer {
-            Ok(()) => add(&mut self.events),
-            Err(LineError::Memory) => {
-                add(&mut self.refusals);
-                add(&mut self.out_of_memory);
-            }
-            Err(_) => add(&mut self.refusals),
+            Ok(()) => add(&mut self.accepted),
+            Err(why) => self.count_refusal(why),
+        }
+    }
+
+    /// Counts a refusal.
+    fn count_refusal(&mut self, why: LineError) {
+        add(&mut self.refused);
+        match why {
+            LineError::Memory => add(&mut self.out_of_memory),
+            LineError::CountMismatch => add(&mut self.mismatches),
+            _ => {}
         }
     }
 
@@ -101,8 +110,9 @@ impl Tally {
 
     /// Adds the numbers of another line.
     pub fn add(&mut self, other: &Tally) {
-        self.events = self.events.wrapping_add(other.events);
-        self.refusals = self.refusals.wrapping_add(other.refusals);
+        self.accepted = self.accepted.wrapping_add(other.accepted);
+        self.refused = self.refused.wrapping_add(other.refused);
+        self.mismatches = self.mismatches.wrapping_add(other.mismatches);
         self.out_of_memory = self.out_of_memory.wrapping_add(other.out_of_memory);
         self.offers = self.offers.wrapping_add(other.offers);
         self.blocks = self.blocks.wrapping_add(other.blocks);

@@ -63,9 +63,10 @@ impl<'a> Player<'a> {
         })
     }
 
-    /// How many events this line is played for.
+    /// How many events this line is played for: few on most lines, since a line loses trust once.
     pub fn life(&mut self) -> u64 {
-        (self.random.below(4000) as u64).saturating_add(100)
+        let most = if self.random.one_in(8) { 6000 } else { 1000 };
+        (self.random.below(most) as u64).saturating_add(100)
     }
 
     /// What was seen.
@@ -93,13 +94,15 @@ impl<'a> Player<'a> {
 
     /// One event.
     pub fn step(&mut self) -> Answer {
+        if self.random.one_in(32) {
+            self.feed();
+        }
         match self.random.below(32) {
             0..=4 => self.offer_at(),
             5..=9 => self.offer_for(),
             10 => Ok(self.flag()),
             11 => Ok(self.release()),
-            12 => Ok(self.feed()),
-            13 => Ok(self.any_turn()),
+            12 => Ok(self.any_turn()),
             _ => self.turn(),
         }
     }
@@ -199,14 +202,13 @@ impl<'a> Player<'a> {
     }
 
     /// The line finds no more memory, or finds it again.
-    fn feed(&mut self) -> Result<(), Broken> {
+    fn feed(&mut self) {
         if self.starved {
             self.memory.refuse_none();
         } else {
             self.memory.refuse_from(1);
         }
         self.starved = !self.starved;
-        Ok(())
     }
 
     /// An event at any time.
@@ -245,7 +247,7 @@ impl<'a> Player<'a> {
         }
         match self.random.below(4) {
             0 => Ok(self.play(&Event::Carry { heard: None })),
-            1 if pending != Pending::Terminal => self.hear_each(pending),
+            1 | 2 if pending != Pending::Terminal => self.hear_each(pending),
             _ => self.hear(),
         }
     }

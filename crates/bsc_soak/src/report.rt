@@ -36,16 +36,17 @@ impl Report {
     pub fn print(&self, rt: &impl Print) -> anyhow::Result<()> {
         let tally = &self.tally;
         for (name, number) in [
-            ("steps", self.played),
+            ("events", self.played),
             ("lines", self.lines),
             ("lines not trusted", self.untrusted),
-            ("events accepted", tally.events),
-            ("events refused", tally.refusals),
-            ("out of memory", tally.out_of_memory),
+            ("events accepted", tally.accepted),
+            ("events refused", tally.refused),
+            ("refused by Memory", tally.out_of_memory),
+            ("refused by CountMismatch", tally.mismatches),
             ("records offered", tally.offers),
             ("blocks arrived", tally.blocks),
             ("records arrived", tally.records),
-            ("replies learned from", tally.learned),
+            ("blocks known", tally.learned),
             ("doubts", tally.doubts),
             ("releases", tally.releases),
             ("calls", tally.calls),
