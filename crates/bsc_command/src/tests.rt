@@ -1,4 +1,5 @@
 //! What no contract says: printed texts, calls that succeed, and streams that fail.
+mod examples;
 mod faults;
 mod inputs;
 mod naming;

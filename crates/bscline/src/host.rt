@@ -1,12 +1,11 @@
 //! The machine that the program runs on: its files, and its loopback address.
 
-ghost use Rattle.std.specs.Prelude.{◌≡◌, ◌≤◌, length, IfOk};
-
 use bsc_carrier::Cable;
 use bsc_command::{Host, InputError, read_input};
 use bsc_loopback::{LoopbackError, connect};
 use std::fs::File;
 use std::net::Net;
+use std::rt::Files;
 
 /// The machine of this runtime.
 #[derive(Drop)]
