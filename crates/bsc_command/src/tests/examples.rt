@@ -192,6 +192,7 @@ trusted
 "#;
 
 /// A host with two files, `line.toml` and `script.txt`, and real connections.
+#[derive(Drop)]
 struct Files<'a, R> {
     runtime: &'a R,
     alloc: Global,

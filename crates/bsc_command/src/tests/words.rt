@@ -20,13 +20,21 @@ fn answer(alloc: Global, words: &[&str]) -> Result<Vec<u8>, Fail> {
 
 #[test]
 fn work_of_the_words(rt: HostRuntime) -> Result<(), Fail> {
-    let table: [(&[&str], &[u8]); 7] = [
+    let table: [(&[&str], &[u8]); 9] = [
         (&["bscline"], b"Names"),
         (&["bscline", "show"], b"Show"),
         (&["bscline", "name", "161610B0FF"], b"Name(\"161610B0FF\")"),
         (&["bscline", "name", "16 04"], b"Name(\"16 04\")"),
         (&["bscline", "name", ""], b"Name(\"\")"),
         (&["bscline", "name", "--", "-1"], b"Name(\"-1\")"),
+        (
+            &["bscline", "run", "c", "s"],
+            b"Run { config: \"c\", script: \"s\", check: false }",
+        ),
+        (
+            &["bscline", "run", "--check", "-", "s"],
+            b"Run { config: \"-\", script: \"s\", check: true }",
+        ),
         (&["bscline", "--version"], b"bscline 0.1.0\n"),
     ];
     for (words, text) in table {
@@ -44,6 +52,7 @@ Usage: bscline [COMMAND]
 Commands:
   name  Print the name of one transmission
   show  Print the names of standard input, with the units of texts
+  run   Run a line over loopback sockets, and print what is on it
   help  Print this message or the help of the given subcommand(s)
 
 Options:
@@ -79,16 +88,25 @@ Options:
     Ok(())
 }
 
-/// A word that is no command, one too many and one too few. The word of a command that does not exist
-/// yet is none.
+/// A word that is no command, one too many and one too few.
 #[test]
 fn wrong_usage(rt: HostRuntime) -> Result<(), Fail> {
-    let table: [(&[&str], &[u8]); 4] = [
+    let table: [(&[&str], &[u8]); 5] = [
         (
-            &["bscline", "run", "c", "s"],
-            b"fault: error: unrecognized subcommand 'run'
+            &["bscline", "poll", "c", "s"],
+            b"fault: error: unrecognized subcommand 'poll'
 
 Usage: bscline [COMMAND]
+
+For more information, try '--help'.
+",
+        ),
+        (
+            &["bscline", "run", "c"],
+            b"fault: error: the following required arguments were not provided:
+  <SCRIPT>
+
+Usage: bscline run <CONFIG> <SCRIPT>
 
 For more information, try '--help'.
 ",
