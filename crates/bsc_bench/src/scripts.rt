@@ -46,26 +46,18 @@ pub fn play<W: Write>(
     for number in 0..scripts {
         let number = seed.wrapping_add(number);
         let mut script = Script::new(alloc, number)?;
-        let mut digest = Digest::new();
-        for _ in 0..events {
-            let answer = script.step()?;
-            digest.event(answer, &script.line);
-        }
-        let name = format!(in alloc; "{number}")?;
-        report::print(out, name.as_str(), digest, &script.line)?;
+        let digest = script.steps(events)?;
+        script.tell(out, number, digest)?;
     }
     Ok(())
 }
 
 /// Plays one script, and tells after each event what is left.
-pub fn trace<W: Write>(alloc: Global, out: &mut W, seed: u64, events: usize) -> anyhow::Result<()> {
+pub fn trace<W: Write>(alloc: Global, out: &mut W, seed: u64, events: u64) -> anyhow::Result<()> {
     let mut script = Script::new(alloc, seed)?;
     for number in 0..events {
-        let mut digest = Digest::new();
-        let answer = script.step()?;
-        digest.event(answer, &script.line);
-        let name = format!(in alloc; "{number}")?;
-        report::print(out, name.as_str(), digest, &script.line)?;
+        let digest = script.steps(1)?;
+        script.tell(out, number, digest)?;
     }
     Ok(())
 }
@@ -73,31 +65,11 @@ pub fn trace<W: Write>(alloc: Global, out: &mut W, seed: u64, events: usize) -> 
 impl Script {
     fn new(alloc: Global, seed: u64) -> anyhow::Result<Script> {
         let mut random = Random::new(seed);
-        let full = if random.one_in(2) {
-            80
-        } else {
-            1 + random.below(144)
-        };
-        let block_chars = if random.one_in(2) {
-            400
-        } else {
-            146 + random.below(255)
-        };
-        let tries = 1 + random.below(3);
-        let waits = 1 + random.below(3);
-        let setup = Setup::new(full as u8, block_chars as u16, tries as u8, waits as u8)?;
-        let count = 1 + random.below(4);
-        let mut terminals = Vec::new(alloc);
-        for number in 0..count {
-            terminals.push(terminal(alloc, &mut random, number)?)?;
-        }
-        let mut poll_list = Vec::new(alloc);
-        for _ in 0..1 + random.below(6) {
-            poll_list.push(random.below(count) as u8)?;
-        }
+        let (full, setup) = setup(&mut random)?;
+        let line = line(alloc, &mut random, setup)?;
         Ok(Script {
             alloc,
-            line: Line::new(alloc, setup, &terminals, &poll_list)?,
+            line,
             full,
             spoiled: random.below(8),
             ways: ways(random.below(3)),
@@ -105,6 +77,23 @@ impl Script {
             earlier: Vec::new(alloc),
             random,
         })
+    }
+
+    /// This many events, and what came of them.
+    fn steps(&mut self, events: usize) -> Result<Digest, AllocError> {
+        let mut digest = Digest::new();
+        for _ in 0..events {
+            let answer = self.step()?;
+            digest.event(answer, &self.line);
+        }
+        Ok(digest)
+    }
+
+    /// Tells under this number what is left.
+    fn tell<W: Write>(&self, out: &mut W, number: u64, digest: Digest) -> anyhow::Result<()> {
+        let name = format!(in self.alloc; "{number}")?;
+        report::print(out, name.as_str(), digest, &self.line)?;
+        Ok(())
     }
 
     /// One event.
@@ -273,7 +262,7 @@ impl Script {
             1 => heard.truncate(place),
             2 => heard.push(0xff)?,
             3 => heard = self.earlier.clone()?,
-            4 => heard = Vec::from_slice(self.alloc, other(self.random.below(8)))?,
+            4 => heard = Vec::from_slice(self.alloc, OTHERS[self.random.below(8)])?,
             _ => {
                 let new = self.random.octet();
                 if let Some(octet) = heard.get_mut(place) {
@@ -283,6 +272,47 @@ impl Script {
         }
         Ok(heard)
     }
+}
+
+/// How many characters a record has at most, and settings with that.
+fn setup(random: &mut Random) -> anyhow::Result<(usize, Setup)> {
+    let full = if random.one_in(2) {
+        80
+    } else {
+        1 + random.below(144)
+    };
+    let block_chars = if random.one_in(2) {
+        400
+    } else {
+        146 + random.below(255)
+    };
+    let tries = 1 + random.below(3);
+    let waits = 1 + random.below(3);
+    let setup = Setup::new(full as u8, block_chars as u16, tries as u8, waits as u8)?;
+    Ok((full, setup))
+}
+
+/// A line of one to four terminals, and of one to six entries of its poll list.
+fn line(alloc: Global, random: &mut Random, setup: Setup) -> anyhow::Result<Line<Global>> {
+    let terminals = terminals(alloc, random)?;
+    let poll_list = poll_list(alloc, random, terminals.len())?;
+    Ok(Line::new(alloc, setup, &terminals, &poll_list)?)
+}
+
+fn terminals(alloc: Global, random: &mut Random) -> anyhow::Result<Vec<Terminal>> {
+    let mut terminals = Vec::new(alloc);
+    for number in 0..1 + random.below(4) {
+        terminals.push(terminal(alloc, random, number)?)?;
+    }
+    Ok(terminals)
+}
+
+fn poll_list(alloc: Global, random: &mut Random, terminals: usize) -> Result<Vec<u8>, AllocError> {
+    let mut poll_list = Vec::new(alloc);
+    for _ in 0..1 + random.below(6) {
+        poll_list.push(random.below(terminals).min(3) as u8)?;
+    }
+    Ok(poll_list)
 }
 
 /// How many ways of spoiling a script has: bits are turned, or more is cut short, or all.
@@ -295,18 +325,16 @@ fn ways(choice: usize) -> usize {
 }
 
 /// What else may be heard: EOT, ENQ, NAK, ACK0, ACK1, WACK, RVI, and a text whose check fails.
-fn other(choice: usize) -> &'static [u8] {
-    match choice {
-        0 => &[0x16, 0x04],
-        1 => &[0x16, 0x85],
-        2 => &[0x16, 0x15],
-        3 => &[0x16, 0x10, 0xb0],
-        4 => &[0x16, 0x10, 0x31],
-        5 => &[0x16, 0x10, 0x3b],
-        6 => &[0x16, 0x10, 0xbc],
-        _ => &[0x16, 0x02, 0x85],
-    }
-}
+const OTHERS: [&[u8]; 8] = [
+    &[0x16, 0x04],
+    &[0x16, 0x85],
+    &[0x16, 0x15],
+    &[0x16, 0x10, 0xb0],
+    &[0x16, 0x10, 0x31],
+    &[0x16, 0x10, 0x3b],
+    &[0x16, 0x10, 0xbc],
+    &[0x16, 0x02, 0x85],
+];
 
 /// A terminal of one to four addresses.
 fn terminal(alloc: Global, random: &mut Random, number: usize) -> anyhow::Result<Terminal>

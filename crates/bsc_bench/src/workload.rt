@@ -33,7 +33,7 @@ const RECORDS: usize = 7;
 /// How many transmissions a visit of a terminal takes: two calls, two texts, their replies and EOT.
 const TRANSMISSIONS: usize = 8;
 
-/// A line, and the record that is offered next on it: of 55 characters, so that it counts 57 and
+/// A line, and the record that was offered last on it: of 55 characters, so that it counts 57 and
 /// seven of them fill a block of 400.
 #[derive(Drop)]
 struct Player {
@@ -41,7 +41,6 @@ struct Player {
     hearing: Hearing,
     octets: Wire,
     record: [u8; 55],
-    number: usize,
     terminal: usize,
 }
 
@@ -71,18 +70,9 @@ pub fn polls<R: AllocGlobal + Clock, W: Write>(
     hearing: Hearing,
 ) -> anyhow::Result<Measured> {
     let mut player = Player::new(rt.alloc(), terminals, hearing)?;
-    player.line.silence()?;
-    let started = Instant::now(rt)?;
-    for _ in 0..events {
-        player.carry()?;
-    }
-    let time = started.elapsed(rt)?;
+    let measured = player.time_polls(rt, events)?;
     report::print(out, "polls", Digest::new(), &player.line)?;
-    Ok(Measured {
-        events,
-        time,
-        octets: 0,
-    })
+    Ok(measured)
 }
 
 /// Texts of seven records each way, after a history of this many records.
@@ -95,45 +85,84 @@ pub fn texts<R: AllocGlobal + Clock + Files, W: Write>(
     hearing: Hearing,
 ) -> anyhow::Result<Measured> {
     let mut player = Player::new(rt.alloc(), terminals, hearing)?;
-    player.offer()?;
-    player.line.silence()?;
-    let before = resident(rt)?;
-    for _ in 0..history.div_ceil(2 * RECORDS) {
-        player.visit()?;
-    }
-    let octets = resident(rt)?.saturating_sub(before);
-    let started = Instant::now(rt)?;
-    for _ in 0..visits {
-        player.visit()?;
-    }
-    let time = started.elapsed(rt)?;
+    let octets = player.remember(rt, history)?;
+    let measured = player.time_visits(rt, visits, octets)?;
     report::print(out, "texts", Digest::new(), &player.line)?;
-    Ok(Measured {
-        events: visits.wrapping_mul(TRANSMISSIONS + 2 * RECORDS),
-        time,
-        octets,
-    })
+    Ok(measured)
+}
+
+/// A terminal for each number below this, and a poll list that names each in turn.
+fn stations(alloc: Global, count: u8) -> anyhow::Result<(Vec<Terminal>, Vec<u8>)> {
+    let mut terminals = Vec::new(alloc);
+    let mut poll_list = Vec::new(alloc);
+    for number in 0..count {
+        terminals.push(station(number)?)?;
+        poll_list.push(number)?;
+    }
+    Ok((terminals, poll_list))
+}
+
+/// The terminal of this number.
+fn station(number: u8) -> anyhow::Result<Terminal> {
+    let poll = address(b'A', number)?;
+    let select = address(b'a', number)?;
+    Ok(Terminal::new(poll, &[select])?)
 }
 
 impl Player {
     fn new(alloc: Global, terminals: usize, hearing: Hearing) -> anyhow::Result<Player> {
         ensure!(terminals <= 64, "more than 64 terminals");
         let setup = Setup::new(80, 400, 3, 10)?;
-        let mut stations = Vec::new(alloc);
-        let mut poll_list = Vec::new(alloc);
-        for number in 0..terminals {
-            let poll = address(b'A', number)?;
-            let select = address(b'a', number)?;
-            stations.push(Terminal::new(poll, &[select])?)?;
-            poll_list.push(number as u8)?;
-        }
+        let (stations, poll_list) = stations(alloc, terminals as u8)?;
         Ok(Player {
             line: Line::new(alloc, setup, &stations, &poll_list)?,
             hearing,
             octets: Wire::new(),
-            record: [b'-'; 55],
-            number: 0,
+            record: *b"\x7f\x7f\x7f\x7f---------------------------------------------------",
             terminal: 0,
+        })
+    }
+
+    /// How long this many polls of nothing take.
+    fn time_polls<R: Clock>(&mut self, rt: &R, events: usize) -> anyhow::Result<Measured> {
+        self.line.silence()?;
+        let started = Instant::now(rt)?;
+        for _ in 0..events {
+            self.carry()?;
+        }
+        Ok(Measured {
+            events,
+            time: started.elapsed(rt)?,
+            octets: 0,
+        })
+    }
+
+    /// Starts, and delivers this many records: how many octets of memory that takes.
+    fn remember<R: AllocGlobal + Files>(
+        &mut self,
+        rt: &R,
+        history: usize,
+    ) -> anyhow::Result<usize> {
+        self.offer()?;
+        self.line.silence()?;
+        let before = resident(rt)?;
+        self.visit_often(history.div_ceil(2 * RECORDS))?;
+        Ok(resident(rt)?.saturating_sub(before))
+    }
+
+    /// How long this many visits take, where this many octets of memory were taken before.
+    fn time_visits<R: Clock>(
+        &mut self,
+        rt: &R,
+        visits: usize,
+        octets: usize,
+    ) -> anyhow::Result<Measured> {
+        let started = Instant::now(rt)?;
+        self.visit_often(visits)?;
+        Ok(Measured {
+            events: visits.wrapping_mul(TRANSMISSIONS + 2 * RECORDS),
+            time: started.elapsed(rt)?,
+            octets,
         })
     }
 
@@ -157,21 +186,12 @@ impl Player {
         }
     }
 
-    /// The next record: its first characters tell its number.
-    fn next_record(&mut self) {
-        self.record[0] = 0x40 | (self.number & 0x3f) as u8;
-        self.record[1] = 0x40 | (self.number >> 6 & 0x3f) as u8;
-        self.record[2] = 0x40 | (self.number >> 12 & 0x3f) as u8;
-        self.record[3] = 0x40 | (self.number >> 18 & 0x3f) as u8;
-        self.number = self.number.wrapping_add(1);
-    }
-
     /// Seven records at the next terminal, and seven for it.
     fn offer(&mut self) -> Result<(), LineError> {
         for _ in 0..RECORDS {
-            self.next_record();
+            count_on(&mut self.record);
             self.line.offer_at(self.terminal, &self.record)?;
-            self.next_record();
+            count_on(&mut self.record);
             self.line.offer_for(self.terminal, 0, &self.record)?;
         }
         let next = self.terminal.wrapping_add(1);
@@ -180,6 +200,13 @@ impl Player {
         } else {
             0
         };
+        Ok(())
+    }
+
+    fn visit_often(&mut self, count: usize) -> Result<(), LineError> {
+        for _ in 0..count {
+            self.visit()?;
+        }
         Ok(())
     }
 
@@ -193,13 +220,23 @@ impl Player {
     }
 }
 
+/// The next record: its first four characters tell its number, as digits from 0x40 to 0x7f, the
+/// lowest first.
+fn count_on(record: &mut [u8]) {
+    for digit in record.iter_mut().take(4) {
+        if *digit < 0x7f {
+            *digit = digit.wrapping_add(1);
+            return;
+        }
+        *digit = 0x40;
+    }
+}
+
 /// A letter and a number below 64 in two characters.
-fn address(letter: u8, number: usize) -> anyhow::Result<Address>
-    requires letter { letter < 128 }
-    requires number { number < 64 }
-{
-    let codes = [letter + (number / 16) as u8, b'0' + (number % 16) as u8];
-    Ok(Address::read(&codes)?)
+fn address(letter: u8, number: u8) -> anyhow::Result<Address> {
+    let high = letter.wrapping_add(number / 16);
+    let low = b'0'.wrapping_add(number % 16);
+    Ok(Address::read(&[high, low])?)
 }
 
 /// How many octets of memory the process has.
