@@ -7,6 +7,7 @@ mod scripts;
 mod workload;
 
 use anyhow::{Result, bail};
+use std::alloc::Global;
 use std::io::{BufWriter, Write};
 use std::rt::{Clock, Env, Files};
 use std::{env, io};
@@ -18,15 +19,10 @@ fn main(rt: HostRuntime) -> Result<()> {
 
 /// Plays the workload of the command line, or small ones where there is none.
 fn run<R: AllocGlobal + Clock + Env + Eprint + Files + Print>(rt: &R) -> Result<()> {
-    let mut words = Vec::new(rt.alloc());
-    for word in env::args(rt)?.skip(1) {
-        words.push(word)?;
-    }
+    let words = words(rt)?;
     let mut out = BufWriter::new(rt.alloc(), io::writer(rt))?;
     if words.is_empty() {
-        workload::polls(rt, &mut out, 3, 100, Hearing::Sent)?;
-        workload::texts(rt, &mut out, 3, 0, 10, Hearing::Octets)?;
-        scripts::play(rt.alloc(), &mut out, 1, 10, 100)?;
+        play_small(rt, &mut out)?;
     } else {
         play(rt, &mut out, &words)?;
     }
@@ -34,43 +30,76 @@ fn run<R: AllocGlobal + Clock + Env + Eprint + Files + Print>(rt: &R) -> Result<
     Ok(())
 }
 
-/// Plays the workload of these words.
+/// The words of the command line.
+fn words<R: AllocGlobal + Env>(rt: &R) -> Result<Vec<String>> {
+    let mut words = Vec::new(rt.alloc());
+    for word in env::args(rt)?.skip(1) {
+        words.push(word)?;
+    }
+    Ok(words)
+}
+
+/// Plays a small workload of each kind.
+fn play_small<R: AllocGlobal + Clock + Files, W: Write>(rt: &R, out: &mut W) -> Result<()> {
+    workload::polls(rt, out, 3, 100, Hearing::Sent)?;
+    workload::texts(rt, out, 3, 0, 10, Hearing::Octets)?;
+    scripts::play(rt.alloc(), out, 1, 10, 100)
+}
+
+/// Plays the workload of these words: its name, and its numbers.
 fn play<R: AllocGlobal + Clock + Eprint + Files, W: Write>(
     rt: &R,
     out: &mut W,
     words: &[String],
 ) -> Result<()> {
-    match words {
-        [name, terminals, events, how] if name.as_str() == "polls" => {
-            let measured = workload::polls(
-                rt,
-                out,
-                terminals.parse()?,
-                events.parse()?,
-                hearing(how)?,
-            )?;
-            measured.print(rt)
-        }
-        [name, terminals, history, visits, how] if name.as_str() == "texts" => {
-            let terminals = terminals.parse()?;
-            let history = history.parse()?;
-            let visits = visits.parse()?;
-            workload::texts(rt, out, terminals, history, visits, hearing(how)?)?.print(rt)
-        }
-        [name, seed, scripts, events] if name.as_str() == "scripts" => {
-            scripts::play(
-                rt.alloc(),
-                out,
-                seed.parse()?,
-                scripts.parse()?,
-                events.parse()?,
-            )
-        }
-        [name, seed, events] if name.as_str() == "trace" => {
-            scripts::trace(rt.alloc(), out, seed.parse()?, events.parse()?)
-        }
+    let Some((name, numbers)) = words.split_first() else {
+        bail!("not a workload")
+    };
+    match name.as_str() {
+        "polls" => polls(rt, out, numbers),
+        "texts" => texts(rt, out, numbers),
+        "scripts" => play_scripts(rt.alloc(), out, numbers),
+        "trace" => trace(rt.alloc(), out, numbers),
         _ => bail!("not a workload"),
     }
+}
+
+fn polls<R: AllocGlobal + Clock + Eprint, W: Write>(
+    rt: &R,
+    out: &mut W,
+    numbers: &[String],
+) -> Result<()> {
+    let [terminals, events, how] = numbers else {
+        bail!("not three words")
+    };
+    let (terminals, events) = (terminals.parse()?, events.parse()?);
+    workload::polls(rt, out, terminals, events, hearing(how)?)?.print(rt)
+}
+
+fn texts<R: AllocGlobal + Clock + Eprint + Files, W: Write>(
+    rt: &R,
+    out: &mut W,
+    numbers: &[String],
+) -> Result<()> {
+    let [terminals, history, visits, how] = numbers else {
+        bail!("not four words")
+    };
+    let (terminals, history, visits) = (terminals.parse()?, history.parse()?, visits.parse()?);
+    workload::texts(rt, out, terminals, history, visits, hearing(how)?)?.print(rt)
+}
+
+fn play_scripts<W: Write>(alloc: Global, out: &mut W, numbers: &[String]) -> Result<()> {
+    let [seed, scripts, events] = numbers else {
+        bail!("not three numbers")
+    };
+    scripts::play(alloc, out, seed.parse()?, scripts.parse()?, events.parse()?)
+}
+
+fn trace<W: Write>(alloc: Global, out: &mut W, numbers: &[String]) -> Result<()> {
+    let [seed, events] = numbers else {
+        bail!("not two numbers")
+    };
+    scripts::trace(alloc, out, seed.parse()?, events.parse()?)
 }
 
 fn hearing(word: &str) -> Result<Hearing> {
