@@ -71,16 +71,21 @@ fn wrong_terminal<A: Allocator>(line: &Line<A>) -> Option<usize> {
     None
 }
 
-#[test]
-fn a_record_each_way_of_each_address_arrives_in_one_round(rt: HostRuntime) -> Result<(), Fail> {
-    let poll_list = longest_poll_list(rt.alloc())?;
-    let mut line = line_of(rt.alloc(), &most_terminals()?, &poll_list, 3)?;
-    offer_everywhere(&mut line)?;
+/// Offers HI everywhere, and carries as many transmissions as deliver it.
+fn play_round<A: Allocator>(line: &mut Line<A>) -> Result<(), LineError> {
+    offer_everywhere(line)?;
     line.silence()?;
 
     // Each of 64 terminals has four selections and a poll of four transmissions each, and each of
     // the other 191 entries of the poll list a poll of two.
-    carry_on(&mut line, 64 * 5 * 4 + 191 * 2)?;
+    carry_on(line, 64 * 5 * 4 + 191 * 2)
+}
+
+#[test]
+fn a_record_each_way_of_each_address_arrives_in_one_round(rt: HostRuntime) -> Result<(), Fail> {
+    let poll_list = longest_poll_list(rt.alloc())?;
+    let mut line = line_of(rt.alloc(), &most_terminals()?, &poll_list, 3)?;
+    play_round(&mut line)?;
     assert_eq!(rt;
         (wrong_terminal(&line), line.trusted(), line.pending()),
         (None, true, Some((Control, CALL_POLL_FIRST)))
@@ -136,20 +141,34 @@ fn first_unsound<A: Allocator>(
     Ok(None)
 }
 
+/// Offers these records each way on a line that loses each transmission whose number is a multiple
+/// of `period`, which is not 0: the first transmission after which the line is not sound, and the
+/// first channel on which they were not delivered.
+fn wrong_over<A: Allocator>(
+    line: &mut Line<A>,
+    records: &[&[u8]],
+    period: usize,
+) -> Result<(Option<usize>, Option<usize>), LineError>
+    requires { 0 < period }
+{
+    offer_each_way(line, records)?;
+    let unsound = first_unsound(line, period)?;
+    let left = [
+        (0, FromTerminal, Delivered(records)),
+        (0, ToTerminal(0), Delivered(records)),
+    ];
+    Ok((unsound, wrong_left(line, &left)))
+}
+
 /// A hundred records each way are delivered over a line that loses each transmission whose number
 /// is a multiple of `period`, which is not 0.
 fn delivers_a_hundred(rt: &(impl Abort + AllocGlobal), period: usize) -> Result<(), Fail>
     requires { 0 < period }
 {
-    let mut line = line_of_two(rt.alloc())?;
     let records = hundred_records(rt.alloc())?;
-    offer_each_way(&mut line, &records)?;
-    let unsound = first_unsound(&mut line, period)?;
-    let left = [
-        (0, FromTerminal, Delivered(&records)),
-        (0, ToTerminal(0), Delivered(&records)),
-    ];
-    assert_eq!(rt; (unsound, wrong_left(&line, &left)), (None, None));
+    let mut line = line_of_two(rt.alloc())?;
+    let wrong = wrong_over(&mut line, &records, period)?;
+    assert_eq!(rt; wrong, (None, None));
     Ok(())
 }
 

@@ -10,7 +10,7 @@ use crate::octets::{
     ACK0, ACK1, CALL_POLL_A, CALL_SELECT_A, ENQ, EOT, NAK, TEXT_HI, TEXT_LAST_SEVEN, WACK,
 };
 use crate::play::Then::{Done, Sent};
-use crate::play::{Left, Part, play, wrong_left};
+use crate::play::{Left, Part, Wrong, play, wrong_left};
 use crate::runs::{Run, wrong_run};
 use crate::selecting::SEVEN_OFFERED;
 use bsc_control::Way::{FromTerminal, ToTerminal};
@@ -103,24 +103,35 @@ fn offers_once_more(
     Ok(waits(line, way, &hundred[..before + 1]))
 }
 
+/// Offers HI as often as these records on this way: whether each offer was made good.
+fn offers_each(
+    alloc: &Refusing,
+    line: &mut Line<&Refusing>,
+    way: Way,
+    hundred: &[&[u8]],
+) -> Result<bool, LineError> {
+    for before in 0..hundred.len() {
+        if !offers_once_more(alloc, line, way, hundred, before)? {
+            return Ok(false);
+        }
+    }
+    Ok(true)
+}
+
 /// Offers HI a hundred times on this way of a new line, of whose requests for memory the one of
-/// this number is refused: how many were refused, if each offer was then made good.
+/// this number is refused: whether each offer was made good, and how many requests were refused.
 fn refusals_of_offers(
     alloc: &Refusing,
     way: Way,
     request: usize,
     hundred: &[&[u8]],
-) -> Result<usize, Fail> {
+) -> Result<(bool, usize), Fail> {
     alloc.refuse_none();
     let mut line = line_of_two(alloc)?;
     line.silence()?;
     alloc.refuse_nth(request);
-    for before in 0..hundred.len() {
-        if !offers_once_more(alloc, &mut line, way, hundred, before)? {
-            return Err("an offer went otherwise".into());
-        }
-    }
-    Ok(alloc.refused())
+    let is_good = offers_each(alloc, &mut line, way, hundred)?;
+    Ok((is_good, alloc.refused()))
 }
 
 #[test]
@@ -130,10 +141,8 @@ fn each_growth_of_an_offer_is_refused_in_turn(rt: HostRuntime) -> Result<(), Fai
     let hundred = repeated(rt.alloc(), 100)?;
     for way in [FromTerminal, ToTerminal(0)] {
         for (request, refusals) in CASES {
-            assert_eq!(rt;
-                refusals_of_offers(&alloc, way, *request, &hundred)?,
-                *refusals
-            );
+            let refused = refusals_of_offers(&alloc, way, *request, &hundred)?;
+            assert_eq!(rt; refused, (true, *refusals));
         }
     }
     Ok(())
@@ -172,18 +181,28 @@ fn a_run_is_out_of_memory_at_an_offer_only(rt: HostRuntime) -> Result<(), Fail> 
     Ok(())
 }
 
-/// Plays an exchange on a new line, and then one of which the first request for memory is refused:
-/// how many requests were refused.
+/// Plays an exchange, and then one of which the first request for memory is refused: how many
+/// requests were refused.
+fn refusals_in(
+    alloc: &Refusing,
+    line: &mut Line<&Refusing>,
+    before: &[Part<'_>],
+    exchange: &[Part<'_>],
+) -> Result<usize, Wrong> {
+    play(line, before)?;
+    alloc.refuse_nth(1);
+    play(line, exchange)?;
+    Ok(alloc.refused())
+}
+
+/// The same on a new line.
 fn refusals_of_exchange(
     alloc: &Refusing,
     before: &[Part<'_>],
     exchange: &[Part<'_>],
-) -> Result<usize, Fail> {
+) -> Result<Result<usize, Wrong>, Fail> {
     let mut line = line_of_two(alloc)?;
-    play(&mut line, before)?;
-    alloc.refuse_nth(1);
-    play(&mut line, exchange)?;
-    Ok(alloc.refused())
+    Ok(refusals_in(alloc, &mut line, before, exchange))
 }
 
 #[test]
@@ -204,7 +223,7 @@ fn a_selection_waits_for_room(rt: HostRuntime) -> Result<(), Fail> {
     let alloc = Refusing::new(rt.alloc());
     assert_eq!(rt;
         refusals_of_exchange(&alloc, &[SEVEN_OFFERED], EXCHANGE)?,
-        1
+        Ok(1)
     );
     Ok(())
 }
@@ -229,7 +248,7 @@ fn a_text_is_asked_for_again_until_there_is_room(rt: HostRuntime) -> Result<(), 
         left: &[(0, FromTerminal, Delivered(HI))],
     }];
     let alloc = Refusing::new(rt.alloc());
-    assert_eq!(rt; refusals_of_exchange(&alloc, OFFERED, EXCHANGE)?, 1);
+    assert_eq!(rt; refusals_of_exchange(&alloc, OFFERED, EXCHANGE)?, Ok(1));
     Ok(())
 }
 
@@ -273,16 +292,24 @@ fn first_unsound<A: Allocator>(line: &mut Line<A>) -> Result<Option<usize>, Line
 /// Eight records each way of terminal 0, which asks for the line, are delivered, though memory may
 /// be refused once: the first transmission after which the line is not sound, and the first channel
 /// on which they were not delivered.
+fn wrong_of_eight<A: Allocator>(
+    line: &mut Line<A>,
+    left: Left<'_>,
+) -> Result<(Option<usize>, Option<usize>), LineError> {
+    offer_eight_each_way(line)?;
+    line.set_urgent_at(0)?;
+    line.silence()?;
+    let unsound = first_unsound(line)?;
+    Ok((unsound, wrong_left(line, left)))
+}
+
+/// The same on a new line, for which memory may be refused once as well.
 fn eight_each_way(
     alloc: &Refusing,
     left: Left<'_>,
 ) -> Result<(Option<usize>, Option<usize>), Fail> {
     let mut line = made_twice(alloc)?;
-    offer_eight_each_way(&mut line)?;
-    line.set_urgent_at(0)?;
-    line.silence()?;
-    let unsound = first_unsound(&mut line)?;
-    Ok((unsound, wrong_left(&line, left)))
+    Ok(wrong_of_eight(&mut line, left)?)
 }
 
 /// HI eight times.
