@@ -14,7 +14,22 @@
 //! | `terminals` | a list of tables with the keys `poll` and `select` | it is missing |
 //!
 //! `poll` is the polling address of a terminal, a text. `select` is its selection address, a text,
-//! in version 1, and a list of one to four such texts in version 2.
+//! in version 1, and a list of one to four such texts in version 2. An address has 1 to 7
+//! characters, each from 21 to 7E hexadecimal. No other key may stand in the document or in the
+//! table of a terminal.
+//!
+//! ```toml
+//! version = 1
+//! poll_list = [0, 1]
+//!
+//! [[terminals]]
+//! poll = "A"
+//! select = "a"
+//!
+//! [[terminals]]
+//! poll = "B"
+//! select = "b"
+//! ```
 #![tactic(auto)]
 
 mod config;
