@@ -56,16 +56,18 @@ impl Config {
         })
     }
 
-    /// How records become blocks, and how much a station bears.
+    /// How records become blocks, and how many failures and WACKs a station bears. (Own.)
     pub fn setup(&self) -> Setup
         ensures value { result ≡ self.now.setup }
         ensures config { IsConfig self.now }
     {
+        // A field is read, so that the invariant is known here.
         let _ = &self.terminals;
         self.setup
     }
 
-    /// The addresses of each terminal, in the order of their numbers.
+    /// The addresses of each terminal, in the order of their numbers: 1 to 64 of them. (GA27-3004,
+    /// polling and selection; the limits are own.)
     pub fn terminal_list(&self) -> &[Terminal]
         ensures value { result.now ≡ self.now.terminals }
         ensures config { IsConfig self.now }
@@ -73,7 +75,8 @@ impl Config {
         self.terminals.as_slice()
     }
 
-    /// The poll list: the number of a terminal for each entry. (GA27-3004, poll list.)
+    /// The poll list: the number of a terminal for each of its 1 to 255 entries. (GA27-3004, poll
+    /// list; the limits are own.)
     pub fn poll_list(&self) -> &[u8]
         ensures value { result.now ≡ self.now.poll_list }
         ensures config { IsConfig self.now }
@@ -81,7 +84,7 @@ impl Config {
         self.poll_list.as_slice()
     }
 
-    /// How many terminals the line has: 1 to 64.
+    /// How many terminals the line has: 1 to 64. (Own.)
     pub fn terminals(&self) -> usize
         ensures value { result ≡ length self.now.terminals }
         ensures config { IsConfig self.now }

@@ -5,7 +5,7 @@ ghost use Rattle.bsc_config.specs.Keys.{name_of, owner_of};
 
 use std::fmt;
 
-/// Whose table a key stands in.
+/// Whose table a key stands in. (Own.)
 #[derive(Clone, Copy, Debug, PartialEq, Eq)]
 pub enum Owner {
     /// The document.
@@ -15,7 +15,7 @@ pub enum Owner {
     Terminal { number: usize },
 }
 
-/// A key that a configuration may have.
+/// A key that a configuration may have. (Own.)
 #[derive(Clone, Copy, Debug, PartialEq, Eq)]
 pub enum Key {
     /// `version`, 1 or 2.
@@ -47,7 +47,7 @@ pub enum Key {
 }
 
 impl Key {
-    /// The name of the key in its table.
+    /// The name of the key in its table, as `poll`. (Own.)
     pub fn name(&self) -> &'static str
         ensures { result.now ≡ name_of self.now }
     {
@@ -64,7 +64,7 @@ impl Key {
         }
     }
 
-    /// Whose table the key stands in.
+    /// Whose table the key stands in. (Own.)
     pub fn owner(&self) -> Owner
         ensures { result ≡ owner_of self.now }
     {

@@ -23,8 +23,8 @@ fn document(alloc: Global, text: &[u8]) -> Result<Table, ConfigError>
 }
 
 /// The configuration that a TOML document says, or the first reason to refuse it, in the order of
-/// the variants of [`ConfigError`]; `Memory` may come in place of any answer. `toml` reads into the
-/// memory of the process only, so no other allocator is taken. (Own.)
+/// the variants of [`ConfigError`]; `Memory` may come in place of any answer. `toml` takes the
+/// global allocator only, and so does this. (Own.)
 pub fn read_config(alloc: Global, text: &[u8]) -> Result<Config, ConfigError>
     ensures says { IfOk result (Says text.now) }
     ensures config { IfOk result IsConfig }
