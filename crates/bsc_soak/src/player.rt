@@ -264,7 +264,7 @@ impl<'a> Player<'a> {
         let octets = self.octets.clone()?;
         match self.spoiling {
             Spoiling::Loss => Ok(octets),
-            Spoiling::Damage => damaged(&mut self.random, octets),
+            Spoiling::Damage | Spoiling::Uneven => damaged(&mut self.random, octets),
             Spoiling::Anything => {
                 replaced(
                     self.alloc,
@@ -276,10 +276,10 @@ impl<'a> Player<'a> {
         }
     }
 
-    /// What one terminal hears of what is pending. Where it is a call and all is to be fair, nobody
-    /// hears it.
+    /// What one terminal hears of what is pending. Where it is a call and all is to be fair, it is
+    /// not the call, so that nobody hears it.
     fn hearing(&mut self, pending: Pending) -> Result<Option<Vec<u8>>, AllocError> {
-        if pending == Pending::Call && self.spoiling != Spoiling::Anything {
+        if pending == Pending::Call && is_fair(self.spoiling) {
             let octets = Vec::from_slice(self.alloc, b"\x16\x16\x04\xff")?;
             return Ok(if self.random.one_in(2) {
                 None
@@ -316,6 +316,11 @@ impl<'a> Player<'a> {
         let heard = items.as_slice();
         Ok(self.play(&Event::CarryEach { heard }))
     }
+}
+
+/// Whether all that is heard on such a line is fair.
+fn is_fair(spoiling: Spoiling) -> bool {
+    matches!(spoiling, Spoiling::Loss | Spoiling::Damage)
 }
 
 /// What is pending, where this station sent these octets.

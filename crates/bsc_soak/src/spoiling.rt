@@ -14,15 +14,19 @@ pub enum Spoiling {
     /// They are heard, lost, or damaged so that their check fails.
     Damage,
 
+    /// As damage; but a call may also reach some terminals and not others.
+    Uneven,
+
     /// Anything may be heard in their place.
     Anything,
 }
 
-/// One of these: on two of five lines anything may be heard.
+/// One of these.
 pub fn any_spoiling(random: &mut Random) -> Spoiling {
-    match random.below(5) {
+    match random.below(6) {
         0 => Spoiling::Loss,
         1 | 2 => Spoiling::Damage,
+        3 => Spoiling::Uneven,
         _ => Spoiling::Anything,
     }
 }
