@@ -28,6 +28,6 @@ pub mod DamagedCall
 pub mod DamagedLemmas
 pub mod TurnedBitLemmas
 pub mod SumChanges
-pub mod LeastDamage
+pub mod DamageNotFound
 pub mod ChangedUnits
 pub mod ChangedText

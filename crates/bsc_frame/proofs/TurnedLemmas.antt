@@ -56,6 +56,9 @@ xor_by (suc n) a b l =
     ap count_ones (xor_half a b) ∙ ones_cat 1 (bit_xor (a / 2) (b / 2)) (bit_xor (a % 2) (b % 2)) low.small in
     omega (arith, both, rest, low.counts, ones_half a, ones_half b)
 
+pub odd_bits_other : (octet bits : ℕ) → IsOdd bits → HaveOtherParity (bit_xor octet bits) octet
+odd_bits_other octet bits odd e = omega (arith, e, xor_by octet octet bits (omega arith), odd)
+
 pub turned_other : (bit octet : ℕ) → HaveOtherParity (turned bit octet) octet
 turned_other bit octet e = omega (arith, e, xor_by octet octet (2 ^ bit) (omega arith), ones_pow bit)
 

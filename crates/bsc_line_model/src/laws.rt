@@ -91,7 +91,8 @@ pub fn fair_in_octets()
 
 /// One turned bit in a transmission is heard fairly, so it never costs the line's trust: by the
 /// control station, by terminals that all hear the same, and by terminals of which each hears
-/// another bit turned, or nothing. Where the message is no call, other terminals may hear the whole.
+/// another bit turned, or nothing. Where the message is no call, other terminals may also hear the
+/// whole (GA27-3004: VRC checking; own).
 pub fn turned_bits()
     ensures heard { TurnedIsFair }
     ensures alike { TurnedAlikeIsFair }

@@ -1,4 +1,5 @@
 use Rattle.bsc_frame.proofs.DamagedLemmas.{spelled_where, failed_place}
+use Rattle.bsc_frame.proofs.TurnedLemmas.{odd_bits_other}
 use Rattle.bsc_frame.proofs.laws.other_parity.Goals as goal
 
 pub returns-clause-spelled : goal.returns-clause-spelled
@@ -6,3 +7,6 @@ returns-clause-spelled c = spelled_where
 
 pub returns-clause-failed : goal.returns-clause-failed
 returns-clause-failed c = λ m place octet h. failed_place m h place octet
+
+pub returns-clause-odd_bits : goal.returns-clause-odd_bits
+returns-clause-odd_bits c = odd_bits_other

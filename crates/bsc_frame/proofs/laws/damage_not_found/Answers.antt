@@ -1,6 +1,6 @@
 use Rattle.bsc_frame.proofs.SumChanges.{two_turned}
-use Rattle.bsc_frame.proofs.LeastDamage.{other_text, other_reply}
-use Rattle.bsc_frame.proofs.laws.least_damage.Goals as goal
+use Rattle.bsc_frame.proofs.DamageNotFound.{other_text, other_reply}
+use Rattle.bsc_frame.proofs.laws.damage_not_found.Goals as goal
 
 pub returns-clause-sums : goal.returns-clause-sums
 returns-clause-sums c = two_turned
