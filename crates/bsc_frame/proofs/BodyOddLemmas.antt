@@ -1,5 +1,5 @@
 -- Each octet of a body has odd parity, but for the PAD of a call.
-use Rattle.std.proofs.Common.{◌≡◌, inl, inr, ℕ, ◌<◌, false, refl, arith, List, [], ◌∷◌, ◌++◌, map, IsTrue, nat_le}
+use Rattle.std.proofs.Common.{inl, inr, ℕ, false, refl, arith, List, [], ◌∷◌, ◌++◌, map, IsTrue}
 use Rattle.std.specs.List.{AllByRecursion}
 use Rattle.std.specs.Int.Count.{ones}
 use Rattle.bsc_octet.specs.Octet.{IsOdd, odd_octet}
@@ -9,7 +9,7 @@ use Rattle.bsc_frame.specs.Spells.{AreAll, IsBody, IsCall}
 use Rattle.bsc_frame.specs.TurnedBits.{IsBodyOctet}
 use Rattle.bsc_frame.specs.declared.message.Message.{Message}
 use Rattle.bsc_frame.specs.declared.message.Message.TheVariants.{Eot, Call, Enq, Ack0, Ack1, Nak, Wack, Rvi, Text}
-use Rattle.bsc_frame.proofs.ControlLemmas.{IsPlain, plain}
+use Rattle.bsc_frame.proofs.ControlLemmas.{plain}
 use Rattle.bsc_frame.proofs.OddLemmas.{units_odd, fill_odd}
 use Rattle.bsc_frame.proofs.PlaceLemmas.{all_both}
 

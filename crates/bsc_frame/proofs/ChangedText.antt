@@ -1,5 +1,5 @@
 -- A text of which one octet is another with odd parity, neither of which is SYN or ends a unit.
-use Rattle.std.proofs.Common.{◌≡◌, ◌≢◌, inl, inr, ℕ, zero, suc, ◌+◌, ◌<◌, ◌==◌, true, false, refl, sym, ap, subst, ◌∙◌, arith, List, [], ◌∷◌, ◌++◌, length, get_or, set, append_assoc, Option, Some, None}
+use Rattle.std.proofs.Common.{◌≡◌, inl, inr, ℕ, zero, suc, ◌<◌, false, refl, sym, ap, subst, ◌∙◌, arith, List, [], ◌∷◌, ◌++◌, length, get_or, set, append_assoc, Some, None}
 use Rattle.std.specs.List.{AllByRecursion}
 use Rattle.bsc_octet.specs.Octet.{IsOdd}
 use Rattle.bsc_frame.specs.Texts.{TextValue, IsText}

@@ -1,20 +1,20 @@
 -- Units of which one octet is another with odd parity, neither of which is SYN or ends a unit.
-use Rattle.std.proofs.Common.{◌≡◌, ◌≢◌, inl, inr, ℕ, zero, suc, ◌+◌, ◌%◌, ◌<◌, ◌≤◌, ◌==◌, Bool, true, false, refl, sym, ap, subst, ◌∙◌, arith, List, [], ◌∷◌, ◌++◌, length, map, Option, Some, None, append_assoc, append-nil, length-append}
+use Rattle.std.proofs.Common.{◌≡◌, ◌≢◌, inl, inr, ℕ, zero, suc, ◌%◌, ◌<◌, ◌≤◌, Bool, true, false, refl, sym, ap, subst, ◌∙◌, arith, List, [], ◌∷◌, ◌++◌, length, map, Some, None, append_assoc, append-nil, length-append}
 use Rattle.std.specs.List.{AllByRecursion}
 use Rattle.std.specs.Int.Count.{ones}
 use Rattle.std.proofs.lemmas.List.{map-append}
-use Rattle.bsc_octet.specs.Octet.{IsOdd, odd_octet, longitudinal_sum, code_of}
+use Rattle.bsc_octet.specs.Octet.{odd_octet, longitudinal_sum, code_of}
 use Rattle.bsc_octet.proofs.ParityLemmas.{odd_of_low, odd_octet-low, code_of_odd, code_of-odd_octet}
 use Rattle.bsc_octet.proofs.SumLemmas.{longitudinal_sum-lt}
-use Rattle.bsc_frame.specs.Texts.{TextUnit, TextValue, IsUnit}
+use Rattle.bsc_frame.specs.Texts.{TextUnit, IsUnit}
 use Rattle.bsc_frame.specs.Units.{unit_codes, unit_wire, units_wire, ending}
-use Rattle.bsc_frame.specs.Reading.{low_bits, is_ending_code, is_ending_octet, gathered, behind_check, unit_at, units_at}
+use Rattle.bsc_frame.specs.Reading.{low_bits, is_ending_code, is_ending_octet, behind_check, unit_at, units_at}
 use Rattle.bsc_frame.specs.TurnedBits.{IsOtherOctet}
 use Rattle.bsc_frame.specs.declared.text.End.{End}
 use Rattle.bsc_frame.proofs.ReadLemmas.{test_false}
 use Rattle.bsc_frame.proofs.CarriedLemmas.{ending_same}
 use Rattle.bsc_frame.proofs.GatherLemmas.{IsOther, IsRun, gathered_read}
-use Rattle.bsc_frame.proofs.UnitLemmas.{UnitAt, unit_at_read, run_unit, length-unit_codes, ending_is, filled_plain}
+use Rattle.bsc_frame.proofs.UnitLemmas.{unit_at_read, run_unit, length-unit_codes, ending_is, filled_plain}
 use Rattle.bsc_frame.proofs.UnitSteps.{units_stop}
 use Rattle.bsc_frame.proofs.PlaceLemmas.{parted}
 use Rattle.bsc_frame.proofs.SumChanges.{one_changed}

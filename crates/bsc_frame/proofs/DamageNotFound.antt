@@ -1,5 +1,5 @@
 -- Damage that is not found.
-use Rattle.std.proofs.Common.{◌≡◌, refl, sym, subst, IsTrue, arith, lit<, List, ℕ}
+use Rattle.std.proofs.Common.{◌≡◌, refl, subst, arith, lit<, List, ℕ}
 use Rattle.std.specs.Int.Count.{ones}
 use Rattle.bsc_octet.specs.Octet.{odd_octet, longitudinal_sum, is_record_char}
 use Rattle.bsc_frame.specs.Message.{IsMessage}

@@ -1,11 +1,11 @@
 -- A call of which one octet after its EOT has the other parity is no message, unless that octet is fill.
-use Rattle.std.proofs.Common.{◌≡◌, ◌≢◌, ◌⊎◌, inl, inr, ℕ, suc, ◌+◌, ◌%◌, ◌<◌, ◌==◌, true, false, refl, sym, ap, subst, ◌∙◌, arith, List, [], ◌∷◌, ◌++◌, length, length-append, append_assoc, append-nil, map, count_ones, IsTrue}
+use Rattle.std.proofs.Common.{◌≡◌, ◌⊎◌, inl, inr, ℕ, suc, refl, sym, ap, subst, ◌∙◌, arith, List, [], ◌∷◌, ◌++◌, length, length-append, append_assoc, append-nil, map, count_ones, IsTrue}
 use Rattle.std.specs.List.{AllByRecursion}
 use Rattle.std.specs.Int.Count.{ones-ones}
 use Rattle.std.proofs.lemmas.Bool.{eqb-false}
 use Rattle.bsc_octet.specs.Octet.{IsOdd, odd_octet}
 use Rattle.bsc_frame.specs.Addresses.{IsAddress, is_address_code}
-use Rattle.bsc_frame.specs.Spells.{IsBody, IsCall, AreAll}
+use Rattle.bsc_frame.specs.Spells.{IsBody, AreAll}
 use Rattle.bsc_frame.specs.TurnedBits.{HaveOtherParity, IsCallFill}
 use Rattle.bsc_frame.specs.declared.message.Message.{Message}
 use Rattle.bsc_frame.specs.declared.message.Message.TheVariants.{Eot, Call, Enq, Ack0, Ack1, Nak, Wack, Rvi, Text}
@@ -13,7 +13,7 @@ use Rattle.bsc_frame.proofs.ControlLemmas.{plain, plain_odd}
 use Rattle.bsc_frame.proofs.OddLemmas.{syn_odd}
 use Rattle.bsc_frame.proofs.BodyOddLemmas.{called_odd, address_odd, enq_odd}
 use Rattle.bsc_frame.proofs.PlaceLemmas.{parted, all_here, all_after, all_both}
-use Rattle.bsc_frame.proofs.InsideLemmas.{Inside, Behind, behind}
+use Rattle.bsc_frame.proofs.InsideLemmas.{Behind}
 use Rattle.bsc_frame.proofs.DamagedText.{heads, tails, not_both_odd, not_same}
 
 pub pad_even : IsOdd 0xff → ⊥

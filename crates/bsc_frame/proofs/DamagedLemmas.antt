@@ -1,15 +1,13 @@
 -- What is heard of a message of which one octet has the other parity.
-use Rattle.std.proofs.Common.{◌≡◌, ◌≢◌, ◌⊎◌, ◌↔◌, inl, inr, ℕ, zero, suc, ◌+◌, ◌%◌, ◌<◌, ◌≤◌, ◌==◌, false, true, refl, sym, ap, subst, ◌∙◌, arith, List, [], ◌∷◌, ◌++◌, length, get_or, set, length-set, map, length-append, append_assoc, append-nil}
-use Rattle.std.specs.List.{AllByRecursion}
+use Rattle.std.proofs.Common.{◌≡◌, ◌≢◌, ◌⊎◌, ◌↔◌, inl, inr, ℕ, zero, suc, ◌<◌, ◌≤◌, ◌==◌, false, refl, sym, ap, subst, ◌∙◌, arith, List, [], ◌∷◌, ◌++◌, length, get_or, set, length-set, map, length-append, append-nil}
 use Rattle.bsc_octet.specs.Octet.{IsOdd, odd_octet}
 use Rattle.bsc_frame.specs.Addresses.{IsAddress}
 use Rattle.bsc_frame.specs.Texts.{TextValue, IsText}
 use Rattle.bsc_frame.specs.Units.{units_wire}
 use Rattle.bsc_frame.specs.Message.{IsMessage}
 use Rattle.bsc_frame.specs.Wire.{wire, framed}
-use Rattle.bsc_frame.specs.Spells.{Spells, IsBody, Carries, AreAll, IsFailed, IsNoise}
-use Rattle.bsc_frame.specs.TurnedBits.{with_octet, with_turned_bit, turned, HaveOtherParity, IsSomeCall, IsSomeText, IsLeadingPad, IsCallFill, IsFillIn}
-use Rattle.bsc_frame.specs.Reading.{is_octet, begins, is_pad_octet}
+use Rattle.bsc_frame.specs.Spells.{Spells, IsBody, AreAll, IsFailed}
+use Rattle.bsc_frame.specs.TurnedBits.{HaveOtherParity, IsSomeCall, IsSomeText, IsLeadingPad, IsCallFill, IsFillIn}
 use Rattle.bsc_frame.specs.declared.message.Message.{Message}
 use Rattle.bsc_frame.specs.declared.message.Message.TheVariants.{Eot, Call, Enq, Ack0, Ack1, Nak, Wack, Rvi, Text}
 use Rattle.bsc_frame.specs.declared.message.Heard.TheVariants.{Whole, Failed, Noise}
@@ -18,10 +16,10 @@ use Rattle.bsc_frame.proofs.OddLemmas.{syn_odd}
 use Rattle.bsc_frame.proofs.HeardLemmas.{heard_spelled, heard_failed, length-wire, one_message}
 use Rattle.bsc_frame.proofs.UnitLemmas.{wire_units}
 use Rattle.bsc_frame.proofs.BodyOddLemmas.{eot_odd, enq_odd, nak_odd, dle_odd, stx_odd, ack0_odd, ack1_odd, wack_odd, rvi_odd}
-use Rattle.bsc_frame.proofs.PlaceLemmas.{around, parted, all_here}
+use Rattle.bsc_frame.proofs.PlaceLemmas.{around}
 use Rattle.bsc_frame.proofs.InsideLemmas.{Inside, inside, failed_inside, Behind, behind, first_is_odd, starts_wrong, pad_or_not}
 use Rattle.bsc_frame.proofs.DamagedText.{heads, tails, not_both_odd, not_same, lost_text}
-use Rattle.bsc_frame.proofs.DamagedCall.{pad_even, call_tail, spared_call}
+use Rattle.bsc_frame.proofs.DamagedCall.{call_tail, spared_call}
 
 -- ---- bodies of one and of two octets
 

@@ -1,10 +1,10 @@
 -- A text body is no front of another.
-use Rattle.std.proofs.Common.{◌≡◌, inl, inr, ℕ, zero, suc, ◌<◌, ◌==◌, true, false, cond, refl, sym, ap, ◌∙◌, arith, length, List, [], ◌∷◌, ◌++◌, Option, Some, None, append_assoc, Bool}
+use Rattle.std.proofs.Common.{◌≡◌, inl, inr, ℕ, zero, suc, ◌<◌, ◌==◌, true, false, refl, ap, ◌∙◌, arith, length, List, [], ◌∷◌, ◌++◌, Some, None, append_assoc, Bool}
 use Rattle.bsc_octet.specs.Octet.{odd_octet, longitudinal_sum}
 use Rattle.bsc_frame.specs.Texts.{TextUnit, TextValue, IsText}
 use Rattle.bsc_frame.specs.Units.{unit_codes}
 use Rattle.bsc_frame.specs.Spells.{AreUnits}
-use Rattle.bsc_frame.specs.Reading.{unit_at, units_at, before_units, last_unit}
+use Rattle.bsc_frame.specs.Reading.{unit_at, units_at, last_unit}
 use Rattle.bsc_frame.proofs.ControlLemmas.{chosen}
 use Rattle.bsc_frame.proofs.UnitLemmas.{UnitAt, unit_at_reads, unit_at_read, units_at_read, bind_some, before_some}
 

@@ -1,13 +1,12 @@
 -- What is heard of a message of which one bit is turned.
-use Rattle.std.proofs.Common.{◌≡◌, ◌⊎◌, ◌↔◌, inl, inr, ℕ, zero, suc, ◌<◌, refl, sym, ap, subst, ◌∙◌, arith, List, length, get_or}
+use Rattle.std.proofs.Common.{◌≡◌, ◌↔◌, inl, inr, ℕ, ◌<◌, sym, ap, subst, ◌∙◌, length, get_or}
 use Rattle.bsc_frame.specs.Message.{IsMessage}
 use Rattle.bsc_frame.specs.Wire.{wire}
 use Rattle.bsc_frame.specs.Spells.{Spells, IsFailed, IsNoise}
-use Rattle.bsc_frame.specs.TurnedBits.{turned, with_turned_bit, HaveOtherParity, IsSomeCall, IsSomeText, IsFillIn, IsLeadingPad, IsCallFill}
+use Rattle.bsc_frame.specs.TurnedBits.{turned, with_turned_bit, IsSomeCall, IsSomeText, IsFillIn, IsLeadingPad, IsCallFill}
 use Rattle.bsc_frame.specs.declared.message.Message.{Message}
-use Rattle.bsc_frame.specs.declared.message.Message.TheVariants.{Call}
 use Rattle.bsc_frame.proofs.TurnedLemmas.{turned_other, syn_no_pad, syn_no_fill, pad_no_fill}
-use Rattle.bsc_frame.proofs.DamagedLemmas.{spelled_where, failed_place, Sent, sent_of}
+use Rattle.bsc_frame.proofs.DamagedLemmas.{spelled_where, failed_place, sent_of}
 
 -- the first octet is SYN
 first_syn : (m : Message) → IsMessage m → get_or (wire m) 0 0 ≡ 0x16

@@ -1,11 +1,11 @@
 -- A turned bit gives an octet the other parity.
-use Rattle.std.proofs.Common.{◌≡◌, ◌≢◌, ◌⊎◌, inl, inr, ℕ, zero, suc, ◌+◌, ◌*◌, ◌/◌, ◌^◌, ◌%◌, ◌<◌, ◌≤◌, ◌==◌, Bool, true, false, refl, sym, ap, ◌∙◌, arith, count_ones, bit_xor}
+use Rattle.std.proofs.Common.{◌≡◌, ◌⊎◌, inl, inr, ℕ, zero, suc, ◌+◌, ◌*◌, ◌/◌, ◌^◌, ◌%◌, ◌<◌, ◌≤◌, ap, ◌∙◌, arith, count_ones, bit_xor}
 use Rattle.std.proofs.lemmas.Nat.{ones_cat, ones_le_self, pow_pos}
 use Rattle.std.specs.Int.Bits.{xor_zero_l}
-use Rattle.std.specs.Int.Count.{ones-ones, ones}
+use Rattle.std.specs.Int.Count.{ones-ones}
 use lib.Bits.{xor_block}
 use Rattle.bsc_octet.specs.Octet.{IsOdd}
-use Rattle.bsc_frame.specs.TurnedBits.{turned, HaveOtherParity, IsLeadingPad, IsCallFill}
+use Rattle.bsc_frame.specs.TurnedBits.{turned, HaveOtherParity, IsLeadingPad}
 
 ones_zero : count_ones 0 ≡ 0
 ones_zero = omega (arith, ones_le_self 0)

@@ -1,5 +1,5 @@
 -- One turned bit is heard fairly.
-use Rattle.std.proofs.Common.{◌≡◌, ◌⊎◌, ◌↔◌, inl, inr, ℕ, ◌<◌, false, List, length, Option, None, Some, refl, sym, ap, subst, ◌∙◌, arith}
+use Rattle.std.proofs.Common.{◌≡◌, ◌⊎◌, ◌↔◌, inl, inr, ℕ, ◌<◌, List, length, Option, None, Some, refl, sym, ap, subst, ◌∙◌, arith}
 use Rattle.std.proofs.lemmas.Bool.{cases_lt}
 use Rattle.bsc_frame.specs.declared.message.Message.{Message}
 use Rattle.bsc_frame.specs.declared.message.Message.TheVariants as m
@@ -11,8 +11,8 @@ use Rattle.bsc_frame.specs.Reading.{heard}
 use Rattle.bsc_frame.specs.Spells.{Spells, IsFailed, IsNoise}
 use Rattle.bsc_frame.specs.TurnedBits.{with_turned_bit, IsSomeText}
 use Rattle.bsc_text.specs.Fair.{IsTextMessage, IsFairlyHeard}
-use Rattle.bsc_line_model.specs.Hearing.{heard_in, all_hear}
-use Rattle.bsc_line_model.specs.Trust.{EachOf, IsMissed, IsHeardFairly, is_call}
+use Rattle.bsc_line_model.specs.Hearing.{heard_in}
+use Rattle.bsc_line_model.specs.Trust.{IsMissed}
 use Rattle.bsc_line_model.specs.TurnedBits.{IsTurned, IsSpoiled, TurnedIsFair, TurnedAlikeIsFair, TurnedEachIsFair, TurnedForSomeIsFair}
 use Rattle.bsc_line_model.proofs.OctetsHeard.{Reads}
 
