@@ -5,7 +5,7 @@ use Rattle.bsc_octet.specs.Octet.{odd_octet, longitudinal_sum, is_record_char}
 use Rattle.bsc_frame.specs.Message.{IsMessage}
 use Rattle.bsc_frame.specs.Wire.{wire}
 use Rattle.bsc_frame.specs.Spells.{Spells}
-use Rattle.bsc_frame.specs.TurnedBits.{two_chars, with_two_turned_bits}
+use Rattle.bsc_frame.specs.TurnedBits.{two_chars, with_ends_turned}
 use Rattle.bsc_frame.specs.declared.message.Message.TheVariants.{Ack0, Ack1}
 use Rattle.bsc_frame.proofs.HeardLemmas.{wire_spells}
 
@@ -14,12 +14,12 @@ is_text : IsMessage (two_chars 0x49 0x48)
 unfolding is_record_char
 is_text = record { some = lit< tt; most = omega arith; each = (record { most = omega arith; each = (refl, (refl, tt)) }, tt) }
 
-same_wire : wire (two_chars 0x49 0x48) ≡ with_two_turned_bits 3 (with_two_turned_bits 4 (wire (two_chars 0x48 0x49)))
+same_wire : wire (two_chars 0x49 0x48) ≡ with_ends_turned 3 (with_ends_turned 4 (wire (two_chars 0x48 0x49)))
 unfolding odd_octet ones longitudinal_sum
 same_wire = refl
 
-pub other_text : Spells (with_two_turned_bits 3 (with_two_turned_bits 4 (wire (two_chars 0x48 0x49)))) (two_chars 0x49 0x48)
+pub other_text : Spells (with_ends_turned 3 (with_ends_turned 4 (wire (two_chars 0x48 0x49)))) (two_chars 0x49 0x48)
 other_text = subst (λ (octets : List ℕ). Spells octets (two_chars 0x49 0x48)) same_wire (wire_spells (two_chars 0x49 0x48) is_text)
 
-pub other_reply : Spells (with_two_turned_bits 3 (wire Ack0)) Ack1
+pub other_reply : Spells (with_ends_turned 3 (wire Ack0)) Ack1
 other_reply = wire_spells Ack1 tt

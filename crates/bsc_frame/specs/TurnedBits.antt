@@ -52,8 +52,8 @@ abbrev pub two_chars : ℕ → ℕ → Message
 two_chars c d = Text (record { units = record { chars = c ∷ d ∷ []; em = true } ∷ []; end = Etx })
 
 -- The octets with the lowest and the highest bit of the octet at the place turned.
-abbrev pub with_two_turned_bits : ℕ → List ℕ → List ℕ
-with_two_turned_bits place octets = with_turned_bit place 0 (with_turned_bit place 7 octets)
+abbrev pub with_ends_turned : ℕ → List ℕ → List ℕ
+with_ends_turned place octets = with_turned_bit place 0 (with_turned_bit place 7 octets)
 
 -- Another octet with odd parity in place of one: neither ends a unit, and the new one is not SYN.
 pub record IsOtherOctet (old new : ℕ) : Type 0 where

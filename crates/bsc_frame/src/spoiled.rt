@@ -1,5 +1,5 @@
-//! Transmissions that were spoiled on the line: cut short, with one bit turned, and with damage that
-//! is not found.
+//! Transmissions that were spoiled on the line: cut short, with one bit turned, and with damage
+//! that is not found.
 use crate::tests::{is_text_of, kind};
 use crate::{End, decode};
 
