@@ -15,7 +15,7 @@ pub items_cross_more : {S W : Type 0} (contents remaining : S → Option (List �
     → ItemsCross contents remaining (take (t + 1) items) (map octets (words ++ word ∷ [])) old new
 items_cross_more {S} contents remaining octets items words t item word old mid new below is before crossed =
     let all : take (t + 1) items ≡ take t items ++ item ∷ [] =
-        take_more items t item below ∙ ap (λ x. take t items ++ x ∷ []) (sym is) in
+    take_more items t item below ∙ ap (λ x. take t items ++ x ∷ []) (sym is) in
     let place : length (take t items) ≡ t = length-take-le t items (omega arith) in
     rw (all, map-append octets words (word ∷ []))
     (one_more item (octets word) before (subst (λ (k : ℕ). ItemCrosses contents remaining k item (octets word) mid new) (sym place) crossed))

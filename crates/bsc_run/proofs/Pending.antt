@@ -25,5 +25,5 @@ pub pending_shown : (p : Option Transmission) (told : Speaker × Bor (List ℕ))
 pending_shown None told is limit sends reads = absurd is
 pending_shown (Some sent) told is limit sends reads =
     let read : heard told.1.now ≡ Whole sent.message =
-        ap heard is.1 ∙ (reads (wire sent.message) sent.message).1 (sends sent.message limit) in
+    ap heard is.1 ∙ (reads (wire sent.message) sent.message).1 (sends sent.message limit) in
     ap₂ (λ s h. speaker_name s ++ codes " " ++ name_line h) is.0 read

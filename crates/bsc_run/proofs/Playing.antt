@@ -50,9 +50,9 @@ module _ {S : Type 0} (contents remaining : S → Option (List ℕ)) (all : List
     text = h.text ++ trace_after step.event new;
     written = Appends-trans a b c h.text (trace_after step.event new) h.written written;
     goes = λ result last end rest p.
-      rw (append_assoc h.text (trace_after step.event new) rest)
-      (h.goes result last end (trace_after step.event new ++ rest)
-      (inr record { mid = new; between = after; rest = rest; line = line; accepted = accepted; printed = refl; goes = p }));
+        rw (append_assoc h.text (trace_after step.event new) rest)
+        (h.goes result last end (trace_after step.event new ++ rest)
+        (inr record { mid = new; between = after; rest = rest; line = line; accepted = accepted; printed = refl; goes = p }));
   }
 
   -- no event is left
@@ -105,10 +105,10 @@ module _ {S : Type 0} (contents remaining : S → Option (List ℕ)) (step : Num
     fits = tt;
     printed = tt;
     refused = λ line why q.
-      let place : line ≡ step.line = cc in
-      let same : w ≡ why = cc in
-      let r = h.refused w refl in
-      (place, subst (λ (k : LineError). Refuses step.event k old new) same r.0, r.1, Appends-nil a);
+        let place : line ≡ step.line = cc in
+        let same : w ≡ why = cc in
+        let r = h.refused w refl in
+        (place, subst (λ (k : LineError). Refuses step.event k old new) same r.0, r.1, Appends-nil a);
   }
 
   -- what was to be printed was not

@@ -40,7 +40,8 @@ module _ {S : Type 0} (contents remaining : S → Option (List ℕ)) where
   CrossesFrom (Terminal t) sent heard old new = CrossesUp t sent heard old new
 
   -- octets cross, and what is heard is 1 to 2,048 octets
-  pub record Crosses (speaker : Speaker) (sent heard : List ℕ) (old new : CableValue S) : Type 0 where
+  pub record Crosses (speaker : Speaker) (sent heard : List ℕ) (old new : CableValue S)
+      : Type 0 where
     pub carried : IsCarried heard
     pub crossed : CrossesFrom speaker sent heard old new
 

@@ -44,7 +44,7 @@ module _ {S : Type 0} (contents remaining : S → Option (List ℕ)) where
   Plays (step ∷ steps) old before result new after text =
       Stops step old before result new after text
       ⊎ GoesOn step old before text
-        (λ mid between rest. Plays steps mid between result new after rest)
+      (λ mid between rest. Plays steps mid between result new after rest)
 
   -- one event of a script is done or refused, and what is printed for it was written
   pub record TakesStep (step : NumberedEvent) (old : LineValue) (before : CableValue S)

@@ -47,16 +47,16 @@ Refuses asked why old new = (e : Event) → MayBe asked e → Does e old (Err wh
 module _ {S : Type 0} (contents remaining : S → Option (List ℕ)) where
   -- octets cross the cable from who sent what is pending, those of its message or others in their
   -- place, and these are read
-  pub record Sends (sent : Message → List ℕ) (l : LineValue) (read : List ℕ) (old new : CableValue S)
-      : Type 0 where
+  pub record Sends (sent : Message → List ℕ) (l : LineValue) (read : List ℕ)
+      (old new : CableValue S) : Type 0 where
     pub transmission : Transmission
     pub pending : l.pending ≡ Some transmission
     pub crossed : Crosses contents remaining transmission.speaker (sent transmission.message) read
         old new
 
   -- octets cross the cable so, and what is pending is heard as those that were read
-  pub record HearsOctets (sent : Message → List ℕ) (e : Event) (l : LineValue) (old new : CableValue S)
-      : Type 0 where
+  pub record HearsOctets (sent : Message → List ℕ) (e : Event) (l : LineValue)
+      (old new : CableValue S) : Type 0 where
     pub octets : Bor (List ℕ)
     pub sends : Sends sent l octets.now old new
     pub is : e ≡ event.Carry (Some octets)
@@ -101,7 +101,7 @@ is_heard (heard_each items) = true
 is_heard silence = true
 is_heard _ = false
 
--- what is printed after an accepted event: what is then pending, where something was heard or was to
--- be heard
+-- what is printed after an accepted event: what is then pending, where something was heard or was
+-- to be heard
 abbrev pub trace_after : Asked → LineValue → List ℕ
 trace_after asked l = if is_heard asked then pending_line l.pending else []

@@ -19,10 +19,10 @@ ghost use Rattle.bsc_run.specs.Steps.{Acts, Sends};
 
 use crate::crossing::{cross, cross_each, slices};
 use crate::error::StepError;
-use bsc_script::{Action, Transmission};
 use bsc_carrier::{Cable, Octets};
 use bsc_frame::laws::one_reading;
 use bsc_line::{Line, LineError, Speaker};
+use bsc_script::{Action, Transmission};
 use std::alloc::Allocator;
 use std::io::{Read, Write};
 
@@ -94,8 +94,8 @@ fn carry_given<S: Read + Write + Drop, A: Allocator, B: Allocator, C: Allocator>
     cable: &mut Cable<S, A>,
 ) -> Result<(), StepError>
     requires { Fits line.old cable.old }
-    ensures { Acts S.contents S.remaining (heard_event octets.now) line.old cable.old result line.new
-        cable.new }
+    ensures { Acts S.contents S.remaining (heard_event octets.now) line.old cable.old result
+        line.new cable.new }
 {
     let mut read = Octets::new();
     send_given(line, octets.as_slice(), cable, &mut read)?;
@@ -132,8 +132,8 @@ fn send_given<S: Read + Write + Drop, A: Allocator, B: Allocator>(
 ) -> Result<(), StepError>
     requires fits { Fits line.now cable.old }
     requires carried { IsCarried octets.now }
-    ensures sends { OnOk result (Sends S.contents S.remaining (λ (message : MessageValue). octets.now)
-        line.now read.new.items cable.old cable.new) }
+    ensures sends { OnOk result (Sends S.contents S.remaining
+        (λ (message : MessageValue). octets.now) line.now read.new.items cable.old cable.new) }
     ensures refused { (why : Why) → result ≡ Err (StepError.Refused why) →
         (why ≡ LineError.NothingSent) × (line.now.pending ≡ None) × (cable.new ≡ cable.old) }
     ensures count { connection_count cable.new ≡ connection_count cable.old }
@@ -153,8 +153,8 @@ fn hear<B: Allocator>(line: &mut Line<B>, octets: &[u8])
     line.carry(Some(octets)).unwrap();
 }
 
-/// Each item goes over the connection of its number, and each terminal hears the octets that its end
-/// read.
+/// Each item goes over the connection of its number, and each terminal hears the octets that its
+/// end read.
 fn carry_items<
     S: Read + Write + Drop,
     A: Allocator,

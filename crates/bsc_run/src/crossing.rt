@@ -8,9 +8,9 @@ ghost use Rattle.bsc_run.specs.Faults.{IsFault};
 ghost use Rattle.bsc_run.specs.Crossing.{connection_count, HasConnection, Crosses, ItemCrosses, ItemsCross};
 
 use crate::error::StepError;
-use bsc_script::Transmission;
 use bsc_carrier::{Cable, CarrierError, Octets};
 use bsc_line::Speaker;
+use bsc_script::Transmission;
 use std::alloc::{AllocError, Allocator};
 use std::io::{Read, Write};
 

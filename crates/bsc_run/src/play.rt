@@ -11,18 +11,18 @@ ghost use Rattle.bsc_run.specs.Steps.{is_heard as is_heard_event, trace_after};
 use crate::actions::act;
 use crate::error::RunError;
 use crate::report::write_report;
-use bsc_script::{Action, Step};
 use crate::trace::write_pending;
 use bsc_carrier::Cable;
 use bsc_line::Line;
 use bsc_names::PrintError;
+use bsc_script::{Action, Step};
 use std::alloc::Allocator;
 use std::io::{Read, Write};
 
-/// Runs the events of a script on a line, over a cable, in their order and up to the first that is
-/// refused. What is pending is printed after each event that is heard or was to be heard, and the
-/// report at the end, also where an event is refused. After `Output`, `Socket` and `Memory` there is
-/// no report, and what was written before stays.
+/// Runs the events of a script on a line, over a cable with a connection for each terminal, in their
+/// order and up to the first that is refused. What is pending is printed after each event that is
+/// heard or was to be heard, and the report at the end, also where an event is refused. After
+/// `Output`, `Socket` and `Memory` there is no report, and what was written before stays.
 pub fn run_on<
     S: Read + Write + Drop,
     A: Allocator,

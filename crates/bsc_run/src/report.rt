@@ -36,7 +36,11 @@ pub fn write_report<A: Allocator + Copy, B: Allocator, W: Write>(
 fn trust_text(trusted: bool) -> &'static [u8]
     ensures { result.now ≡ trust_line trusted }
 {
-    if trusted { b"trusted\n" } else { b"not trusted\n" }
+    if trusted {
+        b"trusted\n"
+    } else {
+        b"not trusted\n"
+    }
 }
 
 /// Writes the lines of a terminal.

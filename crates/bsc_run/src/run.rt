@@ -18,21 +18,16 @@ use std::io::{Read, Write};
 /// terminal.
 ///
 /// The events are done in order, up to the first that the line refuses. Each transmission that is
-/// carried goes over the cable as one record, and is heard as the octets that were read there. After
-/// each event that is heard or was to be heard (`carry`, `lose`, `heard`, `heard-each`, `silence`)
-/// a line is printed: who speaks and the name of what is now pending, or that nothing is. After the
-/// last event, or the first refused one, the report of the line is printed. (All own.)
+/// carried goes over the cable as one record, and is heard as the octets that were read there.
+/// After each event that is heard or was to be heard (`carry`, `lose`, `heard`, `heard-each`,
+/// `silence`) a line is printed: who speaks and the name of what is now pending, or that nothing
+/// is. After the last event, or the first refused one, the report of the line is printed. (All
+/// own.)
 ///
 /// `Refused` comes after the report, with the number of the line of the refused event: nothing went
 /// over the cable for it. After `Output`, `Socket` and `Memory` there is no report, and what was
 /// printed before stays; after `Socket` the cable stays at fault.
-pub fn run_line<
-    S: Read + Write + Drop,
-    A: Allocator,
-    C: Allocator,
-    E: Allocator + Copy,
-    W: Write,
->(
+pub fn run_line<S: Read + Write + Drop, A: Allocator, C: Allocator, E: Allocator + Copy, W: Write>(
     alloc: E,
     config: &Config,
     script: &Script<'_, C>,

@@ -1,6 +1,6 @@
 //! Faults of the cable and of the writer: there is no report after them.
 
-ghost use Rattle.std.specs.Prelude.{◌≡◌, length};
+ghost use Rattle.std.specs.Prelude.{◌≡◌, IfOk};
 ghost use Rattle.bsc_run.specs.Crossing.{connection_count};
 
 use super::fixtures::{TWO_TERMINALS, two_connections};
@@ -93,16 +93,25 @@ fn run_fused<R: Abort + Net<Listener = TcpListener, Stream = TcpStream>>(
     let mut control_ends = Vec::new(alloc);
     let mut terminal_ends = Vec::new(alloc);
     for inner in near {
-        control_ends.push(Fused { inner, calls: calls[0] })?;
+        control_ends.push(Fused {
+            inner,
+            calls: calls[0],
+        })?;
     }
     for inner in far {
-        terminal_ends.push(Fused { inner, calls: calls[1] })?;
+        terminal_ends.push(Fused {
+            inner,
+            calls: calls[1],
+        })?;
     }
     assert_eq!(rt; control_ends.len(), 2);
     assert_eq!(rt; terminal_ends.len(), 2);
     assert_eq!(rt; config.terminals(), 2);
     let mut cable = Cable::new(control_ends, terminal_ends);
-    let mut out = Fused { inner: Vec::new(alloc), calls: calls[2] };
+    let mut out = Fused {
+        inner: Vec::new(alloc),
+        calls: calls[2],
+    };
     let answer = run_line(alloc, &config, &script, &mut cable, &mut out);
     Ok((out.inner, answer))
 }

@@ -1,8 +1,5 @@
 //! Configurations, and cables for them.
 
-ghost use Rattle.std.specs.Prelude.{◌≡◌, IfOk};
-ghost use Rattle.bsc_run.specs.Crossing.{connection_count};
-
 use crate::{RunError, run_line};
 use bsc_carrier::Cable;
 use bsc_config::read_config;
@@ -15,21 +12,6 @@ use std::test::Fail;
 /// Two terminals that are polled in turn.
 pub(crate) const TWO_TERMINALS: &str = "
 version = 1
-poll_list = [0, 1]
-
-[[terminals]]
-poll = \"A\"
-select = \"a\"
-
-[[terminals]]
-poll = \"B\"
-select = \"b\"
-";
-
-/// The same two, of which one failure in a row is borne.
-pub(crate) const ONE_TRY: &str = "
-version = 1
-tries = 1
 poll_list = [0, 1]
 
 [[terminals]]

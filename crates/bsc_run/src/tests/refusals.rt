@@ -3,8 +3,8 @@
 
 use super::fixtures::{TWO_TERMINALS, run_two};
 use crate::RunError;
-use refusing_alloc::Refusing;
 use bsc_line::LineError;
+use refusing_alloc::Refusing;
 use std::test::Fail;
 
 /// The report of a line on which nothing was offered.
@@ -14,6 +14,10 @@ from 1: offered 0, known 0, spooled 0
 to 1: offered 0, known 0, spooled 0
 trusted
 ";
+
+/// An offer of 81 characters, where a record has at most 80.
+const TOO_LONG: &str =
+    "offer-at 0 .................................................................................";
 
 /// Scripts, what they print before the report, and the texts of their refusals.
 const REFUSED: [(&str, &str, &str); 12] = [
@@ -27,20 +31,28 @@ const REFUSED: [(&str, &str, &str); 12] = [
         "script line 2: refused: a transmission is pending",
     ),
     ("unready 2", "", "script line 1: refused: no such terminal"),
-    ("offer-for 999 HI", "", "script line 1: refused: no such terminal"),
     (
-        "offer-at 0 .................................................................................",
+        "offer-for 999 HI",
         "",
-        "script line 1: refused: record too long",
+        "script line 1: refused: no such terminal",
     ),
-    ("offer-at 1 HI\u{3}", "", "script line 1: refused: wrong character at 2"),
+    (TOO_LONG, "", "script line 1: refused: record too long"),
+    (
+        "offer-at 1 HI\u{3}",
+        "",
+        "script line 1: refused: wrong character at 2",
+    ),
     ("release 1 to", "", "script line 1: refused: not in doubt"),
     (
         "silence\nheard-each 16 16 16",
         "control CALL A\n",
         "script line 2: refused: wrong number of hearings",
     ),
-    ("offer-to 0 1 HI", "", "script line 1: refused: no such address"),
+    (
+        "offer-to 0 1 HI",
+        "",
+        "script line 1: refused: no such address",
+    ),
 ];
 
 #[test]

@@ -1,6 +1,6 @@
 //! Worked runs, with what is printed.
 
-use super::fixtures::{ONE_TRY, THREE_ADDRESSES, TWO_TERMINALS, run_two};
+use super::fixtures::{THREE_ADDRESSES, TWO_TERMINALS, run_two};
 use crate::RunError;
 use bsc_line::LineError;
 use std::test::Fail;
@@ -32,7 +32,8 @@ fn a_record_of_a_polled_terminal_arrives(rt: HostRuntime) -> Result<(), Fail> {
 
 #[test]
 fn a_refused_event_ends_the_run_with_the_report(rt: HostRuntime) -> Result<(), Fail> {
-    let script = "offer-at 0 HI\nsilence\ncarry\ncarry\ncarry\ncarry\ncarry\ncarry\nready 2\ncarry\n";
+    let script =
+        "offer-at 0 HI\nsilence\ncarry\ncarry\ncarry\ncarry\ncarry\ncarry\nready 2\ncarry\n";
     let (printed, answer) = run_two(&rt, rt.alloc(), rt.alloc(), TWO_TERMINALS, script)?;
     assert_eq!(rt; printed.as_slice(), POLLED_PRINTED.as_bytes());
     let why = LineError::NoSuchTerminal;
@@ -136,7 +137,7 @@ lose
 silence
 release 0 from
 ";
-    let (printed, answer) = run_two(&rt, rt.alloc(), rt.alloc(), ONE_TRY, script)?;
+    let (printed, answer) = run_two(&rt, rt.alloc(), rt.alloc(), TWO_TERMINALS, script)?;
     let expected = "control CALL A
 terminal 0 TEXT ETX 1
 control ACK1

@@ -13,7 +13,7 @@ pub hear_each-requires : goal.hear_each-requires
 hear_each-requires g c =
     let sent = c.in_ok-check_items.ensures.right in
     let count : length c.deref-2.result.now ≡ length c.args.items.now =
-        ap length c.deref-2.ensures.value ∙ slices_count g.S.Write.contents g.S.Read.remaining (option_map (λ w. w.items)) c.args.items.now c.in_ok-words.words.items c.in_ok-words-2.words.items c.args.cable.now c.cross_each.new.cable c.in_ok-words.ensures.crossed (rw c.deref.ensures.value at c.in_ok-words-2.ensures) in
+    ap length c.deref-2.ensures.value ∙ slices_count g.S.Write.contents g.S.Read.remaining (option_map (λ w. w.items)) c.args.items.now c.in_ok-words.words.items c.in_ok-words-2.words.items c.args.cable.now c.cross_each.new.cable c.in_ok-words.ensures.crossed (rw c.deref.ensures.value at c.in_ok-words-2.ensures) in
     record { control = sent.control; one_each = count ∙ sent.one_each }
 
 pub returns : goal.returns
