@@ -19,10 +19,10 @@ use bsc_script::{Action, Step};
 use std::alloc::Allocator;
 use std::io::{Read, Write};
 
-/// Runs the events of a script on a line, over a cable with a connection for each terminal, in their
-/// order and up to the first that is refused. What is pending is printed after each event that is
-/// heard or was to be heard, and the report at the end, also where an event is refused. After
-/// `Output`, `Socket` and `Memory` there is no report, and what was written before stays.
+/// Runs the events of a script on a line, over a cable with a connection for each terminal, in
+/// their order and up to the first that is refused. What is pending is printed after each event
+/// that is heard or was to be heard, and the report at the end, also where an event is refused.
+/// After `Output`, `Socket` and `Memory` there is no report, and what was written before stays.
 pub fn run_on<
     S: Read + Write + Drop,
     A: Allocator,
@@ -41,8 +41,8 @@ pub fn run_on<
     ensures does { WhereWhole result (Runs S.contents S.remaining (map numbered steps.now)
         line.old cable.old result line.new cable.new (W.contents out.old) (W.contents out.new)) }
 
-    // The line went through a run of its own events, so that what is promised of every run of a line
-    // holds of it.
+    // The line went through a run of its own events, so that what is promised of every run of a
+    // line holds of it.
     ensures line { WhereWhole result (RunsLine line.old result line.new) }
 {
     match play(alloc, line, steps, cable, out) {
@@ -55,8 +55,8 @@ pub fn run_on<
     }
 }
 
-/// Does the events in their order, up to the first that is refused, and prints what is pending after
-/// them.
+/// Does the events in their order, up to the first that is refused, and prints what is pending
+/// after them.
 fn play<
     S: Read + Write + Drop,
     A: Allocator,
