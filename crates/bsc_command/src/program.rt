@@ -36,6 +36,14 @@ pub fn perform<R: Read, H: Host, W: Write>(
             config,
             script,
             check,
-        } => run(alloc, config.as_str(), script.as_str(), *check, input, host, out),
+        } => run(
+            alloc,
+            config.as_str(),
+            script.as_str(),
+            *check,
+            input,
+            host,
+            out,
+        ),
     }
 }

@@ -60,7 +60,11 @@ fn name_command<'a>(alloc: Global) -> Result<Command<'a>, AllocError>
 {
     Command::new(alloc, "name")
         .about("Print the name of one transmission")
-        .arg(required_argument(alloc, "HEX", "The octets in hexadecimal text; spaces are dropped"))
+        .arg(required_argument(
+            alloc,
+            "HEX",
+            "The octets in hexadecimal text; spaces are dropped",
+        ))
 }
 
 /// `show`.
@@ -76,8 +80,16 @@ fn run_command<'a>(alloc: Global) -> Result<Command<'a>, AllocError>
     ensures app { IfOk result (λ c. app_of c ≡ run_app) }
     ensures local { IfOk result (λ c. (out-Command c).has_globals ≡ false) }
 {
-    let config = required_argument(alloc, "CONFIG", "The configuration, in TOML; - is standard input");
-    let script = required_argument(alloc, "SCRIPT", "The events, one a line; - is standard input");
+    let config = required_argument(
+        alloc,
+        "CONFIG",
+        "The configuration, in TOML; - is standard input",
+    );
+    let script = required_argument(
+        alloc,
+        "SCRIPT",
+        "The events, one a line; - is standard input",
+    );
     Command::new(alloc, "run")
         .about("Run a line over loopback sockets, and print what is on it")
         .arg(config)?

@@ -7,8 +7,8 @@ mod host;
 use bsc_command::{Fault, help_or_fault, not_text, perform, read_words, status};
 use host::Machine;
 use std::io::{BufWriter, ErrorKind, Write};
-use std::process::ExitCode;
 use std::net::Net;
+use std::process::ExitCode;
 use std::rt::{Env, Files};
 use std::{env, io};
 
@@ -44,7 +44,10 @@ fn run<R: AllocGlobal + Env + Files + Input + Net + Print>(rt: &R) -> Result<(),
 }
 
 /// Does what the command line asks for.
-fn obey<R: AllocGlobal + Env + Files + Input + Net, W: Write>(rt: &R, out: &mut W) -> Result<(), Fault> {
+fn obey<R: AllocGlobal + Env + Files + Input + Net, W: Write>(
+    rt: &R,
+    out: &mut W,
+) -> Result<(), Fault> {
     let alloc = rt.alloc();
     let arguments = arguments(rt)?;
     let mut words = Vec::new(alloc);

@@ -21,7 +21,8 @@ select = "b"
 "#;
 
 /// The script of `examples/two_terminals`.
-const TWO_TERMINALS_SCRIPT: &str = r#"# A record waits at terminal 0. The control station polls A, which sends it, and then B.
+const TWO_TERMINALS_SCRIPT: &str =
+    r#"# A record waits at terminal 0. The control station polls A, which sends it, and then B.
 offer-at 0 HI
 silence
 carry
@@ -49,7 +50,8 @@ trusted
 "#;
 
 /// The configuration of `examples/lossy_line`.
-const LOSSY_LINE_LINE: &str = r#"# A station that has tried twice more in vain gives up at the next silence.
+const LOSSY_LINE_LINE: &str =
+    r#"# A station that has tried twice more in vain gives up at the next silence.
 version = 1
 tries = 2
 poll_list = [0, 1]
@@ -146,7 +148,8 @@ select = ["b"]
 "#;
 
 /// The script of `examples/two_spools`.
-const TWO_SPOOLS_SCRIPT: &str = r#"# A record waits for the first spool of terminal 0, and an empty one for the second.
+const TWO_SPOOLS_SCRIPT: &str =
+    r#"# A record waits for the first spool of terminal 0, and an empty one for the second.
 offer-to 0 0 HI
 offer-to 0 1
 
@@ -256,7 +259,11 @@ const PATHS: (&str, &str) = ("line.toml", "script.txt");
 #[test]
 fn examples_print_what_their_files_say(rt: HostRuntime) -> Result<(), Fail> {
     for (line, script, expected) in [
-        (TWO_TERMINALS_LINE, TWO_TERMINALS_SCRIPT, TWO_TERMINALS_PRINTED),
+        (
+            TWO_TERMINALS_LINE,
+            TWO_TERMINALS_SCRIPT,
+            TWO_TERMINALS_PRINTED,
+        ),
         (LOSSY_LINE_LINE, LOSSY_LINE_SCRIPT, LOSSY_LINE_PRINTED),
         (TWO_SPOOLS_LINE, TWO_SPOOLS_SCRIPT, TWO_SPOOLS_PRINTED),
     ] {
@@ -281,18 +288,64 @@ fn a_run_names_the_first_fault(rt: HostRuntime) -> Result<(), Fail> {
     let alloc = rt.alloc();
     let line = TWO_TERMINALS_LINE;
     for (config, script, paths, input, expected) in [
-        ("?", "?", ("none.toml", "none.txt"), "", "cannot read none.toml"),
-        ("?", "?", ("long.txt", "none.txt"), "", "long.txt is too long"),
-        ("?", "?", ("line.toml", "none.txt"), "", "cannot read none.txt"),
-        ("?", "?", ("line.toml", "long.txt"), "", "long.txt is too long"),
+        (
+            "?",
+            "?",
+            ("none.toml", "none.txt"),
+            "",
+            "cannot read none.toml",
+        ),
+        (
+            "?",
+            "?",
+            ("long.txt", "none.txt"),
+            "",
+            "long.txt is too long",
+        ),
+        (
+            "?",
+            "?",
+            ("line.toml", "none.txt"),
+            "",
+            "cannot read none.txt",
+        ),
+        (
+            "?",
+            "?",
+            ("line.toml", "long.txt"),
+            "",
+            "long.txt is too long",
+        ),
         ("?", "?", PATHS, "", "config: not toml"),
-        ("version = 1", "?", PATHS, "", "config: missing key poll_list"),
+        (
+            "version = 1",
+            "?",
+            PATHS,
+            "",
+            "config: missing key poll_list",
+        ),
         (line, "?", PATHS, "", "script line 1: not an event"),
-        (line, "\n#\ncarry\n", PATHS, "", "script line 3: refused: nothing sent"),
-        (line, "?", ("line.toml", "-"), "silence\nsilence\n",
-            "script line 2: refused: a transmission is pending"),
-        ("?", "silence\nlose\nready 9", ("-", "script.txt"), line,
-            "script line 3: refused: no such terminal"),
+        (
+            line,
+            "\n#\ncarry\n",
+            PATHS,
+            "",
+            "script line 3: refused: nothing sent",
+        ),
+        (
+            line,
+            "?",
+            ("line.toml", "-"),
+            "silence\nsilence\n",
+            "script line 2: refused: a transmission is pending",
+        ),
+        (
+            "?",
+            "silence\nlose\nready 9",
+            ("-", "script.txt"),
+            line,
+            "script line 3: refused: no such terminal",
+        ),
     ] {
         let (_, fault) = printed(&rt, alloc, (config, script), paths, false, input.as_bytes())?;
         assert!(rt; fault.as_str() == expected);

@@ -14,7 +14,13 @@ fn nothing_is_printed_before_all_is_read(rt: HostRuntime) -> Result<(), Fail> {
     assert!(rt; matches!(&failed, Err(Fault::Input)));
     let mut input = vec![in alloc; b' '; MAX_INPUT + 1]?;
     input[0] = b'\n';
-    let long = perform(alloc, &Work::Show, &mut input.as_slice(), &mut NoHost, &mut out);
+    let long = perform(
+        alloc,
+        &Work::Show,
+        &mut input.as_slice(),
+        &mut NoHost,
+        &mut out,
+    );
     assert!(rt; matches!(&long, Err(Fault::InputTooLong)));
     assert_eq!(rt; out.len(), 0);
     let fits = &input.as_slice()[1..];

@@ -50,7 +50,13 @@ fn names_of_standard_input(rt: HostRuntime) -> Result<(), Fail> {
     let input =
         b"16 16 10 B0 FF\n\n16 16 10 30 FF\r\n   \n \r\n16 16 04 FF 16 16 C1 85 FF\n16 04\r";
     let mut out = Vec::new(rt.alloc());
-    perform(rt.alloc(), &Work::Names, &mut input.as_slice(), &mut NoHost, &mut out)?;
+    perform(
+        rt.alloc(),
+        &Work::Names,
+        &mut input.as_slice(),
+        &mut NoHost,
+        &mut out,
+    )?;
     assert_eq!(rt; out.as_slice(), b"ACK0\nNOISE\nCALL A\nEOT\n".as_slice());
     Ok(())
 }
@@ -66,7 +72,13 @@ fn units_of_texts(rt: HostRuntime) -> Result<(), Fail> {
     );
     out.clear();
     let input = b"16 04\n16 16 02 C8 49 83 02 FF\n16 16 02 83 83 FF\n1616 02 85";
-    perform(rt.alloc(), &Work::Show, &mut input.as_slice(), &mut NoHost, &mut out)?;
+    perform(
+        rt.alloc(),
+        &Work::Show,
+        &mut input.as_slice(),
+        &mut NoHost,
+        &mut out,
+    )?;
     assert_eq!(rt;
         out.as_slice(),
         b"EOT\nTEXT ETX 1\nunit 4849\nTEXT ETX 1\nunit -\nFAILED\n".as_slice()
