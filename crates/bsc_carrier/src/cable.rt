@@ -176,6 +176,13 @@ impl<S: Read + Write + Drop, A: Allocator> Cable<S, A> {
         }
     }
 
+    /// How many terminals have a connection: 1 to 64.
+    pub fn terminals(&self) -> usize
+        ensures { result ≡ length self.now.terminal_ends }
+    {
+        self.terminal_ends.len()
+    }
+
     /// This terminal's end writes the record, and the control station's end of its connection reads
     /// it. The other ends are left alone. `Device` comes where a read or a write failed, `Length`
     /// and `Short` as at `read_record`, and `Short` also where the input ended before the record.

@@ -9,6 +9,7 @@ fn octets_go_down_and_up_over_each_connection(rt: HostRuntime) -> Result<(), Fai
     cable.down(&[0x16, 0x04], &mut heard)?;
     assert_eq!(rt; heard.as_slice(), [0x16, 0x04].as_slice());
     for terminal in 0..3usize {
+        assert!(rt; terminal < cable.terminals());
         cable.up(terminal, &[0x10, terminal as u8], &mut heard)?;
         assert_eq!(rt; heard.as_slice(), [0x10, terminal as u8].as_slice());
     }

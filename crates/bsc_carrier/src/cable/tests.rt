@@ -44,6 +44,7 @@ fn count_calls(cable: &Cable<MemoryStream>) -> usize {
 #[test]
 fn far_ends_that_differ_are_unequal_for_good(rt: HostRuntime) -> Result<(), Fail> {
     let mut cable = two_connections(&rt, rt.alloc(), &[0x00, 0x01, 0x16], &[0x00, 0x01, 0x04])?;
+    assert_eq!(rt; cable.terminals(), 2);
     let mut heard = Octets::new();
     assert_eq!(rt; cable.down(&[0x16], &mut heard), Err(CarrierError::Unequal));
     let calls = count_calls(&cable);
