@@ -1,6 +1,6 @@
 //! Transmissions that were spoiled on the line: cut short, with one bit turned, and with damage
 //! that is not found.
-use crate::tests::{is_text_of, kind};
+use crate::tests::{calls, is_text_of, kind};
 use crate::{End, decode};
 
 // A call of the address A.
@@ -74,6 +74,15 @@ fn one_turned_bit_of_a_text_is_noise_or_failed(rt: HostRuntime) {
         octets[place] ^= 0x20;
         assert_eq!(rt; kind(&decode(&octets)), "NOISE", "at {place}");
     }
+}
+
+// Other equipment may leave out the SYN before the address; a character may then come of its PAD.
+#[test]
+fn one_turned_bit_of_a_call_without_its_second_syn_may_make_another_call(rt: HostRuntime) {
+    let mut octets = [0x16, 0x04, 0xff, 0xc1, 0x85];
+    assert!(rt; calls(&octets, b"A"));
+    octets[2] ^= 0x01;
+    assert!(rt; calls(&octets, b"~A"));
 }
 
 #[test]

@@ -21,7 +21,7 @@ pub(crate) fn kind(heard: &Heard) -> &'static str {
 }
 
 // Whether the octets are heard as a call of these codes.
-fn calls(octets: &[u8], codes: &[u8]) -> bool {
+pub(crate) fn calls(octets: &[u8], codes: &[u8]) -> bool {
     match &decode(octets) {
         Heard::Whole(Message::Call(address)) => address.codes() == codes,
         _ => false,
