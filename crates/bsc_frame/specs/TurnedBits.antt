@@ -24,10 +24,11 @@ with_turned_bit place bit octets = with_octet place (turned bit (slice_index oct
 abbrev pub HaveOtherParity : ℕ → ℕ → Type 0
 HaveOtherParity a b = count_ones a % 2 ≢ count_ones b % 2
 
--- The message is a call, a text.
+-- The message is a call.
 abbrev pub IsSomeCall : Message → Type 0
 IsSomeCall m = (a : List ℕ) × (m ≡ Call a)
 
+-- The message is a text.
 abbrev pub IsSomeText : Message → Type 0
 IsSomeText m = (t : TextValue) × (m ≡ Text t)
 
