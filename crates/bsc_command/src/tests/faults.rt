@@ -1,4 +1,10 @@
 use crate::{Fault, InputError, not_text, status};
+use bsc_block::RecordError;
+use bsc_config::ConfigError;
+use bsc_line::LineError;
+use bsc_loopback::LoopbackError;
+use bsc_run::RunError;
+use bsc_script::ScriptError;
 use std::test::Fail;
 
 /// The line of standard error and the exit status of each fault.
@@ -26,6 +32,94 @@ fn texts_and_statuses(rt: HostRuntime) -> Result<(), Fail> {
     for (fault, text, exit) in &faults {
         assert_eq!(rt; fault.to_string(alloc)?.as_str(), *text);
         assert_eq!(rt; status(fault), *exit);
+    }
+    Ok(())
+}
+
+/// The same of each fault of a run before its events.
+#[test]
+fn texts_and_statuses_of_a_run(rt: HostRuntime) -> Result<(), Fail> {
+    let alloc = rt.alloc();
+    let path = String::from_str(alloc, "line.toml")?;
+    let faults = [
+        (Fault::CannotRead { path }, "cannot read line.toml"),
+        (Fault::from(ConfigError::NotToml), "config: not toml"),
+        (Fault::from(ConfigError::Memory), "out of memory"),
+        (
+            Fault::from(ScriptError::NotAnEvent { line: 3 }),
+            "script line 3: not an event",
+        ),
+        (Fault::from(ScriptError::Memory), "out of memory"),
+        (
+            Fault::from(LoopbackError::Sockets),
+            "cannot make the sockets",
+        ),
+        (Fault::from(LoopbackError::Memory), "out of memory"),
+        (
+            Fault::from(RunError::Socket { line: 4 }),
+            "script line 4: socket fault",
+        ),
+        (Fault::from(RunError::Output), "output fault"),
+        (Fault::from(RunError::Memory), "out of memory"),
+    ];
+    for (fault, text) in &faults {
+        assert_eq!(rt; fault.to_string(alloc)?.as_str(), *text);
+        assert_eq!(rt; status(fault), 1);
+    }
+    Ok(())
+}
+
+/// Each refusal of the line, by its text after the number of the line of the script.
+const REFUSALS: [(LineError, &str); 11] = [
+    (
+        LineError::NothingSent,
+        "script line 9: refused: nothing sent",
+    ),
+    (
+        LineError::NotControl,
+        "script line 9: refused: control is not sending",
+    ),
+    (
+        LineError::WrongCount,
+        "script line 9: refused: wrong number of hearings",
+    ),
+    (
+        LineError::Pending,
+        "script line 9: refused: a transmission is pending",
+    ),
+    (
+        LineError::NoSuchTerminal,
+        "script line 9: refused: no such terminal",
+    ),
+    (
+        LineError::NoSuchAddress,
+        "script line 9: refused: no such address",
+    ),
+    (
+        LineError::BadRecord(RecordError::TooLong),
+        "script line 9: refused: record too long",
+    ),
+    (
+        LineError::BadRecord(RecordError::NotText(3)),
+        "script line 9: refused: wrong character at 3",
+    ),
+    (LineError::Memory, "script line 9: refused: out of memory"),
+    (
+        LineError::NotInDoubt,
+        "script line 9: refused: not in doubt",
+    ),
+    (
+        LineError::CountMismatch,
+        "script line 9: refused: count mismatch",
+    ),
+];
+
+#[test]
+fn texts_and_status_of_refused_events(rt: HostRuntime) -> Result<(), Fail> {
+    for (why, text) in REFUSALS {
+        let fault = Fault::from(RunError::Refused { line: 9, why });
+        assert_eq!(rt; fault.to_string(rt.alloc())?.as_str(), text);
+        assert_eq!(rt; status(&fault), 3);
     }
     Ok(())
 }
