@@ -1,6 +1,6 @@
 //! What a line shows of a channel.
 
-ghost use Rattle.std.specs.Prelude.{IsTrue};
+ghost use Rattle.std.specs.Prelude.{◌↔◌, IsTrue};
 ghost use Rattle.bsc_line_model.specs.Line.{IsChannel};
 
 use bsc_block::Record;
@@ -33,7 +33,7 @@ pub(crate) struct Channel {
 
 /// Whether the line has such a channel.
 pub(crate) fn is_channel<A: Allocator>(line: &Line<A>, terminal: usize, way: Way) -> bool
-    ensures { IsTrue result → IsChannel line.now terminal way }
+    ensures { IsTrue result ↔ IsChannel line.now terminal way }
 {
     terminal < line.terminals()
         && match way {

@@ -1,6 +1,8 @@
 //! Records compared, with a text, with one another, and by a digest.
 
-ghost use Rattle.std.specs.Prelude.{◌<◌, length};
+ghost use Rattle.std.specs.Prelude.{◌≡◌, ◌<◌, ◌↔◌, IsTrue, length};
+ghost use Rattle.bsc_hostile.specs.Histories as digests;
+ghost use Rattle.bsc_hostile.specs.Histories.{Begins};
 
 use bsc_block::{Block, Record, unpack};
 use bsc_frame::{Heard, Message, Text, decode};
@@ -9,13 +11,17 @@ use bsc_frame::{Heard, Message, Text, decode};
 pub(crate) const EMPTY: u64 = 0xcbf2_9ce4_8422_2325;
 
 /// The digest with one more number.
-fn with_number(digest: u64, number: usize) -> u64 {
+fn with_number(digest: u64, number: usize) -> u64
+    ensures { result ≡ digests.with_number digest number }
+{
     let mixed = (digest ^ number as u64).wrapping_mul(0x0000_0100_0000_01b3);
     mixed ^ (mixed >> 29)
 }
 
 /// The digest with one more record, of these characters.
-pub(crate) fn with_record(digest: u64, chars: &[u8]) -> u64 {
+fn with_record(digest: u64, chars: &[u8]) -> u64
+    ensures { result ≡ digests.with_record digest chars.now }
+{
     let mut digest = with_number(digest, chars.len());
     for char in chars {
         digest = with_number(digest, usize::from(*char));
@@ -24,7 +30,9 @@ pub(crate) fn with_record(digest: u64, chars: &[u8]) -> u64 {
 }
 
 /// The digest with these records after it.
-pub(crate) fn with_records(digest: u64, records: &[Record]) -> u64 {
+pub(crate) fn with_records(digest: u64, records: &[Record]) -> u64
+    ensures { result ≡ digests.with_records digest records.now }
+{
     let mut digest = digest;
     for record in records {
         digest = with_record(digest, record.chars());
@@ -32,13 +40,24 @@ pub(crate) fn with_records(digest: u64, records: &[Record]) -> u64 {
     digest
 }
 
+/// Whether the records are the same.
+fn is_same(record: &Record, other: &Record) -> bool
+    ensures { IsTrue result ↔ (record.now ≡ other.now) }
+{
+    record.chars() == other.chars()
+}
+
 /// Whether the first records are the beginning of the second.
-pub(crate) fn begins(records: &[Record], of: &[Record]) -> bool {
-    records.len() <= of.len()
-        && records
-            .iter()
-            .zip(of)
-            .all(|(record, other)| record.chars() == other.chars())
+pub(crate) fn begins(records: &[Record], of: &[Record]) -> bool
+    ensures { IsTrue result ↔ Begins records.now of.now }
+{
+    for (place, record) in records.iter().enumerate() {
+        match of.get(place) {
+            Some(other) if is_same(record, other) => {}
+            _ => return false,
+        }
+    }
+    true
 }
 
 /// Whether the record is the one at this place of the block.

@@ -1,11 +1,14 @@
 //! What was seen on a line, in numbers.
 
+ghost use Rattle.std.specs.Prelude.{◌≡◌};
+ghost use Rattle.bsc_hostile.specs.Tallies.{one_more, answered, refused_by, done_by, moved_by, sent_as, sum_of};
+
 use crate::channel::View;
 use crate::heard::Kind;
 use crate::step::Effect;
 use bsc_line::LineError;
 
-/// How often what happened. The numbers wrap at the greatest number of 64 bits.
+/// How often what happened. A number that is the greatest of 64 bits stays it.
 #[derive(Clone, Copy, Debug, Default, PartialEq, Eq)]
 pub struct Tally {
     /// Events that were accepted.
@@ -48,13 +51,17 @@ pub struct Tally {
 }
 
 /// One more.
-fn add(count: &mut u64) {
-    *count = count.wrapping_add(1);
+fn add(count: &mut u64)
+    ensures { count.new ≡ one_more count.old }
+{
+    *count = count.saturating_add(1);
 }
 
 impl Tally {
     /// Counts an answer.
-    pub(crate) fn count_answer(&mut self, answer: Result<(), LineError>) {
+    pub(crate) fn count_answer(&mut self, answer: Result<(), LineError>)
+        ensures { self.new ≡ answered self.old answer }
+    {
         match answer {
             Ok(()) => add(&mut self.accepted),
             Err(why) => self.count_refusal(why),
@@ -62,7 +69,9 @@ impl Tally {
     }
 
     /// Counts a refusal.
-    fn count_refusal(&mut self, why: LineError) {
+    fn count_refusal(&mut self, why: LineError)
+        ensures { self.new ≡ refused_by self.old why }
+    {
         add(&mut self.refused);
         match why {
             LineError::Memory => add(&mut self.out_of_memory),
@@ -72,7 +81,9 @@ impl Tally {
     }
 
     /// Counts what an accepted event did to all channels.
-    pub(crate) fn count_effect(&mut self, effect: Effect) {
+    pub(crate) fn count_effect(&mut self, effect: Effect)
+        ensures { self.new ≡ done_by self.old effect }
+    {
         match effect {
             Effect::Offered { .. } => add(&mut self.offers),
             Effect::Released { .. } => add(&mut self.releases),
@@ -81,12 +92,14 @@ impl Tally {
     }
 
     /// Counts how a channel moved.
-    pub(crate) fn count_move(&mut self, before: View, after: View) {
+    pub(crate) fn count_move(&mut self, before: View, after: View)
+        ensures { self.new ≡ moved_by self.old before after }
+    {
         let landed = after.spooled.saturating_sub(before.spooled);
         if landed > 0 {
             add(&mut self.blocks);
-            self.records = self.records.wrapping_add(landed as u64);
         }
+        self.records = self.records.saturating_add(landed as u64);
         if before.known != after.known {
             add(&mut self.learned);
         }
@@ -96,7 +109,9 @@ impl Tally {
     }
 
     /// Counts what was sent.
-    pub(crate) fn count_sent(&mut self, kind: Kind) {
+    pub(crate) fn count_sent(&mut self, kind: Kind)
+        ensures { self.new ≡ sent_as self.old kind }
+    {
         match kind {
             Kind::Call => add(&mut self.calls),
             Kind::Text => add(&mut self.texts),
@@ -108,23 +123,25 @@ impl Tally {
         }
     }
 
-    /// Adds the numbers of another line.
-    pub fn add(&mut self, other: &Tally) {
-        self.accepted = self.accepted.wrapping_add(other.accepted);
-        self.refused = self.refused.wrapping_add(other.refused);
-        self.mismatches = self.mismatches.wrapping_add(other.mismatches);
-        self.out_of_memory = self.out_of_memory.wrapping_add(other.out_of_memory);
-        self.offers = self.offers.wrapping_add(other.offers);
-        self.blocks = self.blocks.wrapping_add(other.blocks);
-        self.records = self.records.wrapping_add(other.records);
-        self.learned = self.learned.wrapping_add(other.learned);
-        self.doubts = self.doubts.wrapping_add(other.doubts);
-        self.releases = self.releases.wrapping_add(other.releases);
-        self.calls = self.calls.wrapping_add(other.calls);
-        self.texts = self.texts.wrapping_add(other.texts);
-        self.enquiries = self.enquiries.wrapping_add(other.enquiries);
-        self.naks = self.naks.wrapping_add(other.naks);
-        self.wacks = self.wacks.wrapping_add(other.wacks);
-        self.rvis = self.rvis.wrapping_add(other.rvis);
+    /// Adds the numbers of another line, each up to the greatest number of 64 bits.
+    pub fn add(&mut self, other: &Tally)
+        ensures { self.new ≡ sum_of self.old other.now }
+    {
+        self.accepted = self.accepted.saturating_add(other.accepted);
+        self.refused = self.refused.saturating_add(other.refused);
+        self.mismatches = self.mismatches.saturating_add(other.mismatches);
+        self.out_of_memory = self.out_of_memory.saturating_add(other.out_of_memory);
+        self.offers = self.offers.saturating_add(other.offers);
+        self.blocks = self.blocks.saturating_add(other.blocks);
+        self.records = self.records.saturating_add(other.records);
+        self.learned = self.learned.saturating_add(other.learned);
+        self.doubts = self.doubts.saturating_add(other.doubts);
+        self.releases = self.releases.saturating_add(other.releases);
+        self.calls = self.calls.saturating_add(other.calls);
+        self.texts = self.texts.saturating_add(other.texts);
+        self.enquiries = self.enquiries.saturating_add(other.enquiries);
+        self.naks = self.naks.saturating_add(other.naks);
+        self.wacks = self.wacks.saturating_add(other.wacks);
+        self.rvis = self.rvis.saturating_add(other.rvis);
     }
 }

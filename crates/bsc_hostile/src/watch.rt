@@ -4,9 +4,12 @@ mod answers;
 mod history;
 mod moves;
 
-ghost use Rattle.std.specs.Prelude.{IfOk};
+ghost use Rattle.std.specs.Prelude.{◌≡◌, ◌++◌, ◌∷◌, [], IfOk, OnOk, length};
 ghost use Rattle.bsc_line_model.specs.Runs.{Does};
 ghost use Rattle.bsc_line_model.specs.Kept.{IsLine};
+ghost use Rattle.bsc_hostile.specs.NewWatches.{new_channel, channels_of, IsNewWatch};
+ghost use Rattle.bsc_hostile.specs.Watches.{tally_of, first_doubt, HasSeen};
+ghost use Rattle.bsc_hostile.specs.Tallies.{SameAnswers};
 
 use crate::broken::Broken;
 use crate::channel::{Channel, View};
@@ -47,7 +50,9 @@ pub struct Watch {
 }
 
 /// A channel on which nothing happened yet.
-fn new_channel(terminal: usize, way: Way, address: Address) -> Channel {
+fn new_channel(terminal: usize, way: Way, address: Address) -> Channel
+    ensures { result ≡ new_channel terminal way address }
+{
     let view = View {
         offered: 0,
         known: 0,
@@ -69,7 +74,10 @@ fn add_channels(
     channels: &mut Vec<Channel>,
     number: usize,
     terminal: &Terminal,
-) -> Result<(), AllocError> {
+) -> Result<(), AllocError>
+    ensures { OnOk result (channels.new.items ≡
+        channels.old.items ++ channels_of number terminal.now (length terminal.now.selects)) }
+{
     channels.push(new_channel(number, Way::FromTerminal, terminal.poll()))?;
     for select in 0..terminal.selects() {
         let way = Way::ToTerminal(select);
@@ -110,7 +118,9 @@ fn octets_heard<'a>(event: &Event<'a>, sent: &'a [u8], terminal: usize) -> &'a [
 
 impl Watch {
     /// Watches a new line with these settings and terminals.
-    pub fn new(alloc: Global, setup: Setup, terminals: &[Terminal]) -> Result<Watch, AllocError> {
+    pub fn new(alloc: Global, setup: Setup, terminals: &[Terminal]) -> Result<Watch, AllocError>
+        ensures { IfOk result (IsNewWatch setup terminals.now) }
+    {
         let mut channels = Vec::new(alloc);
         for (number, terminal) in terminals.iter().enumerate() {
             add_channels(&mut channels, number, terminal)?;
@@ -129,12 +139,17 @@ impl Watch {
     }
 
     /// What was seen so far.
-    pub fn tally(&self) -> Tally {
+    pub fn tally(&self) -> Tally
+        ensures { result ≡ tally_of self.now }
+    {
         self.tally
     }
 
-    /// The first channel that is in doubt.
-    pub fn doubtful(&self) -> Option<(usize, Way)> {
+    /// The terminal and the way of the first channel that is in doubt, in the order of the
+    /// terminals, and of each terminal the channel from it before those to it.
+    pub fn doubtful(&self) -> Option<(usize, Way)>
+        ensures { result ≡ first_doubt self.now }
+    {
         for channel in self.channels.iter() {
             if channel.view.in_doubt {
                 return Some((channel.terminal, channel.way));
@@ -160,6 +175,7 @@ impl Watch {
     ) -> Result<Result<(), LineError>, Broken>
         ensures does { IfOk result (λ answer. Does event.now line.old answer line.new) }
         ensures line { IsLine line.new }
+        ensures seen { IfOk result (λ answer. HasSeen answer self.old self.new line.new) }
     {
         let speaker = self.speaker();
         let refusal = refusal(line, self.setup, speaker, event);
@@ -178,7 +194,9 @@ impl Watch {
     }
 
     /// What each station hears of what is pending.
-    fn hear(&mut self, event: &Event<'_>) {
+    fn hear(&mut self, event: &Event<'_>)
+        ensures { self.new ≡ record self.old { hearings = self.new.hearings } }
+    {
         self.hearings.clear();
         let Some(sent) = &self.sent else {
             return;
@@ -208,7 +226,12 @@ impl Watch {
         line: &Line<A>,
         event: &Event<'_>,
         effect: Effect,
-    ) -> Result<(), Broken> {
+    ) -> Result<(), Broken>
+        ensures setup { self.new.setup ≡ self.old.setup }
+        ensures terminals { self.new.terminals ≡ self.old.terminals }
+        ensures counted { SameAnswers self.old.tally self.new.tally }
+        ensures trusted { OnOk result (self.new.trusted ≡ line.now.trusted) }
+    {
         self.tally.count_effect(effect);
         self.see_trust(line, event, effect)?;
         self.see_channels(line, event, effect)?;
@@ -223,7 +246,13 @@ impl Watch {
         line: &Line<A>,
         event: &Event<'_>,
         effect: Effect,
-    ) -> Result<(), Broken> {
+    ) -> Result<(), Broken>
+        ensures state { self.new ≡ record self.old {
+          trusted = self.new.trusted;
+          alike = self.new.alike;
+        } }
+        ensures trusted { OnOk result (self.new.trusted ≡ line.now.trusted) }
+    {
         if effect == Effect::Down || effect == Effect::Up {
             self.trusted = self.trusted && self.was_fair();
             self.alike = self.alike && !matches!(event, Event::CarryEach { .. });

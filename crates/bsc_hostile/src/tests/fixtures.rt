@@ -1,5 +1,6 @@
 //! The line of these tests, and a player that watches it.
 
+use crate::tests::exchanges::Exchange;
 use crate::{Broken, Watch};
 use bsc_frame::Address;
 use bsc_line::{Event, Line, LineError};
@@ -7,7 +8,7 @@ use bsc_text::{Setup, Terminal};
 use std::alloc::Global;
 use std::test::Fail;
 
-/// A line with a watch on it.
+/// A line with a watch on it. It is owned in short functions and lent to those that play on it.
 #[derive(Drop)]
 pub(crate) struct Watched {
     pub(crate) line: Line<Global>,
@@ -25,10 +26,9 @@ impl Watched {
     pub(crate) fn new(alloc: Global) -> Result<Watched, Fail> {
         let setup = Setup::new(80, 400, 3, 10)?;
         let terminals = [terminal(b"A", b"a")?, terminal(b"B", b"b")?];
-        Ok(Watched {
-            line: Line::new(alloc, setup, &terminals, &[0, 1])?,
-            watch: Watch::new(alloc, setup, &terminals)?,
-        })
+        let watch = Watch::new(alloc, setup, &terminals)?;
+        let line = Line::new(alloc, setup, &terminals, &[0, 1])?;
+        Ok(Watched { line, watch })
     }
 
     /// Plays an event.
@@ -42,6 +42,15 @@ impl Watched {
             let _ = self.play(event)?;
         }
         Ok(())
+    }
+
+    /// Plays the exchange until its transmission of this number, from 0, is pending.
+    pub(crate) fn begin(&mut self, exchange: &Exchange, place: usize) -> Result<(), Broken> {
+        for (count, event) in exchange.offers {
+            self.repeat(*count, event)?;
+        }
+        self.repeat(1, &Event::Silence)?;
+        self.repeat(place, &Event::CarrySent)
     }
 
     /// What is pending is heard as it was sent, this many times, or a silence passes where nothing

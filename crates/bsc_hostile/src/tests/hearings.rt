@@ -3,8 +3,9 @@
 
 use crate::Broken;
 use crate::tests::exchanges::{
-    Exchange, INTERRUPTED, POLLED, SELECTED, SELECTED_TWICE, Sent, begin, transmissions,
+    Exchange, INTERRUPTED, POLLED, SELECTED, SELECTED_TWICE, Sent, transmissions,
 };
+use crate::tests::fixtures::Watched;
 use bsc_line::Event;
 use std::alloc::Global;
 use std::process::Abort;
@@ -18,50 +19,61 @@ const MOST: usize = 2048;
 
 /// An exchange, and memory to play it.
 #[derive(Clone, Copy)]
-struct Stage {
+struct Stage<'a> {
     alloc: Global,
-    exchange: Exchange,
+    exchange: &'a Exchange,
 }
 
-/// Plays the exchange up to this transmission, then the event, and goes on.
-fn play(stage: Stage, sent: &Sent, event: &Event<'_>) -> Result<Result<(), Broken>, Fail> {
-    let mut watched = begin(stage.alloc, stage.exchange, sent.place)?;
-    Ok(match watched.play(event) {
-        Ok(_) => watched.go_on(EVENTS),
-        Err(broken) => Err(broken),
-    })
+/// Plays the exchange up to the transmission of this number, then the event, and goes on.
+fn play_on(
+    watched: &mut Watched,
+    exchange: &Exchange,
+    place: usize,
+    event: &Event<'_>,
+) -> Result<(), Broken> {
+    watched.begin(exchange, place)?;
+    let _ = watched.play(event)?;
+    watched.go_on(EVENTS)
+}
+
+/// The same on a new line.
+fn play(stage: Stage<'_>, sent: &Sent, event: &Event<'_>) -> Result<Result<(), Broken>, Fail> {
+    let mut watched = Watched::new(stage.alloc)?;
+    Ok(play_on(&mut watched, stage.exchange, sent.place, event))
 }
 
 /// Terminal 0 hears the first of these in place of the transmission, and terminal 1 the second.
-fn play_each<'a>(
-    stage: Stage,
+fn hear_each<'a>(
+    rt: &impl Abort,
+    stage: Stage<'_>,
     sent: &Sent,
     first: Option<&'a [u8]>,
     second: Option<&'a [u8]>,
-) -> Result<Result<(), Broken>, Fail> {
+) -> Result<(), Fail> {
     let items = [first, second];
-    play(stage, sent, &Event::CarryEach { heard: &items })
+    let seen = play(stage, sent, &Event::CarryEach { heard: &items })?;
+    assert_eq!(rt;
+        seen,
+        Ok(()),
+        "{} heard as {first:?} and {second:?}",
+        sent.place
+    );
+    Ok(())
 }
 
 /// These octets are heard by one terminal, while the other one hears the transmission or nothing.
-fn hear_by_one<'a>(
-    rt: &impl Abort,
-    stage: Stage,
-    sent: &'a Sent,
-    octets: &'a [u8],
-) -> Result<(), Fail> {
+fn hear_by_one(rt: &impl Abort, stage: Stage<'_>, sent: &Sent, octets: &[u8]) -> Result<(), Fail> {
     let heard = Some(octets);
-    let whole = Some(sent.octets.as_slice());
-    for (first, second) in [(heard, whole), (whole, heard), (heard, None), (None, heard)] {
-        let seen = play_each(stage, sent, first, second)?;
-        assert_eq!(rt; seen, Ok(()), "{} heard as {octets:?} by one", sent.place);
+    for other in [Some(sent.octets.as_slice()), None] {
+        hear_each(rt, stage, sent, heard, other)?;
+        hear_each(rt, stage, sent, other, heard)?;
     }
     Ok(())
 }
 
 /// These octets are heard in place of the transmission, by all who hear it, and where these are the
 /// terminals also by one of them.
-fn hear(rt: &impl Abort, stage: Stage, sent: &Sent, octets: &[u8]) -> Result<(), Fail> {
+fn hear(rt: &impl Abort, stage: Stage<'_>, sent: &Sent, octets: &[u8]) -> Result<(), Fail> {
     let heard = Some(octets);
     let seen = play(stage, sent, &Event::Carry { heard })?;
     assert_eq!(rt; seen, Ok(()), "{} heard as {octets:?}", sent.place);
@@ -72,7 +84,7 @@ fn hear(rt: &impl Abort, stage: Stage, sent: &Sent, octets: &[u8]) -> Result<(),
 }
 
 /// The transmission breaks off after each of its octets, or before the first.
-fn hear_fronts(rt: &impl Abort, stage: Stage, sent: &Sent) -> Result<(), Fail> {
+fn hear_fronts(rt: &impl Abort, stage: Stage<'_>, sent: &Sent) -> Result<(), Fail> {
     for len in 0..=sent.octets.len() {
         hear(rt, stage, sent, &sent.octets.as_slice()[..len])?;
     }
@@ -80,7 +92,7 @@ fn hear_fronts(rt: &impl Abort, stage: Stage, sent: &Sent) -> Result<(), Fail> {
 }
 
 /// The octet at this place is heard as each value, those with one bit turned among them.
-fn hear_values(rt: &impl Abort, stage: Stage, sent: &Sent, place: usize) -> Result<(), Fail> {
+fn hear_values(rt: &impl Abort, stage: Stage<'_>, sent: &Sent, place: usize) -> Result<(), Fail> {
     let mut heard = sent.octets.clone()?;
     for value in 0..=255u8 {
         if let Some(octet) = heard.get_mut(place) {
@@ -92,7 +104,7 @@ fn hear_values(rt: &impl Abort, stage: Stage, sent: &Sent, place: usize) -> Resu
 }
 
 /// Each octet of the transmission is heard as each value.
-fn hear_octets(rt: &impl Abort, stage: Stage, sent: &Sent) -> Result<(), Fail> {
+fn hear_octets(rt: &impl Abort, stage: Stage<'_>, sent: &Sent) -> Result<(), Fail> {
     for place in 0..sent.octets.len() {
         hear_values(rt, stage, sent, place)?;
     }
@@ -100,51 +112,70 @@ fn hear_octets(rt: &impl Abort, stage: Stage, sent: &Sent) -> Result<(), Fail> {
 }
 
 /// The transmission is heard with FF after it, up to this many octets.
-fn hear_padded(rt: &impl Abort, stage: Stage, sent: &Sent, octets: usize) -> Result<(), Fail> {
+fn hear_padded(rt: &impl Abort, stage: Stage<'_>, sent: &Sent, octets: usize) -> Result<(), Fail> {
     let mut heard = Vec::from_slice(stage.alloc, sent.octets.as_slice())?;
     heard.resize(octets, 0xff)?;
     hear(rt, stage, sent, heard.as_slice())
 }
 
 /// Another transmission of the exchange is heard.
-fn hear_others(rt: &impl Abort, stage: Stage, sent: &Sent, all: &[Sent]) -> Result<(), Fail> {
+fn hear_others(rt: &impl Abort, stage: Stage<'_>, sent: &Sent, all: &[Sent]) -> Result<(), Fail> {
     for other in all {
         hear(rt, stage, sent, other.octets.as_slice())?;
     }
     Ok(())
 }
 
+/// Each terminal hears a transmission of its own of the exchange.
+fn hear_two(rt: &impl Abort, stage: Stage<'_>, sent: &Sent, all: &[Sent]) -> Result<(), Fail> {
+    if !sent.by_control {
+        return Ok(());
+    }
+    for first in all {
+        for second in all {
+            let (first, second) = (first.octets.as_slice(), second.octets.as_slice());
+            hear_each(rt, stage, sent, Some(first), Some(second))?;
+        }
+    }
+    Ok(())
+}
+
+/// The transmission is heard as anything near it.
+fn hear_near(rt: &impl Abort, stage: Stage<'_>, sent: &Sent, all: &[Sent]) -> Result<(), Fail> {
+    hear_fronts(rt, stage, sent)?;
+    hear_octets(rt, stage, sent)?;
+    hear_padded(rt, stage, sent, MOST)?;
+    hear_padded(rt, stage, sent, MOST + 1)?;
+    hear_others(rt, stage, sent, all)?;
+    hear_two(rt, stage, sent, all)
+}
+
 /// Each transmission of the exchange is heard as anything near it.
-fn hear_anything(rt: &(impl Abort + AllocGlobal), exchange: Exchange) -> Result<(), Fail> {
-    let alloc = rt.alloc();
+fn hear_anything(rt: &impl Abort, alloc: Global, exchange: &Exchange) -> Result<(), Fail> {
     let stage = Stage { alloc, exchange };
     let all = transmissions(alloc, exchange)?;
     for sent in &all {
-        hear_fronts(rt, stage, sent)?;
-        hear_octets(rt, stage, sent)?;
-        hear_padded(rt, stage, sent, MOST)?;
-        hear_padded(rt, stage, sent, MOST + 1)?;
-        hear_others(rt, stage, sent, all.as_slice())?;
+        hear_near(rt, stage, sent, all.as_slice())?;
     }
     Ok(())
 }
 
 #[test]
 fn a_poll_is_heard_as_anything(rt: HostRuntime) -> Result<(), Fail> {
-    hear_anything(&rt, POLLED)
+    hear_anything(&rt, rt.alloc(), &POLLED)
 }
 
 #[test]
 fn a_selection_is_heard_as_anything(rt: HostRuntime) -> Result<(), Fail> {
-    hear_anything(&rt, SELECTED)
+    hear_anything(&rt, rt.alloc(), &SELECTED)
 }
 
 #[test]
 fn a_selection_of_two_blocks_is_heard_as_anything(rt: HostRuntime) -> Result<(), Fail> {
-    hear_anything(&rt, SELECTED_TWICE)
+    hear_anything(&rt, rt.alloc(), &SELECTED_TWICE)
 }
 
 #[test]
 fn a_selection_that_is_interrupted_is_heard_as_anything(rt: HostRuntime) -> Result<(), Fail> {
-    hear_anything(&rt, INTERRUPTED)
+    hear_anything(&rt, rt.alloc(), &INTERRUPTED)
 }

@@ -1,11 +1,15 @@
 //! Single hearings that tell where trust ends.
 
+use crate::Broken;
 use crate::channel::look;
-use crate::tests::exchanges::{POLLED, begin};
+use crate::tests::exchanges::{
+    Exchange, INTERRUPTED, POLLED, SELECTED, SELECTED_TWICE, Sent, transmissions,
+};
 use crate::tests::fixtures::Watched;
 use bsc_control::Way;
 use bsc_line::Event;
 use std::alloc::Global;
+use std::process::Abort;
 use std::test::Fail;
 
 /// The call of A, and the text of HI.
@@ -13,17 +17,37 @@ const CALL_A: &[u8] = &[0x16, 0x16, 0x04, 0xff, 0x16, 0x16, 0xc1, 0x85, 0xff];
 
 const TEXT_HI: &[u8] = &[0x16, 0x16, 0x02, 0xc8, 0x49, 0x19, 0x83, 0x9b, 0xff];
 
-/// A line of the exchange POLLED as its transmission of this number was heard so.
-fn heard_as(alloc: Global, place: usize, octets: &[u8]) -> Result<Watched, Fail> {
-    let mut watched = begin(alloc, POLLED, place)?;
+/// A text that failed.
+const AS_FAILED: Event<'static> = Event::Carry {
+    heard: Some(&[0x16, 0x16, 0x02, 0x85, 0xff]),
+};
+
+/// What is pending is lost.
+const LOST: Event<'static> = Event::Carry { heard: None };
+
+/// Whether something is pending and the line is trusted after the transmission of this number was
+/// heard so.
+fn outcome_on(
+    watched: &mut Watched,
+    exchange: &Exchange,
+    place: usize,
+    octets: &[u8],
+) -> Result<(bool, bool), Broken> {
+    watched.begin(exchange, place)?;
     let heard = Some(octets);
     let _ = watched.play(&Event::Carry { heard })?;
-    Ok(watched)
+    Ok((watched.line.pending().is_some(), watched.line.trusted()))
 }
 
-/// Whether the exchange is trusted after its transmission of this number was heard so.
-fn stays_trusted(alloc: Global, place: usize, octets: &[u8]) -> Result<bool, Fail> {
-    Ok(heard_as(alloc, place, octets)?.line.trusted())
+/// The same on a new line.
+fn outcome(
+    alloc: Global,
+    exchange: &Exchange,
+    place: usize,
+    octets: &[u8],
+) -> Result<(bool, bool), Fail> {
+    let mut watched = Watched::new(alloc)?;
+    Ok(outcome_on(&mut watched, exchange, place, octets)?)
 }
 
 /// A number of SYN and then EOT.
@@ -46,14 +70,8 @@ fn eot_is_heard_without_pad_and_after_2047_syn(rt: HostRuntime) -> Result<(), Fa
         (too_many.as_slice(), false),
     ] {
         // The EOT of terminal 0 that ends its bid: the control station calls B then.
-        let watched = heard_as(alloc, 3, octets)?;
-        let goes_on = watched.line.pending().is_some();
-        assert_eq!(rt;
-            (goes_on, watched.line.trusted()),
-            (is_eot, true),
-            "{}",
-            octets.len()
-        );
+        let seen = outcome(alloc, &POLLED, 3, octets)?;
+        assert_eq!(rt; seen, (is_eot, true), "{}", octets.len());
     }
     Ok(())
 }
@@ -62,22 +80,46 @@ fn eot_is_heard_without_pad_and_after_2047_syn(rt: HostRuntime) -> Result<(), Fa
 fn every_front_of_a_call_and_of_a_text_is_heard_fairly(rt: HostRuntime) -> Result<(), Fail> {
     for (place, octets) in [(0, CALL_A), (1, TEXT_HI)] {
         for len in 0..=octets.len() {
-            let trusted = stays_trusted(rt.alloc(), place, &octets[..len])?;
+            let (_, trusted) = outcome(rt.alloc(), &POLLED, place, &octets[..len])?;
             assert!(rt; trusted, "the first {len} of transmission {place}");
         }
     }
     Ok(())
 }
 
-/// What is on the line when the ENQ of terminal 0, whose ACK1 was lost, is heard as a text that
-/// failed.
-fn enq_as_text(alloc: Global) -> Result<Watched, Fail> {
-    let mut watched = begin(alloc, POLLED, 2)?;
-    let heard = Some([0x16, 0x16, 0x02, 0x85, 0xff].as_slice());
-    watched.repeat(1, &Event::Carry { heard: None })?;
-    watched.repeat(1, &Event::Silence)?;
-    watched.repeat(1, &Event::Carry { heard })?;
-    Ok(watched)
+/// One bit of the octet at this place is turned, each in turn.
+fn turn_bits(
+    rt: &(impl Abort + AllocGlobal),
+    exchange: &Exchange,
+    sent: &Sent,
+    place: usize,
+) -> Result<(), Fail> {
+    for bit in 0..8u32 {
+        let mut heard = sent.octets.clone()?;
+        if let Some(octet) = heard.get_mut(place) {
+            *octet ^= 1u8 << bit;
+        }
+        let (_, trusted) = outcome(rt.alloc(), exchange, sent.place, heard.as_slice())?;
+        assert!(rt;
+            trusted,
+            "transmission {}, octet {place}, bit {bit}",
+            sent.place
+        );
+    }
+    Ok(())
+}
+
+#[test]
+fn one_turned_bit_never_ends_trust(rt: HostRuntime) -> Result<(), Fail> {
+    for exchange in [&POLLED, &SELECTED, &SELECTED_TWICE, &INTERRUPTED] {
+        let all = transmissions(rt.alloc(), exchange)?;
+        for sent in &all {
+            for place in 0..sent.octets.len() {
+                turn_bits(&rt, exchange, sent, place)?;
+            }
+        }
+    }
+    Ok(())
 }
 
 /// How many records of the channel from terminal 0 are known to have arrived, and how many arrived.
@@ -88,15 +130,30 @@ fn counts(watched: &Watched) -> (usize, usize) {
     }
 }
 
+/// The ENQ of terminal 0, whose ACK1 was lost, is heard as a text that failed.
+fn hear_enq_as_text(watched: &mut Watched) -> Result<(), Broken> {
+    watched.begin(&POLLED, 2)?;
+    watched.repeat(1, &LOST)?;
+    watched.repeat(1, &Event::Silence)?;
+    watched.repeat(1, &AS_FAILED)
+}
+
+/// Whether the line is not trusted then, and the record arrives again and again.
+fn see_repeats(rt: &impl Abort, watched: &mut Watched) -> Result<(), Broken> {
+    hear_enq_as_text(watched)?;
+    assert!(rt; !watched.line.trusted());
+    for arrived in [(0, 1), (0, 1), (0, 2), (0, 2), (0, 3), (1, 3)] {
+        assert_eq!(rt; counts(watched), arrived);
+        let _ = watched.play(&Event::CarrySent)?;
+    }
+    Ok(())
+}
+
 #[test]
 fn a_check_that_passes_wrongly_ends_trust_and_repeats_a_record(
     rt: HostRuntime,
 ) -> Result<(), Fail> {
-    let mut watched = enq_as_text(rt.alloc())?;
-    assert!(rt; !watched.line.trusted());
-    for arrived in [(0, 1), (0, 1), (0, 2), (0, 2), (0, 3), (1, 3)] {
-        assert_eq!(rt; counts(&watched), arrived);
-        let _ = watched.play(&Event::CarrySent)?;
-    }
+    let mut watched = Watched::new(rt.alloc())?;
+    see_repeats(&rt, &mut watched)?;
     Ok(())
 }

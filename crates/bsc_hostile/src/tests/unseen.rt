@@ -1,7 +1,8 @@
 //! What happens on a line without its watch is told at the next event.
 
 use crate::Broken;
-use crate::tests::exchanges::{POLLED, begin};
+use crate::tests::exchanges::POLLED;
+use crate::tests::fixtures::Watched;
 use bsc_line::Event;
 use std::alloc::Global;
 use std::test::Fail;
@@ -23,32 +24,46 @@ const AS_EOT: Event<'static> = Event::Carry {
 /// What is pending is lost.
 const LOST: Event<'static> = Event::Carry { heard: None };
 
-/// What the watch says of an event, where another one happened without it while the transmission of
-/// this number was pending.
+/// While the transmission of this number is pending, the first event happens without the watch;
+/// this is what the watch says of the second.
+const CASES: &[(usize, Event<'static>, Event<'static>, Broken)] = &[
+    (0, HI_AT, URGENT_AT, Broken::Offered),
+    (0, Event::CarrySent, URGENT_AT, Broken::Pending),
+    (0, LOST, Event::CarrySent, Broken::Answer),
+    (1, Event::CarrySent, URGENT_AT, Broken::Spooled),
+    (2, Event::CarrySent, URGENT_AT, Broken::Known),
+    (2, AS_EOT, URGENT_AT, Broken::Trust),
+    (4, Event::CarrySent, Event::CarrySent, Broken::Pending),
+];
+
+/// What the watch says of an event, where another one happened without it.
+fn told_on(
+    watched: &mut Watched,
+    place: usize,
+    unseen: &Event<'_>,
+    event: &Event<'_>,
+) -> Result<Option<Broken>, Fail> {
+    watched.begin(&POLLED, place)?;
+    watched.line.run(&[*unseen])?;
+    Ok(watched.play(event).err())
+}
+
+/// The same on a new line.
 fn told(
     alloc: Global,
     place: usize,
     unseen: &Event<'_>,
     event: &Event<'_>,
 ) -> Result<Option<Broken>, Fail> {
-    let mut watched = begin(alloc, POLLED, place)?;
-    watched.line.run(&[*unseen])?;
-    Ok(watched.play(event).err())
+    let mut watched = Watched::new(alloc)?;
+    told_on(&mut watched, place, unseen, event)
 }
 
 #[test]
 fn what_happens_unseen_is_told(rt: HostRuntime) -> Result<(), Fail> {
-    for (place, unseen, event, broken) in [
-        (0, HI_AT, URGENT_AT, Broken::Offered),
-        (0, Event::CarrySent, URGENT_AT, Broken::Pending),
-        (0, LOST, Event::CarrySent, Broken::Answer),
-        (1, Event::CarrySent, URGENT_AT, Broken::Spooled),
-        (2, Event::CarrySent, URGENT_AT, Broken::Known),
-        (2, AS_EOT, URGENT_AT, Broken::Trust),
-        (4, Event::CarrySent, Event::CarrySent, Broken::Pending),
-    ] {
-        let seen = told(rt.alloc(), place, &unseen, &event)?;
-        assert_eq!(rt; seen, Some(broken), "transmission {place}");
+    for (place, unseen, event, broken) in CASES {
+        let seen = told(rt.alloc(), *place, unseen, event)?;
+        assert_eq!(rt; seen, Some(*broken), "transmission {place}");
     }
     Ok(())
 }

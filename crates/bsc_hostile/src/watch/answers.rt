@@ -1,5 +1,8 @@
 //! What is addressed and what is pending after an event.
 
+ghost use Rattle.std.specs.Prelude.{◌≡◌};
+ghost use Rattle.bsc_hostile.specs.Watches.{SameBasis};
+
 use crate::broken::Broken;
 use crate::channel::Channel;
 use crate::heard::{Kind, kind_at};
@@ -84,7 +87,9 @@ impl Watch {
     }
 
     /// The channel that is addressed after a transmission of the control station.
-    pub(crate) fn see_addressed(&mut self, event: &Event<'_>, effect: Effect) {
+    pub(crate) fn see_addressed(&mut self, event: &Event<'_>, effect: Effect)
+        ensures { self.new ≡ record self.old { addressed = self.new.addressed } }
+    {
         if effect != Effect::Down {
             return;
         }
@@ -96,7 +101,9 @@ impl Watch {
     }
 
     /// The channel that is addressed after all terminals heard a call, which may be different ones.
-    fn see_call(&mut self, event: &Event<'_>) {
+    fn see_call(&mut self, event: &Event<'_>)
+        ensures { self.new ≡ record self.old { addressed = self.new.addressed } }
+    {
         let sent = match &self.sent {
             Some(sent) => sent.octets.as_slice(),
             None => &[],
@@ -111,7 +118,9 @@ impl Watch {
         &mut self,
         line: &Line<A>,
         effect: Effect,
-    ) -> Result<(), Broken> {
+    ) -> Result<(), Broken>
+        ensures { SameBasis self.old self.new }
+    {
         if !matches!(effect, Effect::Silence | Effect::Down | Effect::Up) {
             return if is_shown(line, &self.sent) {
                 Ok(())

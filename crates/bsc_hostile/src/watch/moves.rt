@@ -1,10 +1,14 @@
 //! How the channels of the line move.
 
+ghost use Rattle.bsc_hostile.specs.Tallies.{SameAnswers};
+ghost use Rattle.bsc_hostile.specs.Watches.{SameBasis};
+
 use crate::broken::Broken;
 use crate::channel::{Channel, View, look, offered_from, spooled_from};
 use crate::heard::Hearing;
 use crate::records::{begins, is_text_of, with_records};
 use crate::step::{Effect, allowed, check, moved, steps};
+use crate::tally::Tally;
 use crate::watch::{Watch, octets_heard};
 use bsc_control::Way;
 use bsc_line::{Event, Line};
@@ -29,7 +33,9 @@ impl Watch {
         line: &Line<A>,
         event: &Event<'_>,
         effect: Effect,
-    ) -> Result<(), Broken> {
+    ) -> Result<(), Broken>
+        ensures { SameBasis self.old self.new }
+    {
         let step = Step {
             event,
             effect,
@@ -42,18 +48,30 @@ impl Watch {
             alike: self.alike,
             addressed: self.addressed,
         };
-        let mut last = None;
-        for channel in self.channels.iter_mut() {
-            let before = channel.view;
-            see_channel(line, &step, channel)?;
-            if moved(before, channel.view) {
-                self.tally.count_move(before, channel.view);
-                see_one(&step, last, channel.terminal)?;
-                last = Some(channel.terminal);
-            }
-        }
-        Ok(())
+        see_each(line, &step, &mut self.channels, &mut self.tally)
     }
+}
+
+/// Whether each of these channels did only what it may, and no two moved that may not.
+fn see_each<A: Allocator>(
+    line: &Line<A>,
+    step: &Step<'_>,
+    channels: &mut [Channel],
+    tally: &mut Tally,
+) -> Result<(), Broken>
+    ensures { SameAnswers tally.old tally.new }
+{
+    let mut last = None;
+    for channel in channels.iter_mut() {
+        let before = channel.view;
+        see_channel(line, step, channel)?;
+        if moved(before, channel.view) {
+            tally.count_move(before, channel.view);
+            see_one(step, last, channel.terminal)?;
+            last = Some(channel.terminal);
+        }
+    }
+    Ok(())
 }
 
 /// Whether a channel of this terminal may move after one of the last terminal has: only where

@@ -1,0 +1,4 @@
+pub mod Tallies
+pub mod NewWatches
+pub mod Watches
+pub mod Histories
