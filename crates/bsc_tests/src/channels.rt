@@ -51,6 +51,11 @@ struct Ends<'a> {
 }
 
 impl<'a> Has<'a> {
+    /// The records that were offered.
+    pub(crate) fn offered(&self) -> &'a [&'a [u8]] {
+        self.ends().offered
+    }
+
     fn ends(&self) -> Ends<'a> {
         let (offered, known, spooled, in_doubt) = match *self {
             Has::Delivered(records) => (records, records.len(), records, false),
@@ -86,13 +91,38 @@ pub(crate) fn is_channel<A: Allocator>(line: &Line<A>, terminal: usize, way: Way
         }
 }
 
-/// Whether these are exactly the records of these characters.
-fn are_exactly(records: &[Record], expected: &[&[u8]]) -> bool {
-    records.len() == expected.len()
+/// Whether these are the records of the first of these characters.
+fn are_front(records: &[Record], expected: &[&[u8]]) -> bool {
+    records.len() <= expected.len()
         && records
             .iter()
             .zip(expected)
             .all(|(record, chars)| record.chars() == *chars)
+}
+
+/// Whether these are exactly the records of these characters.
+fn are_exactly(records: &[Record], expected: &[&[u8]]) -> bool {
+    records.len() == expected.len() && are_front(records, expected)
+}
+
+/// How many records were offered on a channel; 0 where the line has no such channel.
+pub(crate) fn offered_count<A: Allocator>(line: &Line<A>, terminal: usize, way: Way) -> usize {
+    if is_channel(line, terminal, way) {
+        line.offered(terminal, way).len()
+    } else {
+        0
+    }
+}
+
+/// Whether the line has such a channel, and the records of the first of these characters, and no
+/// others, were offered there.
+pub(crate) fn has_front_of<A: Allocator>(
+    line: &Line<A>,
+    terminal: usize,
+    way: Way,
+    expected: &[&[u8]],
+) -> bool {
+    is_channel(line, terminal, way) && are_front(line.offered(terminal, way), expected)
 }
 
 /// Whether the line has such a channel, and that has this.

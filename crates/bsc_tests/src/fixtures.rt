@@ -21,6 +21,12 @@ pub(crate) fn terminal_of(poll: &[u8], selects: &[Address]) -> Result<Terminal, 
 /// The codes of a terminal's polling address, and those of its selection addresses.
 pub(crate) type Codes<'a> = (&'a [u8], &'a [&'a [u8]]);
 
+/// The codes of terminal 0, which is polled by A and selected by a.
+pub(crate) const FIRST: Codes<'static> = (b"A", &[b"a"]);
+
+/// The codes of terminal 1, which is polled by B and selected by b.
+pub(crate) const SECOND: Codes<'static> = (b"B", &[b"b"]);
+
 /// The addresses of these codes.
 fn addresses_of(alloc: Global, codes: &[&[u8]]) -> Result<Vec<Address>, Fail> {
     let mut addresses = Vec::new(alloc);
@@ -95,6 +101,16 @@ pub(crate) fn line_of<A: Allocator + Copy>(
 /// A new line with terminals 0 and 1 polled in turn, and the default of three tries.
 pub(crate) fn line_of_two<A: Allocator + Copy>(alloc: A) -> Result<Line<A>, Fail> {
     line_of(alloc, &two_terminals()?, &[0, 1], 3)
+}
+
+/// A new line, as `line_of_two` makes it; None where it is out of memory.
+pub(crate) fn line_within<A: Allocator + Copy>(alloc: A) -> Result<Option<Line<A>>, Fail> {
+    let (setup, terminals) = (setup(3)?, two_terminals()?);
+    match Line::new(alloc, setup, &terminals, &[0, 1]) {
+        Ok(line) => Ok(Some(line)),
+        Err(SetupError::Memory) => Ok(None),
+        Err(error) => Err(error.into()),
+    }
 }
 
 /// Why there is no line with these terminals and this poll list; None where there is one.

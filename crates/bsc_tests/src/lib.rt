@@ -11,6 +11,8 @@ mod events;
 #[cfg(test)]
 mod fixtures;
 #[cfg(test)]
+mod growths;
+#[cfg(test)]
 mod hearings;
 #[cfg(test)]
 mod limits;
@@ -28,3 +30,5 @@ mod refusals;
 mod runs;
 #[cfg(test)]
 mod selecting;
+#[cfg(test)]
+mod sizes;

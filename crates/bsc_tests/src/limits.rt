@@ -116,7 +116,7 @@ fn offer_each_way<A: Allocator>(line: &mut Line<A>, records: &[&[u8]]) -> Result
 }
 
 /// A silence passes where nothing is pending; else what is pending is carried, or it is lost.
-fn go_on<A: Allocator>(line: &mut Line<A>, is_lost: bool) -> Result<(), LineError> {
+pub(crate) fn go_on<A: Allocator>(line: &mut Line<A>, is_lost: bool) -> Result<(), LineError> {
     match line.pending() {
         None => line.silence(),
         Some(_) if is_lost => line.carry(None),

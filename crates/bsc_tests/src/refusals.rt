@@ -3,8 +3,8 @@
 use crate::channels::Has::Delivered;
 use crate::events::{LOSE, NONE, OFFER_AT, OFFER_FOR, RELEASE_FROM, RELEASE_TO};
 use crate::fixtures::{
-    Codes, line_of, line_of_two, most_terminals, refusal, terminals_of, two_terminals,
-    two_terminals_by_three,
+    Codes, FIRST, SECOND, line_of, line_of_two, most_terminals, refusal, terminals_of,
+    two_terminals, two_terminals_by_three,
 };
 use crate::octets::{CALL_POLL_A, EOT, TEXT_HI};
 use crate::play::Then::{Done, Refused, Sent};
@@ -24,18 +24,33 @@ use std::test::Fail;
 /// More codes than a record has.
 const TOO_LONG: &[u8] = &[0x41; 81];
 
-/// The codes of terminal 0, which is polled by A and selected by a.
-const FIRST: Codes<'static> = (b"A", &[b"a"]);
+/// What a line is asked for, the codes of its terminals and its poll list, and why there is no such
+/// line; None where there is one.
+pub(crate) type Setting<'a> = (&'a [Codes<'a>], &'a [u8], Option<SetupError>);
 
-/// The codes of terminal 1, which is polled by B and selected by b.
-const SECOND: Codes<'static> = (b"B", &[b"b"]);
+/// Each refusal, and the longest poll list, which is granted.
+pub(crate) const SETTINGS: &[Setting<'static>] = &[
+    (&[], &[], Some(SetupError::NoTerminal)),
+    (&[FIRST; 65], &[], Some(SetupError::TooMany)),
+    (
+        &[(b"A", &[b"A"]), SECOND],
+        &[],
+        Some(SetupError::SameAddress(0, 1)),
+    ),
+    (
+        &[(b"A", &[b"a", b"c"]), (b"B", &[b"c"])],
+        &[],
+        Some(SetupError::SameAddress(2, 4)),
+    ),
+    (&[FIRST, SECOND], &[], Some(SetupError::EmptyPollList)),
+    (&[FIRST, SECOND], &[0, 2], Some(SetupError::PollList(1))),
+    (&[FIRST, SECOND], &[0; 256], Some(SetupError::PollList(255))),
+    (&[FIRST, SECOND], &[0; 255], None),
+];
 
-/// Terminals of these codes, a poll list, and why there is no line of them.
-type Case<'a> = (&'a [Codes<'a>], &'a [u8], Option<SetupError>);
-
-/// The first case that is answered otherwise.
-fn wrong_case(alloc: Global, cases: &[Case<'_>]) -> Result<Option<usize>, Fail> {
-    for (number, (codes, poll_list, expected)) in cases.iter().enumerate() {
+/// The first setting that is answered otherwise.
+fn wrong_setting(alloc: Global) -> Result<Option<usize>, Fail> {
+    for (number, (codes, poll_list, expected)) in SETTINGS.iter().enumerate() {
         let terminals = terminals_of(alloc, codes)?;
         if refusal(alloc, &terminals, poll_list)? != *expected {
             return Ok(Some(number));
@@ -45,35 +60,8 @@ fn wrong_case(alloc: Global, cases: &[Case<'_>]) -> Result<Option<usize>, Fail> 
 }
 
 #[test]
-fn terminals_are_refused_in_order(rt: HostRuntime) -> Result<(), Fail> {
-    const CASES: &[Case<'static>] = &[
-        (&[], &[], Some(SetupError::NoTerminal)),
-        (&[FIRST; 65], &[], Some(SetupError::TooMany)),
-        (
-            &[(b"A", &[b"A"]), SECOND],
-            &[],
-            Some(SetupError::SameAddress(0, 1)),
-        ),
-        (
-            &[(b"A", &[b"a", b"c"]), (b"B", &[b"c"])],
-            &[],
-            Some(SetupError::SameAddress(2, 4)),
-        ),
-        (&[FIRST, SECOND], &[], Some(SetupError::EmptyPollList)),
-    ];
-    assert_eq!(rt; wrong_case(rt.alloc(), CASES)?, None);
-    Ok(())
-}
-
-#[test]
-fn poll_lists_are_refused_at_the_first_wrong_place(rt: HostRuntime) -> Result<(), Fail> {
-    const CASES: &[Case<'static>] = &[
-        (&[FIRST, SECOND], &[], Some(SetupError::EmptyPollList)),
-        (&[FIRST, SECOND], &[0, 2], Some(SetupError::PollList(1))),
-        (&[FIRST, SECOND], &[0; 256], Some(SetupError::PollList(255))),
-        (&[FIRST, SECOND], &[0; 255], None),
-    ];
-    assert_eq!(rt; wrong_case(rt.alloc(), CASES)?, None);
+fn a_line_is_refused_for_the_first_reason(rt: HostRuntime) -> Result<(), Fail> {
+    assert_eq!(rt; wrong_setting(rt.alloc())?, None);
     Ok(())
 }
 

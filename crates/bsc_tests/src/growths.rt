@@ -1,0 +1,352 @@
+//! Each growth of whole exchanges refused in turn, all growths from one on, and all above a size.
+
+use crate::channels::Has::Delivered;
+use crate::channels::{are_sound, has_front_of, offered_count};
+use crate::events::{EIGHT, HI, NONE, SEVEN};
+use crate::fixtures::{line_of_two, refusal, terminals_of};
+use crate::limits::go_on;
+use crate::octets::{NAK, WACK};
+use crate::play::{Left, wrong_left};
+use crate::refusals::{SETTINGS, Setting};
+use bsc_control::Way::{FromTerminal, ToTerminal};
+use bsc_control::{SetupError, Way};
+use bsc_line::{Line, LineError};
+use refusing_alloc::Refusing;
+use std::alloc::{Allocator, Global};
+use std::process::Abort;
+use std::test::Fail;
+
+/// Which growths are refused.
+#[derive(Clone, Copy)]
+enum Rule {
+    /// The one of a number.
+    Nth,
+
+    /// Each from the one of a number on.
+    From,
+
+    /// Each of more than a number of units of 64 octets.
+    Above,
+}
+
+impl Rule {
+    /// From here on refuses the growths that this number names.
+    fn refuse(self, alloc: &Refusing, number: usize) {
+        match self {
+            Rule::Nth => alloc.refuse_nth(number),
+            Rule::From => alloc.refuse_from(number),
+            Rule::Above => alloc.refuse_larger(number.saturating_mul(64)),
+        }
+    }
+}
+
+/// An exchange on a line of two terminals: what is offered on each channel, in order, and whether
+/// terminal 0 then asks for the line.
+#[derive(Clone, Copy)]
+struct Exchange<'a> {
+    offered: Left<'a>,
+    urgent: bool,
+}
+
+/// Records that are told apart.
+const CAPITALS: &[&[u8]] = &[
+    b"A", b"B", b"C", b"D", b"E", b"F", b"G", b"H", b"I", b"J", b"K", b"L", b"M", b"N", b"O", b"P",
+    b"Q", b"R", b"S", b"T",
+];
+
+/// Others.
+const LETTERS: &[&[u8]] = &[
+    b"a", b"b", b"c", b"d", b"e", b"f", b"g", b"h", b"i", b"j", b"k", b"l", b"m", b"n", b"o", b"p",
+    b"q", b"r", b"s", b"t",
+];
+
+/// A record from terminal 0; one block to it; two blocks to it; two blocks to it, of which it
+/// interrupts the first to send a record; and three blocks each way.
+const EXCHANGES: &[Exchange<'static>] = &[
+    Exchange {
+        offered: &[
+            (0, FromTerminal, Delivered(HI)),
+            (0, ToTerminal(0), Delivered(NONE)),
+            (1, FromTerminal, Delivered(NONE)),
+            (1, ToTerminal(0), Delivered(NONE)),
+        ],
+        urgent: false,
+    },
+    Exchange {
+        offered: &[
+            (0, FromTerminal, Delivered(NONE)),
+            (0, ToTerminal(0), Delivered(SEVEN)),
+            (1, FromTerminal, Delivered(NONE)),
+            (1, ToTerminal(0), Delivered(NONE)),
+        ],
+        urgent: false,
+    },
+    Exchange {
+        offered: &[
+            (0, FromTerminal, Delivered(NONE)),
+            (0, ToTerminal(0), Delivered(EIGHT)),
+            (1, FromTerminal, Delivered(NONE)),
+            (1, ToTerminal(0), Delivered(NONE)),
+        ],
+        urgent: false,
+    },
+    Exchange {
+        offered: &[
+            (0, ToTerminal(0), Delivered(EIGHT)),
+            (0, FromTerminal, Delivered(HI)),
+            (1, FromTerminal, Delivered(NONE)),
+            (1, ToTerminal(0), Delivered(NONE)),
+        ],
+        urgent: true,
+    },
+    Exchange {
+        offered: &[
+            (0, FromTerminal, Delivered(CAPITALS)),
+            (0, ToTerminal(0), Delivered(LETTERS)),
+            (1, FromTerminal, Delivered(NONE)),
+            (1, ToTerminal(0), Delivered(NONE)),
+        ],
+        urgent: false,
+    },
+];
+
+/// Offers a record on this way from or to a terminal.
+fn offer<A: Allocator>(
+    line: &mut Line<A>,
+    terminal: usize,
+    way: Way,
+    codes: &[u8],
+) -> Result<(), LineError> {
+    match way {
+        FromTerminal => line.offer_at(terminal, codes),
+        ToTerminal(select) => line.offer_for(terminal, select, codes),
+    }
+}
+
+/// Offers a record, and says whether the answer was right: out of memory, and nothing more offered,
+/// exactly where a growth was refused.
+fn offers_rightly<A: Allocator>(
+    alloc: &Refusing,
+    line: &mut Line<A>,
+    terminal: usize,
+    way: Way,
+    codes: &[u8],
+) -> bool {
+    let refusals = alloc.refused();
+    let before = offered_count(line, terminal, way);
+    let answer = offer(line, terminal, way, codes);
+    let after = offered_count(line, terminal, way);
+    if alloc.refused() == refusals {
+        answer == Ok(()) && after == before.wrapping_add(1)
+    } else {
+        answer == Err(LineError::Memory) && after == before
+    }
+}
+
+/// Offers those records of a channel that were not yet offered, each again where it is refused, at
+/// most twice as often as there are records: whether each answer was right.
+fn offers_rest<A: Allocator>(
+    alloc: &Refusing,
+    line: &mut Line<A>,
+    terminal: usize,
+    way: Way,
+    records: &[&[u8]],
+) -> bool {
+    for _ in records.iter().chain(records) {
+        let Some(codes) = records.get(offered_count(line, terminal, way)) else {
+            return true;
+        };
+        if !offers_rightly(alloc, line, terminal, way, codes) {
+            return false;
+        }
+    }
+    true
+}
+
+/// The same on each channel.
+fn offers_all<A: Allocator>(alloc: &Refusing, line: &mut Line<A>, left: Left<'_>) -> bool {
+    for (terminal, way, expected) in left {
+        if !offers_rest(alloc, line, *terminal, *way, expected.offered()) {
+            return false;
+        }
+    }
+    true
+}
+
+/// Whether the receiver of a text or of a selection puts the sender off.
+fn is_put_off<A: Allocator>(line: &Line<A>) -> bool {
+    match line.pending() {
+        Some((_, octets)) => octets == NAK || octets == WACK,
+        None => false,
+    }
+}
+
+/// Goes on for 80 transmissions and silences, up to the first after which the line is not trusted
+/// or a channel is not sound, or the sender is put off though no growth was refused, or it is not
+/// though one was. The number of that one.
+fn wrong_step<A: Allocator>(
+    alloc: &Refusing,
+    line: &mut Line<A>,
+) -> Result<Option<usize>, LineError> {
+    for number in 0..80usize {
+        let refusals = alloc.refused();
+        go_on(line, false)?;
+        let is_refused = alloc.refused() != refusals;
+        if !line.trusted() || !are_sound(line) || is_put_off(line) != is_refused {
+            return Ok(Some(number));
+        }
+    }
+    Ok(None)
+}
+
+/// Whether the first of these records, and nothing else, were offered on each channel.
+fn are_fronts<A: Allocator>(line: &Line<A>, left: Left<'_>) -> bool {
+    for (terminal, way, expected) in left {
+        if !has_front_of(line, *terminal, *way, expected.offered()) {
+            return false;
+        }
+    }
+    true
+}
+
+/// Plays an exchange, growths of which may be refused: how many growths of an offer and of a spool
+/// were; None where something was wrong.
+fn refusals_in<A: Allocator>(
+    alloc: &Refusing,
+    line: &mut Line<A>,
+    exchange: &Exchange<'_>,
+) -> Result<Option<(usize, usize)>, LineError> {
+    let before = alloc.refused();
+    if !offers_all(alloc, line, exchange.offered) {
+        return Ok(None);
+    }
+    if exchange.urgent {
+        line.set_urgent_at(0)?;
+    }
+    let offered = alloc.refused();
+    if wrong_step(alloc, line)?.is_some() || !are_fronts(line, exchange.offered) {
+        return Ok(None);
+    }
+    let after = alloc.refused();
+    Ok(Some((
+        offered.saturating_sub(before),
+        after.saturating_sub(offered),
+    )))
+}
+
+/// Whether all records of an exchange are delivered once memory is there again.
+fn delivers_rest<A: Allocator>(
+    alloc: &Refusing,
+    line: &mut Line<A>,
+    left: Left<'_>,
+) -> Result<bool, LineError> {
+    alloc.refuse_none();
+    let is_offered = offers_all(alloc, line, left);
+    let wrong = wrong_step(alloc, line)?;
+    Ok(is_offered && wrong.is_none() && wrong_left(line, left).is_none())
+}
+
+/// What was refused a growth in an exchange: an offer, a spool.
+type Refused = (bool, bool);
+
+/// Plays an exchange on a new line, growths of which this rule and number name: what was refused;
+/// None where something was wrong.
+fn refused_in(
+    alloc: &Refusing,
+    rule: Rule,
+    number: usize,
+    exchange: &Exchange<'_>,
+) -> Result<Option<Refused>, Fail> {
+    alloc.refuse_none();
+    let mut line = line_of_two(alloc)?;
+    rule.refuse(alloc, number);
+    let refusals = refusals_in(alloc, &mut line, exchange)?;
+    let is_delivered = delivers_rest(alloc, &mut line, exchange.offered)?;
+    match refusals {
+        Some((offers, rooms)) if is_delivered => Ok(Some((offers > 0, rooms > 0))),
+        _ => Ok(None),
+    }
+}
+
+/// Plays an exchange until nothing is refused a growth: what was.
+fn refused_in_turn(alloc: &Refusing, rule: Rule, exchange: &Exchange<'_>) -> Result<Refused, Fail> {
+    let (mut offers, mut rooms) = (false, false);
+    for number in 1..1000 {
+        match refused_in(alloc, rule, number, exchange)? {
+            None => return Err("not as expected".into()),
+            Some((false, false)) => return Ok((offers, rooms)),
+            Some((offer, room)) => {
+                offers |= offer;
+                rooms |= room;
+            }
+        }
+    }
+    Err("no end of growths".into())
+}
+
+/// Asserts that in each exchange an offer and a spool are refused a growth, and that all is as
+/// expected.
+fn passes_each(rt: &(impl Abort + AllocGlobal), rule: Rule) -> Result<(), Fail> {
+    let alloc = Refusing::new(rt.alloc());
+    for exchange in EXCHANGES {
+        assert_eq!(rt; refused_in_turn(&alloc, rule, exchange)?, (true, true));
+    }
+    Ok(())
+}
+
+#[test]
+fn each_growth_of_an_exchange_is_refused_in_turn(rt: HostRuntime) -> Result<(), Fail> {
+    passes_each(&rt, Rule::Nth)
+}
+
+#[test]
+fn all_growths_of_an_exchange_are_refused_from_each_on(rt: HostRuntime) -> Result<(), Fail> {
+    passes_each(&rt, Rule::From)
+}
+
+#[test]
+fn all_growths_of_an_exchange_are_refused_above_each_size(rt: HostRuntime) -> Result<(), Fail> {
+    passes_each(&rt, Rule::Above)
+}
+
+/// Asks for a line until nothing is refused a growth, and it is answered as is due: how often it
+/// was asked for. None where it was answered otherwise, or otherwise than by out of memory where a
+/// growth was refused.
+fn refusals_of(
+    global: Global,
+    alloc: &Refusing,
+    rule: Rule,
+    (codes, poll_list, expected): &Setting<'_>,
+) -> Result<Option<usize>, Fail> {
+    let terminals = terminals_of(global, codes)?;
+    for number in 1..1000usize {
+        rule.refuse(alloc, number);
+        let answer = refusal(alloc, &terminals, poll_list)?;
+        if alloc.refused() == 0 {
+            return Ok((answer == *expected).then_some(number));
+        }
+        if answer != Some(SetupError::Memory) {
+            return Ok(None);
+        }
+    }
+    Err("no end of growths".into())
+}
+
+/// Asserts that each setting is answered as it is where no growth is refused, or is out of memory
+/// where one is. The numbers of terminals are looked at before memory is asked for.
+fn asks_for_each(rt: &(impl Abort + AllocGlobal), rule: Rule) -> Result<(), Fail> {
+    let alloc = Refusing::new(rt.alloc());
+    for (place, setting) in SETTINGS.iter().enumerate() {
+        let runs = refusals_of(rt.alloc(), &alloc, rule, setting)?;
+        assert_eq!(rt; runs.map(|runs| runs > 1), Some(place > 1), "at {place}");
+    }
+    Ok(())
+}
+
+#[test]
+fn each_growth_of_a_new_line_is_refused(rt: HostRuntime) -> Result<(), Fail> {
+    for rule in [Rule::Nth, Rule::From, Rule::Above] {
+        asks_for_each(&rt, rule)?;
+    }
+    Ok(())
+}
