@@ -3,6 +3,7 @@
 
 mod faults;
 mod fixtures;
+mod growths;
 mod refusals;
 mod runs;
 mod streams;
