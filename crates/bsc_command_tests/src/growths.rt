@@ -1,0 +1,75 @@
+//! Growths refused: each in turn, all from one on, and all above a size.
+
+use bsc_command::{Fault, names};
+use refusing_alloc::Refusing;
+use std::alloc::Global;
+use std::test::Fail;
+
+/// Which growths are refused.
+#[derive(Clone, Copy)]
+enum Rule {
+    /// The one of a number.
+    Nth,
+
+    /// Each from the one of a number on.
+    From,
+
+    /// Each of more than a number of octets.
+    Above,
+}
+
+/// Refuses the growths that this rule and number name.
+fn refuse(alloc: &Refusing, rule: Rule, number: usize) {
+    match rule {
+        Rule::Nth => alloc.refuse_nth(number),
+        Rule::From => alloc.refuse_from(number),
+        Rule::Above => alloc.refuse_larger(number),
+    }
+}
+
+/// Four transmissions, of which one is noise.
+const INPUT: &[u8] = b"16 16 10 B0 FF\n16 16 10 30 FF\n16 16 04 FF 16 16 C1 85 FF\n16 04\n";
+
+/// Their names.
+const NAMES: &[u8] = b"ACK0\nNOISE\nCALL A\nEOT\n";
+
+/// The same where it ends before each line in turn, the first of them before all.
+const FRONTS: &[&[u8]] = &[b"", b"ACK0\n", b"ACK0\nNOISE\n", b"ACK0\nNOISE\nCALL A\n"];
+
+/// Whether out of memory is told, after whole lines, where a growth is refused, and else all is
+/// printed.
+fn is_due(printed: &[u8], answer: Result<(), Fault>, is_refused: bool) -> bool {
+    match answer {
+        Ok(()) => !is_refused && printed == NAMES,
+        Err(Fault::OutOfMemory) => is_refused && FRONTS.contains(&printed),
+        Err(_) => false,
+    }
+}
+
+/// Prints the names until no growth is refused: how often one was; None where the answer was not
+/// due.
+fn refusals(alloc: Global, rule: Rule) -> Result<Option<usize>, Fail> {
+    let refusing = Refusing::new(alloc);
+    for number in 1..100usize {
+        refuse(&refusing, rule, number);
+        let mut out = Vec::new(alloc);
+        let answer = names(&refusing, INPUT, &mut out);
+        let is_refused = refusing.refused() > 0;
+        if !is_due(&out, answer, is_refused) {
+            return Ok(None);
+        }
+        if !is_refused {
+            return Ok(Some(number - 1));
+        }
+    }
+    Err("no end of growths".into())
+}
+
+#[test]
+fn each_growth_of_names_is_refused(rt: HostRuntime) -> Result<(), Fail> {
+    for rule in [Rule::Nth, Rule::From, Rule::Above] {
+        let refused = refusals(rt.alloc(), rule)?.ok_or("not as expected")?;
+        assert!(rt; refused > 3);
+    }
+    Ok(())
+}
