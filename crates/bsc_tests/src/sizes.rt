@@ -100,8 +100,8 @@ fn longest_text(alloc: Global) -> Result<Vec<u8>, AllocError> {
     Ok(octets)
 }
 
-/// Whether the pending text is heard as this one by the other end of a channel of terminal 0, which
-/// stores seven records of 144 characters, and that end is now this one.
+/// The pending text of HI is heard as this one: whether the other end of this channel of terminal 0
+/// stored seven records of 144 characters.
 fn stores_longest<A: Allocator>(
     line: &mut Line<A>,
     way: Way,
