@@ -3,31 +3,15 @@
 ghost use Rattle.std.specs.Prelude.{◌≡◌, IfOk};
 ghost use Rattle.bsc_run.specs.Crossing.{connection_count};
 
-use super::fixtures::{TWO_TERMINALS, two_connections};
-use super::streams::{Fused, MemoryStream};
+use super::fixtures::TWO_TERMINALS;
+use super::streams::MemoryStream;
 use crate::{RunError, run_line};
 use bsc_carrier::Cable;
 use bsc_config::read_config;
 use bsc_script::read_script;
 use std::alloc::Global;
-use std::net::{Net, TcpListener, TcpStream};
 use std::process::Abort;
 use std::test::Fail;
-
-/// A silence, and then carries.
-const SCRIPT: &str = "silence\ncarry\ncarry\ncarry\n";
-
-/// All that it prints.
-const PRINTED: &str = "control CALL A
-terminal 0 EOT
-control CALL B
-terminal 1 EOT
-from 0: offered 0, known 0, spooled 0
-to 0: offered 0, known 0, spooled 0
-from 1: offered 0, known 0, spooled 0
-to 1: offered 0, known 0, spooled 0
-trusted
-";
 
 /// A cable over memory with two connections: this is all that the ends give.
 fn cable_that_gives(
@@ -77,66 +61,5 @@ fn a_stream_that_ends_is_a_socket_fault(rt: HostRuntime) -> Result<(), Fail> {
     let error = answer.err().ok_or("nothing failed")?;
     let text = format!(in rt.alloc(); "{error}")?;
     assert_eq!(rt; text.as_str(), "script line 3: socket fault");
-    Ok(())
-}
-
-/// Runs the script over loopback connections, of which the ends and the writer pass this many calls
-/// on: those of the control station, those of the terminals, and the writer.
-fn run_fused<R: Abort + Net<Listener = TcpListener, Stream = TcpStream>>(
-    rt: &R,
-    alloc: Global,
-    calls: [usize; 3],
-) -> Result<(Vec<u8>, Result<(), RunError>), Fail> {
-    let config = read_config(alloc, TWO_TERMINALS.as_bytes())?;
-    let script = read_script(alloc, SCRIPT.as_bytes())?;
-    let (near, far) = two_connections(rt, alloc)?;
-    let mut control_ends = Vec::new(alloc);
-    let mut terminal_ends = Vec::new(alloc);
-    for inner in near {
-        control_ends.push(Fused {
-            inner,
-            calls: calls[0],
-        })?;
-    }
-    for inner in far {
-        terminal_ends.push(Fused {
-            inner,
-            calls: calls[1],
-        })?;
-    }
-    assert_eq!(rt; control_ends.len(), 2);
-    assert_eq!(rt; terminal_ends.len(), 2);
-    assert_eq!(rt; config.terminals(), 2);
-    let mut cable = Cable::new(control_ends, terminal_ends);
-    let mut out = Fused {
-        inner: Vec::new(alloc),
-        calls: calls[2],
-    };
-    let answer = run_line(alloc, &config, &script, &mut cable, &mut out);
-    Ok((out.inner, answer))
-}
-
-/// The streams and the writer fail in turn after each number of calls. What was printed is the
-/// beginning of what is printed without a fault, and there is no report.
-#[test]
-fn each_call_fails_in_turn(rt: HostRuntime) -> Result<(), Fail> {
-    for part in 0..3usize {
-        let mut faults = 0usize;
-        for passed in 0..200usize {
-            let mut calls = [1000usize; 3];
-            calls[part] = passed;
-            let (printed, answer) = run_fused(&rt, rt.alloc(), calls)?;
-            if answer == Ok(()) {
-                assert_eq!(rt; printed.as_slice(), PRINTED.as_bytes());
-                break;
-            }
-            faults = faults.wrapping_add(1);
-            assert!(rt; PRINTED.as_bytes().starts_with(&printed));
-            assert!(rt; printed.len() < PRINTED.len());
-            let is_output = answer == Err(RunError::Output);
-            assert_eq!(rt; is_output, part == 2);
-        }
-        assert!(rt; 3 < faults && faults < 199);
-    }
     Ok(())
 }

@@ -8,7 +8,7 @@ use refusing_alloc::Refusing;
 use std::test::Fail;
 
 /// The report of a line on which nothing was offered.
-const REPORT: &str = "from 0: offered 0, known 0, spooled 0
+pub(crate) const REPORT: &str = "from 0: offered 0, known 0, spooled 0
 to 0: offered 0, known 0, spooled 0
 from 1: offered 0, known 0, spooled 0
 to 1: offered 0, known 0, spooled 0

@@ -5,9 +5,12 @@ use crate::RunError;
 use bsc_line::LineError;
 use std::test::Fail;
 
-const POLLED: &str = "offer-at 0 HI\nsilence\ncarry\ncarry\ncarry\ncarry\ncarry\ncarry\n";
+/// A record waits at terminal 0, which is polled.
+pub(crate) const POLLED: &str =
+    "offer-at 0 HI\nsilence\ncarry\ncarry\ncarry\ncarry\ncarry\ncarry\n";
 
-const POLLED_PRINTED: &str = "control CALL A
+/// All that it prints.
+pub(crate) const POLLED_PRINTED: &str = "control CALL A
 terminal 0 TEXT ETX 1
 control ACK1
 terminal 0 EOT
@@ -41,6 +44,23 @@ fn a_refused_event_ends_the_run_with_the_report(rt: HostRuntime) -> Result<(), F
     Ok(())
 }
 
+/// All that is printed where a record for terminal 0 is heard after a call and a text were spoiled.
+pub(crate) const HEARD_PRINTED: &str = "control CALL a
+quiet
+control CALL a
+terminal 0 ACK0
+control TEXT ETX 1
+terminal 0 NAK
+control TEXT ETX 1
+terminal 0 ACK1
+from 0: offered 0, known 0, spooled 0
+to 0: offered 1, known 0, spooled 1
+  4849
+from 1: offered 0, known 0, spooled 0
+to 1: offered 0, known 0, spooled 0
+trusted
+";
+
 /// Each transmission of the control station is heard otherwise at each terminal.
 #[test]
 fn each_terminal_hears_its_own(rt: HostRuntime) -> Result<(), Fail> {
@@ -56,22 +76,7 @@ carry
 heard-each 161602C84919839BFF -
 ";
     let (printed, answer) = run_two(&rt, rt.alloc(), rt.alloc(), TWO_TERMINALS, script)?;
-    let expected = "control CALL a
-quiet
-control CALL a
-terminal 0 ACK0
-control TEXT ETX 1
-terminal 0 NAK
-control TEXT ETX 1
-terminal 0 ACK1
-from 0: offered 0, known 0, spooled 0
-to 0: offered 1, known 0, spooled 1
-  4849
-from 1: offered 0, known 0, spooled 0
-to 1: offered 0, known 0, spooled 0
-trusted
-";
-    assert_eq!(rt; printed.as_slice(), expected.as_bytes());
+    assert_eq!(rt; printed.as_slice(), HEARD_PRINTED.as_bytes());
     assert_eq!(rt; answer, Ok(()));
     Ok(())
 }
@@ -119,10 +124,8 @@ trusted
     Ok(())
 }
 
-/// A spoiled ENQ that makes the text come twice leaves a count that no release fits.
-#[test]
-fn a_count_that_does_not_fit_is_told_after_doubt(rt: HostRuntime) -> Result<(), Fail> {
-    let script = "offer-at 0 HI
+/// A spoiled ENQ makes the text come twice.
+pub(crate) const COUNTED_TWICE: &str = "offer-at 0 HI
 silence
 carry
 carry
@@ -137,8 +140,9 @@ lose
 silence
 release 0 from
 ";
-    let (printed, answer) = run_two(&rt, rt.alloc(), rt.alloc(), TWO_TERMINALS, script)?;
-    let expected = "control CALL A
+
+/// All that it prints.
+pub(crate) const COUNTED_TWICE_PRINTED: &str = "control CALL A
 terminal 0 TEXT ETX 1
 control ACK1
 quiet
@@ -158,7 +162,12 @@ from 1: offered 0, known 0, spooled 0
 to 1: offered 0, known 0, spooled 0
 not trusted
 ";
-    assert_eq!(rt; printed.as_slice(), expected.as_bytes());
+
+/// A spoiled ENQ that makes the text come twice leaves a count that no release fits.
+#[test]
+fn a_count_that_does_not_fit_is_told_after_doubt(rt: HostRuntime) -> Result<(), Fail> {
+    let (printed, answer) = run_two(&rt, rt.alloc(), rt.alloc(), TWO_TERMINALS, COUNTED_TWICE)?;
+    assert_eq!(rt; printed.as_slice(), COUNTED_TWICE_PRINTED.as_bytes());
     let why = LineError::CountMismatch;
     assert_eq!(rt; answer, Err(RunError::Refused { line: 14, why }));
     Ok(())

@@ -1,8 +1,8 @@
-//! Streams over memory, and streams and writers that fail.
+//! Streams over memory that give what they are told to.
 
 use std::alloc::{AllocError, Global};
 use std::io;
-use std::io::{Error, ErrorKind, Read, Write};
+use std::io::{Read, Write};
 
 /// A stream over memory: what it gives is told, and it keeps what is written to it.
 #[derive(Drop)]
@@ -43,40 +43,5 @@ impl Write for MemoryStream {
 
     fn flush(&mut self) -> io::Result<()> {
         Ok(())
-    }
-}
-
-/// Passes this many reads and writes on, and fails after them.
-#[derive(Drop)]
-pub(crate) struct Fused<S: Drop> {
-    pub(crate) inner: S,
-    pub(crate) calls: usize,
-}
-
-impl<S: Drop> Fused<S> {
-    fn count_call(&mut self) -> io::Result<()> {
-        if self.calls == 0 {
-            return Err(Error::from(ErrorKind::BrokenPipe));
-        }
-        self.calls -= 1;
-        Ok(())
-    }
-}
-
-impl<S: Read + Drop> Read for Fused<S> {
-    fn read(&mut self, buf: &mut [u8]) -> io::Result<usize> {
-        self.count_call()?;
-        self.inner.read(buf)
-    }
-}
-
-impl<S: Write + Drop> Write for Fused<S> {
-    fn write(&mut self, buf: &[u8]) -> io::Result<usize> {
-        self.count_call()?;
-        self.inner.write(buf)
-    }
-
-    fn flush(&mut self) -> io::Result<()> {
-        self.inner.flush()
     }
 }

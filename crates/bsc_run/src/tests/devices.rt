@@ -1,0 +1,197 @@
+//! Each call of each stream and of the writer goes wrong in turn: it fails, is interrupted, or
+//! moves nothing; and all that with calls that move one octet at most.
+
+use super::watched::{Part, Plan, Seen, Trouble, Watch, When};
+use super::worked::{Case, WORKED, Worked};
+use crate::RunError;
+use std::alloc::Global;
+use std::process::Abort;
+use std::test::Fail;
+
+/// The ends of both connections.
+const ENDS: [Part; 4] = [
+    Part::ControlEnd { terminal: 0 },
+    Part::ControlEnd { terminal: 1 },
+    Part::TerminalEnd { terminal: 0 },
+    Part::TerminalEnd { terminal: 1 },
+];
+
+/// How many lines this is.
+fn count_lines(text: &[u8]) -> usize {
+    text.iter().filter(|octet| **octet == b'\n').count()
+}
+
+/// Whether this is told where a call of a stream went wrong: a socket fault at the event that it
+/// was for. What is printed is the line of each event before, and no call comes after it.
+fn is_socket_fault(
+    worked: &Worked<'_>,
+    printed: &[u8],
+    answer: Result<(), RunError>,
+    seen: Seen,
+) -> bool {
+    let before = count_lines(printed);
+    let Some(line) = worked.lines.get(before) else {
+        return false;
+    };
+    let is_lines = printed.is_empty() || printed.ends_with(b"\n");
+    is_lines
+        && worked.is_part(printed)
+        && answer == Err(RunError::Socket { line: *line })
+        && seen.later == 0
+}
+
+/// Whether this is told where the writer did not take the text: an output fault, and no call after
+/// it.
+fn is_output_fault(
+    worked: &Worked<'_>,
+    printed: &[u8],
+    answer: Result<(), RunError>,
+    seen: Seen,
+) -> bool {
+    worked.is_part(printed) && answer == Err(RunError::Output) && seen.later == 0
+}
+
+/// Whether this is told that a run of this plan has to tell, which saw this.
+fn is_right(
+    worked: &Worked<'_>,
+    plan: Plan,
+    printed: &[u8],
+    answer: Result<(), RunError>,
+    seen: Seen,
+) -> bool {
+    // A write of the text that was interrupted is made again.
+    let is_repeated = plan.part == Part::Writer && plan.trouble == Trouble::Interrupted;
+    if seen.troubles == 0 || is_repeated {
+        worked.is_whole(printed, answer)
+    } else if plan.part == Part::Writer {
+        is_output_fault(worked, printed, answer, seen)
+    } else {
+        is_socket_fault(worked, printed, answer, seen)
+    }
+}
+
+/// Runs by this plan, and compares what is told: how many calls went wrong.
+fn try_plan(rt: &impl Abort, alloc: Global, case: &Case<'_>, plan: Plan) -> Result<usize, Fail> {
+    let watch = Watch::new(plan);
+    let (printed, answer) = case.run(rt, alloc, alloc, &watch)?;
+    let seen = watch.seen();
+    assert!(rt;
+        is_right(case.worked, plan, &printed, answer, seen),
+        "{plan:?}"
+    );
+    Ok(seen.troubles)
+}
+
+/// Each call of a part goes wrong in turn, until a run has no such call: how many there are.
+fn try_calls(
+    rt: &impl Abort,
+    alloc: Global,
+    case: &Case<'_>,
+    (part, trouble, most): (Part, Trouble, usize),
+) -> Result<usize, Fail> {
+    for call in 1..5000usize {
+        let plan = Plan {
+            part,
+            trouble,
+            when: When::At { call },
+            most,
+        };
+        if try_plan(rt, alloc, case, plan)? == 0 {
+            return Ok(call - 1);
+        }
+    }
+    Err("no end of calls".into())
+}
+
+/// Each call of a part goes wrong in turn, in each run, with calls that move all that they are
+/// asked to and with calls that move one octet.
+fn try_part(rt: &impl Abort, alloc: Global, part: Part, trouble: Trouble) -> Result<(), Fail> {
+    for worked in &WORKED {
+        let case = Case::read(alloc, worked)?;
+        let wide = try_calls(rt, alloc, &case, (part, trouble, usize::MAX))?;
+        let narrow = try_calls(rt, alloc, &case, (part, trouble, 1))?;
+        assert!(rt; 0 < wide && wide < narrow);
+    }
+    Ok(())
+}
+
+/// Each call of a part fails in turn, until a run has no such call. What arrived is in order.
+fn try_records(rt: &impl Abort, alloc: Global, case: &Case<'_>, part: Part) -> Result<(), Fail> {
+    for call in 1..5000usize {
+        let watch = Watch::new(Plan {
+            part,
+            trouble: Trouble::Failed,
+            when: When::At { call },
+            most: usize::MAX,
+        });
+        assert!(rt;
+            case.is_in_order(rt, alloc, alloc, &watch)?,
+            "{part:?} {call}"
+        );
+        if watch.seen().troubles == 0 {
+            return Ok(());
+        }
+    }
+    Err("no end of calls".into())
+}
+
+#[test]
+fn each_call_of_a_stream_fails_in_turn(rt: HostRuntime) -> Result<(), Fail> {
+    for part in ENDS {
+        try_part(&rt, rt.alloc(), part, Trouble::Failed)?;
+    }
+    Ok(())
+}
+
+/// An interrupted call of a stream is one that failed.
+#[test]
+fn each_call_of_a_stream_is_interrupted_in_turn(rt: HostRuntime) -> Result<(), Fail> {
+    for part in ENDS {
+        try_part(&rt, rt.alloc(), part, Trouble::Interrupted)?;
+    }
+    Ok(())
+}
+
+#[test]
+fn each_call_of_a_stream_moves_nothing_in_turn(rt: HostRuntime) -> Result<(), Fail> {
+    for part in ENDS {
+        try_part(&rt, rt.alloc(), part, Trouble::Nothing)?;
+    }
+    Ok(())
+}
+
+#[test]
+fn each_write_of_the_text_goes_wrong_in_turn(rt: HostRuntime) -> Result<(), Fail> {
+    try_part(&rt, rt.alloc(), Part::Writer, Trouble::Failed)?;
+    try_part(&rt, rt.alloc(), Part::Writer, Trouble::Nothing)
+}
+
+#[test]
+fn an_interrupted_write_of_the_text_is_made_again(rt: HostRuntime) -> Result<(), Fail> {
+    try_part(&rt, rt.alloc(), Part::Writer, Trouble::Interrupted)?;
+    for worked in &WORKED {
+        let case = Case::read(rt.alloc(), worked)?;
+        let plan = Plan {
+            part: Part::Writer,
+            trouble: Trouble::Interrupted,
+            when: When::EverySecond,
+            most: 1,
+        };
+        assert!(rt; try_plan(&rt, rt.alloc(), &case, plan)? > 1);
+    }
+    Ok(())
+}
+
+/// The records that arrived before a stream or the writer failed are the first of those that arrive
+/// where none fails.
+#[test]
+fn what_arrived_before_a_fault_is_in_order(rt: HostRuntime) -> Result<(), Fail> {
+    for worked in &WORKED {
+        let case = Case::read(rt.alloc(), worked)?;
+        for part in ENDS {
+            try_records(&rt, rt.alloc(), &case, part)?;
+        }
+        try_records(&rt, rt.alloc(), &case, Part::Writer)?;
+    }
+    Ok(())
+}

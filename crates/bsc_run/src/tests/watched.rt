@@ -1,0 +1,236 @@
+//! Connections over memory, and a watch over the calls of one of their ends or of the writer: which
+//! of them goes wrong, and how.
+
+ghost use Rattle.std.specs.Prelude.{◌≡◌, ◌≤◌, IfOk};
+ghost use Rattle.bsc_run.specs.Crossing.{connection_count};
+
+use bsc_carrier::Cable;
+use std::alloc::Global;
+use std::cell::{Cell, RefCell};
+use std::collections::VecDeque;
+use std::io;
+use std::io::{Error, ErrorKind, Read, Write};
+use std::process::Abort;
+use std::test::Fail;
+
+/// What makes calls: an end of the connection of a terminal, or the writer.
+#[derive(Clone, Copy, Debug, PartialEq, Eq)]
+pub(crate) enum Part {
+    ControlEnd { terminal: usize },
+    TerminalEnd { terminal: usize },
+    Writer,
+}
+
+/// What a call answers that goes wrong.
+#[derive(Clone, Copy, Debug, PartialEq, Eq)]
+pub(crate) enum Trouble {
+    /// It fails.
+    Failed,
+
+    /// It is interrupted before it moves an octet.
+    Interrupted,
+
+    /// It moves nothing: a read finds the end, a write takes no octet.
+    Nothing,
+}
+
+/// Which calls go wrong, counted from 1.
+#[derive(Clone, Copy, Debug, PartialEq, Eq)]
+pub(crate) enum When {
+    At { call: usize },
+    EverySecond,
+}
+
+impl When {
+    fn is_at(self, number: usize) -> bool {
+        match self {
+            When::At { call } => call == number,
+            When::EverySecond => number % 2 == 0,
+        }
+    }
+}
+
+/// What goes wrong in a run: which calls of which part, and how. No call moves more octets than
+/// these.
+#[derive(Clone, Copy, Debug)]
+pub(crate) struct Plan {
+    pub(crate) part: Part,
+    pub(crate) trouble: Trouble,
+    pub(crate) when: When,
+    pub(crate) most: usize,
+}
+
+/// What was seen of a run: how many calls the part of the plan made, how many of them went wrong,
+/// and how many calls any part made after the first of these.
+#[derive(Clone, Copy)]
+pub(crate) struct Seen {
+    pub(crate) calls: usize,
+    pub(crate) troubles: usize,
+    pub(crate) later: usize,
+}
+
+/// Sees to it that a run goes as planned, and counts its calls.
+#[derive(Drop)]
+pub(crate) struct Watch {
+    plan: Plan,
+    seen: Cell<Seen>,
+}
+
+impl Watch {
+    pub(crate) fn new(plan: Plan) -> Watch {
+        Watch {
+            plan,
+            seen: Cell::new(Seen {
+                calls: 0,
+                troubles: 0,
+                later: 0,
+            }),
+        }
+    }
+
+    pub(crate) fn seen(&self) -> Seen {
+        self.seen.get()
+    }
+
+    /// Counts a call of this part: whether it goes wrong.
+    fn count_call(&self, part: Part) -> bool {
+        let mut seen = self.seen.get();
+        if seen.troubles > 0 {
+            seen.later = seen.later.wrapping_add(1);
+        }
+        let mut is_wrong = false;
+        if part == self.plan.part {
+            seen.calls = seen.calls.wrapping_add(1);
+            is_wrong = self.plan.when.is_at(seen.calls);
+        }
+        if is_wrong {
+            seen.troubles = seen.troubles.wrapping_add(1);
+        }
+        self.seen.set(seen);
+        is_wrong
+    }
+
+    /// How many of the wanted octets a call of this part may move.
+    fn admit(&self, part: Part, wanted: usize) -> io::Result<usize>
+        ensures { IfOk result (λ count. count ≤ wanted) }
+    {
+        if !self.count_call(part) {
+            return Ok(wanted.min(self.plan.most));
+        }
+        match self.plan.trouble {
+            Trouble::Failed => Err(Error::from(ErrorKind::BrokenPipe)),
+            Trouble::Interrupted => Err(Error::from(ErrorKind::Interrupted)),
+            Trouble::Nothing => Ok(0),
+        }
+    }
+}
+
+/// A reader or a writer whose calls are watched.
+#[derive(Drop)]
+pub(crate) struct Watched<'a, S: Drop> {
+    pub(crate) inner: S,
+    pub(crate) part: Part,
+    pub(crate) watch: &'a Watch,
+}
+
+impl<S: Read + Drop> Read for Watched<'_, S> {
+    fn read(&mut self, buf: &mut [u8]) -> io::Result<usize> {
+        let most = self.watch.admit(self.part, buf.len())?;
+        self.inner.read(&mut buf[..most])
+    }
+}
+
+impl<S: Write + Drop> Write for Watched<'_, S> {
+    fn write(&mut self, buf: &[u8]) -> io::Result<usize> {
+        let most = self.watch.admit(self.part, buf.len())?;
+        self.inner.write(&buf[..most])
+    }
+
+    fn flush(&mut self) -> io::Result<()> {
+        self.inner.flush()
+    }
+}
+
+/// Octets that one end wrote and the other has not read yet.
+type Pipe = RefCell<VecDeque<u8>>;
+
+/// Two connections, each of two pipes: down to its terminal, and up from it.
+#[derive(Drop)]
+pub(crate) struct Pipes {
+    down: [Pipe; 2],
+    up: [Pipe; 2],
+}
+
+impl Pipes {
+    pub(crate) fn new(alloc: Global) -> Pipes {
+        let (first, second) = (VecDeque::new(alloc), VecDeque::new(alloc));
+        let (third, fourth) = (VecDeque::new(alloc), VecDeque::new(alloc));
+        Pipes {
+            down: [RefCell::new(first), RefCell::new(second)],
+            up: [RefCell::new(third), RefCell::new(fourth)],
+        }
+    }
+}
+
+/// An end of a connection: it reads what the other end wrote. Where there is nothing, a read finds
+/// the end.
+#[derive(Drop)]
+pub(crate) struct End<'a> {
+    reads: &'a Pipe,
+    writes: &'a Pipe,
+}
+
+impl Read for End<'_> {
+    fn read(&mut self, buf: &mut [u8]) -> io::Result<usize> {
+        self.reads.try_borrow_mut()?.read(buf)
+    }
+}
+
+impl Write for End<'_> {
+    fn write(&mut self, buf: &[u8]) -> io::Result<usize> {
+        self.writes.try_borrow_mut()?.write(buf)
+    }
+
+    fn flush(&mut self) -> io::Result<()> {
+        Ok(())
+    }
+}
+
+/// A cable of both connections, whose calls are watched.
+pub(crate) fn watched_cable<'a>(
+    rt: &impl Abort,
+    alloc: Global,
+    pipes: &'a Pipes,
+    watch: &'a Watch,
+) -> Result<Cable<Watched<'a, End<'a>>>, Fail>
+    ensures { IfOk result (λ cable. connection_count cable ≡ 2) }
+{
+    let mut control_ends = Vec::new(alloc);
+    let mut terminal_ends = Vec::new(alloc);
+    for (terminal, (down, up)) in pipes.down.iter().zip(&pipes.up).enumerate() {
+        let (reads, writes) = (up, down);
+        control_ends.push(Watched {
+            inner: End { reads, writes },
+            part: Part::ControlEnd { terminal },
+            watch,
+        })?;
+        let (reads, writes) = (down, up);
+        terminal_ends.push(Watched {
+            inner: End { reads, writes },
+            part: Part::TerminalEnd { terminal },
+            watch,
+        })?;
+    }
+    assert_eq!(rt; control_ends.len(), 2);
+    assert_eq!(rt; terminal_ends.len(), 2);
+    Ok(Cable::new(control_ends, terminal_ends))
+}
+
+/// A writer into memory whose calls are watched.
+pub(crate) fn watched_writer<'a>(alloc: Global, watch: &'a Watch) -> Watched<'a, Vec<u8>> {
+    Watched {
+        inner: Vec::new(alloc),
+        part: Part::Writer,
+        watch,
+    }
+}

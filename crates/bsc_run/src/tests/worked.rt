@@ -1,0 +1,194 @@
+//! Runs of two terminals of which all is known: what is printed, and what arrives.
+
+ghost use Rattle.std.specs.Prelude.{◌≡◌, None};
+ghost use Rattle.bsc_line_model.specs.Kept.{IsLine};
+ghost use Rattle.bsc_line_model.specs.Line.{terminal_count};
+
+use super::fixtures::TWO_TERMINALS;
+use super::runs::{COUNTED_TWICE, COUNTED_TWICE_PRINTED, HEARD_PRINTED, POLLED, POLLED_PRINTED};
+use super::watched::{Pipes, Watch, watched_cable, watched_writer};
+use crate::{RunError, run_line, run_on};
+use bsc_block::Record;
+use bsc_config::{Config, read_config};
+use bsc_control::Way;
+use bsc_line::{Line, LineError};
+use bsc_script::{Script, read_script};
+use std::alloc::{Allocator, Global};
+use std::process::Abort;
+use std::test::Fail;
+
+/// A script, and what it does where nothing goes wrong.
+pub(crate) struct Worked<'a> {
+    pub(crate) script: &'a str,
+
+    /// All that is printed, with the report.
+    pub(crate) printed: &'a str,
+
+    /// The line of the event for which each line before the report is printed.
+    pub(crate) lines: &'a [u64],
+
+    pub(crate) answer: Result<(), RunError>,
+
+    /// The one channel of terminal 0 on which records arrive, and these records.
+    pub(crate) way: Way,
+    pub(crate) arrived: &'a [&'a [u8]],
+}
+
+/// Items cross both connections in turn, or only one of them.
+const HEARD: &str = "offer-for 0 HI
+silence
+heard-each 161610 161610
+silence
+carry
+carry
+heard-each 16160285FF -
+carry
+heard-each 161602C84919839BFF 161602C84919839BFF
+";
+
+/// A record of a polled terminal; one that is selected, heard at each terminal otherwise; one that
+/// arrives twice, and a release that is refused.
+pub(crate) const WORKED: [Worked<'static>; 3] = [
+    Worked {
+        script: POLLED,
+        printed: POLLED_PRINTED,
+        lines: &[2, 3, 4, 5, 6, 7, 8],
+        answer: Ok(()),
+        way: Way::FromTerminal,
+        arrived: &[b"HI"],
+    },
+    Worked {
+        script: HEARD,
+        printed: HEARD_PRINTED,
+        lines: &[2, 3, 4, 5, 6, 7, 8, 9],
+        answer: Ok(()),
+        way: Way::ToTerminal(0),
+        arrived: &[b"HI"],
+    },
+    Worked {
+        script: COUNTED_TWICE,
+        printed: COUNTED_TWICE_PRINTED,
+        lines: &[2, 3, 4, 5, 6, 7, 8, 9, 10, 11, 12, 13],
+        answer: Err(RunError::Refused {
+            line: 14,
+            why: LineError::CountMismatch,
+        }),
+        way: Way::FromTerminal,
+        arrived: &[b"HI", b"HI"],
+    },
+];
+
+impl Worked<'_> {
+    /// Whether this is what is printed and answered where nothing goes wrong.
+    pub(crate) fn is_whole(&self, printed: &[u8], answer: Result<(), RunError>) -> bool {
+        printed == self.printed.as_bytes() && answer == self.answer
+    }
+
+    /// Whether this is the beginning of what is printed, and not all of it.
+    pub(crate) fn is_part(&self, printed: &[u8]) -> bool {
+        printed.len() < self.printed.len() && self.printed.as_bytes().starts_with(printed)
+    }
+}
+
+/// One of these runs, with its texts read.
+#[derive(Drop)]
+pub(crate) struct Case<'a> {
+    pub(crate) worked: &'a Worked<'a>,
+    config: Config,
+    script: Script<'a, Global>,
+}
+
+impl<'a> Case<'a> {
+    pub(crate) fn read(alloc: Global, worked: &'a Worked<'a>) -> Result<Case<'a>, Fail> {
+        Ok(Case {
+            worked,
+            config: read_config(alloc, TWO_TERMINALS.as_bytes())?,
+            script: read_script(alloc, worked.script.as_bytes())?,
+        })
+    }
+
+    /// Runs the script over watched connections and a watched writer: what is printed, and the
+    /// answer. The line and what is printed ask `stations` for memory.
+    pub(crate) fn run<E: Allocator + Copy>(
+        &self,
+        rt: &impl Abort,
+        alloc: Global,
+        stations: E,
+        watch: &Watch,
+    ) -> Result<(Vec<u8>, Result<(), RunError>), Fail> {
+        let pipes = Pipes::new(alloc);
+        let mut cable = watched_cable(rt, alloc, &pipes, watch)?;
+        let mut out = watched_writer(alloc, watch);
+        assert_eq!(rt; self.config.terminals(), 2);
+        let answer = run_line(stations, &self.config, &self.script, &mut cable, &mut out);
+        Ok((out.inner, answer))
+    }
+
+    /// Does the same, and tells whether what then has arrived is in order.
+    pub(crate) fn is_in_order<E: Allocator + Copy>(
+        &self,
+        rt: &impl Abort,
+        alloc: Global,
+        stations: E,
+        watch: &Watch,
+    ) -> Result<bool, Fail> {
+        let (terminals, poll_list) = (self.config.terminal_list(), self.config.poll_list());
+        assert_eq!(rt; self.config.terminals(), 2);
+        match Line::new(stations, self.config.setup(), terminals, poll_list) {
+            Ok(mut line) => {
+                self.run_on(rt, alloc, stations, &mut line, watch)?;
+                Ok(has_arrived_in_order(&line, self.worked))
+            }
+            // Nothing arrived, since there is no line.
+            Err(_) => Ok(true),
+        }
+    }
+
+    /// Runs the script on this new line of two terminals.
+    fn run_on<A: Allocator, E: Allocator + Copy>(
+        &self,
+        rt: &impl Abort,
+        alloc: Global,
+        stations: E,
+        line: &mut Line<A>,
+        watch: &Watch,
+    ) -> Result<(), Fail>
+        requires line { IsLine line.old }
+        requires count { terminal_count line.old ≡ 2 }
+        requires quiet { line.old.pending ≡ None }
+    {
+        let pipes = Pipes::new(alloc);
+        let mut cable = watched_cable(rt, alloc, &pipes, watch)?;
+        let mut out = watched_writer(alloc, watch);
+        // What it answers is compared by those who call `run`.
+        let _ = run_on(stations, line, self.script.steps(), &mut cable, &mut out);
+        Ok(())
+    }
+}
+
+/// Whether the records are the first of these.
+fn are_first(records: &[Record], all: &[&[u8]]) -> bool {
+    records.len() <= all.len()
+        && records
+            .iter()
+            .zip(all)
+            .all(|(record, chars)| record.chars() == *chars)
+}
+
+/// Whether what arrived on each channel of two terminals is the first of what arrives where nothing
+/// goes wrong, in order and each record once.
+fn has_arrived_in_order<A: Allocator>(line: &Line<A>, worked: &Worked<'_>) -> bool {
+    for terminal in 0..line.terminals() {
+        if line.addresses(terminal) != 1 {
+            return false;
+        }
+        for way in [Way::FromTerminal, Way::ToTerminal(0)] {
+            let is_used = terminal == 0 && way == worked.way;
+            let all = if is_used { worked.arrived } else { &[] };
+            if !are_first(line.spooled(terminal, way), all) {
+                return false;
+            }
+        }
+    }
+    true
+}
