@@ -183,9 +183,13 @@ fn has_arrived_in_order<A: Allocator>(line: &Line<A>, worked: &Worked<'_>) -> bo
             return false;
         }
         for way in [Way::FromTerminal, Way::ToTerminal(0)] {
-            let is_used = terminal == 0 && way == worked.way;
-            let all = if is_used { worked.arrived } else { &[] };
-            if !are_first(line.spooled(terminal, way), all) {
+            let arrived = line.spooled(terminal, way);
+            let is_right = if terminal == 0 && way == worked.way {
+                are_first(arrived, worked.arrived)
+            } else {
+                arrived.is_empty()
+            };
+            if !is_right {
                 return false;
             }
         }
