@@ -34,6 +34,14 @@ fn sends(act: &Act, count: usize, end: End) -> bool {
     }
 }
 
+/// Whether both acts send the same text.
+fn send_the_same(first: &Act, second: &Act) -> bool {
+    match (first, second) {
+        (Act::Send(text), Act::Send(other)) => text == other,
+        _ => false,
+    }
+}
+
 /// What is heard of an act where nothing is spoiled; noise where nothing was sent.
 fn carried(act: Act) -> Heard {
     match act {
@@ -128,22 +136,66 @@ fn a_lost_acknowledgement_is_asked_for_again(rt: HostRuntime) -> Result<(), Fail
 
 #[test]
 fn a_lost_text_is_sent_again(rt: HostRuntime) -> Result<(), Fail> {
-    let mut bidder = Bidder::new(rt.alloc(), setup(3, 10)?);
-    let mut receiver = Receiver::new();
-    let mut spool = Spool::new(rt.alloc());
-    bidder.offer_empty(7)?;
-    assert!(rt; sends(&bidder.begin()?, 7, End::Etx));
+    for (count, end) in [(7, End::Etx), (8, End::Etb)] {
+        let mut bidder = Bidder::new(rt.alloc(), setup(3, 10)?);
+        let mut receiver = Receiver::new();
+        let mut spool = Spool::new(rt.alloc());
+        bidder.offer_empty(count)?;
+        let first = bidder.begin()?;
+        assert!(rt; sends(&first, 7, end));
 
-    // It is lost, and another record is offered.
+        // It is lost, and another record is offered.
+        bidder.offer_empty(1)?;
+        let again = bidder.silence();
+        assert!(rt; matches!(&again, Act::Enq));
+        assert_eq!(rt;
+            reply_to(&mut receiver, &mut spool, again),
+            Some(Reply::Ack0)
+        );
+        let again = bidder.reply(&whole(Reply::Ack0));
+        assert!(rt; send_the_same(&first, &again));
+        assert_eq!(rt; (bidder.known(), spool.records().len()), (0, 0));
+        assert_eq!(rt;
+            reply_to(&mut receiver, &mut spool, again),
+            Some(Reply::Ack1)
+        );
+        assert_eq!(rt; spool.records().len(), 7);
+    }
+    Ok(())
+}
+
+#[test]
+fn nak_asks_for_the_block_again(rt: HostRuntime) -> Result<(), Fail> {
+    let mut bidder = Bidder::new(rt.alloc(), setup(3, 10)?);
+    bidder.offer_empty(8)?;
+    let first = bidder.begin()?;
+    for _ in 0..3u8 {
+        let again = bidder.reply(&whole(Reply::Nak));
+        assert!(rt; send_the_same(&first, &again));
+    }
+    assert!(rt; matches!(&bidder.reply(&whole(Reply::Nak)), Act::Over));
+    assert!(rt; !bidder.in_doubt());
+    assert_eq!(rt; bidder.known(), 0);
+
+    // The next bid begins with the same block; ACK1 for it ends what NAK counted.
+    let next = bidder.begin()?;
+    assert!(rt; send_the_same(&first, &next));
+    assert!(rt; send_the_same(&first, &bidder.reply(&whole(Reply::Nak))));
+    assert!(rt; sends(&bidder.reply(&whole(Reply::Ack1)), 1, End::Etx));
+    assert_eq!(rt; bidder.known(), 7);
+    Ok(())
+}
+
+#[test]
+fn nak_to_a_held_sender_asks_for_nothing(rt: HostRuntime) -> Result<(), Fail> {
+    let mut bidder = Bidder::new(rt.alloc(), setup(1, 10)?);
     bidder.offer_empty(1)?;
-    let again = bidder.silence();
-    assert!(rt; matches!(&again, Act::Enq));
-    assert_eq!(rt;
-        reply_to(&mut receiver, &mut spool, again),
-        Some(Reply::Ack0)
-    );
-    assert!(rt; sends(&bidder.reply(&whole(Reply::Ack0)), 7, End::Etx));
-    assert_eq!(rt; (bidder.known(), spool.records().len()), (0, 0));
+    bidder.begin()?;
+    assert!(rt; matches!(&bidder.reply(&whole(Reply::Wack)), Act::Enq));
+    assert!(rt; matches!(&bidder.reply(&whole(Reply::Nak)), Act::Enq));
+    assert!(rt; matches!(&bidder.reply(&whole(Reply::Nak)), Act::Over));
+    assert!(rt; !bidder.in_doubt());
+    assert_eq!(rt; bidder.known(), 1);
     Ok(())
 }
 
@@ -189,15 +241,31 @@ fn waits_are_limited(rt: HostRuntime) -> Result<(), Fail> {
     Ok(())
 }
 
+/// How many transmissions the bid takes that begins now, where one of these comes after each of
+/// them: a reply, or a silence where there is none. None where the bid does not end.
+fn transmissions<A: Allocator>(
+    bidder: &mut Bidder<A>,
+    heard: &[Option<Reply>],
+) -> Result<Option<usize>, Fail> {
+    let mut act = bidder.begin()?;
+    for (place, reply) in heard.iter().enumerate() {
+        if !matches!(&act, Act::Send(_) | Act::Enq) {
+            return Ok(Some(place));
+        }
+        act = match reply {
+            Some(reply) => bidder.reply(&whole(*reply)),
+            None => bidder.silence(),
+        };
+    }
+    Ok(None)
+}
+
 #[test]
 fn a_held_sender_gives_up_without_doubt(rt: HostRuntime) -> Result<(), Fail> {
     let mut bidder = Bidder::new(rt.alloc(), setup(1, 1)?);
     bidder.offer_empty(1)?;
-    bidder.begin()?;
-    assert!(rt; matches!(&bidder.silence(), Act::Enq));
-    assert!(rt; matches!(&bidder.reply(&whole(Reply::Wack)), Act::Enq));
-    assert!(rt; matches!(&bidder.silence(), Act::Enq));
-    assert!(rt; matches!(&bidder.silence(), Act::Over));
+    let heard = [None, Some(Reply::Wack), None, None, None, None];
+    assert_eq!(rt; transmissions(&mut bidder, &heard)?, Some(4));
     assert!(rt; !bidder.in_doubt());
     assert_eq!(rt; bidder.known(), 1);
     Ok(())

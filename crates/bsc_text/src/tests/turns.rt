@@ -1,48 +1,97 @@
 //! The calls in the order of a turn, so that what the law of one bid says of turns is said of them.
 
-ghost use Rattle.std.specs.Prelude.{◌≡◌, length, option_map, Some};
-ghost use Rattle.bsc_frame.specs.declared.message.Heard.TheVariants.{Whole};
+ghost use Rattle.std.specs.Prelude.{◌≡◌, length, unwrap_or};
+ghost use Rattle.bsc_frame.specs.declared.message.Heard.TheVariants.{Noise};
 ghost use Rattle.bsc_spool.specs.Queue.{waiting};
 ghost use Rattle.bsc_text.specs.Bid.{Bid, Turn, after_turn};
-ghost use Rattle.bsc_text.specs.Ready.{CountsOn};
-ghost use Rattle.bsc_text.specs.Receiver.{Rooms, heard_step, rooms_left};
-ghost use Rattle.bsc_text.specs.Reply.{message_of};
+ghost use Rattle.bsc_text.specs.Ready.{CountsOn, IsReady};
+ghost use Rattle.bsc_text.specs.Receiver.{Rooms, rooms_left};
 
-use crate::{Act, Receiver, Sender, Setup};
+use crate::{Act, Receiver, Reply, Sender, Setup};
 use bsc_block::Record;
 use bsc_frame::{Heard, Message};
 use bsc_spool::{Queue, Spool};
 use std::alloc::Allocator;
 use std::test::Fail;
 
-/// A turn in which the sender's transmission is heard so, and the reply as it is.
+/// What one exchange meets.
+#[derive(Drop)]
+struct Hearings {
+    /// What the receiver hears of the sender's transmission; None where it is lost.
+    there: Option<Heard>,
+
+    /// Whether the receiver asks for the line.
+    urgent: bool,
+
+    /// What the sender hears of the reply; None where it is lost.
+    back: Option<Heard>,
+}
+
+/// A turn in which this is heard.
 fn turn<A: Allocator>(
     sender: &mut Sender,
     queue: &mut Queue<A>,
     receiver: &mut Receiver,
     spool: &mut Spool<A>,
-    heard: &Heard,
-    urgent: bool,
+    hearings: &Hearings,
 ) -> Act
     requires { CountsOn sender.old.phase (length (waiting queue.old)) }
-    ensures { let rooms : Rooms = rooms_left heard.now receiver.new.last spool.new in
-        let reply = (heard_step receiver.old spool.old heard.now urgent rooms).reply in
+    ensures law { let heard = unwrap_or hearings.now.there Noise in
+        let rooms : Rooms = rooms_left heard receiver.new.last spool.new in
         let t : Turn = record {
-          heard = Some heard.now;
-          urgent = urgent;
+          heard = hearings.now.there;
+          urgent = hearings.now.urgent;
           rooms = rooms;
-          answer = option_map (λ r. Whole (message_of r)) reply;
+          answer = hearings.now.back;
         } in
-        let old : Bid = record { sender = sender.old; queue = queue.old; receiver = receiver.old; spool = spool.old; act = Act.Quiet } in
-        record { sender = sender.new; queue = queue.new; receiver = receiver.new; spool = spool.new; act = result }
-        ≡ after_turn old t }
+        let old : Bid = record {
+          sender = sender.old;
+          queue = queue.old;
+          receiver = receiver.old;
+          spool = spool.old;
+          act = Act.Quiet;
+        } in
+        record {
+          sender = sender.new;
+          queue = queue.new;
+          receiver = receiver.new;
+          spool = spool.new;
+          act = result;
+        } ≡ after_turn old t }
+    ensures ready { IsReady sender.old queue.old → IsReady sender.new queue.new }
 {
-    let Some(reply) = receiver.heard(heard, urgent, spool) else {
-        return sender.silence();
+    let reply = match &hearings.there {
+        Some(heard) => receiver.heard(heard, hearings.urgent, spool),
+        None => None,
     };
-    match sender.reply(&Heard::Whole(reply.message()), queue) {
+    let act = match (reply, &hearings.back) {
+        (Some(_), Some(answer)) => sender.reply(answer, queue),
+        _ => Act::Quiet,
+    };
+    match act {
         Act::Quiet => sender.silence(),
         act => act,
+    }
+}
+
+/// What is heard of the transmission of an act that arrives whole.
+fn whole(act: Act) -> Option<Heard> {
+    match act {
+        Act::Send(text) => Some(Heard::Whole(Message::Text(text))),
+        Act::Enq => Some(Heard::Whole(Message::Enq)),
+        Act::Over | Act::Quiet => None,
+    }
+}
+
+/// A turn in which this is heard of both transmissions, without the urgent flag.
+fn hears(there: Option<Heard>, back: Option<Reply>) -> Hearings {
+    Hearings {
+        there,
+        urgent: false,
+        back: match back {
+            Some(reply) => Some(Heard::Whole(reply.message())),
+            None => None,
+        },
     }
 }
 
@@ -55,18 +104,56 @@ fn a_bid_of_one_block_takes_one_turn(rt: HostRuntime) -> Result<(), Fail> {
     let mut spool = Spool::new(rt.alloc());
     queue.offer(Record::read(&[], 1)?)?;
     queue.known();
-    let Act::Send(text) = sender.begin(&queue) else {
-        return Err("nothing is sent")?;
-    };
-    let heard = Heard::Whole(Message::Text(text));
+    let text = sender.begin(&queue);
+    let all = hears(whole(text), Some(Reply::Ack1));
+    let act = turn(&mut sender, &mut queue, &mut receiver, &mut spool, &all);
+    assert!(rt; matches!(&act, Act::Over));
+    assert_eq!(rt; (queue.known(), spool.records().len()), (1, 1));
+    Ok(())
+}
+
+#[test]
+fn a_bid_goes_on_over_what_is_lost_and_spoiled(rt: HostRuntime) -> Result<(), Fail> {
+    let setup = Setup::new(80, 400, 4, 10)?;
+    let mut queue = Queue::new(rt.alloc(), setup.format());
+    let mut sender = Sender::new(setup);
+    let mut receiver = Receiver::new();
+    let mut spool = Spool::new(rt.alloc());
+    queue.offer(Record::read(&[], 1)?)?;
+    queue.known();
+    assert!(rt; matches!(&sender.begin(&queue), Act::Send(_)));
+
+    // The text is lost: a silence.
+    let lost = hears(None, None);
+    let act = turn(&mut sender, &mut queue, &mut receiver, &mut spool, &lost);
+    assert!(rt; matches!(&act, Act::Enq));
+
+    // No block came yet, so ENQ is answered by ACK0, and the text is sent again.
+    let asked = hears(whole(act), Some(Reply::Ack0));
+    let act = turn(&mut sender, &mut queue, &mut receiver, &mut spool, &asked);
+    assert!(rt; matches!(&act, Act::Send(_)));
+
+    // The text fails its check.
+    let failed = hears(Some(Heard::Failed), Some(Reply::Nak));
+    let act = turn(&mut sender, &mut queue, &mut receiver, &mut spool, &failed);
+    assert!(rt; matches!(&act, Act::Send(_)));
+    assert!(rt; spool.records().is_empty());
+
+    // The text arrives, and ACK1 is lost: a silence.
+    let unacknowledged = hears(whole(act), None);
     let act = turn(
         &mut sender,
         &mut queue,
         &mut receiver,
         &mut spool,
-        &heard,
-        false,
+        &unacknowledged,
     );
+    assert!(rt; matches!(&act, Act::Enq));
+    assert_eq!(rt; (queue.known(), spool.records().len()), (0, 1));
+
+    // ENQ is answered by ACK1 again.
+    let all = hears(whole(act), Some(Reply::Ack1));
+    let act = turn(&mut sender, &mut queue, &mut receiver, &mut spool, &all);
     assert!(rt; matches!(&act, Act::Over));
     assert_eq!(rt; (queue.known(), spool.records().len()), (1, 1));
     Ok(())
