@@ -1,14 +1,16 @@
--- Blocks: how waiting records become the units of texts, and how units are read back as records. One text
--- carries several records in the manner of the IBM 2780, where EM ends a record that is not full; how records
--- are marked, counted and limited is own. The units are the blocks of the standard that ITB divides
--- (GA27-3004: intermediate text blocks), of which US is the character in USASCII.
+-- Blocks: how waiting records become the units of texts, and how units are read back as records.
+-- One text carries several records in the manner of the IBM 2780, where EM ends a record that is
+-- not full; how records are marked, counted and limited is own. The units are the blocks of the
+-- standard that ITB divides (GA27-3004: intermediate text blocks), of which US is the character in
+-- USASCII.
 use Rattle.std.specs.Prelude.{ℕ, zero, suc, ◌+◌, ◌≤◌, nat_lt, nat_le, Bool, ◌||◌, if◌then◌else◌, List, [], ◌∷◌, length, take, drop, map, filter, sum_by, min}
 use Rattle.std.specs.List.{AllByRecursion}
 use Rattle.bsc_frame.specs.Texts.{TextUnit, TextValue}
 use Rattle.bsc_frame.specs.declared.text.End.{End}
 use Rattle.bsc_block.specs.Format.{FormatValue}
 
--- The unit of a record: its characters, marked by EM exactly where they are fewer than the full length (own).
+-- The unit of a record: its characters, marked by EM exactly where they are fewer than the full
+-- length (own).
 abbrev pub unit_of : ℕ → List ℕ → TextUnit
 unit_of full r = record { chars = r; em = nat_lt (length r) full }
 
@@ -20,8 +22,8 @@ block_text f rs end = record { units = map (unit_of f.full) rs; end = end }
 abbrev pub AreShort : ℕ → List (List ℕ) → Type 0
 AreShort full rs = AllByRecursion (λ r. length r ≤ full) rs
 
--- What a record counts in a block: its characters and one more, and again one more where it is shorter than
--- the full length (own: the ending character, and EM; checks are not counted).
+-- What a record counts in a block: its characters and one more, and again one more where it is
+-- shorter than the full length (own: the ending character, and EM; checks are not counted).
 abbrev pub cost : FormatValue → List ℕ → ℕ
 cost f r = length r + 1 + (if nat_lt (length r) f.full then 1 else 0)
 
@@ -34,8 +36,8 @@ abbrev pub greatest : (ℕ → Bool) → ℕ → ℕ
 greatest p zero = zero
 greatest p (suc n) = if p (suc n) then suc n else greatest p n
 
--- How many of the waiting records the next block takes: the greatest number of them, at most seven, that
--- count together at most what a block may (own).
+-- How many of the waiting records the next block takes: the greatest number of them, at most seven,
+-- that count together at most what a block may (own).
 abbrev pub taken : FormatValue → List (List ℕ) → ℕ
 taken f rs = greatest (λ k. nat_le (front_cost f k rs) f.block_chars) (min 7 (length rs))
 

@@ -1,5 +1,5 @@
--- The limits of what is sent (own). They hold for sending alone: what is received is limited by the buffers
--- of a text.
+-- The limits of what is sent (own). They hold only for sending: what is received is limited by the
+-- buffers of a text.
 use Rattle.std.specs.Prelude.{ℕ, ◌≤◌, Bool, ◌&&◌, nat_le, if◌then◌else◌, Result, Ok, Err}
 use Rattle.bsc_block.specs.declared.format.FormatError.{FormatError}
 use Rattle.bsc_block.specs.declared.format.FormatError.TheVariants.{Full, BlockChars}

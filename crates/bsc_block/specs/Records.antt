@@ -1,5 +1,5 @@
--- Records: what is handed in at one end of a line and given out at the other (own; in the manner of the
--- IBM 2780, whose records are lines of print and cards).
+-- Records: what is handed in at one end of a line and given out at the other (own; in the manner of
+-- the IBM 2780, whose records are lines of print and cards).
 use Rattle.std.specs.Prelude.{ℕ, ◌≤◌, nat_lt, not, if◌then◌else◌, List, length, position, IsTrue, Option, Some, None, Result, Ok, Err}
 use Rattle.std.specs.List.{AllByRecursion}
 use Rattle.bsc_octet.specs.Octet.{is_record_char}

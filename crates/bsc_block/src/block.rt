@@ -1,5 +1,5 @@
-//! The records that a text carries. They are lent from the text, so that nothing is copied until they
-//! are stored.
+//! The records that a text carries. They are lent from the text, so that nothing is copied until
+//! they are stored.
 ghost use Rattle.std.specs.Prelude.{◌≡◌, ◌<◌, ◌≤◌, Some, length, slice_get};
 ghost use Rattle.bsc_block.specs.Records.{IsRecord};
 ghost use Rattle.bsc_frame.specs.Units.{text_unit};

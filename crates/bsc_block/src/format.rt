@@ -39,8 +39,8 @@ impl Model for Format {
 impl Format {
     ghost use Rattle.bsc_block.specs.Format.{IsFormat, format_of};
 
-    /// The format of a full length and a limit of a block, both in characters. `Full` where the full
-    /// length is not 1 to 144, else `BlockChars` where the limit is not 146 to 400.
+    /// The format of a full length and a limit of a block, both in characters. `Full` where the
+    /// full length is not 1 to 144, else `BlockChars` where the limit is not 146 to 400.
     pub fn new(full: u8, block_chars: u16) -> Result<Format, FormatError>
         ensures value { result ≡ format_of full block_chars }
         ensures format { IfOk result (λ f. IsFormat f) }

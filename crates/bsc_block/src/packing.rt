@@ -26,7 +26,8 @@ pub fn pack(records: &[Record], format: Format) -> usize
     records.len()
 }
 
-/// What the record counts in a block: its characters, the ending character, and EM where it is marked.
+/// What the record counts in a block: its characters, the ending character, and EM where it is
+/// marked.
 fn cost(record: &Record, format: Format) -> usize
     ensures value { result ≡ cost_of format «record».now }
     ensures bound { result ≤ 146 }

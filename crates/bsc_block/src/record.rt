@@ -46,8 +46,8 @@ fn wrong_place(codes: &[u8]) -> Option<usize>
 impl Record {
     ghost use Rattle.bsc_block.specs.Records.{IsRecord, record_of};
 
-    /// The record of these codes. `TooLong` where they are more than `full`, which is 1 to 144, else
-    /// `NotText` with the first place whose code is no record character: the eleven control
+    /// The record of these codes. `TooLong` where they are more than `full`, which is 1 to 144,
+    /// else `NotText` with the first place whose code is no record character: the eleven control
     /// characters of the line procedure, and 0x80 and above.
     pub fn read(codes: &[u8], full: u8) -> Result<Record, RecordError>
         requires low { 1 ≤ full }

@@ -30,6 +30,7 @@ pub record IsPlain (c : ℕ) : Type 0 where
   pub low : 33 ≤ c
   pub high : c ≤ 126
 
+-- a code of the range of addresses is plain: from 21 to 7E
 plain_from : (c : ℕ) (b : Bool) → nat_le 33 c ≡ b → (b && nat_le c 126) ≡ true → IsPlain c
 plain_from c true e h = record { low = grind (arith, nat_tests); high = grind (arith, nat_tests) }
 plain_from c false e h = cc
@@ -37,6 +38,7 @@ plain_from c false e h = cc
 pub plain : (c : ℕ) → IsTrue (is_address_code c) → IsPlain c
 plain c h = plain_from c (nat_le 33 c) refl h
 
+-- the octet of a plain code is no ENQ, SYN or PAD
 pub plain_odd : (c o : ℕ) → IsPlain c → (o ≡ 0x85) ⊎ ((o ≡ 0x16) ⊎ (o ≡ 0xff)) → (odd_octet c == o) ≡ false
 plain_odd c o p h = test_false (odd_octet c) o (λ e. elim (odd_cases c) [
   | inl k ↦ elim h [ inl u ↦ absurd (omega arith) | inr v ↦ elim v [ inl u ↦ absurd (omega arith) | inr u ↦ absurd (omega arith) ] ]
@@ -46,6 +48,7 @@ plain_odd c o p h = test_false (odd_octet c) o (λ e. elim (odd_cases c) [
 more_room : (n room : ℕ) → suc n ≤ room → room ≡ 0 → ⊥
 more_room n room h e = omega arith
 
+-- what is sent for an address and ENQ is read as its codes
 pub called_wire : (room : ℕ) (a : List ℕ) → length a ≤ room → AllByRecursion (λ c. IsTrue (is_address_code c)) a → called room (map odd_octet a ++ 0x85 ∷ []) ≡ Some a
 unfolding called
 called_wire room [] h p = refl
@@ -57,6 +60,7 @@ called_wire room (c ∷ a) h p =
     let rest : called (room - 1) (map odd_octet a ++ 0x85 ∷ []) ≡ Some a = called_wire (room - 1) a (omega arith) p.1 in
     rw (no, some, code, rest) refl
 
+-- where no octet is left, no code is read
 ended : (s codes : List ℕ) → at_end s ≡ Some codes → (s ≡ []) × (codes ≡ [])
 ended [] codes e = (refl, cc)
 ended (x ∷ s) codes e = cc
@@ -71,6 +75,7 @@ coded x s codes room (Some c) (Some cs) k q f e =
     let head : odd_octet c ≡ x = (code_of_some x c k).1 in
     rw (same, head) (ap (λ t. x ∷ t) (f cs q))
 
+-- one code more before codes that are read
 called_step : (room : ℕ) (x : ℕ) (s codes : List ℕ)
     → ((cs : List ℕ) → called (room - 1) s ≡ Some cs → s ≡ map odd_octet cs ++ 0x85 ∷ [])
     → cond (x == 0x85) (at_end s) (cond (room == 0) None (with_code (code_of x) (called (room - 1) s))) ≡ Some codes
@@ -85,6 +90,7 @@ called_step room x s codes f e = elim (chosen (x == 0x85) _ _ _ e) [
   ]
 ]
 
+-- octets that are read as codes are these and ENQ
 pub called_reads : (room : ℕ) (s : List ℕ) (codes : List ℕ) → called room s ≡ Some codes → s ≡ map odd_octet codes ++ 0x85 ∷ []
 unfolding called
 called_reads room [] codes e = cc
@@ -92,10 +98,12 @@ called_reads room (x ∷ s) codes e = called_step room x s codes (called_reads (
 
 -- ---- the address
 
+-- codes without a wrong one are the address
 scanned : (o : Option ℕ) (codes a : List ℕ) → first_wrong o codes ≡ Ok a → (o ≡ None) × (codes ≡ a)
 scanned None codes a e = (refl, cc)
 scanned (Some k) codes a e = cc
 
+-- codes that are read as an address are it, within its limits
 pub address_reads : (codes a : List ℕ) → read_address codes ≡ Ok a → (codes ≡ a) × IsAddress a
 address_reads codes a e = elim (chosen (length codes == 0) _ _ _ e) [
   | inl h ↦ cc
@@ -120,6 +128,7 @@ not_long n h = grind (arith, nat_tests)
 not_empty : (n : ℕ) → 0 < n → n ≡ 0 → ⊥
 not_empty n h e = omega arith
 
+-- an address is read from its codes
 pub address_read : (a : List ℕ) → IsAddress a → read_address a ≡ Ok a
 address_read a h =
     let none : position (λ c. not (is_address_code c)) a ≡ None = not_found _ (length a) (none_wrong a h.each) in
@@ -136,6 +145,7 @@ to_call : (r : Result (List ℕ) AddressError) (m : Message) → call_to r ≡ S
 to_call (Ok a) m e = (a, refl, cc)
 to_call (Err x) m e = cc
 
+-- octets after EOT that are read as a call are one
 pub call_reads : (rest : List ℕ) (m : Message) → call rest ≡ Some m → (a : List ℕ) × (m ≡ Call a) × IsCall a (0x04 ∷ rest)
 unfolding call
 call_reads rest m e =
@@ -163,10 +173,12 @@ begins_address : (o : ℕ) (a : List ℕ) → (o ≡ 0x16) ⊎ (o ≡ 0xff) → 
 begins_address o [] h p = absurd (omega (arith, p.some))
 begins_address o (c ∷ a) h p = plain_odd c o (plain c p.each.0) (inr h)
 
+-- SYN before an address is no PAD
 begins_syns : (syns rest : List ℕ) → AreAll 0x16 syns → begins (is_octet 0xff) rest ≡ false → begins (is_octet 0xff) (syns ++ rest) ≡ false
 begins_syns [] rest h e = e
 begins_syns (x ∷ syns) rest h e = rw h.0 refl
 
+-- from octets that are a call, that call is read
 pub call_read : (rest a : List ℕ) → IsCall a (0x04 ∷ rest) → call rest ≡ Some (Call a)
 unfolding call
 call_read rest a c =
@@ -188,12 +200,14 @@ equal x y h = (bytes_eq-Decides x y).0 h
 pub some_is : {A : Type 0} (x y : A) → Some x ≡ Some y → x ≡ y
 some_is x y e = cc
 
+-- a body that begins with EOT and is read as a message is that of a call
 by_eot : (body : List ℕ) (m : Message) → begins (is_octet 0x04) body ≡ true → call (drop 1 body) ≡ Some m → IsBody m body
 by_eot [] m h e = cc
 by_eot (x ∷ rest) m h e =
     let k = call_reads rest m e in
     rw (k.1, eqb-true x 0x04 h) k.2
 
+-- a body that is read as a control sequence is that of its message
 pub control_reads : (body : List ℕ) (m : Message) → control body ≡ Some m → IsBody m body
 unfolding control
 control_reads body m e = elim (chosen (bytes_eq body (0x04 ∷ [])) _ _ _ e) [
@@ -222,12 +236,13 @@ control_reads body m e = elim (chosen (bytes_eq body (0x04 ∷ [])) _ _ _ e) [
   ]
 ]
 
--- a call is longer than EOT alone
+-- a call is longer than EOT
 call_control : (a rest : List ℕ) → IsCall a (0x04 ∷ rest) → control (0x04 ∷ rest) ≡ Some (Call a)
 unfolding control
 call_control a [] c = absurd (omega (arith, ap length c.whole, length-append (0x04 ∷ c.pads ++ c.syns ++ map odd_octet a) (0x85 ∷ [])))
 call_control a (x ∷ xs) c = call_read (x ∷ xs) a c
 
+-- the body of a call is read as it
 call_body : (a body : List ℕ) → IsCall a body → control body ≡ Some (Call a)
 call_body a [] c = absurd (let h = c.whole in cc)
 call_body a (o ∷ rest) c =
@@ -246,6 +261,7 @@ IsControl Wack = Unit {0}
 IsControl Rvi = Unit {0}
 IsControl (Text t) = ⊥
 
+-- the body of each message without a text is read as it
 pub control_read : (body : List ℕ) (m : Message) → IsControl m → IsBody m body → control body ≡ Some m
 unfolding control
 control_read body Eot k h = rw h refl

@@ -23,7 +23,7 @@ use Rattle.bsc_frame.proofs.DamagedCall.{call_tail, spared_call}
 
 -- ---- bodies of one and of two octets
 
--- the rest of a body that begins with the octet of a control character alone is empty
+-- the rest of a body is empty that begins with the octet of a control character
 no_more : (x : ℕ) (n : Message) (y : ℕ) → x ≢ 0x10 → x ≢ 0x02 → IsBody n (x ∷ y ∷ []) → ⊥
 no_more x Eot y p q h = omega (arith, ap length h)
 no_more x (Call a) y p q h =

@@ -96,7 +96,7 @@ pub record IsOther (c : ℕ) : Type 0 where
   pub code : c < 128
   pub other : c ≢ 0x16
 
--- codes of which the last alone is an ending character, and none is SYN
+-- codes of which only the last is an ending character, and none is SYN
 abbrev pub IsRun : List ℕ → Type 0
 IsRun [] = ⊥
 IsRun (c ∷ []) = IsOther c × (is_ending_code c ≡ true)

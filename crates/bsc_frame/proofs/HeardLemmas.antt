@@ -19,20 +19,24 @@ use Rattle.bsc_frame.proofs.UnitLemmas.{units_at_reads, units_at_read, units_end
 
 -- ---- bodies
 
+-- what is heard whole or else as noise was read
 or_noise : (o : Option Message) (m : Message) → whole_or_noise o ≡ Whole m → o ≡ Some m
 or_noise None m e = cc
 or_noise (Some k) m e = cc
 
+-- what is heard whole or else as failed was read as a text
 or_failed : (o : Option TextValue) (m : Message) → whole_or_failed o ≡ Whole m → (t : TextValue) × (o ≡ Some t) × (Text t ≡ m)
 or_failed None m e = cc
 or_failed (Some t) m e = (t, refl, cc)
 
+-- a body that is read as a text is that of the text
 text_reads : (body : List ℕ) (t : TextValue) → begins (is_octet 0x02) body ≡ true → units_at 7 false (drop 1 body) ≡ Some t → IsTextBody t body
 text_reads [] t h e = cc
 text_reads (x ∷ rest) t h e =
     let r = units_at_reads 7 false rest t e in
     record { rest = rest; whole = ap (λ z. z ∷ rest) (eqb-true x 0x02 h); units = r.units; text = record { some = r.some; most = r.most; each = r.each } }
 
+-- a body that is heard as a message is that of the message
 pub body_reads : (body : List ℕ) (m : Message) → heard_body body ≡ Whole m → IsBody m body
 unfolding heard_body
 body_reads body m e = elim (chosen (begins (is_octet 0x02) body) _ _ _ e) [
@@ -56,6 +60,7 @@ reply y c body e = record { begins_other = (0x10, y ∷ [], e, refl); ends = rec
 ends_text : (rest : List ℕ) → Ends rest → Ends (0x02 ∷ rest)
 ends_text rest e = record { front = 0x02 ∷ e.front; last = e.last; whole = ap (λ z. 0x02 ∷ z) e.whole; other = e.other }
 
+-- the body of a message neither begins with SYN nor ends with PAD
 plain_body : (body : List ℕ) (m : Message) → IsBody m body → Plain body
 plain_body body Eot h = short 0x04 refl refl body h
 plain_body body (Call a) h = record {
@@ -73,12 +78,14 @@ plain_body body (Text t) h = record {
   ends = rw h.whole (ends_text h.rest (units_end false t.units t.end h.rest h.units h.text.some));
 }
 
+-- the body of a message without a text is heard as it
 control_body : (x : ℕ) (rest : List ℕ) (m : Message) → (x == 0x02) ≡ false → IsControl m → (body : List ℕ) → body ≡ x ∷ rest → IsBody m body → heard_body body ≡ Whole m
 unfolding heard_body
 control_body x rest m n k body e h =
     let other : begins (is_octet 0x02) body ≡ false = ap (begins (is_octet 0x02)) e ∙ n in
     rw (other, control_read body m k h) refl
 
+-- the body of each message is heard as it
 pub body_read : (body : List ℕ) (m : Message) → IsBody m body → heard_body body ≡ Whole m
 unfolding heard_body
 body_read body Eot h = control_body 0x04 [] Eot refl tt body h h
@@ -95,6 +102,7 @@ body_read body (Text t) h =
 
 -- ---- whole
 
+-- octets that spell a message are heard as it
 pub heard_spelled : (octets : List ℕ) (m : Message) → Spells octets m → heard octets ≡ Whole m
 heard_spelled octets m s =
     let p = plain_body s.body m s.is_body in
@@ -106,6 +114,7 @@ heard_spelled octets m s =
 loud_whole : (h : Heard) (m : Message) → h ≡ Whole m → h ≢ Noise
 loud_whole h m e n = cc
 
+-- octets that are heard as a message spell it
 pub spelled_heard : (octets : List ℕ) (m : Message) → heard octets ≡ Whole m → Spells octets m
 spelled_heard octets m e =
     let b = bodies octets (loud_whole (heard octets) m e) in
@@ -113,6 +122,7 @@ spelled_heard octets m e =
 
 -- ---- failed
 
+-- a body that failed begins with STX
 pub failed_begins : (body : List ℕ) → heard_body body ≡ Failed → (rest : List ℕ) × (body ≡ 0x02 ∷ rest)
 unfolding heard_body control
 failed_begins [] e = absurd cc
@@ -125,6 +135,7 @@ failed_begins (x ∷ rest) e = elim (chosen (x == 0x02) _ _ _ e) [
     not_failed None e = cc
     not_failed (Some m) e = cc
 
+-- a body that begins with STX is never noise
 text_loud : (rest : List ℕ) → (heard_body (0x02 ∷ rest) ≡ Failed) ⊎ ((m : Message) × (heard_body (0x02 ∷ rest) ≡ Whole m))
 unfolding heard_body
 text_loud rest = by_units (units_at 7 false rest)
@@ -136,12 +147,14 @@ text_loud rest = by_units (units_at 7 false rest)
 loud_failed : (h : Heard) → h ≡ Failed → h ≢ Noise
 loud_failed h e n = cc
 
+-- octets that are heard as failed are failed by the relation
 pub failed_heard : (octets : List ℕ) → heard octets ≡ Failed → IsFailed octets
 failed_heard octets e =
     let b = bodies octets (loud_failed (heard octets) e) in
     let f = failed_begins b.body (sym b.same ∙ e) in
     record { small = b.small; rest = f.0; carried = subst (λ x. Carries octets x) f.1 b.carried; none = λ m s. let k = heard_spelled octets m s in cc }
 
+-- octets that are failed by the relation are heard as failed
 pub heard_failed : (octets : List ℕ) → IsFailed octets → heard octets ≡ Failed
 heard_failed octets f =
     let t = trimmed-begins 0x02 (f.rest ++ f.carried.trail) refl in
@@ -153,6 +166,7 @@ heard_failed octets f =
 
 -- ---- noise
 
+-- octets that are heard as noise are noise by the relation
 pub noise_heard : (octets : List ℕ) → heard octets ≡ Noise → IsNoise octets
 noise_heard octets e = (λ m s. let k = heard_spelled octets m s in cc, λ f. let k = heard_failed octets f in cc)
 
@@ -161,11 +175,13 @@ noise_by octets (Whole m) e n = absurd (n.0 m (spelled_heard octets m e))
 noise_by octets Failed e n = absurd (n.1 (failed_heard octets e))
 noise_by octets Noise e n = e
 
+-- octets that are noise by the relation are heard as noise
 pub heard_noise : (octets : List ℕ) → IsNoise octets → heard octets ≡ Noise
 heard_noise octets n = noise_by octets (heard octets) refl n
 
 -- ---- laws
 
+-- no octets spell two messages
 pub one_message : (octets : List ℕ) (m n : Message) → Spells octets m → Spells octets n → m ≡ n
 one_message octets m n s t =
     let k : Whole m ≡ Whole n = sym (heard_spelled octets m s) ∙ heard_spelled octets n t in
@@ -182,6 +198,7 @@ length-wire Wack h = omega arith
 length-wire Rvi h = omega arith
 length-wire (Text t) h = omega (arith, h.most, length-units_wire t.units t.end h.each, length-append (units_wire t.units t.end) (0xff ∷ []))
 
+-- two SYN, a body and one PAD spell the message of the body
 sent : (body : List ℕ) (m : Message) → length (framed body) ≤ 1033 → IsBody m body → Spells (framed body) m
 sent body m short h = record {
   small = omega arith;
@@ -190,6 +207,7 @@ sent body m short h = record {
   is_body = h;
 }
 
+-- what is sent for a message spells it
 pub wire_spells : (m : Message) → IsMessage m → Spells (wire m) m
 wire_spells Eot h = sent _ Eot (length-wire Eot h) refl
 wire_spells (Call a) h = sent _ (Call a) (length-wire (Call a) h) (record { pads = 0xff ∷ []; syns = 0x16 ∷ 0x16 ∷ []; whole = refl; are_pads = (refl, tt); are_syns = (refl, (refl, tt)); address = h })

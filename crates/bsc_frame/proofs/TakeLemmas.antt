@@ -15,6 +15,7 @@ use Rattle.bsc_frame.proofs.CutLemmas.{gathered_none, cut}
 
 -- ---- the front
 
+-- an STX is at most one code
 length_start : (behind : Bool) (codes : List ℕ) → length codes ≤ length (behind_start behind codes) + 1
 length_start false codes = omega arith
 length_start true [] = omega arith
@@ -40,6 +41,7 @@ long_unit behind codes octets l =
         let r = unit_of_reads (behind_start behind codes) f e in
         absurd (omega (arith, r.1.most, ap length r.0, length-unit_codes f.0 f.1, length_start behind codes))
 
+-- where no octet ends a unit, no unit is read
 pub at_end : (behind : Bool) (s : List ℕ) (place : ℕ) → AreCarried s → place ≡ prefix_len is_before_ending s → place ≡ length s → unit_at behind s ≡ None
 unfolding unit_at
 at_end behind s place c e l = rw (gathered_none 147 s c (sym e ∙ l)) refl
@@ -56,6 +58,7 @@ at_front behind s m c e l =
       | inr few ↦ rw (k.fits few) refl
     ]
 
+-- without SYN nothing is filtered out
 pub no_fill : (s : List ℕ) → list_any (is_octet 0x16) s ≡ false → filter is_other s ≡ s
 no_fill [] h = refl
 no_fill (x ∷ s) h = by_test (x == 0x16) refl h (no_fill s)
@@ -76,6 +79,7 @@ not_before : (x : ℕ) (b : Bool) → is_ending_octet x ≡ b → not b ≡ fals
 not_before x true e h = refl
 not_before x false e h = cc
 
+-- the octets up to the first ending one are a front of a unit
 pub front_ends : (s : List ℕ) (place : ℕ) → place ≡ prefix_len is_before_ending s → place < length s → IsFront (take (place + 1) s)
 front_ends s place e l =
     let stops : is_before_ending (get_or s (prefix_len is_before_ending s) 0) ≡ false = prefix_len_stops is_before_ending s 0 (omega arith) in
@@ -86,6 +90,7 @@ front_ends s place e l =
       ends = rw e (not_before (get_or s (prefix_len is_before_ending s) 0) (is_ending_octet (get_or s (prefix_len is_before_ending s) 0)) refl stops);
     }
 
+-- a front without its fill is one
 pub ends_filtered : (s : List ℕ) → IsFront s → IsFront (filter is_other s)
 ends_filtered s e = record {
   front = filter is_other e.front;
@@ -94,6 +99,7 @@ ends_filtered s e = record {
   ends = e.ends;
 }
 
+-- a front without an STX before it is one
 pub ends_start : (behind : Bool) (s : List ℕ) → IsFront s → IsFront (behind_start behind s)
 ends_start false s e = e
 ends_start true [] e = e
@@ -124,6 +130,7 @@ snoc_same (x ∷ xs) (y ∷ ys) a b e =
     let k = snoc_same xs ys a b tail in
     (let head : x ≡ y = cc in let rest = k.0 in cc, k.1)
 
+-- the last octet of a front ends the unit
 pub last_ends : (octets chars : List ℕ) (em : Bool) (last : ℕ) → IsFront octets → AreParts octets chars em last → is_ending_octet last ≡ true
 last_ends octets chars em last e p =
     let k = snoc_same e.front (chars ++ cond em (0x19 ∷ []) []) e.last last (sym e.whole ∙ p.whole) in
@@ -137,6 +144,7 @@ carried_front : (xs ys : List ℕ) → AreCarried (xs ++ ys) → AreCarried xs
 carried_front [] ys c = tt
 carried_front (x ∷ xs) ys c = (c.0, carried_front xs ys c.1)
 
+-- the code of the last octet of a front is an ending character
 pub last_code : (octets chars : List ℕ) (em : Bool) (last : ℕ) → AreCarried octets → IsFront octets → AreParts octets chars em last → is_ending_code (low_bits last) ≡ true
 last_code octets chars em last c e p =
     ending_same last (carried_last (chars ++ cond em (0x19 ∷ []) []) last [] (rw p.whole at c)) ∙ last_ends octets chars em last e p
@@ -156,14 +164,17 @@ char_head : (x : ℕ) (chars : List ℕ) (b : Bool) → is_char_octet x ≡ b �
 char_head x chars true e f h = (e, f h)
 char_head x chars false e f h = cc
 
+-- octets that pass the test have codes that are record characters
 all_chars : (chars : List ℕ) → list_all is_char_octet chars ≡ true → AllByRecursion (λ c. IsTrue (is_record_char c)) (map low_bits chars)
 all_chars [] h = tt
 all_chars (x ∷ chars) h = char_head x chars (is_char_octet x) refl (all_chars chars) h
 
+-- octets whose codes are record characters pass the test of the octets
 chars_all : (chars : List ℕ) → AllByRecursion (λ c. IsTrue (is_record_char c)) (map low_bits chars) → list_all is_char_octet chars ≡ true
 chars_all [] h = refl
 chars_all (x ∷ chars) h = rw (h.0, chars_all chars h.1) refl
 
+-- at most 144 octets that pass the test are the characters of a unit
 pub chars_unit : (chars : List ℕ) (em : Bool) → length chars ≤ 144 → list_all is_char_octet chars ≡ true → IsUnit (record { chars = map low_bits chars; em = em })
 chars_unit chars em l h = record { most = omega (arith, length-map chars low_bits); each = all_chars chars h }
 
@@ -183,6 +194,7 @@ em_no_char : is_record_char 0x19 ≡ false
 unfolding is_record_char
 em_no_char = refl
 
+-- characters and EM after them are cut in one way
 same_chars : (chars : List ℕ) (em : Bool) (more : List ℕ) (marked : Bool) → chars ++ cond em (0x19 ∷ []) [] ≡ more ++ cond marked (0x19 ∷ []) []
     → AllByRecursion (λ c. IsTrue (is_record_char c)) more → (em ≡ false → (front : List ℕ) → chars ≡ front ++ 0x19 ∷ [] → ⊥) → chars ≡ more
 same_chars chars true more true e h n = append_cancel_right chars more (0x19 ∷ []) e
@@ -202,6 +214,7 @@ last_em (x ∷ xs) (y ∷ front) c e =
     let k = last_em xs front c.1 (let w : map low_bits xs ≡ front ++ 0x19 ∷ [] = cc in w) in
     (x ∷ k.0, ap (λ t. x ∷ t) k.1)
 
+-- parts of which the characters are too many, or no record characters, are no unit
 pub parts_none : (octets chars : List ℕ) (em : Bool) (last : ℕ) → AreCarried octets → AreParts octets chars em last → (length chars ≤ 144 → list_all is_char_octet chars ≡ true → ⊥)
     → unit_of (map low_bits octets) ≡ None
 parts_none octets chars em last c p n = by_unit (unit_of (map low_bits octets)) refl
@@ -220,17 +233,21 @@ parts_none octets chars em last c p n = by_unit (unit_of (map low_bits octets)) 
 
 -- ---- the check, and an STX after one
 
+-- a wrong check: no unit is read
 pub wrong_check : (behind : Bool) (front octets : List ℕ) → None ≡ behind_check front octets → unit_before behind (map low_bits front) octets ≡ None
 wrong_check behind front octets e = rw (check_low front octets, ← e) refl
 
+-- a right check of codes that are no unit: none is read
 pub wrong_unit : (behind : Bool) (front octets rest : List ℕ) → AreCarried front → Some rest ≡ behind_check front octets → unit_of (map low_bits (behind_start behind front)) ≡ None
     → unit_before behind (map low_bits front) octets ≡ None
 wrong_unit behind front octets rest c e n = rw (check_low front octets, ← e, start_low behind front c, n) refl
 
+-- a right check of the codes of a unit: it is read
 pub right_unit : (behind : Bool) (front octets rest : List ℕ) (u : TextUnit) (k : ℕ) → AreCarried front → Some rest ≡ behind_check front octets
     → unit_of (map low_bits (behind_start behind front)) ≡ Some (u, k) → unit_before behind (map low_bits front) octets ≡ Some (u, k, rest)
 right_unit behind front octets rest u k c e n = rw (check_low front octets, ← e, start_low behind front c, n) refl
 
+-- octets with odd parity have it without an STX too
 pub odd_start : (behind : Bool) (s : List ℕ) → All IsOdd s → All IsOdd (behind_start behind s)
 odd_start behind s h = by_test (behind && begins (is_octet 0x02) s)
   where
@@ -240,16 +257,19 @@ odd_start behind s h = by_test (behind && begins (is_octet 0x02) s)
 
 -- ---- the front and what stands after it
 
+-- where there is no fill, the unit is read from the front
 pub front_without_fill : (behind : Bool) (s : List ℕ) (place : ℕ) → AreCarried s → place ≡ prefix_len is_before_ending s → place < length s → list_any (is_octet 0x16) (take (place + 1) s) ≡ false
     → unit_before behind (map low_bits (take (place + 1) s)) (drop (place + 1) s) ≡ unit_at behind s
 front_without_fill behind s place c e l n =
     ap (λ z. unit_before behind (map low_bits z) (drop (place + 1) s)) (sym (no_fill (take (place + 1) s) n)) ∙ sym (at_front behind s (place + 1) c (omega arith) (omega arith))
 
+-- where fill was squeezed out, the unit is read from the octets that are left
 pub front_squeezed : (behind : Bool) (s : List ℕ) (place : ℕ) (unit : List ℕ) → AreCarried s → place ≡ prefix_len is_before_ending s → place < length s → unit ≡ filter is_other (take (place + 1) s)
     → unit_before behind (map low_bits unit) (drop (place + 1) s) ≡ unit_at behind s
 front_squeezed behind s place unit c e l n =
     ap (λ z. unit_before behind (map low_bits z) (drop (place + 1) s)) n ∙ sym (at_front behind s (place + 1) c (omega arith) (omega arith))
 
+-- more than 147 octets without fill are no unit
 pub front_long : (behind : Bool) (s : List ℕ) (place : ℕ) → AreCarried s → place ≡ prefix_len is_before_ending s → place < length s → 147 < length (filter is_other (take (place + 1) s))
     → unit_at behind s ≡ None
 unfolding unit_at

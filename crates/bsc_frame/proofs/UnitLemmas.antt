@@ -41,9 +41,11 @@ pass_front : (codes : List ℕ) → AllByRecursion (λ c. IsTrue (is_record_char
 pass_front [] = tt
 pass_front (c ∷ cs) = pass_head c cs (is_record_char c) refl (pass_front cs)
 
+-- the characters and what follows them are the codes of the unit
 abbrev IsTail : List ℕ → List ℕ → TextUnit × ℕ → Type 0
 IsTail chars tail f = (chars ++ tail ≡ unit_codes f.0 f.1) × (f.0.chars ≡ chars)
 
+-- a tail that reads as a unit is that of its codes
 tail_reads : (chars tail : List ℕ) (f : TextUnit × ℕ) → unit_of_tail chars tail ≡ Some f → IsTail chars tail f
 tail_reads chars [] f h = cc
 tail_reads chars (e ∷ []) f h = subst (IsTail chars (e ∷ [])) (some_is _ _ h) (ap (λ z. z ++ e ∷ []) (sym (append-nil chars)), refl)
@@ -59,6 +61,7 @@ few n h = grind (arith, nat_tests)
 not_many : (n : ℕ) → n ≤ 144 → nat_lt 144 n ≡ false
 not_many n h = grind (arith, nat_tests)
 
+-- codes that read as a unit are its codes, and it is within its limits
 pub unit_of_reads : (codes : List ℕ) (f : TextUnit × ℕ) → unit_of codes ≡ Some f → (codes ≡ unit_codes f.0 f.1) × IsUnit f.0
 unfolding unit_of
 unit_of_reads codes f h = elim (chosen (nat_lt 144 (prefix_len is_record_char codes)) _ _ _ h) [
@@ -89,23 +92,27 @@ ending_no_char : (e : ℕ) → is_ending_code e ≡ true → is_record_char e �
 unfolding is_record_char
 ending_no_char e h = elim (ending_cases e h) [ inl k ↦ rw k refl | inr w ↦ elim w [ inl k ↦ rw k refl | inr k ↦ rw k refl ] ]
 
+-- where a code comes after record characters that is none, these are the front
 prefix_stop : (chars : List ℕ) (x : ℕ) (rest : List ℕ) → AllByRecursion (λ c. IsTrue (is_record_char c)) chars → is_record_char x ≡ false
     → prefix_len is_record_char (chars ++ x ∷ rest) ≡ length chars
 prefix_stop [] x rest h e = rw e refl
 prefix_stop (c ∷ chars) x rest h e = rw (h.0, prefix_stop chars x rest h.1 e) (omega arith)
 
+-- the front of record characters is what a unit has
 unit_of_at : (chars : List ℕ) (x : ℕ) (rest : List ℕ) → AllByRecursion (λ c. IsTrue (is_record_char c)) chars → length chars ≤ 144 → is_record_char x ≡ false
     → unit_of (chars ++ x ∷ rest) ≡ unit_of_tail chars (x ∷ rest)
 unfolding unit_of
 unit_of_at chars x rest h l e =
     rw (prefix_stop chars x rest h e, not_many (length chars) l, take-append_seam, drop-append_seam) refl
 
+-- characters, EM where it is marked, and an ending code read as that unit
 unit_read : (chars : List ℕ) (em : Bool) (e : ℕ) → AllByRecursion (λ c. IsTrue (is_record_char c)) chars → length chars ≤ 144 → is_ending_code e ≡ true
     → unit_of (unit_codes (record { chars = chars; em = em }) e) ≡ Some (record { chars = chars; em = em }, e)
 unfolding is_record_char
 unit_read chars true e h l k = ap unit_of (append_assoc chars (0x19 ∷ []) (e ∷ [])) ∙ unit_of_at chars 0x19 (e ∷ []) h l refl
 unit_read chars false e h l k = ap (λ z. unit_of (z ++ e ∷ [])) (append-nil chars) ∙ unit_of_at chars e [] h l (ending_no_char e k)
 
+-- the codes of a unit read as it
 pub unit_of_read : (u : TextUnit) (e : ℕ) → IsUnit u → is_ending_code e ≡ true → unit_of (unit_codes u e) ≡ Some (u, e)
 unit_of_read u e h k = unit_read u.chars u.em e h.each h.most k
 
@@ -115,11 +122,13 @@ start_by : (c : ℕ) (cs : List ℕ) (b : Bool) → (c == 0x02) ≡ b → (start
 start_by c cs true e = (0x02 ∷ [], inr (refl, refl), ap (λ z. z ∷ cs) (eqb-true c 0x02 e))
 start_by c cs false e = ([], inl refl, refl)
 
+-- codes after a check are an STX, or none, and the rest
 start_of : (behind : Bool) (codes : List ℕ) → (start : List ℕ) × IsStart behind start × (codes ≡ start ++ behind_start behind codes)
 start_of false codes = ([], inl refl, refl)
 start_of true [] = ([], inl refl, refl)
 start_of true (c ∷ cs) = start_by c cs (c == 0x02) refl
 
+-- an STX after a check is dropped, and no other is there
 start_read : (behind : Bool) (start codes : List ℕ) → IsStart behind start → begins (is_octet 0x02) codes ≡ false → behind_start behind (start ++ codes) ≡ codes
 start_read behind start codes (inl e) other = rw e (stays behind)
   where
@@ -139,6 +148,7 @@ stx_no_char : is_record_char 0x02 ≡ false
 unfolding is_record_char
 stx_no_char = refl
 
+-- no unit begins with STX
 not_stx : (u : TextUnit) (e : ℕ) → IsUnit u → is_ending_code e ≡ true → begins (is_octet 0x02) (unit_codes u e) ≡ false
 not_stx u e h k = by_chars u.chars u.em h.each
   where
@@ -154,6 +164,7 @@ not_stx u e h k = by_chars u.chars u.em h.each
 
 -- ---- one unit at the front of octets
 
+-- octets are a unit: an STX that may stand after a check, fill, the codes, the check and the rest
 pub record UnitAt (behind : Bool) (octets : List ℕ) (u : TextUnit) (e : ℕ) (rest : List ℕ) : Type 0 where
   pub start : List ℕ
   pub front : List ℕ
@@ -163,6 +174,7 @@ pub record UnitAt (behind : Bool) (octets : List ℕ) (u : TextUnit) (e : ℕ) (
   pub unit : IsUnit u
   pub ends : is_ending_code e ≡ true
 
+-- the octet after the codes is their check
 check_reads : (codes octets rest : List ℕ) → behind_check codes octets ≡ Some rest → octets ≡ odd_octet (longitudinal_sum codes) ∷ rest
 check_reads codes [] rest e = cc
 check_reads codes (k ∷ more) rest e = elim (chosen (odd_octet (longitudinal_sum codes) == k) _ _ _ e) [
@@ -170,6 +182,7 @@ check_reads codes (k ∷ more) rest e = elim (chosen (odd_octet (longitudinal_su
   | inr h ↦ let w = h.1 in cc
 ]
 
+-- octets from which a unit is read are that unit and the rest
 pub unit_at_reads : (behind : Bool) (octets : List ℕ) (f : TextUnit × ℕ × List ℕ) → unit_at behind octets ≡ Some f → UnitAt behind octets f.0 f.1 f.2
 unfolding unit_at
 unit_at_reads behind octets f h =
@@ -195,6 +208,7 @@ unit_at_reads behind octets f h =
 
 -- ---- the codes of a unit as they are gathered
 
+-- a run grows at its front by a code that is neither SYN nor an ending character
 run_more : (c : ℕ) (codes : List ℕ) → IsOther c → is_ending_code c ≡ false → IsRun codes → IsRun (c ∷ codes)
 run_more c [] o e r = absurd r
 run_more c (d ∷ codes) o e r = (o, e, r)
@@ -235,9 +249,11 @@ run_em : (em : Bool) (e : ℕ) → is_ending_code e ≡ true → IsRun (cond em 
 run_em true e h = (record { code = lit< tt; other = λ z. omega arith }, refl, (ending_other e h, h))
 run_em false e h = (ending_other e h, h)
 
+-- the codes of a unit are a run: only the last ends it, and none is SYN
 pub run_unit : (u : TextUnit) (e : ℕ) → IsUnit u → is_ending_code e ≡ true → IsRun (unit_codes u e)
 run_unit u e h k = rw append_assoc (run_chars u.chars (cond u.em (0x19 ∷ []) [] ++ e ∷ []) h.each (run_em u.em e k))
 
+-- the codes of a unit with an STX before them are a run too
 pub run_start : (behind : Bool) (start codes : List ℕ) → IsStart behind start → IsRun codes → IsRun (start ++ codes)
 run_start behind start codes (inl e) r = rw e r
 run_start behind start codes (inr e) r = rw e.1 (run_more 0x02 codes (record { code = lit< tt; other = λ z. omega arith }) refl r)
@@ -254,6 +270,7 @@ pub length-unit_codes : (u : TextUnit) (e : ℕ) → length (unit_codes u e) ≤
 length-unit_codes u e =
     omega (arith, length_em u.em, length-append (u.chars ++ cond u.em (0x19 ∷ []) []) (e ∷ []), length-append u.chars (cond u.em (0x19 ∷ []) []))
 
+-- from octets that are a unit and the rest, that unit is read
 pub unit_at_read : (behind : Bool) (octets : List ℕ) (u : TextUnit) (e : ℕ) (rest : List ℕ) → UnitAt behind octets u e rest → unit_at behind octets ≡ Some (u, e, rest)
 unfolding unit_at
 unit_at_read behind octets u e rest a =
@@ -271,26 +288,31 @@ unit_at_read behind octets u e rest a =
 
 -- ---- all units
 
+-- octets are the units of a text, of which at most n are read
 pub record ReadsUnits (n : ℕ) (behind : Bool) (octets : List ℕ) (t : TextValue) : Type 0 where
   pub units : AreUnits behind t.units t.end octets
   pub some : 0 < length t.units
   pub most : length t.units ≤ n
   pub each : AllByRecursion IsUnit t.units
 
+-- a text that is read after a unit has that unit first
 pub before_some : (u : TextUnit) (o : Option TextValue) (t : TextValue) → before_units u o ≡ Some t
     → (s : TextValue) × (o ≡ Some s) × (record { units = u ∷ s.units; end = s.end } ≡ t)
 before_some u None t e = cc
 before_some u (Some s) t e = (s, refl, some_is _ _ e)
 
+-- a unit that others follow ends with US
 more_end : (us : List TextUnit) (end : End) → 0 < length us → ending us end ≡ 0x1f
 more_end [] end h = absurd (omega arith)
 more_end (u ∷ us) end h = refl
 
+-- the last unit ends with ETB or ETX, and nothing follows its check
 last_some : (u : TextUnit) (e : ℕ) (rest : List ℕ) (t : TextValue) → last_unit u e rest ≡ Some t
     → (rest ≡ []) × (record { units = u ∷ []; end = cond (e == 0x17) Etb Etx } ≡ t)
 last_some u e [] t h = (refl, some_is _ _ h)
 last_some u e (x ∷ rest) t h = cc
 
+-- the code of the end that an ending code other than US tells is that code
 last_end : (e : ℕ) (b : Bool) → (e == 0x17) ≡ b → is_ending_code e ≡ true → (e == 0x1f) ≡ false → end_code (cond b Etb Etx) ≡ e
 last_end e true k h n = sym (eqb-true e 0x17 k)
 last_end e false k h n = elim (ending_cases e h) [
@@ -298,6 +320,7 @@ last_end e false k h n = elim (ending_cases e h) [
   | inr v ↦ elim v [ inl w ↦ absurd (eqb-false e 0x17 k w) | inr w ↦ sym w ]
 ]
 
+-- one unit more before units that are read
 units_step : (n : ℕ) (behind : Bool) (octets : List ℕ) (t : TextValue) (f : TextUnit × ℕ × List ℕ) → UnitAt behind octets f.0 f.1 f.2
     → ((s : TextValue) → units_at n true f.2 ≡ Some s → ReadsUnits n true f.2 s)
     → cond (f.1 == 0x1f) (before_units f.0 (units_at n true f.2)) (last_unit f.0 f.1 f.2) ≡ Some t → ReadsUnits (suc n) behind octets t
@@ -325,6 +348,7 @@ units_step n behind octets t f a more e = elim (chosen (f.1 == 0x1f) _ _ _ e) [
       subst (ReadsUnits (suc n) behind octets) b.1 all
 ]
 
+-- octets from which a text is read are its units
 pub units_at_reads : (n : ℕ) (behind : Bool) (octets : List ℕ) (t : TextValue) → units_at n behind octets ≡ Some t → ReadsUnits n behind octets t
 unfolding units_at
 units_at_reads zero behind octets t e = cc
@@ -332,15 +356,18 @@ units_at_reads (suc n) behind octets t e =
     let b = bind_some (unit_at behind octets) _ t e in
     units_step n behind octets t b.0 (unit_at_reads behind octets b.0 b.1) (λ s. units_at_reads n true b.0.2 s) b.2
 
+-- what ends a unit of a text is an ending character
 pub ending_is : (us : List TextUnit) (end : End) → is_ending_code (ending us end) ≡ true
 ending_is (u ∷ us) end = refl
 ending_is [] Etb = refl
 ending_is [] Etx = refl
 
+-- a text of one unit is read by its last unit
 last_of : (u : TextUnit) (end : End) (o : Option TextValue) → cond (end_code end == 0x1f) o (last_unit u (end_code end) []) ≡ Some (record { units = u ∷ []; end = end })
 last_of u Etb o = refl
 last_of u Etx o = refl
 
+-- from octets that are units, a text of them is read
 pub units_at_read : (n : ℕ) (behind : Bool) (us : List TextUnit) (end : End) (octets : List ℕ) → AreUnits behind us end octets → 0 < length us → length us ≤ n
     → AllByRecursion IsUnit us → units_at n behind octets ≡ Some (record { units = us; end = end })
 unfolding units_at
@@ -358,10 +385,12 @@ units_at_read (suc n) behind (u ∷ v ∷ us) end octets a some most each =
 
 -- ---- what is sent for units
 
+-- codes that are sent without fill are filled codes too
 pub filled_plain : (codes : List ℕ) → AreFilled codes (map odd_octet codes)
 filled_plain [] = refl
 filled_plain (c ∷ codes) = ([], map odd_octet codes, tt, refl, filled_plain codes)
 
+-- what is sent for units is units
 pub wire_units : (behind : Bool) (us : List TextUnit) (end : End) → AreUnits behind us end (units_wire us end)
 wire_units behind [] end = refl
 wire_units behind (u ∷ us) end = (
@@ -392,9 +421,11 @@ odd_no_pad c h = test_false (odd_octet c) 0xff (λ e. elim (odd_cases c) [
   | inr k ↦ let full : c ≡ 127 = omega arith in let seven : count_ones c ≡ 7 = ap count_ones full ∙ ones-ones 7 in absurd (omega arith)
 ])
 
+-- what ends so does with more octets before it
 ends_behind : (front octets : List ℕ) → Ends octets → Ends (front ++ octets)
 ends_behind front octets e = record { front = front ++ e.front; last = e.last; whole = ap (λ z. front ++ z) e.whole ∙ sym (append_assoc front e.front (e.last ∷ [])); other = e.other }
 
+-- octets that are units end so that no PAD is taken from them
 pub units_end : (behind : Bool) (us : List TextUnit) (end : End) (octets : List ℕ) → AreUnits behind us end octets → 0 < length us → Ends octets
 units_end behind [] end octets a h = absurd (omega arith)
 units_end behind (u ∷ []) end octets a h =

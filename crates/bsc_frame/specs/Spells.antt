@@ -1,5 +1,6 @@
--- Which octets spell a message: what is sent for it, and what other equipment may send in its place, with
--- other pads and fills (GA27-3004: synchronization, pads and SYN time fill; how far each is accepted is own).
+-- Which octets spell a message: what is sent for it, and what other equipment may send in its
+-- place, with other pads and fills (GA27-3004: synchronization, pads and SYN time fill; how far
+-- each is accepted is own).
 use Rattle.std.specs.Prelude.{◌≡◌, ◌≢◌, ◌⊎◌, ℕ, ◌≤◌, Bool, true, false, List, [], ◌∷◌, ◌++◌, length, map}
 use Rattle.std.specs.List.{AllByRecursion}
 use Rattle.bsc_octet.specs.Octet.{odd_octet, longitudinal_sum}
@@ -10,7 +11,7 @@ use Rattle.bsc_frame.specs.declared.text.End.{End}
 use Rattle.bsc_frame.specs.declared.message.Message.{Message}
 use Rattle.bsc_frame.specs.declared.message.Message.TheVariants.{Eot, Call, Enq, Ack0, Ack1, Nak, Wack, Rvi, Text}
 
--- Leading pads: octets 55 and AA alone (GA27-3004: pad format).
+-- Leading pads: only octets 55 and AA (GA27-3004: pad format).
 abbrev pub ArePads : List ℕ → Type 0
 ArePads = AllByRecursion (λ x. (x ≡ 0x55) ⊎ (x ≡ 0xaa))
 
@@ -18,8 +19,8 @@ ArePads = AllByRecursion (λ x. (x ≡ 0x55) ⊎ (x ≡ 0xaa))
 abbrev pub AreAll : ℕ → List ℕ → Type 0
 AreAll octet = AllByRecursion (λ x. x ≡ octet)
 
--- The body of a call: EOT, any PAD, any SYN, the address with odd parity, ENQ (GA27-3004: polling and
--- selection).
+-- The body of a call: EOT, any PAD, any SYN, the address with odd parity, ENQ (GA27-3004: polling
+-- and selection).
 pub record IsCall (a body : List ℕ) : Type 0 where
   pub pads : List ℕ
   pub syns : List ℕ
@@ -28,17 +29,20 @@ pub record IsCall (a body : List ℕ) : Type 0 where
   pub are_syns : AreAll 0x16 syns
   pub address : IsAddress a
 
--- Codes with odd parity, each preceded by any SYN, which are fill and in no sum (GA27-3004: SYN time fill).
+-- Codes with odd parity, each preceded by any SYN, which are fill and in no sum (GA27-3004: SYN
+-- time fill).
 abbrev pub AreFilled : List ℕ → List ℕ → Type 0
 AreFilled [] octets = octets ≡ []
 AreFilled (c ∷ cs) octets = (fill rest : List ℕ) × AreAll 0x16 fill × (octets ≡ fill ++ odd_octet c ∷ rest) × AreFilled cs rest
 
--- What may stand before the codes of a unit and in its sum: nothing, and after the check of a US one STX.
+-- What may stand before the codes of a unit and in its sum: nothing, and after the check of a US
+-- one STX.
 abbrev pub IsStart : Bool → List ℕ → Type 0
 IsStart behind start = (start ≡ []) ⊎ ((behind ≡ true) × (start ≡ 0x02 ∷ []))
 
--- The units of a text: for each its codes with fills, and at once, without fill, the check of these codes.
--- An STX after the check of a US is the first code of the next sum (GA27-3004: intermediate text blocks).
+-- The units of a text: for each its codes with fills, and at once, without fill, the check of these
+-- codes. An STX after the check of a US is the first code of the next sum (GA27-3004: intermediate
+-- text blocks).
 abbrev pub AreUnits : Bool → List TextUnit → End → List ℕ → Type 0
 AreUnits behind [] end octets = octets ≡ []
 AreUnits behind (u ∷ us) end octets =
@@ -84,8 +88,8 @@ pub record Spells (octets : List ℕ) (m : Message) : Type 0 where
   pub carried : Carries octets body
   pub is_body : IsBody m body
 
--- The octets failed as a text: they begin with STX after SYN, and spell no message (GA27-3004: a text
--- whose check or form failed is answered by NAK).
+-- The octets failed as a text: they begin with STX after SYN, and spell no message (GA27-3004: a
+-- text whose check or form failed is answered by NAK).
 pub record IsFailed (octets : List ℕ) : Type 0 where
   pub small : length octets ≤ 2048
   pub rest : List ℕ

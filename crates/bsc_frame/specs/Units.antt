@@ -1,5 +1,5 @@
--- The codes of a unit, and the octets that are sent for the units of a text (GA27-3004: intermediate text
--- blocks, each with its own check).
+-- The codes of a unit, and the octets that are sent for the units of a text (GA27-3004:
+-- intermediate text blocks, each with its own check).
 use Rattle.std.specs.Prelude.{ℕ, if◌then◌else◌, List, [], ◌∷◌, ◌++◌, map}
 use Rattle.bsc_octet.specs.Octet.{odd_octet, longitudinal_sum}
 use Rattle.bsc_frame.specs.Texts.{TextUnit}
@@ -21,7 +21,8 @@ abbrev pub ending : List TextUnit → End → ℕ
 ending [] end = end_code end
 ending (u ∷ us) end = 0x1f
 
--- The codes of a unit: its characters, EM where it is marked, its ending character. These are in its check.
+-- The codes of a unit: its characters, EM where it is marked, its ending character. These are in
+-- its check.
 abbrev pub unit_codes : TextUnit → ℕ → List ℕ
 unit_codes u e = u.chars ++ (if u.em then 0x19 ∷ [] else []) ++ e ∷ []
 

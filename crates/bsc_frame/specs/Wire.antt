@@ -1,4 +1,5 @@
--- The octets that are sent for each message (GA27-3004: control characters and sequences in USASCII).
+-- The octets that are sent for each message (GA27-3004: control characters and sequences in
+-- USASCII).
 use Rattle.std.specs.Prelude.{ℕ, List, [], ◌∷◌, ◌++◌, map}
 use Rattle.bsc_octet.specs.Octet.{odd_octet}
 use Rattle.bsc_frame.specs.Units.{units_wire}
@@ -9,7 +10,8 @@ use Rattle.bsc_frame.specs.declared.message.Message.TheVariants.{Eot, Call, Enq,
 abbrev pub framed : List ℕ → List ℕ
 framed body = 0x16 ∷ 0x16 ∷ [] ++ body ++ 0xff ∷ []
 
--- What is sent for a message, a line each. A call is EOT with its PAD, two SYN, the address and ENQ.
+-- What is sent for a message, a line each. A call is EOT with its PAD, two SYN, the address and
+-- ENQ.
 abbrev pub wire : Message → List ℕ
 wire Eot = framed (0x04 ∷ [])
 wire (Call a) = framed (0x04 ∷ 0xff ∷ 0x16 ∷ 0x16 ∷ [] ++ map odd_octet a ++ 0x85 ∷ [])

@@ -30,7 +30,8 @@ pub enum AddressError {
     BadChar(usize),
 }
 
-/// One to seven codes from 0x21 to 0x7e (own; GA27-3004 leaves the addresses of a line to its owner).
+/// One to seven codes from 0x21 to 0x7e (own; GA27-3004 leaves the addresses of a line to its
+/// owner).
 ///
 /// Equality, order and hash are those of the list of its codes.
 #[derive(Clone, Copy, Debug)]
@@ -119,9 +120,9 @@ fn wrong_place(codes: &[u8]) -> Option<usize>
 impl Address {
     ghost use Rattle.bsc_frame.specs.Message.{read_address};
 
-    /// The address with these codes, each of seven bits and without parity. In this order: `Empty` where
-    /// there is none, `TooLong` where there are more than seven, `BadChar` with the place of the first
-    /// that is not 0x21 to 0x7e.
+    /// The address with these codes, each of seven bits and without parity. In this order: `Empty`
+    /// where there is none, `TooLong` where there are more than seven, `BadChar` with the place of
+    /// the first that is not 0x21 to 0x7e.
     pub fn read(codes: &[u8]) -> Result<Address, AddressError>
         ensures value { result ≡ read_address codes.now }
         ensures address { IfOk result (λ a. IsAddress a) }

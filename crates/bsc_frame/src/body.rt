@@ -20,7 +20,7 @@ fn behind_pads(octets: &[u8]) -> &[u8]
     &octets[start..]
 }
 
-/// What stands after the front that is of this octet alone.
+/// What stands after the octets at the front that are this one.
 #[tactic(auto, using(crate::proofs::RunLemmas::skip_all))]
 pub(crate) fn behind_all(octets: &[u8], octet: u8) -> &[u8]
     ensures { result.now ≡ skip (is_octet octet) octets.now }
@@ -29,7 +29,7 @@ pub(crate) fn behind_all(octets: &[u8], octet: u8) -> &[u8]
     &octets[start..]
 }
 
-/// Without PAD at the end as long as there are 32 of them.
+/// The octets without PAD at their end, dropped 32 at a time.
 #[tactic(auto, using(crate::proofs::RunLemmas::trim_more))]
 fn trim_lanes(octets: &[u8]) -> &[u8]
     ensures { trimmed result.now ≡ trimmed octets.now }
@@ -44,7 +44,7 @@ fn trim_lanes(octets: &[u8]) -> &[u8]
     &octets[..end]
 }
 
-/// Without PAD at the end, taken one at a time.
+/// The octets without PAD at their end, dropped one at a time.
 #[tactic(auto, using(crate::proofs::ReadLemmas::trimmed_less, crate::proofs::ReadLemmas::trimmed_done, crate::proofs::ReadLemmas::trimmed_none))]
 fn trim_rest(octets: &[u8]) -> &[u8]
     ensures { result.now ≡ trimmed octets.now }
@@ -59,14 +59,14 @@ fn trim_rest(octets: &[u8]) -> &[u8]
     &octets[..0]
 }
 
-/// Without PAD at the end.
+/// The octets without PAD at their end.
 fn trim(octets: &[u8]) -> &[u8]
     ensures { result.now ≡ trimmed octets.now }
 {
     trim_rest(trim_lanes(octets))
 }
 
-/// Whether the octet comes first.
+/// Whether this octet is the first one.
 pub(crate) fn starts_with(octets: &[u8], octet: u8) -> bool
     ensures { result ≡ begins (is_octet octet) octets.now }
 {

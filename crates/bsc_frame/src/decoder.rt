@@ -1,5 +1,5 @@
-//! From octets to what they are heard as. Whatever a line brings in is read here and nowhere else, so that
-//! the layers above act on messages alone.
+//! From octets to what they are heard as. Whatever a line brings in is read here and nowhere else,
+//! so that the layers above act only on messages.
 ghost use Rattle.std.specs.Prelude.{◌≡◌, ◌↔◌, false};
 ghost use Rattle.bsc_frame.specs.Spells.{Spells, IsFailed, IsNoise};
 ghost use Rattle.bsc_frame.specs.declared.message.Message.{Message};
@@ -27,10 +27,11 @@ fn text_heard(units: &[u8]) -> Heard
     Heard::Whole(Message::Text(Text::from_draft(draft, end)))
 }
 
-/// What the octets of one transmission are heard as, whatever they are: `Whole` where they spell a message,
-/// with the pads and fills that the profile accepts, `Failed` where they begin as a text and spell none, else
-/// `Noise`. More than 2,048 octets are `Noise` (GA27-3004: control sequences, polling and selection, text
-/// blocks, VRC and LRC checking; how far pads and fills are accepted is own).
+/// What the octets of one transmission are heard as, whatever they are: `Whole` where they spell a
+/// message, with the pads and fills that the profile accepts, `Failed` where they begin as a text
+/// and spell none, else `Noise`. More than 2,048 octets are `Noise` (GA27-3004: control sequences,
+/// polling and selection, text blocks, VRC and LRC checking; how far pads and fills are accepted is
+/// own).
 pub fn decode(octets: &[u8]) -> Heard
     ensures reading { result ≡ heard octets.now }
     ensures whole { (m : Message) → (result ≡ Heard.Whole m) ↔ Spells octets.now m }
@@ -40,8 +41,8 @@ pub fn decode(octets: &[u8]) -> Heard
     octets_heard(octets)
 }
 
-/// What the octets are heard as, found from left to right. A `Heard` has room for a text, so each one is
-/// made where it is returned.
+/// What the octets are heard as, found from left to right. A `Heard` has room for a text, so each
+/// one is made where it is returned.
 #[tactic(auto, unfolding(crate::specs::Reading::heard_body))]
 fn octets_heard(octets: &[u8]) -> Heard
     ensures { result ≡ heard octets.now }

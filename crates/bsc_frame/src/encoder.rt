@@ -21,8 +21,8 @@ const US: u8 = 0x1f;
 /// The octets of a unit: 144 characters, EM, the ending character and the check.
 type UnitOctets = [u8; 147];
 
-/// The octet that carries the code. It is found by folding bits, for a compiler makes lanes of that, and of
-/// a count of ones with a test it does not.
+/// The octet that carries the code. It is found by folding bits, for a compiler makes lanes of
+/// that, and of a count of ones with a test it does not.
 fn carried(code: u8) -> u8
     requires { code < 128 }
     ensures { result ≡ odd_octet code }
@@ -33,7 +33,8 @@ fn carried(code: u8) -> u8
     code | ((!ones & 1) << 7)
 }
 
-/// Puts the octets that carry the codes to the front. The loop has no branch, so a compiler makes lanes of it.
+/// Puts the octets that carry the codes to the front. The loop has no branch, so a compiler makes
+/// lanes of it.
 #[tactic(auto, using(crate::proofs::WireSteps::put_more, crate::proofs::WireSteps::put_all))]
 fn put_codes(octets: &mut UnitOctets, codes: &[u8])
     requires room { length codes.now ≤ 147 }
@@ -143,9 +144,9 @@ fn append_units(wire: &mut Wire, text: &Text)
     }
 }
 
-/// Puts the octets of the message into the wire, in place of what it had: two SYN, the body, one PAD. They are
-/// at most 1,033, so there is always room (GA27-3004: control sequences, polling and selection, text blocks,
-/// VRC and LRC checking).
+/// Puts the octets of the message into the wire, in place of what it had: two SYN, the body, one
+/// PAD. They are at most 1,033, so there is always room (GA27-3004: control sequences, polling and
+/// selection, text blocks, VRC and LRC checking).
 pub fn encode(message: &Message, wire: &mut Wire)
     ensures wire { wire.new.items ≡ wire_of message.now }
     ensures message { IsMessage message.now }

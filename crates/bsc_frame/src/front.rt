@@ -76,7 +76,8 @@ fn before_ending_rest(octets: &[u8]) -> usize
     octets.len()
 }
 
-/// How many octets at the front are one of the two. Mostly there is none: most transmissions have no pads.
+/// How many octets at the front are one of the two. Mostly there is none: most transmissions have
+/// no pads.
 #[tactic(auto, using(crate::proofs::RunLemmas::run_rest, crate::proofs::RunLemmas::run_none))]
 pub(crate) fn either_front(octets: &[u8], one: u8, other: u8) -> usize
     ensures count { result ≡ prefix_len (is_either one other) octets.now }

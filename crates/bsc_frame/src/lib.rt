@@ -1,9 +1,9 @@
 //! The messages of a line in octets: what is sent for each, and what is heard.
 //!
-//! [`encode`] leaves exactly the octets of a message. [`decode`] reads octets as the message that they
-//! spell, whatever pads and SYN fill the other maker's equipment uses, and tells a text that failed from
-//! noise; [`decode_short`] tells the same of octets that do not begin as a text, at less cost. Nothing here
-//! waits, allocates or keeps state between transmissions.
+//! [`encode`] leaves exactly the octets of a message. [`decode`] reads octets as the message that
+//! they spell, whatever pads and SYN fill the other maker's equipment uses, and tells a text that
+//! failed from noise; [`decode_short`] tells the same of octets that do not begin as a text, at
+//! less cost. Nothing here waits, allocates or keeps state between transmissions.
 #![tactic(auto)]
 
 mod address;

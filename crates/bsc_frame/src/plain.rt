@@ -1,4 +1,5 @@
-//! Plain forms, one octet at a time, that the loops over lanes and the reader of texts are compared with.
+//! Plain forms, one octet at a time, that the loops over lanes and the reader of texts are compared
+//! with.
 use crate::front::{before_ending, either_front};
 use crate::{Address, Heard, Message, Short, Wire, decode, decode_short};
 use bsc_octet::{from_line, is_record_char, to_line};
@@ -57,7 +58,7 @@ fn plain_text(octets: &[u8]) -> Option<usize> {
     if done { Some(all) } else { None }
 }
 
-// The same by `decode`.
+// How many characters the text has that `decode` finds in the octets.
 fn decoded_text(octets: &[u8]) -> Option<usize> {
     let Heard::Whole(Message::Text(text)) = decode(octets) else {
         return None;

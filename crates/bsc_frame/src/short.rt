@@ -93,9 +93,10 @@ pub(crate) fn short_of(body: &[u8]) -> Short
     }
 }
 
-/// What the octets are heard as where they do not begin as a text; `None` where they do, and then [`crate::decode`]
-/// tells the text or that it failed. It is for a caller to whom the size of a `Heard` is too much: most
-/// transmissions on a line are short (GA27-3004: control sequences, polling and selection).
+/// What the octets are heard as where they do not begin as a text; `None` where they do, and then
+/// [`crate::decode`] tells the text or that it failed. It is for a caller to whom the size of a
+/// `Heard` is too much: most transmissions on a line are short (GA27-3004: control sequences,
+/// polling and selection).
 pub fn decode_short(octets: &[u8]) -> Option<Short>
     ensures short { IfSome result (λ s. IsHeard octets.now (heard_as s)) }
     ensures text { IfNone result (BeginsText octets.now) }

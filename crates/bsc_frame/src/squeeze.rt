@@ -1,5 +1,5 @@
-//! Loops over the octets of a unit that go to their end, so that a compiler makes lanes or moves of them:
-//! a branch that depends on the octet costs more than the work that it saves.
+//! Loops over the octets of a unit that go to their end, so that a compiler makes lanes or moves of
+//! them: a branch that depends on the octet costs more than the work that it saves.
 ghost use Rattle.std.specs.Prelude.{◌≡◌, ◌<◌, ◌≤◌, ◌+◌, ◌++◌, length, take, map, filter, IfSome, IfNone};
 ghost use Rattle.std.specs.List.{list_any, list_all};
 ghost use Rattle.bsc_octet.specs.Octet.{is_record_char};
@@ -9,7 +9,8 @@ use bsc_octet::is_record_char;
 
 const SYN: u8 = 0x16;
 
-/// One more than the most codes of a unit: an STX after a check, 144 characters, EM, the ending character.
+/// One more than the most codes of a unit: an STX after a check, 144 characters, EM, the ending
+/// character.
 const MAX_CODES: usize = 148;
 
 /// How many octets are squeezed before their count is tested.
@@ -30,8 +31,8 @@ pub(crate) fn has_fill(octets: &[u8]) -> bool
     found
 }
 
-/// Puts the octets without fill after the first ones of the buffer, and gives how many there are then. Each
-/// octet is stored, and the next one is stored in its place where it is fill.
+/// Puts the octets without fill after the first ones of the buffer, and gives how many there are
+/// then. Each octet is stored, and the next one is stored in its place where it is fill.
 #[inline(always)]
 #[tactic(auto, using(crate::proofs::SqueezeLemmas::squeeze_more, crate::proofs::SqueezeLemmas::squeeze_start, crate::proofs::SqueezeLemmas::squeeze_all))]
 fn squeeze_part(octets: &[u8], buffer: &mut UnitBuffer, start: usize) -> usize
@@ -48,8 +49,8 @@ fn squeeze_part(octets: &[u8], buffer: &mut UnitBuffer, start: usize) -> usize
     count
 }
 
-/// Puts the octets without fill to the front of the buffer, and gives their count. `None` where they are
-/// more than a unit has.
+/// Puts the octets without fill to the front of the buffer, and gives their count. `None` where
+/// they are more than a unit has.
 #[tactic(auto, using(crate::proofs::SqueezeLemmas::part_start, crate::proofs::SqueezeLemmas::part_more, crate::proofs::SqueezeLemmas::part_full, crate::proofs::SqueezeLemmas::part_last))]
 pub(crate) fn squeeze(octets: &[u8], buffer: &mut UnitBuffer) -> Option<usize>
     ensures some { IfSome result (λ n. (n ≤ 164) × (take n buffer.new ≡ filter is_other octets.now)) }
@@ -70,7 +71,8 @@ pub(crate) fn squeeze(octets: &[u8], buffer: &mut UnitBuffer) -> Option<usize>
     Some(squeeze_part(&octets[at..], buffer, count))
 }
 
-/// Puts the codes of the octets to the front of the buffer, and says whether they all are record characters.
+/// Puts the codes of the octets to the front of the buffer, and says whether they all are record
+/// characters.
 #[tactic(auto, using(crate::proofs::SqueezeLemmas::codes_more, crate::proofs::SqueezeLemmas::codes_all))]
 pub(crate) fn copy_codes(octets: &[u8], buffer: &mut [u8; 144]) -> bool
     requires { length octets.now ≤ 144 }

@@ -107,8 +107,8 @@ fn take_chars(octets: &[u8], draft: &mut Draft) -> Option<u8>
     Some(last % 0x80)
 }
 
-/// Reads the unit of these octets without fill, adds it to the draft, and gives its ending character and
-/// the octets after its check.
+/// Reads the unit of these octets without fill, adds it to the draft, and gives its ending
+/// character and the octets after its check.
 fn take_front<'a>(
     behind: bool,
     front: &[u8],

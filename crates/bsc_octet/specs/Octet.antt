@@ -7,8 +7,8 @@ use Rattle.std.specs.Int.{bit_at}
 abbrev pub IsOdd : ℕ → Type 0
 IsOdd octet = count_ones octet % 2 ≡ 1
 
--- The octet that carries a code below 128: the one of the code and the code plus 128 that has an odd
--- number of ones (GA27-3004: vertical redundancy checking).
+-- The octet that carries a code below 128: the one of the code and the code plus 128 that has an
+-- odd number of ones (GA27-3004: vertical redundancy checking).
 unfoldable pub odd_octet : ℕ → ℕ
 odd_octet c = if count_ones c % 2 == 1 then c else c + 128
 
@@ -20,8 +20,8 @@ code_of octet = if odd_octet (octet % 128) == octet then Some (octet % 128) else
 abbrev pub with_bit : ℕ → List ℕ → ℕ
 with_bit i s = count_by (λ x. bit_at x i == 1) s
 
--- The longitudinal sum of a list: the number whose bit i, 0 to 6, is 1 exactly where an odd number of the
--- members have bit i (GA27-3004: longitudinal redundancy checking).
+-- The longitudinal sum of a list: the number whose bit i, 0 to 6, is 1 exactly where an odd number
+-- of the members have bit i (GA27-3004: longitudinal redundancy checking).
 unfoldable pub longitudinal_sum : List ℕ → ℕ
 longitudinal_sum s =
     with_bit 0 s % 2 + 2 * (with_bit 1 s % 2) + 4 * (with_bit 2 s % 2) + 8 * (with_bit 3 s % 2) + 16 * (with_bit 4 s % 2)

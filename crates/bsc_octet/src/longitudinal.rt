@@ -1,13 +1,13 @@
-//! The longitudinal sum: what a check character adds up over the characters that it covers (GA27-3004:
-//! longitudinal redundancy checking).
+//! The longitudinal sum: what a check character adds up over the characters that it covers
+//! (GA27-3004: longitudinal redundancy checking).
 ghost use Rattle.std.specs.Prelude.{◌≡◌, ◌%◌, ◌<◌, ℕ};
 ghost use Rattle.std.specs.Int.{bit_at};
 ghost use Rattle.bsc_octet.specs.Octet.{longitudinal_sum, with_bit};
 
 use crate::lanes::xor_of;
 
-/// The longitudinal sum of the low seven bits of the octets, 0x00 to 0x7f; 0x00 of no octets. Parity bits
-/// are in no sum, so it is the same of octets from the line and of their codes.
+/// The longitudinal sum of the low seven bits of the octets, 0x00 to 0x7f; 0x00 of no octets.
+/// Parity bits are in no sum, so it is the same of octets from the line and of their codes.
 pub fn sum(octets: &[u8]) -> u8
     ensures value { result ≡ longitudinal_sum octets.now }
     ensures code { result < 128 }

@@ -1,5 +1,5 @@
-//! Odd parity: each octet on the line carries a code of seven bits, and its eighth bit makes the number of
-//! ones odd (GA27-3004: vertical redundancy checking in USASCII).
+//! Odd parity: each octet on the line carries a code of seven bits, and its eighth bit makes the
+//! number of ones odd (GA27-3004: vertical redundancy checking in USASCII).
 ghost use Rattle.std.specs.Prelude.{◌≡◌, ◌≢◌, ℕ, ◌+◌, ◌*◌, ◌%◌, ◌<◌, nat_lt, if◌then◌else◌, Some, None, IsTrue, ◌↔◌, All, IfSome, IfNone};
 ghost use Rattle.bsc_octet.specs.Octet.{IsOdd, code_of, odd_octet};
 

@@ -5,8 +5,8 @@ use Rattle.bsc_block.specs.Format.{FormatValue, IsFormat}
 use Rattle.bsc_block.specs.Blocks.{AreShort, taken}
 use Rattle.bsc_spool.specs.declared.queue.Next.{Next}
 
--- The format that blocks are made in, the records that were offered in order, and how many of them are known
--- to have been delivered.
+-- The format that blocks are made in, the records that were offered in order, and how many of them
+-- are known to have been delivered.
 pub record QueueValue : Type 0 where
   pub format : FormatValue
   pub offered : List (List ℕ)
@@ -33,8 +33,9 @@ with_known q k = queue_of q.format q.offered (q.known + k)
 abbrev pub waiting : QueueValue → List (List ℕ)
 waiting q = drop q.known q.offered
 
--- The next block of waiting records: how many it takes, and Etx where these are all, else Etb (GA27-3004:
--- ETB ends a block that others follow, ETX the last one; how blocks are cut is own). None where none waits.
+-- The next block of waiting records: how many it takes, and Etx where these are all, else Etb
+-- (GA27-3004: ETB ends a block that others follow, ETX the last one; how blocks are cut is own).
+-- None where none waits.
 abbrev pub next_after : FormatValue → List (List ℕ) → Option Next
 next_after f [] = None
 next_after f (r ∷ rs) =
@@ -44,8 +45,8 @@ next_after f (r ∷ rs) =
 abbrev pub next_block : QueueValue → Option Next
 next_block q = next_after q.format (waiting q)
 
--- What a next block is: as many of the waiting records as fit, 1 to 7 of them, and Etx exactly where these
--- are all.
+-- What a next block is: as many of the waiting records as fit, 1 to 7 of them, and Etx exactly
+-- where these are all.
 pub record IsNext (q : QueueValue) (n : Next) : Type 0 where
   pub count : n.count ≡ taken q.format (waiting q)
   pub some : 1 ≤ n.count

@@ -1,8 +1,8 @@
 -- What contracts see of a spool (own).
 use Rattle.std.specs.Prelude.{ℕ, ◌+◌, ◌-◌, ◌^◌, Bool, List, min, if◌then◌else◌}
 
--- The records that arrived in order, whether seven more fit without memory, and how often room was refused.
--- No call reads how often: contracts alone do.
+-- The records that arrived in order, whether seven more fit without memory, and how often room was
+-- refused. No call reads how often: only contracts do.
 pub record SpoolValue : Type 0 where
   pub records : List (List ℕ)
   pub room : Bool

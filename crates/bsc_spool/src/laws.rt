@@ -1,4 +1,4 @@
-//! Laws over the definitions alone, each the contract of a function that does no work, for the layers
+//! Laws over the definitions, each the contract of a function that does no work, for the layers
 //! above: what the next block of a queue is, and what keeps a queue.
 ghost use Rattle.std.specs.Prelude.{◌≡◌, ◌≤◌, ◌↔◌, ℕ, List, [], Some, None, length};
 ghost use Rattle.bsc_spool.specs.Queue.{QueueValue, waiting, next_block, with_offered, with_known, IsQueue, IsNext};
@@ -7,7 +7,8 @@ ghost use Rattle.bsc_spool.specs.declared.queue.Next.{Next};
 use bsc_block::laws::cut_into_blocks;
 
 /// The next block of a queue is none exactly where no record waits, else it takes 1 to 7 waiting
-/// records and ends with `Etx` exactly where these are all. Short offers and deliveries keep a queue.
+/// records and ends with `Etx` exactly where these are all. Short offers and deliveries keep a
+/// queue.
 pub fn next_blocks()
     ensures none { (q : QueueValue) → (next_block q ≡ None) ↔ (waiting q ≡ []) }
     ensures some { (q : QueueValue) (n : Next) → IsQueue q → next_block q ≡ Some n → IsNext q n }

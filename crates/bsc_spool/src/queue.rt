@@ -1,5 +1,5 @@
-//! The sending end of a channel. A record stays in its queue after it was delivered, so that what was
-//! offered can be compared with what was spooled.
+//! The sending end of a channel. A record stays in its queue after it was delivered, so that what
+//! was offered can be compared with what was spooled.
 ghost use Rattle.std.specs.Prelude.{◌≡◌, ◌≤◌, [], length, take, IfSome, IfErr, OnOk, OnErr};
 ghost use Rattle.bsc_block.specs.Blocks.{block_text, blocks};
 ghost use Rattle.bsc_spool.specs.Queue.{waiting, next_block, queue_of, with_offered, with_known, IsQueue, IsNext};
@@ -48,7 +48,7 @@ impl<A: Allocator> Queue<A> {
     }
 
     /// Adds the record, which is not longer than the full length, at the end. It comes back where
-    /// memory is wanting, and then nothing changed.
+    /// there is no memory for it, and then nothing changed.
     pub fn offer(&mut self, record: Record) -> Result<(), Record>
         requires { length «record» ≤ self.old.format.full }
         ensures ok { OnOk result (self.new ≡ with_offered self.old «record») }
@@ -77,8 +77,8 @@ impl<A: Allocator> Queue<A> {
         self.known
     }
 
-    /// The next block of the waiting records, which are those past the known ones: `Etx` where it takes
-    /// all of them, else `Etb`. `None` where no record waits.
+    /// The next block of the waiting records, which are those past the known ones: `Etx` where it
+    /// takes all of them, else `Etb`. `None` where no record waits.
     pub fn next(&self) -> Option<Next>
         ensures value { result ≡ next_block self.now }
         ensures next { IfSome result (λ n. IsNext self.now n) }
@@ -111,7 +111,8 @@ impl<A: Allocator> Queue<A> {
         count
     }
 
-    /// The text of the first `count` waiting records, with this end: 1 to 7 records, not more than wait.
+    /// The text of the first `count` waiting records, with this end: 1 to 7 records, not more than
+    /// wait.
     pub fn text(&self, count: usize, end: End) -> Text
         requires some { 1 ≤ count }
         requires few { count ≤ 7 }

@@ -14,6 +14,8 @@ const MOST: usize = 7;
 #[derive(Drop)]
 pub struct Spool<A: Allocator> {
     records: Vec<Record, A>,
+
+    /// How often room was refused, up to the greatest number. No call reads it: only contracts do.
     delays: u64,
 }
 

@@ -11,7 +11,7 @@ abbrev pub IsTextMessage : Message → Type 0
 IsTextMessage (m.Text t) = Unit {0}
 IsTextMessage _ = ⊥
 
--- a call of which the EOT alone is left
+-- a call of which only the EOT is left
 abbrev pub IsCallCutShort : Message → Message → Type 0
 IsCallCutShort (m.Call a) m.Eot = Unit {0}
 IsCallCutShort _ _ = ⊥

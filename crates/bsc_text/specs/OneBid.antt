@@ -18,7 +18,7 @@ use Rattle.bsc_text.specs.Channel.{Channel, channel, Nothing, Offer, Land, Learn
 use Rattle.bsc_text.specs.Fair.{IsTextMessage}
 use Rattle.bsc_text.specs.Bid.{Bid, Turn, Event, Exchange, Offering, channel_of, message_for, receiver_in, sender_in, after_turn, after_event, IsFairTurn, Reaches}
 
--- the sender sends texts and ENQ alone
+-- the sender sends only texts and ENQ
 abbrev pub SendsTextsAndEnq : Type 0
 SendsTextsAndEnq =
     (b : Bid) (w : Message) → message_for b.act ≡ Some w → IsTextMessage w ⊎ (w ≡ m.Enq)
@@ -64,8 +64,9 @@ pub record MovesInTurn (b : Bid) (t : Turn) : Type 0 where
   pub receiver : MovesAtReceiver b.sender.phase (channel_of b) (channel_within b t)
   pub sender : MovesAtSender (channel_within b t) (channel_of (after_turn b t))
 
--- Each turn moves the channel so. A block lands at most once, since it lands only where all that was spooled is known; it is
--- learnt only after it landed, since what is learnt is what was spooled.
+-- Each turn moves the channel so. A block lands at most once, since it lands only where all that
+-- was spooled is known; it is learnt only after it landed, since what is learnt is what was
+-- spooled.
 abbrev pub OnlyMoves : Type 0
 OnlyMoves =
     (b : Bid) (es : List Event) (c : Bid) (t : Turn) → Reaches b es c → IsFairTurn c t

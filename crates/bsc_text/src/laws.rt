@@ -1,4 +1,4 @@
-//! Laws over the definitions alone: what holds of every bid, whatever is lost or spoiled.
+//! Laws over the definitions: what holds of every bid, whatever is lost or spoiled.
 
 ghost use Rattle.bsc_text.specs.OneBid.{SendsTextsAndEnq, SendsItsBlocks, HearsItsBlocks, OnlyMoves, OffersMove, StaysReady, StaysSound, SoundWithinTurns, EndsKnowing, DoubtsAtSilence, ReleaseEndsDoubt, EndsSoon};
 ghost use Rattle.bsc_text.specs.EachStep.{HearingAgrees, AnsweringAgrees, SilenceAgrees, BeginAgrees, OfferAgrees, OfferKeepsRest, ReleaseKeepsRest, AgreementIsSound, LossAgrees, BidContinues, SendingGoesOn, OutwardIsTextOrEnq, BackIsLast, ActsFit};
@@ -10,10 +10,10 @@ use bsc_spool::laws::next_blocks;
 /// every list of turns in which each spoiled transmission fails its check, with offers between the
 /// turns:
 ///
-/// - the sender sends texts and ENQ alone, and each text, sent or heard, has exactly the records of
+/// - the sender sends only texts and ENQ, and each text, sent or heard, has exactly the records of
 ///   its block;
-/// - a block lands at most once, and is learnt only after it landed; an offer adds its record
-///   alone;
+/// - a block lands at most once, and is learnt only after it landed; an offer adds only its
+///   record;
 /// - at each moment the conditions of the sender's calls are met;
 /// - at each moment the channel is sound, and a bid that ended without doubt knows of all that was
 ///   spooled;
@@ -44,8 +44,8 @@ pub fn one_bid()
 /// - the receiver hears what the sender sent, or nothing; the sender hears the reply, or nothing;
 /// - a silence comes to the sender, a bid begins, or a record is offered;
 /// - what was on its way is lost;
-/// - a sender whose bid is over is at rest, one that keeps quiet stays in its phase, and while the ends
-///   agree the channel is sound.
+/// - a sender whose bid is over is at rest, one that keeps quiet stays in its phase, and while the
+///   ends agree the channel is sound.
 pub fn each_step()
     ensures hearing { HearingAgrees }
     ensures answering { AnsweringAgrees }

@@ -1,7 +1,7 @@
 //! One bid: the sender of blocks, the receiver of blocks, and what both ends together keep.
 //!
 //! A control station and a terminal each have a sender for what they transmit and a receiver for
-//! what they take; a point-to-point user can drive a pair alone. Beside them stand what both
+//! what they take; a point-to-point user can drive a pair of them. Beside them stand what both
 //! stations share: their settings, a terminal's addresses, and the trait of a station of the line.
 #![tactic(auto)]
 

@@ -58,7 +58,7 @@ impl Receiver {
 
     /// Hears a transmission, and gives the reply to it; None where it is neither a text nor ENQ.
     /// With `urgent` a text that is taken is answered by RVI, but not twice in a row. It may try to
-    /// reserve memory; a refusal changes the reply alone: NAK where a text then finds no room, WACK
+    /// reserve memory; a refusal changes only the reply: NAK where a text then finds no room, WACK
     /// where the next one would not. (GA27-3004, replies to text and to ENQ; the urgent flag is
     /// own.)
     pub fn heard<A: Allocator>(

@@ -327,8 +327,8 @@ fn a_receiver_without_room_asks_to_wait(rt: HostRuntime) {
     assert!(rt; other.records().is_empty());
 }
 
-/// Has this many texts taken, asking again where a growth is refused, and counts the refusals by NAK
-/// and by WACK.
+/// Has this many texts taken, asking again where a growth is refused, and counts the refusals by
+/// NAK and by WACK.
 fn take_texts<A: Allocator>(alloc: A, texts: usize) -> Result<(usize, usize), Fail> {
     let mut receiver = Receiver::new();
     let mut spool = Spool::new(alloc);

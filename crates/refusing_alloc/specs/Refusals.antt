@@ -1,9 +1,11 @@
--- Which requests for memory are refused, and how they are counted (own: no part of the line procedure).
+-- Which requests for memory are refused, and how they are counted (own: no part of the line
+-- procedure).
 use Rattle.std.specs.Prelude.{ℕ, ◌≡◌, ◌+◌, ◌-◌, ◌^◌, ◌<◌, ◌≤◌, min, Bool, if◌then◌else◌}
 use Rattle.refusing_alloc.specs.declared.tally.Rule.{Rule}
 use Rattle.refusing_alloc.specs.declared.tally.Rule.TheVariants.{Nothing, Nth, From, LargerThan}
 
--- whether a rule refuses a request, by its place in the order of requests, the first being 1, and by its size
+-- whether a rule refuses a request, by its place in the order of requests, the first being 1, and
+-- by its size
 abbrev pub IsRefused : Rule → ℕ → ℕ → Type 0
 IsRefused Nothing place size = ⊥
 IsRefused (Nth request) place size = place ≡ request

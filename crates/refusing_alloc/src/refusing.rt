@@ -11,7 +11,7 @@ use std::cell::Cell;
 /// of memory, and giving a block back is never refused.
 ///
 /// Where `extend` and `from_iter` of std are refused once, they ask again for less: `refuse_nth`
-/// alone does not stop them, and `refuse_from` does.
+/// does not stop them, and `refuse_from` does.
 #[derive(Drop)]
 pub struct Refusing<B: Allocator = Global> {
     inner: B,
@@ -32,7 +32,7 @@ impl<B: Allocator> Refusing<B> {
         self.tally.set(Tally::new(Rule::Nothing));
     }
 
-    /// From here on refuses the request of this number alone, where 1 is the next one. Counting
+    /// From here on refuses only the request of this number, where 1 is the next one. Counting
     /// starts anew.
     pub fn refuse_nth(&self, request: usize) {
         self.tally.set(Tally::new(Rule::Nth { request }));
@@ -61,7 +61,7 @@ impl<B: Allocator> Refusing<B> {
     }
 }
 
-// Takes the cell alone, so that it is one function for every allocator.
+// Takes only the cell, so that it is one function for every allocator.
 fn refuses(tally: &Cell<Tally>, size: usize) -> bool {
     let mut now = tally.get();
     let refused = now.ask(size);
