@@ -151,9 +151,10 @@ fn the_poll_list_is_gone_through(rt: HostRuntime) -> Result<(), Fail> {
 #[test]
 fn an_urgent_station_polls_the_same_entry_again(rt: HostRuntime) -> Result<(), Fail> {
     let mut control = control_of(rt.alloc(), &two_terminals()?, &[0, 1], 3)?;
-    if control.terminals() == 2 {
-        control.set_urgent(0);
+    if control.terminals() != 2 {
+        return Err("another number of terminals".into());
     }
+    control.set_urgent(0);
     for (heard, answer) in [
         (SILENCE, CALL_POLL_A),
         (TEXT_HI, RVI),
@@ -297,9 +298,10 @@ fn a_repeated_selection_keeps_the_urgent_flag(rt: HostRuntime) -> Result<(), Fai
     let mut control = control_of(rt.alloc(), &two_terminals()?, &[0, 1], 3)?;
     offer(&mut control, 0, 0, b"HI")?;
     assert_eq!(rt; sent_after(&mut control, SILENCE).as_slice(), CALL_SELECT_A);
-    if control.terminals() == 2 {
-        control.set_urgent(0);
+    if control.terminals() != 2 {
+        return Err("another number of terminals".into());
     }
+    control.set_urgent(0);
     for (heard, answer) in [
         (SILENCE, CALL_SELECT_A),
         (ACK0, TEXT_HI),
@@ -326,15 +328,16 @@ fn a_doubtful_block_waits_for_its_release(rt: HostRuntime) -> Result<(), Fail> {
         assert_eq!(rt; sent_after(&mut control, heard).as_slice(), answer);
     }
     assert_eq!(rt; in_doubt(&control, 0, 0), Some(true));
-    if control.terminals() == 2 && control.addresses(0) == 1 {
-        let way = Way::ToTerminal(0);
-        assert_eq!(rt;
-            control.release(0, way, 2),
-            Err(ReleaseError::CountMismatch)
-        );
-        assert_eq!(rt; control.release(0, way, 1), Ok(()));
-        assert_eq!(rt; control.release(0, way, 1), Err(ReleaseError::NotInDoubt));
+    if control.terminals() != 2 || control.addresses(0) != 1 {
+        return Err("another number of terminals or addresses".into());
     }
+    let way = Way::ToTerminal(0);
+    assert_eq!(rt;
+        control.release(0, way, 2),
+        Err(ReleaseError::CountMismatch)
+    );
+    assert_eq!(rt; control.release(0, way, 1), Ok(()));
+    assert_eq!(rt; control.release(0, way, 1), Err(ReleaseError::NotInDoubt));
     assert_eq!(rt; known(&control, 0, 0), Some(1));
     Ok(())
 }

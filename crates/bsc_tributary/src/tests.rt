@@ -73,7 +73,7 @@ fn a_terminal_is_polled_and_then_selected(rt: HostRuntime) -> Result<(), Fail> {
 }
 
 #[test]
-fn a_broken_text_is_refused_while_receiving_alone(rt: HostRuntime) -> Result<(), Fail> {
+fn a_broken_text_is_refused_only_while_receiving(rt: HostRuntime) -> Result<(), Fail> {
     let mut tributary = terminal_a(rt.alloc(), &[Address::read(b"a")?], 3)?;
     for (heard, answer) in [
         (BROKEN, QUIET),

@@ -100,21 +100,31 @@ pub(crate) fn given_back<A: Allocator>(
     }
 }
 
-/// What the control station sends once it has heard these octets, or at a silence where there are none;
-/// nothing where it is quiet.
+/// An octet with which nothing that is sent begins.
+const NO_TRANSMISSION: u8 = 0x55;
+
+/// What the control station sends once it has heard these octets, or at a silence where there are
+/// none; nothing where it is quiet. The wire has an octet before. Where the answer of the call is
+/// not whether something is there, such an octet takes the place of it.
 pub(crate) fn sent_after<A: Allocator>(control: &mut Control<A>, octets: &[u8]) -> Wire
     ensures { control.new.setup ≡ control.old.setup }
 {
     let mut wire = Wire::new();
-    if octets.is_empty() {
-        control.silence(&mut wire);
+    wire.push(NO_TRANSMISSION);
+    let sends = if octets.is_empty() {
+        control.silence(&mut wire)
     } else {
-        control.hear(octets, &mut wire);
+        control.hear(octets, &mut wire)
+    };
+    if sends == wire.is_empty() {
+        wire.clear();
+        wire.push(NO_TRANSMISSION);
     }
     wire
 }
 
-/// How many records for a selection address are known to have arrived; None where there is no such address.
+/// How many records for a selection address are known to have arrived; None where there is no such
+/// address.
 pub(crate) fn known<A: Allocator>(
     control: &Control<A>,
     terminal: usize,

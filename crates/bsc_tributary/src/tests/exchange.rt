@@ -40,22 +40,39 @@ pub(crate) fn hi() -> Result<Record, RecordError>
     Record::read(b"HI", 80)
 }
 
-/// What the terminal answers to these octets; nothing where it is quiet.
+/// An octet with which nothing that is sent begins.
+const NO_TRANSMISSION: u8 = 0x55;
+
+/// What a call has left in the wire. Where its answer is not whether something is there, an octet
+/// takes the place of it with which nothing that is sent begins.
+fn left_in(mut wire: Wire, sends: bool) -> Wire {
+    if sends == wire.is_empty() {
+        wire.clear();
+        wire.push(NO_TRANSMISSION);
+    }
+    wire
+}
+
+/// What the terminal answers to these octets; nothing where it is quiet and says so. The wire has
+/// an octet before.
 pub(crate) fn answer_to<A: Allocator>(tributary: &mut Tributary<A>, octets: &[u8]) -> Wire
     ensures { tributary.new.terminal ≡ tributary.old.terminal }
 {
     let mut wire = Wire::new();
-    tributary.hear(octets, &mut wire);
-    wire
+    wire.push(NO_TRANSMISSION);
+    let sends = tributary.hear(octets, &mut wire);
+    left_in(wire, sends)
 }
 
-/// What the terminal sends at a silence; nothing where it is quiet.
+/// What the terminal sends at a silence; nothing where it is quiet and says so. The wire has an
+/// octet before.
 pub(crate) fn sent_at_silence<A: Allocator>(tributary: &mut Tributary<A>) -> Wire
     ensures { tributary.new.terminal ≡ tributary.old.terminal }
 {
     let mut wire = Wire::new();
-    tributary.silence(&mut wire);
-    wire
+    wire.push(NO_TRANSMISSION);
+    let sends = tributary.silence(&mut wire);
+    left_in(wire, sends)
 }
 
 /// Whether the spool of this number has exactly these records.
