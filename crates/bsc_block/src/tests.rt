@@ -2,7 +2,7 @@
 ghost use Rattle.std.specs.Prelude.{◌≡◌, ◌≤◌, IfOk, length};
 
 use crate::{Format, FormatError, Record, RecordError, build, pack, unpack};
-use bsc_frame::{End, Heard, Message, Wire, decode, encode};
+use bsc_frame::{End, Heard, Message, Text, Wire, decode, encode};
 use std::test::Fail;
 
 // A record of `count` letters A.
@@ -76,6 +76,35 @@ fn a_block_takes_what_counts_400(rt: HostRuntime) -> Result<(), Fail> {
         letters(75)?,
     ];
     assert_eq!(rt; pack(&over, format), 4);
+    assert_eq!(rt; pack(&over[4..], format), 1);
+    Ok(())
+}
+
+// What is sent for the text.
+fn wire_of(text: Text) -> Wire {
+    let mut wire = Wire::new();
+    encode(&Message::Text(text), &mut wire);
+    wire
+}
+
+#[test]
+fn records_are_built_and_sent(rt: HostRuntime) -> Result<(), Fail> {
+    let format = Format::new(80, 400)?;
+    let two = [Record::read(b"HI", 80)?, Record::read(b"", 80)?];
+    assert_eq!(rt;
+        wire_of(build(&two, format, End::Etx)).as_slice(),
+        [
+            0x16, 0x16, 0x02, 0xc8, 0x49, 0x19, 0x1f, 0x07, 0x19, 0x83, 0x1a, 0xff
+        ]
+        .as_slice()
+    );
+
+    // The check of a form feed is the octet of SYN.
+    let form_feed = [Record::read(&[0x0c], 80)?];
+    assert_eq!(rt;
+        wire_of(build(&form_feed, format, End::Etx)).as_slice(),
+        [0x16, 0x16, 0x02, 0x8c, 0x19, 0x83, 0x16, 0xff].as_slice()
+    );
     Ok(())
 }
 
@@ -83,10 +112,8 @@ fn a_block_takes_what_counts_400(rt: HostRuntime) -> Result<(), Fail> {
 fn a_full_record_has_no_em(rt: HostRuntime) -> Result<(), Fail> {
     let format = Format::new(2, 400)?;
     let text = build(&[Record::read(b"HI", 2)?], format, End::Etx);
-    let mut wire = Wire::new();
-    encode(&Message::Text(text), &mut wire);
     assert_eq!(rt;
-        wire.as_slice(),
+        wire_of(text).as_slice(),
         [0x16, 0x16, 0x02, 0xc8, 0x49, 0x83, 0x02, 0xff].as_slice()
     );
     Ok(())

@@ -66,11 +66,11 @@ fn each_growth_from_one_on_is_refused(rt: HostRuntime) -> Result<(), Fail> {
 fn growths_above_a_size_are_refused(rt: HostRuntime) -> Result<(), Fail> {
     let alloc = Refusing::new(rt.alloc());
     alloc.refuse_larger(100);
-    let mut room: Vec<u16, &Refusing> = Vec::new(&alloc);
-    assert!(rt; room.try_reserve_exact(51).is_err());
-    room.try_reserve_exact(50)?;
-    assert_eq!(rt; room.capacity(), 50);
-    assert!(rt; room.try_reserve(51).is_err());
+    let mut room: Vec<u8, &Refusing> = Vec::new(&alloc);
+    assert!(rt; room.try_reserve_exact(101).is_err());
+    room.try_reserve_exact(100)?;
+    assert_eq!(rt; room.capacity(), 100);
+    assert!(rt; room.try_reserve(101).is_err());
     assert_eq!(rt; (alloc.requests(), alloc.refused()), (3, 2));
     Ok(())
 }
