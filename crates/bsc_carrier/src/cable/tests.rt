@@ -29,6 +29,24 @@ fn two_connections(
     Ok(Cable::new(control_ends, terminal_ends))
 }
 
+/// One connection over memory, whose two ends give these octets.
+fn one_connection(
+    rt: &impl Abort,
+    alloc: Global,
+    to_control: &[u8],
+    to_terminal: &[u8],
+) -> Result<Cable<MemoryStream>, Fail>
+    ensures { IfOk result (λ cable. length cable.terminal_ends ≡ 1) }
+{
+    let mut control_ends = Vec::new(alloc);
+    let mut terminal_ends = Vec::new(alloc);
+    control_ends.push(MemoryStream::new(alloc, to_control, 1)?)?;
+    terminal_ends.push(MemoryStream::new(alloc, to_terminal, 1)?)?;
+    assert_eq!(rt; control_ends.len(), 1);
+    assert_eq!(rt; terminal_ends.len(), 1);
+    Ok(Cable::new(control_ends, terminal_ends))
+}
+
 /// How many reads and writes there were at all ends.
 fn count_calls(cable: &Cable<MemoryStream>) -> usize {
     let mut calls = 0usize;
@@ -79,6 +97,28 @@ fn input_that_ends_before_a_record_is_short(rt: HostRuntime) -> Result<(), Fail>
     );
     assert_eq!(rt; cable.up(0, &[0x16], &mut heard), Err(CarrierError::Length));
     assert!(rt; heard.is_empty());
+    Ok(())
+}
+
+/// The first error of a cable may be one of `up`.
+#[test]
+fn what_is_read_at_the_control_end_is_told(rt: HostRuntime) -> Result<(), Fail> {
+    for (input, error) in [
+        ([].as_slice(), CarrierError::Short),
+        ([0x00].as_slice(), CarrierError::Short),
+        ([0x00, 0x02, 0x04].as_slice(), CarrierError::Short),
+        ([0x00, 0x00].as_slice(), CarrierError::Length),
+        ([0x08, 0x01].as_slice(), CarrierError::Length),
+    ] {
+        let mut cable = one_connection(&rt, rt.alloc(), input, &[0x00, 0x01, 0x16])?;
+        let mut heard = Octets::new();
+        heard.push(0x42);
+        assert_eq!(rt; cable.up(0, &[0x04], &mut heard), Err(error));
+        let calls = count_calls(&cable);
+        assert_eq!(rt; cable.down(&[0x16], &mut heard), Err(error));
+        assert_eq!(rt; count_calls(&cable), calls);
+        assert_eq!(rt; heard.as_slice(), [0x42].as_slice());
+    }
     Ok(())
 }
 

@@ -58,6 +58,38 @@ fn largest_record_takes_2050_reads_and_writes(rt: HostRuntime) -> Result<(), Fai
     Ok(())
 }
 
+/// A record is one write where the stream takes it whole, and it is read in place of the one
+/// before.
+#[test]
+fn each_length_is_written_at_once_and_read_back(rt: HostRuntime) -> Result<(), Fail> {
+    let mut octets = [0; 2048];
+    for (place, octet) in octets.iter_mut().enumerate() {
+        *octet = (place % 251) as u8;
+    }
+    let mut heard = Octets::new();
+    for length in 1..=2048usize {
+        let sent = &octets[..length];
+        let mut sender = MemoryStream::new(rt.alloc(), &[], 4096)?;
+        assert_eq!(rt; write_record(&mut sender, sent), Ok(()), "{length}");
+        assert_eq!(rt; sender.calls, 1, "{length}");
+        assert_eq!(rt;
+            sender.output.get(..2),
+            Some([(length / 256) as u8, (length % 256) as u8].as_slice())
+        );
+        assert_eq!(rt; sender.output.get(2..), Some(sent));
+        let mut receiver = MemoryStream::new(rt.alloc(), &sender.output, 4096)?;
+        assert_eq!(rt;
+            read_record(&mut receiver, &mut heard),
+            Ok(true),
+            "{length}"
+        );
+        assert_eq!(rt; heard.as_slice(), sent);
+        assert_eq!(rt; read_record(&mut receiver, &mut heard), Ok(false));
+        assert_eq!(rt; heard.as_slice(), sent);
+    }
+    Ok(())
+}
+
 #[test]
 fn device_comes_only_after_a_failed_call(rt: HostRuntime) -> Result<(), Fail> {
     let whole = [0x00, 0x05, 0x16, 0x16, 0x10, 0xb0, 0xff];

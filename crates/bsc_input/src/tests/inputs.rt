@@ -21,11 +21,12 @@ fn one_octet_a_read(rt: HostRuntime) -> Result<(), Fail> {
     Ok(())
 }
 
-/// A read that fails after good lines, an interrupted one too.
+/// A read that fails after good lines: an interrupted one is not tried again.
 #[test]
 fn failing_read(rt: HostRuntime) -> Result<(), Fail> {
     let mut broken = Broken {
         text: Some(b"16 04\n"),
+        interrupted: false,
     };
     assert!(rt; read_input(rt.alloc(), &mut broken).err() == Some(InputError::Device));
     Ok(())

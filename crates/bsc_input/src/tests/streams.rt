@@ -1,4 +1,4 @@
-//! A reader that counts, and one that fails.
+//! A reader that counts, and one that is interrupted.
 use std::io;
 use std::io::{Error, ErrorKind, Read};
 
@@ -21,17 +21,22 @@ impl Read for Drip {
     }
 }
 
-/// Gives the text in one read, and fails at the next.
+/// Gives the text in one read, is interrupted once, and then has ended.
 #[derive(Drop)]
 pub struct Broken {
     pub text: Option<&'static [u8]>,
+    pub interrupted: bool,
 }
 
 impl Read for Broken {
     fn read(&mut self, buffer: &mut [u8]) -> io::Result<usize> {
         match self.text.take() {
             Some(mut text) => text.read(buffer),
-            None => Err(Error::from(ErrorKind::Interrupted)),
+            None if self.interrupted => Ok(0),
+            None => {
+                self.interrupted = true;
+                Err(Error::from(ErrorKind::Interrupted))
+            }
         }
     }
 }
