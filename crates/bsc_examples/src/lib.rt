@@ -1,0 +1,12 @@
+//! The code that README.md shows to the author of an emulator, so that the gate proves and runs it.
+//! The tests print the errors that such code may meet.
+#![tactic(auto)]
+
+mod line;
+mod terminal;
+
+pub use line::deliver;
+pub use terminal::run_terminal;
+
+#[cfg(test)]
+mod tests;
