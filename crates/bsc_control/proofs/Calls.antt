@@ -30,7 +30,7 @@ pub record IsCalm (c : ControlValue) : Type 0 where
   pub rests : (t s : ℕ) → IsAtRest (phase_of c t s)
   pub settings : (t s : ℕ) → s < length (peer_at c t).outbounds → HasSettings c (outbound_of c t s)
 
--- what is kept by a step that leaves the spools alone
+-- what is kept by a step that does not change the spools
 pub record Fares (old new : ControlValue) : Type 0 where
   pub keeps : Keeps old new
   pub orderly : IsOrderly new
@@ -90,7 +90,7 @@ fares-polls c place tries calm =
       spools = λ j. same_at (λ (x : PeerValue). x.spool) c.peers t j p no_peer refl;
     }
 
--- IsSelected looks at the outbounds alone
+-- IsSelected depends only on the outbounds
 selected_in : (p q : PeerValue) (s : ℕ) → q.outbounds ≡ p.outbounds → IsSelected p s → IsSelected q s
 selected_in p q s e h =
     record {

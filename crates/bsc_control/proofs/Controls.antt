@@ -91,7 +91,7 @@ control-offered c t s r h within there entries =
     let o : OutboundValue = outbound_of c t s in
     control-replaced c t s (offered o r) h within there refl refl (record { rests = λ x. x; goes = λ x. x; idle = λ x. x; some = λ e x. more_wait o.queue r x }) entries
 
--- a release changes an outbound in doubt alone
+-- a release changes only an outbound in doubt
 pub record IsRelease (o x : OutboundValue) : Type 0 where
   pub setup : x.sender.setup ≡ o.sender.setup
   pub format : x.queue.format ≡ o.queue.format

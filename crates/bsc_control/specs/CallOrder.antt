@@ -1,6 +1,7 @@
--- The call order (GA27-3004: polling and selection by a poll list; the order of selections and polls, and that
--- an entry comes again after RVI, are own).
-use Rattle.std.specs.Prelude.{ℕ, ◌+◌, Bool, true, false, nat_eq, length, drop, position, Option, None, Some, if◌then◌else◌}
+-- The call order (GA27-3004: polling and selection by a poll list; the order of selections and
+-- polls, and that an entry comes again after RVI, are own).
+use Rattle.std.specs.Prelude.{ℕ, ◌+◌, Bool, true, false, nat_eq, length, drop, position, Option}
+use Rattle.std.specs.Prelude.{None, Some, if◌then◌else◌}
 use Rattle.bsc_control.specs.declared.way.Way.{Way}
 use Rattle.bsc_control.specs.declared.way.Way.TheVariants.{FromTerminal, ToTerminal}
 use Rattle.bsc_control.specs.Peer.{PeerValue, is_selectable}
@@ -11,8 +12,8 @@ pub record Call : Type 0 where
   pub place : ℕ
   pub way : Way
 
--- what a next call comes after: the start of the station; a selection of this address, or the bid that it led
--- to; a bid that RVI ended; a poll, in which RVI was sent or not
+-- what a next call comes after: the start of the station; a selection of this address, or the bid
+-- that it led to; a bid that RVI ended; a poll, in which RVI was sent or not
 pub data After : Type 0 where
   Start : After
   Selection : (select : ℕ) → After
@@ -24,14 +25,15 @@ abbrev pub way_at : ℕ → Option ℕ → Way
 way_at from None = FromTerminal
 way_at from (Some i) = ToTerminal (from + i)
 
--- the first selection address from this number on for which records wait without doubt, else the polling
--- address
+-- the first selection address from this number on for which records wait without doubt, else the
+-- polling address
 abbrev pub way_from : PeerValue → ℕ → Way
 way_from p from = way_at from (position is_selectable (drop from p.outbounds))
 
 -- the first call of an entry
 abbrev pub first_call : ControlValue → ℕ → Call
-first_call c place = record { place = place; way = way_from (peer_at c (terminal_of_entry c place)) 0 }
+first_call c place =
+    record { place = place; way = way_from (peer_at c (terminal_of_entry c place)) 0 }
 
 -- the entry after the present one: after the last the first
 abbrev pub next_place : ControlValue → ℕ
@@ -40,7 +42,8 @@ next_place c = if nat_eq (c.place + 1) (length c.poll_list) then 0 else c.place 
 -- the next call
 abbrev pub next_call : ControlValue → After → Call
 next_call c Start = first_call c c.place
-next_call c (Selection s) = record { place = c.place; way = way_from (peer_at c (current c)) (s + 1) }
+next_call c (Selection s) =
+    record { place = c.place; way = way_from (peer_at c (current c)) (s + 1) }
 next_call c Interruption = record { place = c.place; way = FromTerminal }
 next_call c (Poll true) = first_call c c.place
 next_call c (Poll false) = first_call c (next_place c)

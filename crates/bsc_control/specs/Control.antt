@@ -1,14 +1,15 @@
 -- What contracts see of a control station (own).
-use Rattle.std.specs.Prelude.{◌<◌, ℕ, List, length, slice_index, slice_index_or, slice_set, All, map, Option, None, Some}
+use Rattle.std.specs.Prelude.{◌<◌, ℕ, List, length, slice_index, slice_index_or, slice_set, All}
+use Rattle.std.specs.Prelude.{map, Option, None, Some}
 use Rattle.bsc_frame.specs.declared.message.Message.{Message}
 use Rattle.bsc_text.specs.Setup.{SetupValue}
 use Rattle.bsc_text.specs.Terminal.{TerminalValue}
 use Rattle.bsc_control.specs.declared.task.Task.{Task}
 use Rattle.bsc_control.specs.Peer.{PeerValue, no_peer, IsPeer}
 
--- a control station: its settings, its poll list, the place of the present entry, what it does there, the
--- failures in a row and the WACKs since the last acknowledgement while it calls, and what it keeps for each
--- terminal
+-- a control station: its settings, its poll list, the place of the present entry, what it does
+-- there, the failures in a row and the WACKs since the last acknowledgement while it calls, and
+-- what it keeps for each terminal
 pub record ControlValue : Type 0 where
   pub setup : SetupValue
   pub poll_list : List ℕ

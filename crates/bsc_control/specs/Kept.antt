@@ -1,5 +1,6 @@
 -- What holds of every control station, and what a transmission or a silence may change of it (own).
-use Rattle.std.specs.Prelude.{◌≡◌, ◌⊎◌, ◌≤◌, ◌<◌, ℕ, ◌+◌, true, false, List, ◌++◌, length, Option, None, Some, All}
+use Rattle.std.specs.Prelude.{◌≡◌, ◌⊎◌, ◌≤◌, ◌<◌, ℕ, ◌+◌, true, false, List, ◌++◌, length, Option}
+use Rattle.std.specs.Prelude.{None, Some, All}
 use Rattle.bsc_frame.specs.declared.message.Message.{Message}
 use Rattle.bsc_frame.specs.declared.message.Message.TheVariants as m
 use Rattle.bsc_frame.specs.declared.message.Heard.{Heard}
@@ -37,7 +38,8 @@ pub record IsInBid (p : PeerValue) (s : ℕ) : Type 0 where
   pub there : s < length p.outbounds
   pub going : IsGoing (outbound_at p s).sender.phase
 
--- what the present terminal has for the task: while nothing was replied in a poll, the receiver is as new
+-- what the present terminal has for the task: while nothing was replied in a poll, the receiver is
+-- as new
 abbrev pub SuitsTask : Task → PeerValue → Type 0
 SuitsTask AtRest p = Unit {0}
 SuitsTask (Selecting s enquired) p = IsSelected p s
@@ -68,8 +70,9 @@ pub record IsOrderly (c : ControlValue) : Type 0 where
   pub rests : (t s : ℕ) → (IsInUse c t s → ⊥) → IsAtRest (phase_of c t s)
   pub settings : (t s : ℕ) → s < length (peer_at c t).outbounds → HasSettings c (outbound_of c t s)
 
--- a control station: it has 1 to 64 terminals, whose addresses differ, and at most 255 entries in its poll
--- list; each entry names a terminal; each queue has what its sender counts on; and at most one bid goes on
+-- a control station: it has 1 to 64 terminals, whose addresses differ, and at most 255 entries in
+-- its poll list; each entry names a terminal; each queue has what its sender counts on; and at most
+-- one bid goes on
 pub record IsControl (c : ControlValue) : Type 0 where
   pub some : 1 ≤ length c.peers
   pub few : length c.peers ≤ 64
@@ -79,7 +82,8 @@ pub record IsControl (c : ControlValue) : Type 0 where
   pub orderly : IsOrderly c
 
 -- a new control station is at rest at the first entry, with nothing to send and nothing received
-pub record IsNewControl (setup : SetupValue) (ts : List TerminalValue) (poll_list : List ℕ) (c : ControlValue) : Type 0 where
+pub record IsNewControl (setup : SetupValue) (ts : List TerminalValue) (poll_list : List ℕ)
+    (c : ControlValue) : Type 0 where
   pub setup_given : c.setup ≡ setup
   pub poll_list_given : c.poll_list ≡ poll_list
   pub terminals_given : terminals c ≡ ts
@@ -96,7 +100,8 @@ pub record Keeps (old new : ControlValue) : Type 0 where
   pub terminals : terminals new ≡ terminals old
   pub peers : length new.peers ≡ length old.peers
   pub outbounds : (t : ℕ) → length (peer_at new t).outbounds ≡ length (peer_at old t).outbounds
-  pub offered : (t s : ℕ) → (outbound_of new t s).queue.offered ≡ (outbound_of old t s).queue.offered
+  pub offered : (t s : ℕ)
+      → (outbound_of new t s).queue.offered ≡ (outbound_of old t s).queue.offered
 
 -- the task that begins with a call
 abbrev pub IsTaskOf : Way → Task → Type 0
@@ -125,7 +130,8 @@ after_silence (Selecting s enquired) = Selection s
 after_silence (Sending s) = Selection s
 after_silence (Polling replied) = Poll (has_rvi replied)
 
--- a whole text was heard in a poll of terminal t, and the records become the old ones and all of its
+-- a whole text was heard in a poll of terminal t, and the records become the old ones and all of
+-- its
 pub record Stores (c : ControlValue) (h : Heard) (t : ℕ) (old new : List (List ℕ)) : Type 0 where
   pub text : TextValue
   pub heard : h ≡ Whole (m.Text text)
@@ -152,23 +158,30 @@ pub record IsRepeated (old new : ControlValue) (address : List ℕ) : Type 0 whe
   pub called : IsAddressOf (terminals new) (current new) (way_of new.task) address
   pub tries : new.tries ≡ old.tries + 1
 
--- what a control station is once it has heard a transmission: each call that it makes is the next one
-pub record AfterHearing (old : ControlValue) (h : Heard) (new : ControlValue) (sent : Option Message) : Type 0 where
+-- what a control station is once it has heard a transmission: each call that it makes is the next
+-- one
+pub record AfterHearing (old : ControlValue) (h : Heard) (new : ControlValue)
+    (sent : Option Message) : Type 0 where
   pub control : IsControl new
   pub keeps : Keeps old new
-  pub calls : (address : List ℕ) → sent ≡ Some (m.Call address) → IsCalled new (next_call old (after_hearing old.task h)) address
-  pub spools : (t : ℕ) → GrowsByText old h t (peer_at old t).spool.records (peer_at new t).spool.records
+  pub calls : (address : List ℕ) → sent ≡ Some (m.Call address)
+      → IsCalled new (next_call old (after_hearing old.task h)) address
+  pub spools : (t : ℕ)
+      → GrowsByText old h t (peer_at old t).spool.records (peer_at new t).spool.records
   pub noise : h ≡ Noise → (new ≡ old) × (sent ≡ None)
 
--- what a control station is after a silence: each call that it makes is the next one, or the same again
+-- what a control station is after a silence: each call that it makes is the next one, or the same
+-- again
 pub record AfterSilence (old new : ControlValue) (sent : Option Message) : Type 0 where
   pub control : IsControl new
   pub keeps : Keeps old new
-  pub calls : (address : List ℕ) → sent ≡ Some (m.Call address) → IsCalled new (next_call old (after_silence old.task)) address ⊎ IsRepeated old new address
+  pub calls : (address : List ℕ) → sent ≡ Some (m.Call address)
+      → IsCalled new (next_call old (after_silence old.task)) address ⊎ IsRepeated old new address
   pub spools : (t : ℕ) → (peer_at new t).spool ≡ (peer_at old t).spool
 
 -- a control station hears a transmission: by the row of its table, and with what that keeps
-pub record IsHearing (old : ControlValue) (h : Heard) (new : ControlValue) (sent : Option Message) : Type 0 where
+pub record IsHearing (old : ControlValue) (h : Heard) (new : ControlValue) (sent : Option Message)
+    : Type 0 where
   pub row : Hears old h new sent
   pub after : AfterHearing old h new sent
 

@@ -1,4 +1,5 @@
--- Noise changes no control station, and none answers it (GA27-3004: what is not understood is not answered).
+-- Noise changes no control station, and none answers it (GA27-3004: what is not understood is not
+-- answered).
 use Rattle.std.specs.Prelude.{◌≡◌, ℕ, List, Option, None, refl}
 use Rattle.std.proofs.Common.{ap, sym, ◌∙◌}
 use Rattle.std.proofs.lemmas.List.{set-get_or}
@@ -7,25 +8,35 @@ use Rattle.bsc_frame.specs.declared.message.Heard.TheVariants.{Noise}
 use Rattle.bsc_text.specs.Receiver.{Rooms}
 use Rattle.bsc_control.specs.declared.task.Task.{Task}
 use Rattle.bsc_control.specs.declared.task.Task.TheVariants.{AtRest, Selecting, Sending, Polling}
-use Rattle.bsc_control.specs.Peer.{OutboundValue, PeerValue, no_outbound, no_peer, outbound_at, with_outbound}
+use Rattle.bsc_control.specs.Peer.{OutboundValue, PeerValue, no_outbound, no_peer, outbound_at}
+use Rattle.bsc_control.specs.Peer.{with_outbound}
 use Rattle.bsc_control.specs.Control.{ControlValue, ControlStep, peer, current, with_current, quiet}
 use Rattle.bsc_control.specs.Table.{Hears, task_step, rooms_after}
 
 -- writing what is there changes nothing
 same_peer : (c : ControlValue) → with_current c (peer c) ≡ c
-same_peer c = ap (λ (ps : List PeerValue). record c { peers = ps }) (set-get_or c.peers (current c) no_peer)
+same_peer c =
+    ap (λ (ps : List PeerValue). record c { peers = ps }) (set-get_or c.peers (current c) no_peer)
 
 same_outbound : (p : PeerValue) (s : ℕ) → with_outbound p s (outbound_at p s) ≡ p
-same_outbound p s = ap (λ (os : List OutboundValue). record p { outbounds = os }) (set-get_or p.outbounds s no_outbound)
+same_outbound p s =
+    ap (λ (os : List OutboundValue). record p { outbounds = os })
+    (set-get_or p.outbounds s no_outbound)
 
-quiet_in : (c : ControlValue) (task : Task) (rooms : Rooms) → c.task ≡ task → task_step c task Noise rooms ≡ quiet c
+quiet_in : (c : ControlValue) (task : Task) (rooms : Rooms) → c.task ≡ task
+    → task_step c task Noise rooms ≡ quiet c
 quiet_in c AtRest rooms is = refl
 quiet_in c (Selecting s enquired) rooms is = refl
-quiet_in c (Sending s) rooms is = ap (λ (p : PeerValue). quiet (with_current c p)) (same_outbound (peer c) s) ∙ ap quiet (same_peer c)
+quiet_in c (Sending s) rooms is =
+    ap (λ (p : PeerValue). quiet (with_current c p)) (same_outbound (peer c) s)
+    ∙ ap quiet (same_peer c)
 quiet_in c (Polling replied) rooms is =
-    ap (λ (d : ControlValue). quiet (record d { task = Polling replied })) (same_peer c) ∙ ap (λ (task : Task). quiet (record c { task = task })) (sym is)
+    ap (λ (d : ControlValue). quiet (record d { task = Polling replied })) (same_peer c)
+    ∙ ap (λ (task : Task). quiet (record c { task = task })) (sym is)
 
-pub noise_changes_nothing : (old new : ControlValue) (sent : Option Message) → Hears old Noise new sent → (new ≡ old) × (sent ≡ None)
+pub noise_changes_nothing : (old new : ControlValue) (sent : Option Message)
+    → Hears old Noise new sent → (new ≡ old) × (sent ≡ None)
 noise_changes_nothing old new sent h =
-    let same : record { control = new; sent = sent } ≡ quiet old = h.row ∙ quiet_in old old.task (rooms_after old Noise new) refl in
+    let same : record { control = new; sent = sent } ≡ quiet old =
+    h.row ∙ quiet_in old old.task (rooms_after old Noise new) refl in
     (ap (λ (o : ControlStep). o.control) same, ap (λ (o : ControlStep). o.sent) same)

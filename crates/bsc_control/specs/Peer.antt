@@ -1,5 +1,6 @@
 -- What the control station keeps for one terminal (own).
-use Rattle.std.specs.Prelude.{◌≡◌, ℕ, Bool, false, not, nat_eq, List, [], ◌∷◌, ◌++◌, length, slice_index_or, slice_set, replicate, All, if◌then◌else◌, Option}
+use Rattle.std.specs.Prelude.{◌≡◌, ℕ, Bool, false, not, nat_eq, List, [], ◌∷◌, ◌++◌, length}
+use Rattle.std.specs.Prelude.{slice_index_or, slice_set, replicate, All, if◌then◌else◌, Option}
 use Rattle.bsc_frame.specs.declared.message.Heard.{Heard}
 use Rattle.bsc_spool.specs.Queue.{QueueValue, waiting}
 use Rattle.bsc_spool.specs.Spool.{SpoolValue}
@@ -17,8 +18,8 @@ pub record OutboundValue : Type 0 where
   pub sender : SenderValue
   pub queue : QueueValue
 
--- a terminal's addresses; whether the control station asks it for the line; the receiver and the spool of what
--- it sends; and what is sent to each of its selection addresses
+-- a terminal's addresses; whether the control station asks it for the line; the receiver and the
+-- spool of what it sends; and what is sent to each of its selection addresses
 pub record PeerValue : Type 0 where
   pub terminal : TerminalValue
   pub urgent : Bool
@@ -30,7 +31,12 @@ pub record PeerValue : Type 0 where
 abbrev pub no_outbound : OutboundValue
 no_outbound =
     record {
-      sender = record { setup = record { format = record { full = 0; block_chars = 0 }; tries = 0; waits = 0 }; phase = Idle; tries = 0; waits = 0 };
+      sender = record {
+        setup = record { format = record { full = 0; block_chars = 0 }; tries = 0; waits = 0 };
+        phase = Idle;
+        tries = 0;
+        waits = 0;
+      };
       queue = record { format = record { full = 0; block_chars = 0 }; offered = []; known = 0 };
     }
 
@@ -56,11 +62,19 @@ abbrev pub outbound_after : SenderStep → OutboundValue
 outbound_after step = record { sender = step.sender; queue = step.queue }
 
 abbrev pub released : OutboundValue → ℕ → OutboundValue
-released o count = record { sender = (release_step o.sender o.queue count).sender; queue = (release_step o.sender o.queue count).queue }
+released o count =
+    record {
+      sender = (release_step o.sender o.queue count).sender;
+      queue = (release_step o.sender o.queue count).queue;
+    }
 
 -- an outbound of a new control station
 abbrev pub new_outbound : SetupValue → OutboundValue
-new_outbound setup = record { sender = record { setup = setup; phase = Idle; tries = 0; waits = 0 }; queue = record { format = setup.format; offered = []; known = 0 } }
+new_outbound setup =
+    record {
+      sender = record { setup = setup; phase = Idle; tries = 0; waits = 0 };
+      queue = record { format = setup.format; offered = []; known = 0 };
+    }
 
 -- nothing to send, nothing received, and no flag
 pub record IsNewPeer (setup : SetupValue) (terminal : TerminalValue) (p : PeerValue) : Type 0 where
@@ -80,7 +94,8 @@ offered_to p s r = with_outbound p s (offered (outbound_at p s) r)
 
 -- records wait, and no doubt stands in their way
 abbrev pub is_selectable : OutboundValue → Bool
-is_selectable o = if is_in_doubt o.sender.phase then false else not (nat_eq (length (waiting o.queue)) 0)
+is_selectable o =
+    if is_in_doubt o.sender.phase then false else not (nat_eq (length (waiting o.queue)) 0)
 
 -- the queue has what the sender counts on
 abbrev pub IsOutbound : OutboundValue → Type 0
@@ -93,6 +108,12 @@ pub record IsPeer (p : PeerValue) : Type 0 where
   pub ready : All IsOutbound p.outbounds
 
 -- the receiver hears a transmission; RVI clears the urgent flag
-pub record PeerReceives (old : PeerValue) (h : Heard) (new : PeerValue) (reply : Option Reply) : Type 0 where
-  pub receives : Receives old.receiver old.spool h old.urgent (record { receiver = new.receiver; spool = new.spool; reply = reply })
-  pub becomes : new ≡ record old { receiver = new.receiver; spool = new.spool; urgent = if sends_rvi reply then false else old.urgent }
+pub record PeerReceives (old : PeerValue) (h : Heard) (new : PeerValue) (reply : Option Reply)
+    : Type 0 where
+  pub receives : Receives old.receiver old.spool h old.urgent
+      (record { receiver = new.receiver; spool = new.spool; reply = reply })
+  pub becomes : new ≡ record old {
+    receiver = new.receiver;
+    spool = new.spool;
+    urgent = if sends_rvi reply then false else old.urgent;
+  }

@@ -1,9 +1,12 @@
 -- Why a control station is not made (own).
-use Rattle.std.specs.Prelude.{◌≡◌, ◌≢◌, ◌<◌, ◌≤◌, ℕ, List, ◌++◌, length, take, slice_get, slice_index}
+use Rattle.std.specs.Prelude.{◌≡◌, ◌≢◌, ◌<◌, ◌≤◌, ℕ, List, ◌++◌, length, take, slice_get}
+use Rattle.std.specs.Prelude.{slice_index}
 use Rattle.std.specs.List.{AllPairs}
 use Rattle.bsc_text.specs.Terminal.{TerminalValue}
 use Rattle.bsc_control.specs.declared.refusal.SetupError.{SetupError}
-use Rattle.bsc_control.specs.declared.refusal.SetupError.TheVariants.{NoTerminal, TooMany, SameAddress, EmptyPollList, PollList, Memory}
+use Rattle.bsc_control.specs.declared.refusal.SetupError.TheVariants.{NoTerminal, TooMany}
+use Rattle.bsc_control.specs.declared.refusal.SetupError.TheVariants.{SameAddress, EmptyPollList}
+use Rattle.bsc_control.specs.declared.refusal.SetupError.TheVariants.{PollList, Memory}
 use Rattle.bsc_control.specs.Addresses.{addresses, AreDistinct}
 
 -- j is the least place whose address came before, at i
@@ -19,7 +22,7 @@ IsClash old more Memory = Unit {0}
 IsClash old more (SameAddress i j) = IsFirstRepeat (old ++ more) i j
 IsClash old more _ = ⊥
 
--- an entry of a poll list of this many terminals is right at places below 255 alone
+-- an entry of a poll list of this many terminals is right only at places below 255
 abbrev pub IsRight : ℕ → List ℕ → ℕ → Type 0
 IsRight count poll_list place = (place < 255) × (slice_index poll_list place < count)
 
@@ -42,9 +45,13 @@ pub record IsFirstWrong (count : ℕ) (poll_list : List ℕ) (place : ℕ) : Typ
 abbrev pub IsRefused : List TerminalValue → List ℕ → SetupError → Type 0
 IsRefused terminals poll_list NoTerminal = length terminals ≡ 0
 IsRefused terminals poll_list TooMany = 64 < length terminals
-IsRefused terminals poll_list (SameAddress i j) = IsNumber (length terminals) × IsFirstRepeat (addresses terminals) i j
-IsRefused terminals poll_list EmptyPollList = IsNumber (length terminals) × AreDistinct terminals × (length poll_list ≡ 0)
-IsRefused terminals poll_list (PollList place) = IsNumber (length terminals) × AreDistinct terminals × IsFirstWrong (length terminals) poll_list place
+IsRefused terminals poll_list (SameAddress i j) =
+    IsNumber (length terminals) × IsFirstRepeat (addresses terminals) i j
+IsRefused terminals poll_list EmptyPollList =
+    IsNumber (length terminals) × AreDistinct terminals × (length poll_list ≡ 0)
+IsRefused terminals poll_list (PollList place) =
+    IsNumber (length terminals) × AreDistinct terminals
+    × IsFirstWrong (length terminals) poll_list place
 IsRefused terminals poll_list Memory = IsNumber (length terminals)
 
 -- there is nothing to refuse

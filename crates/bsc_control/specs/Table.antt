@@ -1,7 +1,8 @@
--- The control station's table (GA27-3004: polling, selection, and the control station's side of a bid; the
--- limits, the urgent flag and several selection addresses are own). What no line lists changes nothing, and
--- nothing is sent.
-use Rattle.std.specs.Prelude.{◌≡◌, ℕ, ◌+◌, Bool, true, false, nat_lt, List, slice_index_or, Option, None, Some, option_map, if◌then◌else◌}
+-- The control station's table (GA27-3004: polling, selection, and the control station's side of a
+-- bid; the limits, the urgent flag and several selection addresses are own). What no line lists
+-- changes nothing, and nothing is sent.
+use Rattle.std.specs.Prelude.{◌≡◌, ℕ, ◌+◌, Bool, true, false, nat_lt, List, slice_index_or, Option}
+use Rattle.std.specs.Prelude.{None, Some, option_map, if◌then◌else◌}
 use Rattle.bsc_frame.specs.declared.message.Message.{Message}
 use Rattle.bsc_frame.specs.declared.message.Message.TheVariants as m
 use Rattle.bsc_frame.specs.declared.message.Heard.{Heard}
@@ -21,8 +22,10 @@ use Rattle.bsc_control.specs.declared.task.Task.TheVariants.{AtRest, Selecting, 
 use Rattle.bsc_control.specs.declared.way.Way.{Way}
 use Rattle.bsc_control.specs.declared.way.Way.TheVariants.{FromTerminal, ToTerminal}
 use Rattle.bsc_control.specs.Peer.{PeerValue, outbound_at, with_outbound, outbound_after}
-use Rattle.bsc_control.specs.Control.{ControlValue, ControlStep, peer, peer_at, current, terminal_of_entry, with_peer, with_current, quiet, sends}
-use Rattle.bsc_control.specs.CallOrder.{Call, After, Start, Selection, Interruption, Poll, next_call}
+use Rattle.bsc_control.specs.Control.{ControlValue, ControlStep, peer, peer_at, current}
+use Rattle.bsc_control.specs.Control.{terminal_of_entry, with_peer, with_current, quiet, sends}
+use Rattle.bsc_control.specs.CallOrder.{Call, After, Start, Selection, Interruption, Poll}
+use Rattle.bsc_control.specs.CallOrder.{next_call}
 
 -- the selection address of this number
 abbrev pub select_address : TerminalValue → ℕ → List ℕ
@@ -44,14 +47,24 @@ abbrev pub polls : ControlValue → ℕ → ℕ → ControlStep
 polls c place tries =
     let t : ℕ = terminal_of_entry c place in
     let p : PeerValue = peer_at c t in
-    sends (record (with_peer c t (record p { receiver = begun true })) { place = place; task = Polling Nothing; tries = tries; waits = 0 }) (m.Call p.terminal.poll)
+    sends (record (with_peer c t (record p { receiver = begun true })) {
+      place = place;
+      task = Polling Nothing;
+      tries = tries;
+      waits = 0;
+    }) (m.Call p.terminal.poll)
 
 -- a selection address of an entry is called: the urgent flag is cleared
 abbrev pub selects : ControlValue → ℕ → ℕ → ControlStep
 selects c place s =
     let t : ℕ = terminal_of_entry c place in
     let p : PeerValue = peer_at c t in
-    sends (record (with_peer c t (record p { urgent = false })) { place = place; task = Selecting s false; tries = 0; waits = 0 }) (m.Call (select_address p.terminal s))
+    sends (record (with_peer c t (record p { urgent = false })) {
+      place = place;
+      task = Selecting s false;
+      tries = 0;
+      waits = 0;
+    }) (m.Call (select_address p.terminal s))
 
 abbrev pub calls_by : ControlValue → ℕ → Way → ControlStep
 calls_by c place FromTerminal = polls c place 0
@@ -73,7 +86,8 @@ performs c s a.Over after = calls_next c after
 performs c s a.Quiet after = quiet c
 
 abbrev pub acted : ControlValue → ℕ → SenderStep → After → ControlStep
-acted c s step after = performs (with_current c (with_outbound (peer c) s (outbound_after step))) s step.act after
+acted c s step after =
+    performs (with_current c (with_outbound (peer c) s (outbound_after step))) s step.act after
 
 -- what a bid that ends now is over by: RVI, or all else
 abbrev pub after_bid : ℕ → Option Reply → After
@@ -82,7 +96,9 @@ after_bid s _ = Selection s
 
 -- a selection is answered
 abbrev pub selecting_step : ControlValue → ℕ → Option Reply → ControlStep
-selecting_step c s (Some Ack0) = acted c s (begin_step (outbound_at (peer c) s).sender (outbound_at (peer c) s).queue) (Selection s)
+selecting_step c s (Some Ack0) =
+    acted c s (begin_step (outbound_at (peer c) s).sender (outbound_at (peer c) s).queue)
+    (Selection s)
 selecting_step c s (Some Nak) = calls_next c (Selection s)
 selecting_step c s (Some Wack) =
     if nat_lt c.setup.waits (c.waits + 1) then calls_next c (Selection s)
@@ -95,7 +111,11 @@ receives c replied step =
     let p : PeerValue = peer c in
     record {
       control =
-          record (with_current c (record p { receiver = step.receiver; spool = step.spool; urgent = if sends_rvi step.reply then false else p.urgent })) {
+          record (with_current c (record p {
+            receiver = step.receiver;
+            spool = step.spool;
+            urgent = if sends_rvi step.reply then false else p.urgent;
+          })) {
             task = Polling (replied_after replied step.reply);
           };
       sent = option_map message_of step.reply;
@@ -104,14 +124,17 @@ receives c replied step =
 -- a poll is answered
 abbrev pub polling_step : ControlValue → Replied → Heard → Rooms → ControlStep
 polling_step c replied (Whole m.Eot) rooms = calls_next c (Poll (has_rvi replied))
-polling_step c replied h rooms = receives c replied (heard_step (peer c).receiver (peer c).spool h (peer c).urgent rooms)
+polling_step c replied h rooms =
+    receives c replied (heard_step (peer c).receiver (peer c).spool h (peer c).urgent rooms)
 
 -- the table: what is heard
 abbrev pub task_step : ControlValue → Task → Heard → Rooms → ControlStep
 task_step c AtRest h rooms = quiet c
 task_step c (Selecting s enquired) h rooms = selecting_step c s (reply_heard h)
 task_step c (Sending s) h rooms =
-    acted c s (reply_step (outbound_at (peer c) s).sender (outbound_at (peer c) s).queue (reply_heard h)) (after_bid s (reply_heard h))
+    acted c s
+    (reply_step (outbound_at (peer c) s).sender (outbound_at (peer c) s).queue (reply_heard h))
+    (after_bid s (reply_heard h))
 task_step c (Polling replied) h rooms = polling_step c replied h rooms
 
 abbrev pub hear_step : ControlValue → Heard → Rooms → ControlStep
@@ -128,7 +151,9 @@ silence_in c AtRest = calls_next c Start
 silence_in c (Selecting s enquired) =
     if nat_lt c.setup.tries (c.tries + 1) then calls_next c (Selection s)
     else sends (record c { tries = c.tries + 1 }) (repeated c s enquired)
-silence_in c (Sending s) = acted c s (silence_step (outbound_at (peer c) s).sender (outbound_at (peer c) s).queue) (Selection s)
+silence_in c (Sending s) =
+    acted c s (silence_step (outbound_at (peer c) s).sender (outbound_at (peer c) s).queue)
+    (Selection s)
 silence_in c (Polling Nothing) =
     if nat_lt c.setup.tries (c.tries + 1) then calls_next c (Poll false)
     else polls c c.place (c.tries + 1)
@@ -140,7 +165,8 @@ silent_step c = silence_in c c.task
 
 -- what the tries for room found, read from what they left at the terminal that was polled
 abbrev pub rooms_after : ControlValue → Heard → ControlValue → Rooms
-rooms_after old h new = rooms_left h (peer_at new (current old)).receiver.last (peer_at new (current old)).spool
+rooms_after old h new =
+    rooms_left h (peer_at new (current old)).receiver.last (peer_at new (current old)).spool
 
 -- the receiver of the polled terminal hears this
 abbrev pub IsReceived : Task → Heard → Type 0
@@ -148,10 +174,13 @@ IsReceived (Polling replied) (Whole m.Eot) = ⊥
 IsReceived (Polling replied) h = Unit {0}
 IsReceived task h = ⊥
 
--- The control station and what it sends are those of the table. Where there was room, the first try found it.
-pub record Hears (old : ControlValue) (h : Heard) (new : ControlValue) (sent : Option Message) : Type 0 where
+-- The control station and what it sends are those of the table. Where there was room, the first try
+-- found it.
+pub record Hears (old : ControlValue) (h : Heard) (new : ControlValue) (sent : Option Message)
+    : Type 0 where
   pub row : record { control = new; sent = sent } ≡ hear_step old h (rooms_after old h new)
-  pub room : IsReceived old.task h → (peer old).spool.room ≡ true → (rooms_after old h new).first ≡ true
+  pub room : IsReceived old.task h → (peer old).spool.room ≡ true
+      → (rooms_after old h new).first ≡ true
 
 -- at a silence the control station and what it sends are those of the table
 abbrev pub ActsOnSilence : ControlValue → ControlValue → Option Message → Type 0

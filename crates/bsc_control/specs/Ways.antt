@@ -8,7 +8,7 @@ abbrev pub IsToTerminal : Way → Type 0
 IsToTerminal FromTerminal = ⊥
 IsToTerminal (ToTerminal s) = Unit {0}
 
--- to the terminal, and it has so many selection addresses that this is one of them
+-- to the terminal, by one of this many selection addresses
 abbrev pub IsSelection : Way → ℕ → Type 0
 IsSelection FromTerminal count = ⊥
 IsSelection (ToTerminal s) count = s < count

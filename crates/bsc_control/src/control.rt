@@ -1,6 +1,7 @@
 //! The control station.
 
-ghost use Rattle.std.specs.Prelude.{◌≡◌, ◌≤◌, ◌<◌, ◌↔◌, ℕ, length, true, false, Some, OnOk, OnErr, IfOk, IfErr};
+ghost use Rattle.std.specs.Prelude.{◌≡◌, ◌≤◌, ◌<◌, ◌↔◌, ℕ, length, true, false, Some, OnOk, OnErr};
+ghost use Rattle.std.specs.Prelude.{IfOk, IfErr};
 ghost use Rattle.bsc_text.specs.Sender.{is_in_doubt, release_step};
 ghost use Rattle.bsc_control.specs.declared.way.Way.{Way as WayValue};
 ghost use Rattle.bsc_control.specs.Addresses.{IsAddressOf};
@@ -27,7 +28,10 @@ const MAX_TERMINALS: usize = 64;
 /// The control station of a line (GA27-3004, centralised multipoint operation).
 #[derive(Drop)]
 pub struct Control<A: Allocator> {
+    /// Whose each address of the line is.
     directory: Directory<A>,
+
+    /// The settings, the poll list and what is kept for each terminal.
     procedure: Procedure<A>,
 }
 
@@ -41,15 +45,16 @@ impl<A: Allocator> Model for Control<A> {
 
     ghost view = { λ c. c.procedure };
 
-    ghost invariant = { λ c. IsControl c.procedure × (c.directory ≡ numbered 0 (terminals c.procedure)) };
+    ghost invariant = { λ c. IsControl c.procedure
+        × (c.directory ≡ numbered 0 (terminals c.procedure)) };
 }
 
 impl<A: Allocator> Control<A> {
-    /// A control station at rest: its first silence makes the first call. It has these settings, calls
-    /// these terminals (1 to 64, whose addresses differ), and goes through this poll list (1 to 255 entries,
-    /// each the number of a terminal). Refused, in this order: `NoTerminal`, `TooMany`, `SameAddress`,
-    /// `EmptyPollList`, `PollList`; `Memory` may come in place of any after `TooMany`. (GA27-3004, poll
-    /// list; the limits are own.)
+    /// A control station at rest: its first silence makes the first call. It has these settings,
+    /// calls these terminals (1 to 64, whose addresses differ), and goes through this poll list (1
+    /// to 255 entries, each the number of a terminal). Refused, in this order: `NoTerminal`,
+    /// `TooMany`, `SameAddress`, `EmptyPollList`, `PollList`; `Memory` may come in place of any
+    /// after `TooMany`. (GA27-3004, poll list; the limits are own.)
     pub fn new(
         alloc: A,
         setup: Setup,
@@ -116,23 +121,26 @@ impl<A: Allocator> Control<A> {
         self.procedure.addresses(terminal)
     }
 
-    /// The terminal and the way whose address this is: a polling address is a way from its terminal. None
-    /// where it is nobody's. (GA27-3004, polling and selection addresses.)
+    /// The terminal and the way whose address this is: a polling address is a way from its
+    /// terminal. None where it is nobody's. (GA27-3004, polling and selection addresses.)
     pub fn find(&self, address: &Address) -> Option<(usize, Way)>
-        ensures exact { (t : ℕ) (way : WayValue) → (result ≡ Some (t, way)) ↔ IsAddressOf (terminals self.now) t way address.now }
+        ensures exact { (t : ℕ) (way : WayValue)
+            → (result ≡ Some (t, way)) ↔ IsAddressOf (terminals self.now) t way address.now }
         ensures control { IsControl self.now }
     {
         self.directory.find(address)
     }
 
-    /// Adds a record to those for a selection address of a terminal. It comes back where there is no memory for it,
-    /// and then nothing changed. Condition: there is such an address, and the record is not longer than the
-    /// full length.
+    /// Adds a record to those for a selection address of a terminal. It comes back where there is
+    /// no memory for it, and then nothing changed. Condition: there is such an address, and the
+    /// record is not longer than the full length.
     pub fn offer(&mut self, terminal: usize, select: usize, record: Record) -> Result<(), Record>
         requires terminal { terminal < length self.old.peers }
         requires select { select < length (peer_at self.old terminal).outbounds }
         requires short { length «record» ≤ self.old.setup.format.full }
-        ensures ok { OnOk result (self.new ≡ with_peer self.old terminal (offered_to (peer_at self.old terminal) select «record»)) }
+        ensures ok { OnOk result (self.new
+            ≡ with_peer self.old terminal
+            (offered_to (peer_at self.old terminal) select «record»)) }
         ensures err { OnErr result (self.new ≡ self.old) }
         ensures given_back { IfErr result (λ r. r ≡ «record») }
         ensures control { IsControl self.new }
@@ -140,42 +148,49 @@ impl<A: Allocator> Control<A> {
         self.procedure.offer(terminal, select, record)
     }
 
-    /// Asks a terminal for the line: the next text of it that is taken is answered by RVI, unless it is
-    /// selected before. Condition: there is such a terminal. (GA27-3004, RVI; the flag is own.)
+    /// Asks a terminal for the line: the next text of it that is taken is answered by RVI, unless
+    /// it is selected before. Condition: there is such a terminal. (GA27-3004, RVI; the flag is
+    /// own.)
     pub fn set_urgent(&mut self, terminal: usize)
         requires { terminal < length self.old.peers }
-        ensures state { self.new ≡ with_peer self.old terminal (record (peer_at self.old terminal) { urgent = true }) }
+        ensures state { self.new
+            ≡ with_peer self.old terminal (record (peer_at self.old terminal) { urgent = true }) }
         ensures control { IsControl self.new }
     {
         self.procedure.set_urgent(terminal);
     }
 
-    /// Whether it is not known if the last block for this address arrived. Condition: the way is to a
-    /// terminal, and there is such an address. (Own.)
+    /// Whether it is not known if the last block for this address arrived. Condition: the way is to
+    /// a terminal, and there is such an address. (Own.)
     pub fn in_doubt(&self, terminal: usize, way: Way) -> bool
         requires terminal { terminal < length self.now.peers }
         requires way { IsSelection way (length (peer_at self.now terminal).outbounds) }
-        ensures value { result ≡ is_in_doubt (outbound_of self.now terminal (select_of way)).sender.phase }
+        ensures value { result
+            ≡ is_in_doubt (outbound_of self.now terminal (select_of way)).sender.phase }
         ensures control { IsControl self.now }
     {
         self.procedure.in_doubt(terminal, way.select())
     }
 
-    /// Ends the doubt: the other end has `count` records. `NotInDoubt`, then `CountMismatch` where the
-    /// count is neither that of the known records nor that with the doubtful block; both change nothing.
-    /// Condition: the way is to a terminal, and there is such an address. (Own.)
+    /// Ends the doubt: the other end has `count` records. `NotInDoubt`, then `CountMismatch` where
+    /// the count is neither that of the known records nor that with the doubtful block; both change
+    /// nothing. Condition: the way is to a terminal, and there is such an address. (Own.)
     pub fn release(&mut self, terminal: usize, way: Way, count: usize) -> Result<(), ReleaseError>
         requires terminal { terminal < length self.old.peers }
         requires way { IsSelection way (length (peer_at self.old terminal).outbounds) }
-        ensures state { self.new ≡ with_peer self.old terminal (with_outbound (peer_at self.old terminal) (select_of way) (released (outbound_of self.old terminal (select_of way)) count)) }
-        ensures answer { result ≡ (release_step (outbound_of self.old terminal (select_of way)).sender (outbound_of self.old terminal (select_of way)).queue count).answer }
+        ensures state { self.new
+            ≡ with_peer self.old terminal (with_outbound (peer_at self.old terminal) (select_of way)
+            (released (outbound_of self.old terminal (select_of way)) count)) }
+        ensures answer { result
+            ≡ (release_step (outbound_of self.old terminal (select_of way)).sender
+            (outbound_of self.old terminal (select_of way)).queue count).answer }
         ensures control { IsControl self.new }
     {
         self.procedure.release(terminal, way.select(), count)
     }
 
-    /// The records for a selection address of a terminal, and how many of them are known to have arrived.
-    /// Condition: there is such an address.
+    /// The records for a selection address of a terminal, and how many of them are known to have
+    /// arrived. Condition: there is such an address.
     pub fn queue(&self, terminal: usize, select: usize) -> &Queue<A>
         requires terminal { terminal < length self.now.peers }
         requires select { select < length (peer_at self.now terminal).outbounds }
@@ -224,5 +239,6 @@ impl<A: Allocator> Station for Control<A> {
         false
     }
 
-    ghost ignores_noise = { λ old new sent hearing. noise_changes_nothing old new sent hearing.row };
+    ghost ignores_noise = { λ old new sent hearing.
+        noise_changes_nothing old new sent hearing.row };
 }

@@ -17,9 +17,11 @@ use std::alloc::Allocator;
 use std::hash::{BuildHasherDefault, FoldHasher};
 use std::marker::Model;
 
-/// The addresses of the line. The place of an address in the map is its number; its value says whose it is.
+/// The addresses of the line. The place of an address in the map is its number; its value says
+/// whose it is.
 #[derive(Drop)]
 pub(crate) struct Directory<A: Allocator> {
+    /// The terminal and the way of each address.
     owners: IndexMap<Address, (usize, Way), BuildHasherDefault<FoldHasher>, A>,
 }
 
@@ -37,8 +39,8 @@ impl<A: Allocator> Model for Directory<A> {
 }
 
 impl<A: Allocator> Directory<A> {
-    /// The addresses of these terminals. `SameAddress` at the first that came before, `Memory` where memory
-    /// is wanting.
+    /// The addresses of these terminals. `SameAddress` at the first that came before, `Memory`
+    /// where there is no memory.
     pub(crate) fn new(alloc: A, terminals: &[Terminal]) -> Result<Self, SetupError>
     where
         A: Copy,
@@ -59,7 +61,8 @@ impl<A: Allocator> Directory<A> {
 
     /// Whose an address is. None where it is nobody's.
     pub(crate) fn find(&self, address: &Address) -> Option<(usize, Way)>
-        ensures { (t : ℕ) (way : WayValue) → (result ≡ Some (t, way)) ↔ Contains self.now (address.now, (t, way)) }
+        ensures { (t : ℕ) (way : WayValue)
+            → (result ≡ Some (t, way)) ↔ Contains self.now (address.now, (t, way)) }
     {
         self.owners.get(address).copied()
     }
@@ -67,7 +70,8 @@ impl<A: Allocator> Directory<A> {
     /// Enters the addresses of a terminal.
     fn enter_all(&mut self, number: usize, terminal: &Terminal) -> Result<(), SetupError>
         ensures entries { OnOk result (self.new ≡ self.old ++ owned number terminal.now) }
-        ensures refused { IfErr result (λ e. IsClash (keys_of self.old) (own_addresses terminal.now) e) }
+        ensures refused { IfErr result
+            (λ e. IsClash (keys_of self.old) (own_addresses terminal.now) e) }
     {
         self.enter(terminal.poll(), number, Way::FromTerminal)?;
         for select in 0..terminal.selects() {

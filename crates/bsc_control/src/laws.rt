@@ -1,4 +1,4 @@
-//! Laws over the definitions alone, for the layers above.
+//! Laws over the definitions, for the layers above.
 
 ghost use Rattle.std.specs.Prelude.{List, All};
 ghost use Rattle.bsc_text.specs.Terminal.{TerminalValue, HasDistinctAddresses};
@@ -6,5 +6,6 @@ ghost use Rattle.bsc_control.specs.Addresses.{AreDistinct};
 
 /// Where the addresses of a line all differ, those of each of its terminals do.
 pub fn distinct_addresses()
-    ensures { (terminals : List TerminalValue) → AreDistinct terminals → All HasDistinctAddresses terminals }
+    ensures { (terminals : List TerminalValue)
+        → AreDistinct terminals → All HasDistinctAddresses terminals }
 {}

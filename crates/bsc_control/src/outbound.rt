@@ -4,8 +4,10 @@ ghost use Rattle.std.specs.Prelude.{◌≡◌, ◌≤◌, ◌++◌, [], ◌∷�
 ghost use Rattle.bsc_spool.specs.Queue.{waiting};
 ghost use Rattle.bsc_text.specs.declared.phase.Phase.TheVariants.{Idle};
 ghost use Rattle.bsc_text.specs.Reply.{reply_heard};
-ghost use Rattle.bsc_text.specs.Sender.{begin_step, reply_step, silence_step, is_in_doubt, release_step};
-ghost use Rattle.bsc_control.specs.Peer.{OutboundValue, IsOutbound, outbound_after, new_outbound, released, is_selectable};
+ghost use Rattle.bsc_text.specs.Sender.{begin_step, reply_step, silence_step, is_in_doubt};
+ghost use Rattle.bsc_text.specs.Sender.{release_step};
+ghost use Rattle.bsc_control.specs.Peer.{OutboundValue, IsOutbound, outbound_after, new_outbound};
+ghost use Rattle.bsc_control.specs.Peer.{released, is_selectable};
 
 use bsc_block::Record;
 use bsc_frame::Heard;
@@ -17,7 +19,10 @@ use std::marker::Model;
 /// The records for one selection address, and the sender of their bids.
 #[derive(Drop)]
 pub(crate) struct Outbound<A: Allocator> {
+    /// The sending end of the bids to the address.
     sender: Sender,
+
+    /// The records that were offered for the address.
     queue: Queue<A>,
 }
 
@@ -64,8 +69,10 @@ impl<A: Allocator> Outbound<A> {
 
     /// Hears a transmission during a bid.
     pub(crate) fn reply(&mut self, heard: &Heard) -> Act
-        ensures state { self.new ≡ outbound_after (reply_step self.old.sender self.old.queue (reply_heard heard.now)) }
-        ensures act { result ≡ (reply_step self.old.sender self.old.queue (reply_heard heard.now)).act }
+        ensures state { self.new
+            ≡ outbound_after (reply_step self.old.sender self.old.queue (reply_heard heard.now)) }
+        ensures act { result
+            ≡ (reply_step self.old.sender self.old.queue (reply_heard heard.now)).act }
         ensures outbound { IsOutbound self.new }
     {
         self.sender.reply(heard, &mut self.queue)
@@ -80,10 +87,15 @@ impl<A: Allocator> Outbound<A> {
         self.sender.silence()
     }
 
-    /// Adds a record that is not longer than the full length. It comes back where there is no memory for it.
+    /// Adds a record that is not longer than the full length. It comes back where there is no
+    /// memory for it.
     pub(crate) fn offer(&mut self, record: Record) -> Result<(), Record>
         requires { length «record» ≤ self.old.queue.format.full }
-        ensures ok { OnOk result (self.new ≡ record self.old { queue = record self.old.queue { offered = self.old.queue.offered ++ «record» ∷ [] } }) }
+        ensures ok { OnOk result (self.new
+            ≡ record self.old {
+              queue =
+                  record self.old.queue { offered = self.old.queue.offered ++ «record» ∷ [] };
+            }) }
         ensures err { OnErr result (self.new ≡ self.old) }
         ensures given_back { IfErr result (λ r. r ≡ «record») }
         ensures outbound { IsOutbound self.new }

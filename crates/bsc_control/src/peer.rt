@@ -1,13 +1,17 @@
 //! What the control station keeps for one terminal.
 
-ghost use Rattle.std.specs.Prelude.{◌≡◌, ◌≤◌, ◌<◌, true, false, Some, length, OnOk, OnErr, IfOk, IfErr, position};
+ghost use Rattle.std.specs.Prelude.{◌≡◌, ◌≤◌, ◌<◌, true, false, Some, length, OnOk, OnErr, IfOk};
+ghost use Rattle.std.specs.Prelude.{IfErr, position};
 ghost use Rattle.bsc_spool.specs.Queue.{waiting};
 ghost use Rattle.bsc_text.specs.declared.phase.Phase.TheVariants.{Idle};
 ghost use Rattle.bsc_text.specs.Receiver.{begun};
 ghost use Rattle.bsc_text.specs.Reply.{reply_heard};
-ghost use Rattle.bsc_text.specs.Sender.{begin_step, reply_step, silence_step, is_in_doubt, release_step};
+ghost use Rattle.bsc_text.specs.Sender.{begin_step, reply_step, silence_step, is_in_doubt};
+ghost use Rattle.bsc_text.specs.Sender.{release_step};
 ghost use Rattle.bsc_control.specs.CallOrder.{way_from};
-ghost use Rattle.bsc_control.specs.Peer.{PeerValue, IsPeer, PeerReceives, outbound_at, with_outbound, outbound_after, IsNewPeer, is_selectable, offered_to, released};
+ghost use Rattle.bsc_control.specs.Peer.{PeerValue, IsPeer, PeerReceives, outbound_at};
+ghost use Rattle.bsc_control.specs.Peer.{with_outbound, outbound_after, IsNewPeer, is_selectable};
+ghost use Rattle.bsc_control.specs.Peer.{offered_to, released};
 ghost use Rattle.bsc_control.specs.Table.{select_address};
 
 use crate::outbound::Outbound;
@@ -19,14 +23,23 @@ use bsc_text::{Act, Receiver, ReleaseError, Reply, Setup, Terminal};
 use std::alloc::{AllocError, Allocator};
 use std::marker::Model;
 
-/// What the control station keeps for one terminal: its addresses, the urgent flag, the receiver and the
-/// spool of what it sends, and what is sent to each of its selection addresses.
+/// What the control station keeps for one terminal: its addresses, the urgent flag, the receiver
+/// and the spool of what it sends, and what is sent to each of its selection addresses.
 #[derive(Drop)]
 pub(crate) struct Peer<A: Allocator> {
+    /// Its polling address and its selection addresses.
     terminal: Terminal,
+
+    /// Whether the next text that is taken from it is answered by RVI.
     urgent: bool,
+
+    /// The receiving end of its bids.
     receiver: Receiver,
+
+    /// The records that arrived from it.
     spool: Spool<A>,
+
+    /// What is sent to each of its selection addresses, in their order.
     outbounds: Vec<Outbound<A>, A>,
 }
 
@@ -35,9 +48,21 @@ impl<A: Allocator> Model for Peer<A> {
 
     ghost Value = { PeerValue };
 
-    ghost view = { λ p. record { terminal = p.terminal; urgent = p.urgent; receiver = p.receiver; spool = p.spool; outbounds = p.outbounds.items } };
+    ghost view = { λ p. record {
+      terminal = p.terminal;
+      urgent = p.urgent;
+      receiver = p.receiver;
+      spool = p.spool;
+      outbounds = p.outbounds.items;
+    } };
 
-    ghost invariant = { λ p. IsPeer (record { terminal = p.terminal; urgent = p.urgent; receiver = p.receiver; spool = p.spool; outbounds = p.outbounds.items }) };
+    ghost invariant = { λ p. IsPeer (record {
+      terminal = p.terminal;
+      urgent = p.urgent;
+      receiver = p.receiver;
+      spool = p.spool;
+      outbounds = p.outbounds.items;
+    }) };
 }
 
 impl<A: Allocator> Peer<A> {
@@ -83,8 +108,8 @@ impl<A: Allocator> Peer<A> {
         self.terminal.select(select)
     }
 
-    /// The first selection address from this number on for which records wait without doubt, else the
-    /// polling address.
+    /// The first selection address from this number on for which records wait without doubt, else
+    /// the polling address.
     pub(crate) fn way_from(&self, from: usize) -> Way
         requires { from ≤ length self.now.outbounds }
         ensures { result ≡ way_from self.now from }
@@ -128,8 +153,12 @@ impl<A: Allocator> Peer<A> {
         requires there { select < length self.old.outbounds }
         requires idle { (outbound_at self.old select).sender.phase ≡ Idle }
         requires some { 1 ≤ length (waiting (outbound_at self.old select).queue) }
-        ensures state { self.new ≡ with_outbound self.old select (outbound_after (begin_step (outbound_at self.old select).sender (outbound_at self.old select).queue)) }
-        ensures act { result ≡ (begin_step (outbound_at self.old select).sender (outbound_at self.old select).queue).act }
+        ensures state { self.new
+            ≡ with_outbound self.old select (outbound_after (begin_step
+            (outbound_at self.old select).sender (outbound_at self.old select).queue)) }
+        ensures act { result
+            ≡ (begin_step (outbound_at self.old select).sender
+            (outbound_at self.old select).queue).act }
         ensures peer { IsPeer self.new }
     {
         let outbound = &mut self.outbounds[select];
@@ -139,8 +168,13 @@ impl<A: Allocator> Peer<A> {
     /// Hears a transmission during a bid to a selection address.
     pub(crate) fn reply(&mut self, select: usize, heard: &Heard) -> Act
         requires { select < length self.old.outbounds }
-        ensures state { self.new ≡ with_outbound self.old select (outbound_after (reply_step (outbound_at self.old select).sender (outbound_at self.old select).queue (reply_heard heard.now))) }
-        ensures act { result ≡ (reply_step (outbound_at self.old select).sender (outbound_at self.old select).queue (reply_heard heard.now)).act }
+        ensures state { self.new
+            ≡ with_outbound self.old select (outbound_after (reply_step
+            (outbound_at self.old select).sender (outbound_at self.old select).queue
+            (reply_heard heard.now))) }
+        ensures act { result
+            ≡ (reply_step (outbound_at self.old select).sender
+            (outbound_at self.old select).queue (reply_heard heard.now)).act }
         ensures peer { IsPeer self.new }
     {
         let outbound = &mut self.outbounds[select];
@@ -150,8 +184,12 @@ impl<A: Allocator> Peer<A> {
     /// Nothing was heard during a bid to a selection address.
     pub(crate) fn silence(&mut self, select: usize) -> Act
         requires { select < length self.old.outbounds }
-        ensures state { self.new ≡ with_outbound self.old select (outbound_after (silence_step (outbound_at self.old select).sender (outbound_at self.old select).queue)) }
-        ensures act { result ≡ (silence_step (outbound_at self.old select).sender (outbound_at self.old select).queue).act }
+        ensures state { self.new
+            ≡ with_outbound self.old select (outbound_after (silence_step
+            (outbound_at self.old select).sender (outbound_at self.old select).queue)) }
+        ensures act { result
+            ≡ (silence_step (outbound_at self.old select).sender
+            (outbound_at self.old select).queue).act }
         ensures peer { IsPeer self.new }
     {
         let outbound = &mut self.outbounds[select];
@@ -183,8 +221,11 @@ impl<A: Allocator> Peer<A> {
     /// Ends the doubt about a selection address.
     pub(crate) fn release(&mut self, select: usize, count: usize) -> Result<(), ReleaseError>
         requires { select < length self.old.outbounds }
-        ensures state { self.new ≡ with_outbound self.old select (released (outbound_at self.old select) count) }
-        ensures answer { result ≡ (release_step (outbound_at self.old select).sender (outbound_at self.old select).queue count).answer }
+        ensures state { self.new
+            ≡ with_outbound self.old select (released (outbound_at self.old select) count) }
+        ensures answer { result
+            ≡ (release_step (outbound_at self.old select).sender
+            (outbound_at self.old select).queue count).answer }
         ensures peer { IsPeer self.new }
     {
         let outbound = &mut self.outbounds[select];

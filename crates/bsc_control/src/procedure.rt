@@ -1,13 +1,18 @@
-//! The line procedure of the control station: whom it calls next, and what it does with what it hears.
+//! The line procedure of the control station: whom it calls next, and what it does with what it
+//! hears.
 
-ghost use Rattle.std.specs.Prelude.{if◌then◌else◌, ◌≡◌, ◌≤◌, ◌<◌, ◌+◌, length, true, false, Some, Option, None, slice_index, OnOk, OnErr, IfOk, IfErr, All};
+ghost use Rattle.std.specs.Prelude.{if◌then◌else◌, ◌≡◌, ◌≤◌, ◌<◌, ◌+◌, length, true, false, Some};
+ghost use Rattle.std.specs.Prelude.{Option, None, slice_index, OnOk, OnErr, IfOk, IfErr, All};
 ghost use Rattle.bsc_text.specs.Reply.{reply_heard};
 ghost use Rattle.bsc_text.specs.Sender.{reply_step, is_in_doubt, release_step};
 ghost use Rattle.bsc_control.specs.CallOrder.{Start, Selection, Interruption, Poll, way_from};
 ghost use Rattle.bsc_control.specs.Control.{ControlValue, HasEntries, peer, peer_at, with_peer};
 ghost use Rattle.bsc_control.specs.Kept.{IsSelected, SuitsTask, IsNewControl};
 ghost use Rattle.bsc_control.specs.Peer.{outbound_at, with_outbound, released, offered_to};
-ghost use Rattle.bsc_control.specs.Table.{polls, selects, calls_by, calls, calls_next, performs, acted, after_bid, selecting_step, polling_step, silence_in, rooms_after, Hears, ActsOnSilence, IsReceived};
+ghost use Rattle.bsc_control.specs.Table.{polls, selects, calls_by, calls, calls_next, performs};
+ghost use Rattle.bsc_control.specs.Table.{acted, after_bid, selecting_step, polling_step};
+ghost use Rattle.bsc_control.specs.Table.{silence_in, rooms_after, Hears, ActsOnSilence};
+ghost use Rattle.bsc_control.specs.Table.{IsReceived};
 
 use crate::peer::Peer;
 use crate::task::{Replied, Task};
@@ -19,16 +24,28 @@ use bsc_text::{Act, ReleaseError, Reply, Setup, Terminal};
 use std::alloc::{AllocError, Allocator};
 use std::marker::Model;
 
-/// The procedure of a control station: its settings, its poll list, where it stands in it, and what it keeps
-/// for each terminal.
+/// The procedure of a control station: its settings, its poll list, where it stands in it, and what
+/// it keeps for each terminal.
 #[derive(Drop)]
 pub(crate) struct Procedure<A: Allocator> {
     setup: Setup,
+
+    /// The number of a terminal for each entry.
     poll_list: Vec<u8, A>,
+
+    /// The place of the present entry in the poll list.
     place: usize,
+
+    /// What is done at the present entry.
     task: Task,
+
+    /// The failures in a row of the present call.
     tries: u8,
+
+    /// The WACKs that answered the present selection.
     waits: u8,
+
+    /// What is kept for each terminal, in the order of their numbers.
     peers: Vec<Peer<A>, A>,
 }
 
@@ -37,13 +54,30 @@ impl<A: Allocator> Model for Procedure<A> {
 
     ghost Value = { ControlValue };
 
-    ghost view = { λ c. record { setup = c.setup; poll_list = c.poll_list.items; place = c.place; task = c.task; tries = c.tries; waits = c.waits; peers = c.peers.items } };
+    ghost view = { λ c. record {
+      setup = c.setup;
+      poll_list = c.poll_list.items;
+      place = c.place;
+      task = c.task;
+      tries = c.tries;
+      waits = c.waits;
+      peers = c.peers.items;
+    } };
 
-    ghost invariant = { λ c. HasEntries (record { setup = c.setup; poll_list = c.poll_list.items; place = c.place; task = c.task; tries = c.tries; waits = c.waits; peers = c.peers.items }) };
+    ghost invariant = { λ c. HasEntries (record {
+      setup = c.setup;
+      poll_list = c.poll_list.items;
+      place = c.place;
+      task = c.task;
+      tries = c.tries;
+      waits = c.waits;
+      peers = c.peers.items;
+    }) };
 }
 
 impl<A: Allocator> Procedure<A> {
-    /// At rest at the first entry, with nothing to send and nothing received. The error is out of memory.
+    /// At rest at the first entry, with nothing to send and nothing received. The error is out of
+    /// memory.
     pub(crate) fn new(
         alloc: A,
         setup: Setup,
@@ -94,7 +128,8 @@ impl<A: Allocator> Procedure<A> {
     /// Calls a selection address of an entry.
     fn select(&mut self, place: usize, select: usize) -> Option<Message>
         requires place { place < length self.old.poll_list }
-        requires select { select < length (peer_at self.old (slice_index self.old.poll_list place)).outbounds }
+        requires select { select
+            < length (peer_at self.old (slice_index self.old.poll_list place)).outbounds }
         ensures row { record { control = self.new; sent = result } ≡ selects self.old place select }
         ensures entries { HasEntries self.new }
     {
@@ -114,8 +149,11 @@ impl<A: Allocator> Procedure<A> {
     /// Makes the first call of an entry from this selection address on.
     fn call_from(&mut self, place: usize, from: usize) -> Option<Message>
         requires place { place < length self.old.poll_list }
-        requires from { from ≤ length (peer_at self.old (slice_index self.old.poll_list place)).outbounds }
-        ensures row { record { control = self.new; sent = result } ≡ calls_by self.old place (way_from (peer_at self.old (slice_index self.old.poll_list place)) from) }
+        requires from { from
+            ≤ length (peer_at self.old (slice_index self.old.poll_list place)).outbounds }
+        ensures row { record { control = self.new; sent = result }
+            ≡ calls_by self.old place
+            (way_from (peer_at self.old (slice_index self.old.poll_list place)) from) }
         ensures entries { HasEntries self.new }
     {
         let terminal = self.poll_list[place] as usize;
@@ -137,7 +175,8 @@ impl<A: Allocator> Procedure<A> {
     /// Makes the call after a selection, or after the bid that it led to.
     fn call_after_selection(&mut self, select: usize) -> Option<Message>
         requires { select < length (peer self.old).outbounds }
-        ensures row { record { control = self.new; sent = result } ≡ calls_next self.old (Selection select) }
+        ensures row { record { control = self.new; sent = result }
+            ≡ calls_next self.old (Selection select) }
         ensures entries { HasEntries self.new }
     {
         self.call_from(self.place, select + 1)
@@ -145,7 +184,8 @@ impl<A: Allocator> Procedure<A> {
 
     /// Makes the call after a poll.
     fn call_after_poll(&mut self, rvi: bool) -> Option<Message>
-        ensures row { record { control = self.new; sent = result } ≡ calls_next self.old (Poll rvi) }
+        ensures row { record { control = self.new; sent = result }
+            ≡ calls_next self.old (Poll rvi) }
         ensures entries { HasEntries self.new }
     {
         let place = if rvi {
@@ -161,7 +201,9 @@ impl<A: Allocator> Procedure<A> {
     /// Does what the sender to a selection address says. `interrupted`: RVI was heard.
     fn perform(&mut self, act: Act, select: usize, interrupted: bool) -> Option<Message>
         requires { select < length (peer self.old).outbounds }
-        ensures row { record { control = self.new; sent = result } ≡ performs self.old select act (if interrupted then Interruption else Selection select) }
+        ensures row { record { control = self.new; sent = result }
+            ≡ performs self.old select act
+            (if interrupted then Interruption else Selection select) }
         ensures entries { HasEntries self.new }
     {
         // A field is read, so that the invariant is known here.
@@ -184,7 +226,8 @@ impl<A: Allocator> Procedure<A> {
     /// The selected terminal is ready: a bid begins.
     fn begin_bid(&mut self, select: usize) -> Option<Message>
         requires { IsSelected (peer self.old) select }
-        ensures row { record { control = self.new; sent = result } ≡ selecting_step self.old select (Some Reply.Ack0) }
+        ensures row { record { control = self.new; sent = result }
+            ≡ selecting_step self.old select (Some Reply.Ack0) }
         ensures entries { HasEntries self.new }
     {
         let terminal = self.poll_list[self.place] as usize;
@@ -196,7 +239,8 @@ impl<A: Allocator> Procedure<A> {
     /// Something is heard after a selection.
     fn hear_selecting(&mut self, select: usize, heard: &Heard) -> Option<Message>
         requires { IsSelected (peer self.old) select }
-        ensures row { record { control = self.new; sent = result } ≡ selecting_step self.old select (reply_heard heard.now) }
+        ensures row { record { control = self.new; sent = result }
+            ≡ selecting_step self.old select (reply_heard heard.now) }
         ensures entries { HasEntries self.new }
     {
         // A field is read, so that the invariant is known here.
@@ -212,7 +256,8 @@ impl<A: Allocator> Procedure<A> {
     /// The selected terminal has no room yet.
     fn enquire(&mut self, select: usize) -> Option<Message>
         requires { select < length (peer self.old).outbounds }
-        ensures row { record { control = self.new; sent = result } ≡ selecting_step self.old select (Some Reply.Wack) }
+        ensures row { record { control = self.new; sent = result }
+            ≡ selecting_step self.old select (Some Reply.Wack) }
         ensures entries { HasEntries self.new }
     {
         if self.waits >= self.setup.waits() {
@@ -230,7 +275,11 @@ impl<A: Allocator> Procedure<A> {
     /// Something is heard during a bid.
     fn hear_sending(&mut self, select: usize, heard: &Heard) -> Option<Message>
         requires { select < length (peer self.old).outbounds }
-        ensures row { record { control = self.new; sent = result } ≡ acted self.old select (reply_step (outbound_at (peer self.old) select).sender (outbound_at (peer self.old) select).queue (reply_heard heard.now)) (after_bid select (reply_heard heard.now)) }
+        ensures row { record { control = self.new; sent = result }
+            ≡ acted self.old select
+            (reply_step (outbound_at (peer self.old) select).sender
+            (outbound_at (peer self.old) select).queue (reply_heard heard.now))
+            (after_bid select (reply_heard heard.now)) }
         ensures entries { HasEntries self.new }
     {
         let interrupted = Reply::heard(heard) == Some(Reply::Rvi);
@@ -243,9 +292,11 @@ impl<A: Allocator> Procedure<A> {
     /// Something but EOT is heard after a poll.
     fn receive(&mut self, replied: Replied, heard: &Heard) -> Option<Message>
         requires { IsReceived (Task.Polling replied) heard.now }
-        ensures row { record { control = self.new; sent = result } ≡ polling_step self.old replied heard.now (rooms_after self.old heard.now self.new) }
+        ensures row { record { control = self.new; sent = result }
+            ≡ polling_step self.old replied heard.now (rooms_after self.old heard.now self.new) }
         ensures entries { HasEntries self.new }
-        ensures room { (peer self.old).spool.room ≡ true → (rooms_after self.old heard.now self.new).first ≡ true }
+        ensures room { (peer self.old).spool.room ≡ true
+            → (rooms_after self.old heard.now self.new).first ≡ true }
     {
         let terminal = self.poll_list[self.place] as usize;
         let peer = &mut self.peers[terminal];
@@ -285,7 +336,8 @@ impl<A: Allocator> Procedure<A> {
     /// A selection is not answered.
     fn fail_selection(&mut self, select: usize, enquired: bool) -> Option<Message>
         requires { select < length (peer self.old).outbounds }
-        ensures row { record { control = self.new; sent = result } ≡ silence_in self.old (Task.Selecting select enquired) }
+        ensures row { record { control = self.new; sent = result }
+            ≡ silence_in self.old (Task.Selecting select enquired) }
         ensures entries { HasEntries self.new }
     {
         if self.tries >= self.setup.tries() {
@@ -303,7 +355,8 @@ impl<A: Allocator> Procedure<A> {
     /// A silence during a bid.
     fn send_on(&mut self, select: usize) -> Option<Message>
         requires { select < length (peer self.old).outbounds }
-        ensures row { record { control = self.new; sent = result } ≡ silence_in self.old (Task.Sending select) }
+        ensures row { record { control = self.new; sent = result }
+            ≡ silence_in self.old (Task.Sending select) }
         ensures entries { HasEntries self.new }
     {
         let terminal = self.poll_list[self.place] as usize;
@@ -314,7 +367,8 @@ impl<A: Allocator> Procedure<A> {
 
     /// A silence after a poll.
     fn fail_poll(&mut self, replied: Replied) -> Option<Message>
-        ensures row { record { control = self.new; sent = result } ≡ silence_in self.old (Task.Polling replied) }
+        ensures row { record { control = self.new; sent = result }
+            ≡ silence_in self.old (Task.Polling replied) }
         ensures entries { HasEntries self.new }
     {
         match replied {
@@ -369,7 +423,8 @@ impl<A: Allocator> Procedure<A> {
         peer.addresses()
     }
 
-    /// Adds a record for a selection address of a terminal. It comes back where there is no memory for it.
+    /// Adds a record for a selection address of a terminal. It comes back where there is no memory
+    /// for it.
     pub(crate) fn offer(
         &mut self,
         terminal: usize,
@@ -378,8 +433,11 @@ impl<A: Allocator> Procedure<A> {
     ) -> Result<(), Record>
         requires terminal { terminal < length self.old.peers }
         requires select { select < length (peer_at self.old terminal).outbounds }
-        requires short { length «record» ≤ (outbound_at (peer_at self.old terminal) select).queue.format.full }
-        ensures ok { OnOk result (self.new ≡ with_peer self.old terminal (offered_to (peer_at self.old terminal) select «record»)) }
+        requires short { length «record»
+            ≤ (outbound_at (peer_at self.old terminal) select).queue.format.full }
+        ensures ok { OnOk result (self.new
+            ≡ with_peer self.old terminal
+            (offered_to (peer_at self.old terminal) select «record»)) }
         ensures err { OnErr result (self.new ≡ self.old) }
         ensures given_back { IfErr result (λ r. r ≡ «record») }
         ensures entries { HasEntries self.new }
@@ -391,7 +449,8 @@ impl<A: Allocator> Procedure<A> {
     /// Sets the urgent flag of a terminal.
     pub(crate) fn set_urgent(&mut self, terminal: usize)
         requires { terminal < length self.old.peers }
-        ensures state { self.new ≡ with_peer self.old terminal (record (peer_at self.old terminal) { urgent = true }) }
+        ensures state { self.new
+            ≡ with_peer self.old terminal (record (peer_at self.old terminal) { urgent = true }) }
         ensures entries { HasEntries self.new }
     {
         let peer = &mut self.peers[terminal];
@@ -402,7 +461,8 @@ impl<A: Allocator> Procedure<A> {
     pub(crate) fn in_doubt(&self, terminal: usize, select: usize) -> bool
         requires terminal { terminal < length self.now.peers }
         requires select { select < length (peer_at self.now terminal).outbounds }
-        ensures { result ≡ is_in_doubt (outbound_at (peer_at self.now terminal) select).sender.phase }
+        ensures { result
+            ≡ is_in_doubt (outbound_at (peer_at self.now terminal) select).sender.phase }
     {
         let peer = &self.peers[terminal];
         peer.in_doubt(select)
@@ -417,8 +477,12 @@ impl<A: Allocator> Procedure<A> {
     ) -> Result<(), ReleaseError>
         requires terminal { terminal < length self.old.peers }
         requires select { select < length (peer_at self.old terminal).outbounds }
-        ensures state { self.new ≡ with_peer self.old terminal (with_outbound (peer_at self.old terminal) select (released (outbound_at (peer_at self.old terminal) select) count)) }
-        ensures answer { result ≡ (release_step (outbound_at (peer_at self.old terminal) select).sender (outbound_at (peer_at self.old terminal) select).queue count).answer }
+        ensures state { self.new
+            ≡ with_peer self.old terminal (with_outbound (peer_at self.old terminal) select
+            (released (outbound_at (peer_at self.old terminal) select) count)) }
+        ensures answer { result
+            ≡ (release_step (outbound_at (peer_at self.old terminal) select).sender
+            (outbound_at (peer_at self.old terminal) select).queue count).answer }
         ensures entries { HasEntries self.new }
     {
         let peer = &mut self.peers[terminal];

@@ -6,8 +6,8 @@ ghost use Rattle.bsc_control.specs.Refusals.{AreRight, IsFirstWrong};
 use std::alloc::{AllocError, AllocFailed};
 use thiserror::Error;
 
-/// Why a control station is not made. Addresses are numbered: the polling address of terminal 0, its
-/// selection addresses in order, the polling address of terminal 1, and so on. (Own.)
+/// Why a control station is not made. Addresses are numbered: the polling address of terminal 0,
+/// its selection addresses in order, the polling address of terminal 1, and so on. (Own.)
 #[derive(Clone, Copy, Debug, PartialEq, Eq, Error)]
 pub enum SetupError {
     /// There is no terminal.
@@ -60,7 +60,8 @@ impl<T: Drop> From<AllocFailed<T>> for SetupError {
 /// The most entries of a poll list.
 const MAX_ENTRIES: usize = 255;
 
-/// The least place of the poll list that is 255 or more, or whose entry is none of this many terminals.
+/// The least place of the poll list that is 255 or more, or whose entry is none of this many
+/// terminals.
 pub(crate) fn wrong_entry(poll_list: &[u8], terminals: usize) -> Option<usize>
     ensures right { result ≡ None → AreRight terminals poll_list.now }
     ensures wrong { IfSome result (IsFirstWrong terminals poll_list.now) }

@@ -20,7 +20,7 @@ impl Way {
         ensures { result ≡ select_of self }
     {
         match self {
-            Way::FromTerminal => 0,
+            Way::FromTerminal => unreachable!(),
             Way::ToTerminal(select) => select,
         }
     }

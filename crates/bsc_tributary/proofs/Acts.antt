@@ -1,4 +1,4 @@
--- What each act of a terminal's sender makes of its mode, and what it leaves alone.
+-- What each act of a terminal's sender makes of its mode, and what it does not change.
 use Rattle.std.proofs.Common.{◌≡◌, ◌⊎◌, inl, inr, ℕ, ◌+◌, nat_lt, List, Option, None, Some, refl}
 use Rattle.bsc_frame.specs.declared.text.End.{End}
 use Rattle.bsc_frame.specs.declared.text.End.TheVariants.{Etb, Etx}

@@ -17,4 +17,5 @@ selection (Some s) = Selection s
 
 -- which of the terminal's addresses a call names
 abbrev pub called_as : TerminalValue → List ℕ → Called
-called_as t address = if is_same address t.poll then Polling else selection (position (is_same address) t.selects)
+called_as t address =
+    if is_same address t.poll then Polling else selection (position (is_same address) t.selects)

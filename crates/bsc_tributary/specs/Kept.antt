@@ -1,5 +1,6 @@
 -- What holds of every terminal, and what a transmission or a silence may change of it (own).
-use Rattle.std.specs.Prelude.{◌≡◌, ◌≢◌, ◌⊎◌, ℕ, ◌<◌, true, false, List, [], ◌++◌, length, All, Option, None}
+use Rattle.std.specs.Prelude.{◌≡◌, ◌≢◌, ◌⊎◌, ℕ, ◌<◌, true, false, List, [], ◌++◌, length, All}
+use Rattle.std.specs.Prelude.{Option, None}
 use Rattle.bsc_frame.specs.declared.message.Message.{Message}
 use Rattle.bsc_frame.specs.declared.message.Message.TheVariants as m
 use Rattle.bsc_frame.specs.declared.message.Heard.{Heard}
@@ -27,8 +28,8 @@ SuitsMode Control phase spools = IsAtRest phase
 SuitsMode (Receiving s) phase spools = IsAtRest phase × (s < spools)
 SuitsMode Sending phase spools = IsGoing phase
 
--- a terminal: its addresses differ, each selection address has its spool, the queue has what the sender counts
--- on, and a bid goes on exactly while it sends
+-- a terminal: its addresses differ, each selection address has its spool, the queue has what the
+-- sender counts on, and a bid goes on exactly while it sends
 pub record IsTributary (t : TributaryValue) : Type 0 where
   pub distinct : HasDistinctAddresses t.terminal
   pub terminal : IsTerminal t.terminal
@@ -37,8 +38,10 @@ pub record IsTributary (t : TributaryValue) : Type 0 where
   pub ready : IsReady t.sender t.queue
   pub bid : SuitsMode t.mode t.sender.phase (length t.spools)
 
--- a new terminal is in control mode and ready, not urgent, with nothing to send and nothing received
-pub record IsNewTerminal (setup : SetupValue) (terminal : TerminalValue) (t : TributaryValue) : Type 0 where
+-- a new terminal is in control mode and ready, not urgent, with nothing to send and nothing
+-- received
+pub record IsNewTerminal (setup : SetupValue) (terminal : TerminalValue) (t : TributaryValue)
+    : Type 0 where
   pub terminal_given : t.terminal ≡ terminal
   pub mode : t.mode ≡ Control
   pub ready : t.ready ≡ true
@@ -49,15 +52,16 @@ pub record IsNewTerminal (setup : SetupValue) (terminal : TerminalValue) (t : Tr
   pub spools : All (λ (s : SpoolValue). (s.records ≡ []) × (s.delays ≡ 0)) t.spools
   pub tributary : IsTributary t
 
--- what an offer, a release or a flag leaves: a terminal with the addresses, settings and mode that it had
+-- what an offer, a release or a flag leaves: a terminal with the addresses, settings and mode that
+-- it had
 pub record KeepsSetupAndMode (old new : TributaryValue) : Type 0 where
   pub tributary : IsTributary new
   pub addresses : new.terminal ≡ old.terminal
   pub setup : new.sender.setup ≡ old.sender.setup
   pub mode : new.mode ≡ old.mode
 
--- what stays: the addresses, the settings, the ready flag, the records that were offered, and a spool for each
--- selection address
+-- what stays: the addresses, the settings, the ready flag, the records that were offered, and a
+-- spool for each selection address
 pub record Keeps (old new : TributaryValue) : Type 0 where
   pub terminal : new.terminal ≡ old.terminal
   pub setup : new.sender.setup ≡ old.sender.setup
@@ -66,7 +70,8 @@ pub record Keeps (old new : TributaryValue) : Type 0 where
   pub offered : new.queue.offered ≡ old.queue.offered
   pub spools : length new.spools ≡ length old.spools
 
--- a whole text was heard while receiving into spool s, and the records become the old ones and all of its
+-- a whole text was heard while receiving into spool s, and the records become the old ones and all
+-- of its
 pub record Stores (mode : Mode) (h : Heard) (s : ℕ) (old new : List (List ℕ)) : Type 0 where
   pub text : TextValue
   pub heard : h ≡ Whole (m.Text text)
@@ -106,12 +111,15 @@ abbrev pub StaysQuiet : TributaryValue → TributaryValue → Option Message →
 StaysQuiet old new sent = (new ≡ old) × (sent ≡ None)
 
 -- what a terminal is once it has heard a transmission, and what it may send
-pub record AfterHearing (old : TributaryValue) (h : Heard) (new : TributaryValue) (sent : Option Message) : Type 0 where
+pub record AfterHearing (old : TributaryValue) (h : Heard) (new : TributaryValue)
+    (sent : Option Message) : Type 0 where
   pub tributary : IsTributary new
   pub keeps : Keeps old new
   pub mode : IsModeAfter old h new.mode
-  pub other_spools : (s : ℕ) → new.mode ≢ Receiving s → spool_at new.spools s ≡ spool_at old.spools s
-  pub grows : (s : ℕ) → GrowsByText old.mode h s (spool_at old.spools s).records (spool_at new.spools s).records
+  pub other_spools : (s : ℕ) → new.mode ≢ Receiving s
+      → spool_at new.spools s ≡ spool_at old.spools s
+  pub grows : (s : ℕ) → GrowsByText old.mode h s (spool_at old.spools s).records
+      (spool_at new.spools s).records
   pub taken : TakesLine old.terminal h → (new.mode ≡ Control) × (sent ≡ None)
   pub control : old.mode ≡ Control → IsNoCall h → StaysQuiet old new sent
   pub noise : h ≡ Noise → StaysQuiet old new sent
@@ -125,7 +133,8 @@ pub record AfterSilence (old new : TributaryValue) (sent : Option Message) : Typ
   pub still : old.mode ≢ Sending → StaysQuiet old new sent
 
 -- a terminal hears a transmission: by the row of its table, and with what that keeps
-pub record IsHearing (old : TributaryValue) (h : Heard) (new : TributaryValue) (sent : Option Message) : Type 0 where
+pub record IsHearing (old : TributaryValue) (h : Heard) (new : TributaryValue)
+    (sent : Option Message) : Type 0 where
   pub row : Hears old h new sent
   pub after : AfterHearing old h new sent
 

@@ -1,4 +1,5 @@
--- Noise changes no terminal, and no terminal answers it (GA27-3004: what is not understood is not answered).
+-- Noise changes no terminal, and no terminal answers it (GA27-3004: what is not understood is not
+-- answered).
 use Rattle.std.specs.Prelude.{◌≡◌, List, Option, None, refl}
 use Rattle.std.proofs.Common.{ap, ◌∙◌}
 use Rattle.std.proofs.lemmas.List.{set-get_or}
@@ -8,16 +9,20 @@ use Rattle.bsc_spool.specs.Spool.{SpoolValue}
 use Rattle.bsc_text.specs.Receiver.{Rooms}
 use Rattle.bsc_tributary.specs.declared.mode.Mode.{Mode}
 use Rattle.bsc_tributary.specs.declared.mode.Mode.TheVariants.{Control, Receiving, Sending}
-use Rattle.bsc_tributary.specs.Tributary.{TributaryValue, TributaryStep, Hears, mode_step, quiet_step, empty_spool}
+use Rattle.bsc_tributary.specs.Tributary.{TributaryValue, TributaryStep, Hears, mode_step}
+use Rattle.bsc_tributary.specs.Tributary.{quiet_step, empty_spool}
 
-pub quiet_in : (t : TributaryValue) (mode : Mode) (rooms : Rooms) → mode_step t mode Noise rooms ≡ quiet_step t
+pub quiet_in : (t : TributaryValue) (mode : Mode) (rooms : Rooms)
+    → mode_step t mode Noise rooms ≡ quiet_step t
 quiet_in t Control rooms = refl
-quiet_in t (Receiving s) rooms = ap (λ (spools : List SpoolValue). quiet_step (record t { spools = spools }))
+quiet_in t (Receiving s) rooms =
+    ap (λ (spools : List SpoolValue). quiet_step (record t { spools = spools }))
     (set-get_or t.spools s empty_spool)
 quiet_in t Sending rooms = refl
 
-pub noise_changes_nothing : (old new : TributaryValue) (sent : Option Message) → Hears old Noise new sent →
-    (new ≡ old) × (sent ≡ None)
+pub noise_changes_nothing : (old new : TributaryValue) (sent : Option Message)
+    → Hears old Noise new sent → (new ≡ old) × (sent ≡ None)
 noise_changes_nothing old new sent h =
-    let same : record { tributary = new; sent = sent } ≡ quiet_step old = h.row ∙ quiet_in old old.mode _ in
+    let same : record { tributary = new; sent = sent } ≡ quiet_step old =
+    h.row ∙ quiet_in old old.mode _ in
     (ap (λ (o : TributaryStep). o.tributary) same, ap (λ (o : TributaryStep). o.sent) same)

@@ -1,7 +1,8 @@
--- The terminal's table (GA27-3004: polling, selection, control mode, and the tributary's side of a bid; that a
--- sending terminal acts on a silence, the ready and urgent flags and several spools are own). What no line
--- lists changes nothing, and nothing is sent.
-use Rattle.std.specs.Prelude.{◌≡◌, ℕ, Bool, true, false, nat_eq, List, [], length, slice_index_or, slice_set, Option, None, Some, option_map, if◌then◌else◌}
+-- The terminal's table (GA27-3004: polling, selection, control mode, and the tributary's side of a
+-- bid; that a sending terminal acts on a silence, the ready and urgent flags and several spools are
+-- own). What no line lists changes nothing, and nothing is sent.
+use Rattle.std.specs.Prelude.{◌≡◌, ℕ, Bool, true, false, nat_eq, List, [], length, slice_index_or}
+use Rattle.std.specs.Prelude.{slice_set, Option, None, Some, option_map, if◌then◌else◌}
 use Rattle.bsc_frame.specs.declared.message.Message.{Message}
 use Rattle.bsc_frame.specs.declared.message.Message.TheVariants as m
 use Rattle.bsc_frame.specs.declared.message.Heard.{Heard}
@@ -12,16 +13,18 @@ use Rattle.bsc_text.specs.declared.act.Act.{Act}
 use Rattle.bsc_text.specs.declared.act.Act.TheVariants as a
 use Rattle.bsc_text.specs.Terminal.{TerminalValue}
 use Rattle.bsc_text.specs.Reply.{message_of, reply_heard}
-use Rattle.bsc_text.specs.Receiver.{ReceiverValue, ReceiverStep, Rooms, begun, first_reply, heard_step, rooms_left, sends_rvi}
-use Rattle.bsc_text.specs.Sender.{SenderValue, SenderStep, with_phase, begin_step, reply_step, silence_step, cut_phase, is_in_doubt, release_step}
+use Rattle.bsc_text.specs.Receiver.{ReceiverValue, ReceiverStep, Rooms, begun, first_reply}
+use Rattle.bsc_text.specs.Receiver.{heard_step, rooms_left, sends_rvi}
+use Rattle.bsc_text.specs.Sender.{SenderValue, SenderStep, with_phase, begin_step, reply_step}
+use Rattle.bsc_text.specs.Sender.{silence_step, cut_phase, is_in_doubt, release_step}
 use Rattle.bsc_tributary.specs.declared.called.Called.{Called}
 use Rattle.bsc_tributary.specs.declared.called.Called.TheVariants.{Polling, Selection, Other}
 use Rattle.bsc_tributary.specs.declared.mode.Mode.{Mode}
 use Rattle.bsc_tributary.specs.declared.mode.Mode.TheVariants.{Control, Receiving, Sending}
 use Rattle.bsc_tributary.specs.Called.{called_as}
 
--- a terminal: its addresses, its mode, its two flags, the two ends of its bids, the records that it has to
--- send, and for each selection address the records that arrived
+-- a terminal: its addresses, its mode, its two flags, the two ends of its bids, the records that it
+-- has to send, and for each selection address the records that arrived
 pub record TributaryValue : Type 0 where
   pub terminal : TerminalValue
   pub mode : Mode
@@ -32,8 +35,8 @@ pub record TributaryValue : Type 0 where
   pub queue : QueueValue
   pub spools : List SpoolValue
 
-abbrev pub tributary_of : TerminalValue → Mode → Bool → Bool → SenderValue → ReceiverValue → QueueValue →
-    List SpoolValue → TributaryValue
+abbrev pub tributary_of : TerminalValue → Mode → Bool → Bool → SenderValue → ReceiverValue
+    → QueueValue → List SpoolValue → TributaryValue
 tributary_of terminal mode ready urgent sender receiver queue spools =
     record {
       terminal = terminal;
@@ -68,7 +71,8 @@ answer_step t message = record { tributary = t; sent = Some message }
 
 -- the line is taken from the terminal: an unanswered block is cut off, and it is in control mode
 abbrev pub without_line : TributaryValue → TributaryValue
-without_line t = record t { mode = Control; sender = with_phase t.sender (cut_phase t.sender.phase) }
+without_line t =
+    record t { mode = Control; sender = with_phase t.sender (cut_phase t.sender.phase) }
 
 -- what the sender's act makes of the mode, and the message for it
 abbrev pub mode_after : Act → Mode → Mode
@@ -87,7 +91,11 @@ message_for a.Quiet = None
 abbrev pub act_step : TributaryValue → SenderStep → TributaryStep
 act_step t step =
     record {
-      tributary = record t { mode = mode_after step.act t.mode; sender = step.sender; queue = step.queue };
+      tributary = record t {
+        mode = mode_after step.act t.mode;
+        sender = step.sender;
+        queue = step.queue;
+      };
       sent = message_for step.act;
     }
 
@@ -95,7 +103,11 @@ act_step t step =
 abbrev pub receive_step : TributaryValue → ℕ → ReceiverStep → TributaryStep
 receive_step t s step =
     record {
-      tributary = record t { receiver = step.receiver; spools = slice_set t.spools s step.spool; urgent = if sends_rvi step.reply then false else t.urgent };
+      tributary = record t {
+        receiver = step.receiver;
+        spools = slice_set t.spools s step.spool;
+        urgent = if sends_rvi step.reply then false else t.urgent;
+      };
       sent = option_map message_of step.reply;
     }
 
@@ -126,7 +138,8 @@ call_step t Other rooms = quiet_step (without_line t)
 -- what is no call and no EOT, in this mode
 abbrev pub mode_step : TributaryValue → Mode → Heard → Rooms → TributaryStep
 mode_step t Control h rooms = quiet_step t
-mode_step t (Receiving s) h rooms = receive_step t s (heard_step t.receiver (spool_at t.spools s) h t.urgent rooms)
+mode_step t (Receiving s) h rooms =
+    receive_step t s (heard_step t.receiver (spool_at t.spools s) h t.urgent rooms)
 mode_step t Sending h rooms = act_step t (reply_step t.sender t.queue (reply_heard h))
 
 -- the table: what is heard
@@ -150,10 +163,13 @@ spool_in _ spools = empty_spool
 abbrev pub rooms_after : Heard → TributaryValue → Rooms
 rooms_after h new = rooms_left h new.receiver.last (spool_in new.mode new.spools)
 
--- The terminal and what it sends are those of the table. Where there was room, the first try found it.
-pub record Hears (old : TributaryValue) (h : Heard) (new : TributaryValue) (sent : Option Message) : Type 0 where
+-- The terminal and what it sends are those of the table. Where there was room, the first try found
+-- it.
+pub record Hears (old : TributaryValue) (h : Heard) (new : TributaryValue) (sent : Option Message)
+    : Type 0 where
   pub row : record { tributary = new; sent = sent } ≡ hear_step old h (rooms_after h new)
-  pub room : (s : ℕ) → new.mode ≡ Receiving s → (spool_at old.spools s).room ≡ true → (rooms_after h new).first ≡ true
+  pub room : (s : ℕ) → new.mode ≡ Receiving s → (spool_at old.spools s).room ≡ true
+      → (rooms_after h new).first ≡ true
 
 -- at a silence
 abbrev pub ActsOnSilence : TributaryValue → TributaryValue → Option Message → Type 0
@@ -167,4 +183,8 @@ holds Sending = true
 
 -- a release of its list
 abbrev pub after_release : TributaryValue → ℕ → TributaryValue
-after_release t count = record t { sender = (release_step t.sender t.queue count).sender; queue = (release_step t.sender t.queue count).queue }
+after_release t count =
+    record t {
+      sender = (release_step t.sender t.queue count).sender;
+      queue = (release_step t.sender t.queue count).queue;
+    }

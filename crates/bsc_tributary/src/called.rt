@@ -35,8 +35,8 @@ pub(crate) fn called_address(terminal: &Terminal, address: &Address) -> Called
     Called::Other
 }
 
-/// Whether a call of the selection address of this number is taken as a call of it: no address before it
-/// is the same.
+/// Whether a call of the selection address of this number is taken as a call of it: no address
+/// before it is the same.
 fn is_first(terminal: &Terminal, select: usize) -> bool
     requires { select < length terminal.now.selects }
     ensures { let address = slice_index_or terminal.now.selects select [] in

@@ -11,15 +11,17 @@ use bsc_text::{Receiver, Reply};
 use std::alloc::Allocator;
 use std::marker::Model;
 
-/// A spool for each selection address, in their order. They lie in the terminal itself, so that a new
-/// terminal takes no memory: each place has a spool, and the first `count` are in use. They are no array, for
-/// an array of them would have callers show that a terminal fits into memory.
+/// A spool for each selection address, in their order. They lie in the terminal itself, so that a
+/// new terminal takes no memory: each place has a spool, and the first `count` are in use. They are
+/// no array, for an array of them would have callers show that a terminal fits into memory.
 #[derive(Drop)]
 pub(crate) struct Spools<A: Allocator> {
     first: Spool<A>,
     second: Spool<A>,
     third: Spool<A>,
     fourth: Spool<A>,
+
+    /// How many of them are in use, from the first on: at most 4.
     count: usize,
 }
 
@@ -68,7 +70,8 @@ impl<A: Allocator> Spools<A> {
     /// Makes room in the spool of this number; true where there is room.
     pub(crate) fn make_room(&mut self, select: usize) -> bool
         requires { select < length self.old }
-        ensures spool { self.new ≡ slice_set self.old select (room_asked (spool_at self.old select) result) }
+        ensures spool { self.new
+            ≡ slice_set self.old select (room_asked (spool_at self.old select) result) }
         ensures there { (spool_at self.old select).room ≡ true → result ≡ true }
     {
         match select {

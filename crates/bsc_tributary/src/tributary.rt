@@ -1,13 +1,17 @@
 //! The terminal.
 
-ghost use Rattle.std.specs.Prelude.{IsTrue, ◌≡◌, ◌≤◌, ◌<◌, true, false, if◌then◌else◌, None, length, OnOk, OnErr, IfErr, option_map};
+ghost use Rattle.std.specs.Prelude.{IsTrue, ◌≡◌, ◌≤◌, ◌<◌, true, false, if◌then◌else◌, None};
+ghost use Rattle.std.specs.Prelude.{length, OnOk, OnErr, IfErr, option_map};
 ghost use Rattle.bsc_spool.specs.Queue.{with_offered};
 ghost use Rattle.bsc_text.specs.Receiver.{sends_rvi};
 ghost use Rattle.bsc_text.specs.Reply.{message_of};
 ghost use Rattle.bsc_text.specs.Terminal.{HasDistinctAddresses};
 ghost use Rattle.bsc_text.specs.Sender.{release_step, is_in_doubt};
-ghost use Rattle.bsc_tributary.specs.Tributary.{without_line, poll_step, selection_step, mode_after, message_for, after_release, holds, spool_at};
-ghost use Rattle.bsc_tributary.specs.Kept.{IsTributary, IsNewTerminal, KeepsSetupAndMode, IsHearing, IsNoCall};
+ghost use Rattle.bsc_tributary.specs.Tributary.{without_line, poll_step, selection_step};
+ghost use Rattle.bsc_tributary.specs.Tributary.{mode_after, message_for, after_release, holds};
+ghost use Rattle.bsc_tributary.specs.Tributary.{spool_at};
+ghost use Rattle.bsc_tributary.specs.Kept.{IsTributary, IsNewTerminal, KeepsSetupAndMode};
+ghost use Rattle.bsc_tributary.specs.Kept.{IsHearing, IsNoCall};
 
 use crate::called::{Called, called_address};
 use crate::mode::Mode;
@@ -22,13 +26,28 @@ use std::marker::Model;
 /// A terminal of the line (GA27-3004, a tributary station of a centralised multipoint line).
 #[derive(Drop)]
 pub struct Tributary<A: Allocator> {
+    /// Its polling address and its selection addresses.
     terminal: Terminal,
+
+    /// What it does on the line at present.
     mode: Mode,
+
+    /// Whether it takes selections.
     ready: bool,
+
+    /// Whether the next text that it takes is answered by RVI.
     urgent: bool,
+
+    /// The sending end of the bids when it is polled.
     sender: Sender,
+
+    /// The receiving end of the bids when it is selected.
     receiver: Receiver,
+
+    /// The records that it has to send.
     queue: Queue<A>,
+
+    /// The records that arrived, for each selection address.
     spools: Spools<A>,
 }
 
@@ -38,14 +57,16 @@ impl<A: Allocator> Model for Tributary<A> {
 
     ghost Value = { TributaryValue };
 
-    ghost view = { λ t. tributary_of t.terminal t.mode t.ready t.urgent t.sender t.receiver t.queue t.spools };
+    ghost view = { λ t. tributary_of t.terminal t.mode t.ready t.urgent t.sender t.receiver
+        t.queue t.spools };
 
-    ghost invariant = { λ t. IsTributary (tributary_of t.terminal t.mode t.ready t.urgent t.sender t.receiver t.queue t.spools) };
+    ghost invariant = { λ t. IsTributary (tributary_of t.terminal t.mode t.ready t.urgent t.sender
+        t.receiver t.queue t.spools) };
 }
 
 impl<A: Allocator> Tributary<A> {
-    /// A terminal in control mode, ready, with nothing to send, nothing received and no doubt. It takes no
-    /// memory. Condition: all its addresses differ (`addresses_differ`).
+    /// A terminal in control mode, ready, with nothing to send, nothing received and no doubt. It
+    /// takes no memory. Condition: all its addresses differ (`addresses_differ`).
     pub fn new(alloc: A, setup: Setup, terminal: Terminal) -> Self
     where
         A: Copy,
@@ -64,11 +85,12 @@ impl<A: Allocator> Tributary<A> {
         }
     }
 
-    /// Adds a record to those that the terminal has to send. It comes back where there is no memory for it, and
-    /// then nothing changed. Condition: it is not longer than the full length.
+    /// Adds a record to those that the terminal has to send. It comes back where there is no memory
+    /// for it, and then nothing changed. Condition: it is not longer than the full length.
     pub fn offer(&mut self, record: Record) -> Result<(), Record>
         requires { length «record» ≤ self.old.queue.format.full }
-        ensures ok { OnOk result (self.new ≡ record self.old { queue = with_offered self.old.queue «record» }) }
+        ensures ok { OnOk result (self.new
+            ≡ record self.old { queue = with_offered self.old.queue «record» }) }
         ensures err { OnErr result (self.new ≡ self.old) }
         ensures given_back { IfErr result (λ r. r ≡ «record») }
         ensures same { KeepsSetupAndMode self.old self.new }
@@ -76,8 +98,8 @@ impl<A: Allocator> Tributary<A> {
         self.queue.offer(record)
     }
 
-    /// Whether the terminal takes selections: one that is not ready answers them by NAK. A bid that it is
-    /// taking goes on. (GA27-3004, NAK to a selection; the flag is own.)
+    /// Whether the terminal takes selections: one that is not ready answers them by NAK. A bid that
+    /// it is taking goes on. (GA27-3004, NAK to a selection; the flag is own.)
     pub fn set_ready(&mut self, ready: bool)
         ensures state { self.new ≡ record self.old { ready = ready } }
         ensures same { KeepsSetupAndMode self.old self.new }
@@ -85,8 +107,8 @@ impl<A: Allocator> Tributary<A> {
         self.ready = ready;
     }
 
-    /// Asks for the line: the next text that the terminal takes is answered by RVI, unless its last reply
-    /// was RVI too, or it is polled before. (GA27-3004, RVI; the flag is own.)
+    /// Asks for the line: the next text that the terminal takes is answered by RVI, unless its last
+    /// reply was RVI too, or it is polled before. (GA27-3004, RVI; the flag is own.)
     pub fn set_urgent(&mut self)
         ensures state { self.new ≡ record self.old { urgent = true } }
         ensures same { KeepsSetupAndMode self.old self.new }
@@ -103,8 +125,8 @@ impl<A: Allocator> Tributary<A> {
     }
 
     /// Ends the doubt: the other end has `count` records of this terminal. `NotInDoubt`, then
-    /// `CountMismatch` where the count is neither that of the known records nor that with the doubtful
-    /// block; both change nothing. (Own.)
+    /// `CountMismatch` where the count is neither that of the known records nor that with the
+    /// doubtful block; both change nothing. (Own.)
     pub fn release(&mut self, count: usize) -> Result<(), ReleaseError>
         ensures state { self.new ≡ after_release self.old count }
         ensures answer { result ≡ (release_step self.old.sender self.old.queue count).answer }
@@ -121,8 +143,8 @@ impl<A: Allocator> Tributary<A> {
         &self.queue
     }
 
-    /// The records that arrived by selections of the address of this number, counted from 0. Condition:
-    /// the terminal has such an address.
+    /// The records that arrived by selections of the address of this number, counted from 0.
+    /// Condition: the terminal has such an address.
     pub fn spool(&self, select: usize) -> &Spool<A>
         requires { select < length self.now.terminal.selects }
         ensures value { result.now ≡ spool_at self.now.spools select }
@@ -159,7 +181,8 @@ impl<A: Allocator> Tributary<A> {
         requires { select < length self.old.terminal.selects }
         ensures row { let room = (spool_at self.new.spools select).room in
             record { tributary = self.new; sent = result } ≡ selection_step self.old select room }
-        ensures room { (spool_at self.old.spools select).room ≡ true → (spool_at self.new.spools select).room ≡ true }
+        ensures room { (spool_at self.old.spools select).room ≡ true
+            → (spool_at self.new.spools select).room ≡ true }
         ensures tributary { IsTributary self.new }
     {
         self.drop_line();
@@ -294,7 +317,8 @@ impl<A: Allocator> Station for Tributary<A> {
         self.mode == Mode::Sending
     }
 
-    ghost ignores_noise = { λ old new sent hearing. noise_changes_nothing old new sent hearing.row };
+    ghost ignores_noise = { λ old new sent hearing.
+        noise_changes_nothing old new sent hearing.row };
 }
 
 /// Whether the urgent flag stays up once the terminal gave this reply: RVI clears it.
