@@ -8,7 +8,7 @@ use borrow.Rule.Slice.PartMut.{put_mid}
 use Rattle.bsc_carrier.specs.Cable.{ChangesAt}
 
 module _ {S : Type 0} where
-  -- an end that is left alone
+  -- an end that stays as it is
   pub stays_at : (P : S → S → Type 0) → ((end : S) → P end end) → (ends : List S) (t : ℕ) → t < length ends → ChangesAt t P ends ends
   stays_at P same [] t there = absurd (omega (arith, there))
   stays_at P same (end ∷ ends) zero there = (end, end, refl, refl, same end)
@@ -46,7 +46,7 @@ module _ {S : Type 0} where
       let none : drop (length (first ∷ old) - 1) old ≡ [] = drop_all (length (first ∷ old) - 1) old (omega arith) in
       (one, subst (AllZip R old) (sym (append-nil behind) ∙ ap (λ l. behind ++ l) (sym none)) more)
 
-  -- where a call failed, the end is left alone
+  -- where a call failed, the end stays as it is
   pub stays_after_error : {T E : Type 0} (result : Result T E) (P : S → S → Type 0) (ends : List S) (t : ℕ) → t < length ends → IsErr result
       → ChangesAt t (λ before after. OnOk result (P before after)) ends ends
   stays_after_error result P ends t there failed =

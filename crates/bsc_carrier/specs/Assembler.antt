@@ -10,7 +10,7 @@ pub record AssemblerValue : Type 0 where
   pub begun : List ℕ
   pub complete : List ℕ
 
--- what may have come since the last record was complete: part of a record, or a wrong length alone
+-- what may have come since the last record was complete: part of a record, or only a wrong length
 abbrev pub IsBegun : List ℕ → Type 0
 IsBegun begun = IsPartial begun ⊎ (HasWrongLength begun × (length begun ≡ 2))
 

@@ -184,7 +184,7 @@ impl<S: Read + Write + Drop, A: Allocator> Cable<S, A> {
     }
 
     /// This terminal's end writes the record, and the control station's end of its connection reads
-    /// it. The other ends are left alone. `Device` comes where a read or a write failed, `Length`
+    /// it. The other ends are not used. `Device` comes where a read or a write failed, `Length`
     /// and `Short` as at `read_record`, and `Short` also where the input ended before the record.
     /// `heard` has the octets that came, and after an error it is as before.
     pub fn up(

@@ -15,7 +15,8 @@ use Rattle.bsc_embed.specs.declared.content.Content.{Content}
 use Rattle.bsc_embed.specs.declared.content.StoredUnit.{StoredUnit}
 use Rattle.bsc_embed.specs.Kinds.{kind_at}
 
--- A unit: its first len characters, at most 144 record characters; EM follows where em is not 0 (own).
+-- A unit: its first len characters, at most 144 record characters; EM follows where em is not 0
+-- (own).
 unfoldable pub unit_in : StoredUnit → Option TextUnit
 unit_in s =
     if nat_le s.len 144 && list_all is_record_char (take s.len s.chars) then Some (record { chars = take s.len s.chars; em = nat_lt 0 s.em })

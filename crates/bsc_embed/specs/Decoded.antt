@@ -21,8 +21,8 @@ HoldsNoContent (Whole m) = HoldsNothing m
 HoldsNoContent Failed = Unit {0}
 HoldsNoContent Noise = Unit {0}
 
--- The kind and the content tell what the octets are heard as, and the content is the old one where they
--- spell nothing that it would hold.
+-- The kind and the content tell what the octets are heard as, and the content is the old one where
+-- they spell nothing that it would hold.
 pub record Tells (octets : List ℕ) (k : Kind) (old new : Content) : Type 0 where
   pub whole : (m : Message) → (message_as k new ≡ Some m) ↔ Spells octets m
   pub failed : (k ≡ kind.Failed) ↔ IsFailed octets

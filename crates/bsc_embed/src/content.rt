@@ -23,7 +23,8 @@ pub struct StoredUnit {
     pub em: u8,
 }
 
-/// What a call or a text holds: `struct bsc_content` of `bsc.h`. C may put any octet into any field.
+/// What a call or a text holds: `struct bsc_content` of `bsc.h`. C may put any octet into any
+/// field.
 #[repr(C)]
 #[derive(Clone, Copy)]
 pub struct Content {

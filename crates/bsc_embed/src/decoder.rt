@@ -59,10 +59,11 @@ fn decode_kind(octets: &[u8], content: &mut Content) -> Kind
     }
 }
 
-/// What the octets are heard as, by the number of its kind: 0 where they are noise, 1 where they begin as a
-/// text and spell no message, else the number of the message that they spell. The address of a call and the
-/// units and the end of a text are put into the content; else it stays as it was (GA27-3004: control
-/// sequences, polling and selection, ITB blocks, VRC and LRC checking).
+/// What the octets are heard as, by the number of its kind: 0 where they are noise, 1 where they
+/// begin as a text and spell no message, else the number of the message that they spell. The
+/// address of a call and the units and the end of a text are put into the content; else it stays as
+/// it was (GA27-3004: control sequences, polling and selection, ITB blocks, VRC and LRC checking).
+/// For C `octets` is two arguments, a pointer and a length, as `bsc.h` declares them.
 #[unsafe(no_mangle)]
 pub extern "C" fn bsc_decode(octets: &[u8], content: &mut Content) -> u32
     ensures whole { (m : Message) → (message_in result content.new ≡ Some m) ↔ Spells octets.now m }

@@ -25,9 +25,10 @@ fn message_of(number: u32, content: &Content) -> Option<Message>
     }
 }
 
-/// Puts the octets of the message of this kind with this content at the front of the buffer, and gives how
-/// many they are: at most 1,033. It gives 0, and the buffer stays as it was, where this is no message or the
-/// buffer is shorter (GA27-3004: control sequences, polling and selection, ITB blocks).
+/// Puts the octets of the message of this kind with this content at the front of the buffer, and
+/// gives how many they are: at most 1,033. It gives 0, and the buffer stays as it was, where this
+/// is no message or the buffer is shorter (GA27-3004: control sequences, polling and selection, ITB
+/// blocks). For C `octets` is two arguments, a pointer and a length, as `bsc.h` declares them.
 #[unsafe(no_mangle)]
 pub extern "C" fn bsc_encode(kind: u32, content: &Content, octets: &mut [u8]) -> usize
     ensures count { result ≡ length (octets_within (length octets.old) (message_in kind content.now)) }

@@ -1,8 +1,8 @@
 //! What is sent or heard, by the numbers that C has for it.
 ghost use Rattle.std.specs.Prelude.{◌≡◌, Some};
 
-/// What is heard, and from `Eot` on what is sent too: `enum bsc_kind` of `bsc.h`, whose numbers are the places
-/// in this list from 0 on (own).
+/// What is heard, and from `Eot` on what is sent too: `enum bsc_kind` of `bsc.h`, whose numbers are
+/// the places in this list from 0 on (own).
 #[derive(Clone, Copy, Debug, PartialEq, Eq)]
 pub enum Kind {
     /// The octets spell nothing.

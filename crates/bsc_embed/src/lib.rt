@@ -1,7 +1,8 @@
 //! The decoder and the encoder for programs in C, with storage of the caller's: the functions of
 //! `embed/bsc.h`.
 //!
-//! C is held to no premise: a number, a length or a character out of its range is a case of the contract.
+//! C is held to no premise: a number, a length or a character out of its range is a case of the
+//! contract.
 #![tactic(auto)]
 
 mod content;

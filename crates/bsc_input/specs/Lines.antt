@@ -13,6 +13,6 @@ parts_of text = parts_at 10 text
 abbrev pub lines_of : List ℕ → List (List ℕ)
 lines_of text = map strip_carriage_return (parts_of text)
 
--- Spaces alone, or no octet.
+-- Only spaces, or no octet.
 abbrev pub is_blank : List ℕ → Bool
 is_blank line = list_all is_space line

@@ -74,7 +74,7 @@ replied_up laws p e r h x u out b is fair row =
     (acts_up laws p e x step step.act refl (record { down = b.down; continues = agrees.continues; ended = agrees.ended })
     (λ quiet. inl (b.mode, keeps_going step.act x.sender.phase step.sender.phase (laws.fits.reply x.sender x.queue (reply_heard h)) quiet (going_in x.sender.phase x.queue p.receiver.parity p.receiver.last p.spool.records (Back r) bid))))
 
--- where one terminal alone hears, and is then in control mode, all are
+-- where only one terminal hears, and is then in control mode, all are
 pub one_modes : (old : List TributaryValue) (hears : ℕ → Heard) (new : List TributaryValue) (addressed : Option (ℕ × Way)) (e : ℕ) (way : Way) → length new ≡ length old → addressed ≡ Some (e, way) → AreTuned addressed old → OneHears old hears new e → (terminal_in new e).mode ≡ Control → AllInControlMode new
 one_modes old hears new addressed e way count is tuned one here t less =
     elim (same_or_not t e) [

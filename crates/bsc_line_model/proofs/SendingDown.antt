@@ -120,7 +120,7 @@ one_answers old hears new e (suc n) less f =
 pub stays_quiet : (t : TributaryValue) (h : Heard) (u : TributaryValue) (out : Option Message) → AfterHearing t h u out → t.mode ≡ Control → IsNoCall h → (u ≡ t) × (out ≡ None)
 stays_quiet t h u out after mode never = after.control mode never
 
--- what happens to the terminals while terminal e alone is out of control mode
+-- what happens to the terminals while only terminal e is out of control mode
 pub record OneHears (old : List TributaryValue) (hears : ℕ → Heard) (new : List TributaryValue) (e : ℕ) : Type 0 where
   pub others : (t : ℕ) → t < length old → t ≢ e → terminal_in new t ≡ terminal_in old t
   pub first : first_answer old hears new (length old) ≡ sent_by (sp.Terminal e) (answer_of old hears new e)
