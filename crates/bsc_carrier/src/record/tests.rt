@@ -1,7 +1,10 @@
+ghost use Rattle.std.specs.Prelude.{◌≤◌, length};
+
 use super::{read_record, write_record};
 use crate::error::{CarrierError, Octets};
 use crate::laws::any_pieces;
 use crate::memory::MemoryStream;
+use std::alloc::{AllocError, Global};
 use std::test::Fail;
 
 /// What is sent for a positive acknowledgement, ACK0.
@@ -58,34 +61,48 @@ fn largest_record_takes_2050_reads_and_writes(rt: HostRuntime) -> Result<(), Fai
     Ok(())
 }
 
-/// A record is one write where the stream takes it whole, and it is read in place of the one
-/// before.
-#[test]
-fn each_length_is_written_at_once_and_read_back(rt: HostRuntime) -> Result<(), Fail> {
+/// Whether these octets, 1 to 2,048 of them, are written at once as their record, and read back in
+/// place of what was heard before.
+fn crosses(alloc: Global, sent: &[u8], heard: &mut Octets) -> Result<bool, AllocError>
+    requires some { 1 ≤ length sent.now }
+    requires most { length sent.now ≤ 2048 }
+{
+    let mut sender = MemoryStream::new(alloc, &[], 4096)?;
+    let wrote = write_record(&mut sender, sent);
+    let high = (sent.len() / 256) as u8;
+    let low = (sent.len() % 256) as u8;
+    let is_record = sender.output.first() == Some(&high)
+        && sender.output.get(1) == Some(&low)
+        && sender.output.get(2..) == Some(sent);
+    let mut receiver = MemoryStream::new(alloc, &sender.output, 4096)?;
+    let read = read_record(&mut receiver, heard);
+    Ok(
+        wrote.is_ok()
+            && sender.calls == 1
+            && is_record
+            && read == Ok(true)
+            && heard.as_slice() == sent,
+    )
+}
+
+/// Octets of which no two near each other are the same.
+fn many_octets() -> [u8; 2048] {
     let mut octets = [0; 2048];
     for (place, octet) in octets.iter_mut().enumerate() {
         *octet = (place % 251) as u8;
     }
+    octets
+}
+
+#[test]
+fn each_length_is_written_at_once_and_read_back(rt: HostRuntime) -> Result<(), Fail> {
+    let octets = many_octets();
     let mut heard = Octets::new();
     for length in 1..=2048usize {
-        let sent = &octets[..length];
-        let mut sender = MemoryStream::new(rt.alloc(), &[], 4096)?;
-        assert_eq!(rt; write_record(&mut sender, sent), Ok(()), "{length}");
-        assert_eq!(rt; sender.calls, 1, "{length}");
-        assert_eq!(rt;
-            sender.output.get(..2),
-            Some([(length / 256) as u8, (length % 256) as u8].as_slice())
-        );
-        assert_eq!(rt; sender.output.get(2..), Some(sent));
-        let mut receiver = MemoryStream::new(rt.alloc(), &sender.output, 4096)?;
-        assert_eq!(rt;
-            read_record(&mut receiver, &mut heard),
-            Ok(true),
+        assert!(rt;
+            crosses(rt.alloc(), &octets[..length], &mut heard)?,
             "{length}"
         );
-        assert_eq!(rt; heard.as_slice(), sent);
-        assert_eq!(rt; read_record(&mut receiver, &mut heard), Ok(false));
-        assert_eq!(rt; heard.as_slice(), sent);
     }
     Ok(())
 }
