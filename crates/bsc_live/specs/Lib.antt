@@ -1,0 +1,6 @@
+pub mod Framings
+pub mod Connections
+pub mod Histories
+pub mod Attending
+pub mod Streams
+pub mod Silences

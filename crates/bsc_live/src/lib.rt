@@ -1,0 +1,26 @@
+//! One station of a line over connections whose other ends are elsewhere.
+//!
+//! A station hears what arrives on its connections, sends what it answers on all of them, and is
+//! told of a silence when a time-out passes. This library has no socket and no clock: a `Waiter`
+//! tells what happens next, connections are any reader and writer, and a `Monitor` sees all of it
+//! and says when to end.
+#![tactic(auto)]
+
+mod attending;
+mod awaited;
+mod connection;
+mod framing;
+mod gaps;
+pub mod laws;
+mod monitor;
+mod socket_records;
+#[cfg(test)]
+mod tests;
+
+pub use attending::attend;
+pub use awaited::{Awaited, LiveError, Wait, Waiter};
+pub use connection::{Connection, Taken};
+pub use framing::Framing;
+pub use gaps::Gaps;
+pub use monitor::{Monitor, Note};
+pub use socket_records::SocketRecords;

@@ -1,0 +1,5 @@
+//! Stations over connections in memory.
+
+mod attended;
+mod fixtures;
+mod framings;
