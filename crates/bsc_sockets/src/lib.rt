@@ -1,0 +1,27 @@
+//! TCP connections of a station, and the waiting for them. It stands at the edge: it is the
+//! `bsc_live::Waiter` over sockets of this machine, in one thread, by the system's readiness
+//! reports, and knows nothing of transmissions.
+//!
+//! - `Listening` is an address that is bound; `listen` waits there for a number of peers.
+//! - `connect` makes one connection to a peer that listens.
+//! - `Sockets` waits for octets, for a further peer, or until a time has passed.
+//! - `Reading` and `Writing` are the two directions of a connection. Neither waits without end.
+//! - `Ready` is the order in which the places are served whose octets have arrived.
+#![tactic(auto)]
+
+mod begin;
+mod directions;
+mod error;
+mod listening;
+mod ready;
+mod sockets;
+#[cfg(test)]
+mod tests;
+mod writable;
+
+pub use begin::{Begun, connect, listen};
+pub use directions::{Reading, Writing};
+pub use error::SocketsError;
+pub use listening::Listening;
+pub use ready::Ready;
+pub use sockets::{Settings, Sockets};

@@ -1,0 +1,58 @@
+//! The order in which places are served.
+
+ghost use Rattle.std.specs.Prelude.{◌≡◌, ◌∷◌, ◌++◌, ◌↔◌, [], List, ℕ, IfOk, IsNone, MatchOption, OnOk, OnErr};
+ghost use Rattle.bsc_sockets.specs.Ready.{with_place, without_place, IsServed};
+
+use std::alloc::{AllocError, Allocator};
+use std::collections::VecDeque;
+use std::marker::Model;
+
+/// The places that something has arrived at, in the order in which they are served: a place that
+/// was served goes to the end, so that none has to wait while another is served twice. (own)
+#[derive(Drop)]
+pub struct Ready<A: Allocator> {
+    places: VecDeque<usize, A>,
+}
+
+impl<A: Allocator> Model for Ready<A> {
+    ghost Value = { List ℕ };
+
+    ghost view = { λ ready. ready.places.items };
+}
+
+impl<A: Allocator> Ready<A> {
+    /// No place is ready. There is room for this many places without a further growth.
+    pub fn new(alloc: A, room: usize) -> Result<Ready<A>, AllocError>
+        ensures { IfOk result (λ ready. ready ≡ []) }
+    {
+        let places = VecDeque::with_capacity(alloc, room)?;
+        Ok(Ready { places })
+    }
+
+    /// Something has arrived at this place. It is served last, unless it is to be served already.
+    pub fn set(&mut self, place: usize) -> Result<(), AllocError>
+        ensures ok { OnOk result (self.new ≡ with_place self.old place) }
+        ensures err { OnErr result (self.new ≡ self.old) }
+    {
+        if !self.places.contains(&place) {
+            self.places.push_back(place)?;
+        }
+        Ok(())
+    }
+
+    /// Nothing is left at this place, which is served no more until it is set again.
+    pub fn clear(&mut self, place: usize)
+        ensures { self.new ≡ without_place self.old place }
+    {
+        self.places.retain(|ready| *ready != place);
+    }
+
+    /// The place to be served now, which is then the last; None where no place is ready.
+    pub fn next_place(&mut self) -> Option<usize>
+        ensures { IsServed self.old result self.new }
+    {
+        let place = *self.places.front()?;
+        self.places.rotate_left(1);
+        Some(place)
+    }
+}
