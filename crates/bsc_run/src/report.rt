@@ -79,8 +79,9 @@ fn write_channel<A: Allocator + Copy, B: Allocator, W: Write>(
     write_records(alloc, line.spooled(terminal, way), out)
 }
 
-/// Writes the name of a channel of a terminal that has this many selection addresses.
-fn write_channel_name<W: Write>(
+/// Writes the name of a channel of a terminal that has this many selection addresses. After an error a
+/// part of it may have been written.
+pub fn write_channel_name<W: Write>(
     addresses: usize,
     terminal: usize,
     way: Way,
@@ -143,8 +144,8 @@ fn write_records<A: Allocator + Copy, W: Write>(
     Ok(())
 }
 
-/// Writes the line of a record of these characters.
-fn write_record<A: Allocator, W: Write>(
+/// Writes the line of a record of these characters. After an error a part of it may have been written.
+pub fn write_record<A: Allocator, W: Write>(
     alloc: A,
     chars: &[u8],
     out: &mut W,

@@ -1,0 +1,26 @@
+-- The records that arrive at a station are printed, each once (own).
+use Rattle.std.specs.Prelude.{◌≡◌, ℕ, ◌<◌, List, length, max, slice_index}
+use Rattle.bsc_control.specs.declared.way.Way.{Way}
+use Rattle.bsc_run.specs.Printed.{channel_name}
+use Rattle.bsc_station.specs.Ends.{End}
+use Rattle.bsc_station.specs.Printed.{arrival_lines, records_at}
+use Rattle.bsc_station.specs.declared.arrivals.Form.{Form}
+
+-- the lines of a channel's records past those printed before
+abbrev pub channel_arrivals : Form → (ℕ → ℕ) → (ℕ → ℕ) → (ℕ → Way → End) → ℕ → Way → ℕ → List ℕ
+channel_arrivals form selects numbers ends t way printed =
+    arrival_lines form (channel_name (selects t) (numbers t) way) printed (records_at (ends t way))
+
+-- the same of the channel of this number
+abbrev pub arrivals_of : Form → (ℕ → ℕ) → (ℕ → ℕ) → (ℕ → Way → End) → (ℕ → ℕ) → (ℕ → Way) → List ℕ → ℕ → List ℕ
+arrivals_of form selects numbers ends terminal_of way_of printed n =
+    channel_arrivals form selects numbers ends (terminal_of n) (way_of n) (slice_index printed n)
+
+-- how many records of a channel are printed, once those that arrived are
+abbrev pub counted : (ℕ → Way → End) → ℕ → Way → ℕ → ℕ
+counted ends t way printed = max printed (length (records_at (ends t way)))
+
+-- each channel's count is kept
+abbrev pub AreCounted : (ℕ → Way → End) → (ℕ → ℕ) → (ℕ → Way) → List ℕ → List ℕ → ℕ → Type 0
+AreCounted ends terminal_of way_of old new count =
+    (n : ℕ) → n < count → slice_index new n ≡ counted ends (terminal_of n) (way_of n) (slice_index old n)

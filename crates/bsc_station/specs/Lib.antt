@@ -1,0 +1,10 @@
+pub mod Arrivals
+pub mod EndValues
+pub mod Ends
+pub mod LineTerminal
+pub mod LineTerminalNoise
+pub mod Offers
+pub mod Printed
+pub mod Rounds
+pub mod Traces
+pub mod Visits

@@ -1,0 +1,42 @@
+//! The stations of a configuration.
+
+ghost use Rattle.std.specs.Prelude.{◌≡◌, ◌<◌, length, slice_index_or, IfOk};
+ghost use Rattle.bsc_control.specs.Kept.{IsNewControl};
+ghost use Rattle.bsc_control.specs.Peer.{no_peer};
+ghost use Rattle.bsc_tributary.specs.Kept.{IsNewTerminal};
+
+use crate::LineTerminal;
+use bsc_config::Config;
+use bsc_control::Control;
+use bsc_control::laws::distinct_addresses;
+use std::alloc::{AllocError, Allocator};
+
+/// The control station of the line, with nothing to send. The error comes only where a growth is
+/// refused.
+pub fn new_control<A: Allocator + Copy>(alloc: A, config: &Config) -> Result<Control<A>, AllocError>
+    ensures { let line = config.now in IfOk result (λ control.
+        IsNewControl line.setup line.terminals line.poll_list control) }
+{
+    let (terminals, poll_list) = (config.terminal_list(), config.poll_list());
+    match Control::new(alloc, config.setup(), terminals, poll_list) {
+        Ok(control) => Ok(control),
+        // A control station can be made of every configuration, where there is memory.
+        Err(_) => Err(AllocError),
+    }
+}
+
+/// The terminal of this number, with nothing to send. Condition: the line has such a terminal.
+pub fn new_terminal<A: Allocator + Copy>(
+    alloc: A,
+    config: &Config,
+    number: usize,
+) -> LineTerminal<A>
+    requires { number < length config.now.terminals }
+    ensures number { result.number ≡ number }
+    ensures terminal { IsNewTerminal config.now.setup
+        (slice_index_or config.now.terminals number no_peer.terminal) result.tributary }
+{
+    distinct_addresses();
+    let terminals = config.terminal_list();
+    LineTerminal::new(alloc, config.setup(), number, terminals[number])
+}
