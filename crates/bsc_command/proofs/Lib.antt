@@ -1,3 +1,4 @@
+pub mod PartLemmas
 pub mod ListLemmas
 pub mod LineLemmas
 pub mod HeardLemmas

@@ -1,14 +1,16 @@
 -- What has been printed of the lines so far.
-use Rattle.std.proofs.Common.{◌≡◌, ℕ, ◌+◌, map, List, [], ◌∷◌, ◌++◌, true, false, Option, Some, None, length, refl, sym, ap, ◌∙◌, append_assoc, append-nil, length-append}
+use Rattle.std.proofs.Common.{◌≡◌, ℕ, ◌+◌, map, List, [], ◌∷◌, ◌++◌, true, false, Option, Some, None, length, refl, sym, ap, subst, ◌∙◌, append_assoc, append-nil, length-append}
 use Rattle.std.proofs.Math.Seq.{take-append_seam}
-use Rattle.std.specs.Prelude.{IfSome}
+use Rattle.std.specs.Prelude.{IfSome, if◌then◌else◌}
+use Rattle.std.specs.Option.{option_to_list}
 use Rattle.std.specs.List.{flat_map}
 use Rattle.std.specs.Str.Lines.{strip_carriage_return}
 use Rattle.std.proofs.KnownBytes.{Appends-nil, Appends-trans}
 use Rattle.bsc_frame.specs.declared.message.Heard.{Heard}
 use Rattle.bsc_names.specs.Names.{Prints}
 use Rattle.bsc_input.specs.Lines.{is_blank, lines_of, parts_of}
-use Rattle.bsc_command.specs.Lines.{AreShown, PrintsInput, PrintsLines, StopsAt, is_wrong, transmission}
+use Rattle.bsc_input.specs.Parts.{parts_at}
+use Rattle.bsc_command.specs.Lines.{AreShown, PrintsInput, PrintsLines, StopsAt, digits, given, is_traced, is_wrong, last_part, transmission}
 use Rattle.bsc_input.specs.Hexadecimal.{octets_of}
 use Rattle.bsc_command.proofs.ListLemmas.{NonePasses, NonePasses-more, position-append, position-none}
 
@@ -32,12 +34,37 @@ PrintsLines-append show xs ys a b c p q = record {
 }
 
 -- a line that gives a transmission
-pub PrintsLines-one : (show : Heard → List ℕ) (line octets : List ℕ) (a b : Option (List ℕ)) → is_blank line ≡ false → octets_of line ≡ Some octets → Prints show octets a b → PrintsLines show (line ∷ []) a b
-PrintsLines-one show line octets a b blank e p = record {
-  text = show p.heard;
-  shown = rw (blank, e) (p.heard, [], p.is_heard, sym (append-nil (show p.heard)), refl);
-  appended = p.appended;
-}
+pub PrintsLines-one : (show : Heard → List ℕ) (line text octets : List ℕ) (a b : Option (List ℕ)) → digits line ≡ text → is_blank text ≡ false
+    → octets_of text ≡ Some octets → Prints show octets a b → PrintsLines show (line ∷ []) a b
+PrintsLines-one show line text octets a b same blank e p =
+    let P : List ℕ → Type 0 = λ t. AreShown show (given t ++ []) (show p.heard) in
+    record {
+      text = show p.heard;
+      shown = subst P (sym same) (rw (blank, e) (p.heard, [], p.is_heard, sym (append-nil (show p.heard)), refl));
+      appended = p.appended;
+    }
+
+-- a line that gives none
+pub PrintsLines-skip : (show : Heard → List ℕ) (line text : List ℕ) (a : Option (List ℕ)) → digits line ≡ text → given text ≡ []
+    → PrintsLines show (line ∷ []) a a
+PrintsLines-skip show line text a same e =
+    let P : List (List ℕ) → Type 0 = λ ts. AreShown show (ts ++ []) [] in
+    record { text = []; shown = subst P (sym (ap given same ∙ e)) refl; appended = Appends-nil a }
+
+-- the hexadecimal text of a line, where it is one of a trace or is not
+pub digits-traced : (line : List ℕ) → is_traced line ≡ true → digits line ≡ last_part (parts_at 32 line)
+digits-traced line e = ap (λ b. if b then last_part (parts_at 32 line) else line) e
+
+pub digits-plain : (line : List ℕ) → is_traced line ≡ false → digits line ≡ line
+digits-plain line e = ap (λ b. if b then last_part (parts_at 32 line) else line) e
+
+-- blank text gives none, and text that is not hexadecimal gives none
+pub given-blank : (text : List ℕ) → is_blank text ≡ true → given text ≡ []
+given-blank text e = ap (λ b. if b then [] else option_to_list (octets_of text)) e
+
+pub given-wrong : (text : List ℕ) → is_blank text ≡ false → octets_of text ≡ None → given text ≡ []
+given-wrong text blank e =
+    ap (λ b. if b then [] else option_to_list (octets_of text)) blank ∙ ap option_to_list e
 
 -- what a text's first line leaves
 pub lines_left : {B : Type 0} (now : B → List ℕ) (rest : Option B) (text line : List ℕ) → (rest ≡ None → parts_of text ≡ line ∷ [])

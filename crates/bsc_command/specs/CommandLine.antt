@@ -1,16 +1,13 @@
 -- The command line: what `clap` reads of the command, and the work that its matches ask for. All of it is own.
-use Rattle.std.specs.Prelude.{◌≡◌, ◌⊎◌, List, [], Bool, true, Option, Some, None, unwrap_or, codes, string_bytes, if◌then◌else◌}
+use Rattle.std.specs.Prelude.{◌≡◌, ◌⊎◌, List, [], Bool, true, Option, Some, None, codes, string_bytes, if◌then◌else◌}
 use Rattle.std.specs.Str.{bytes_eq}
-use Rattle.clap.specs.Words.{App, Kinds, Row, Rule, Text, fault_of, first_of, new_app, new_rule, subcommand_of, with_rule, with_subcommand}
-use Rattle.clap.specs.declared.builder.ArgAction.TheVariants.{Set, SetTrue}
+use Rattle.clap.specs.Words.{App, Kinds, Row, Text, fault_of, new_app, subcommand_of, with_rule, with_subcommand}
 use Rattle.clap.specs.declared.error.kind.ErrorKind.{ErrorKind}
 use Rattle.clap.specs.declared.error.kind.ErrorKind.TheVariants.{DisplayHelp, DisplayVersion}
 use Rattle.bsc_command.specs.declared.words.Work.{Work}
-use Rattle.bsc_command.specs.declared.words.Work.TheVariants.{Names, Name, Show, Run}
-
--- A required argument with a value.
-abbrev pub required : Text → Rule
-required id = record (new_rule id) { required = true; action = Some Set }
+use Rattle.bsc_command.specs.declared.words.Work.TheVariants.{Names, Name, Show, Run, Station}
+use Rattle.bsc_command.specs.Options.{flag, is_true_text, required, value_at}
+use Rattle.bsc_command.specs.StationWords.{AskedWords, asked_words, station_app, words_in}
 
 -- `name HEX`.
 abbrev pub name_app : App
@@ -19,10 +16,6 @@ name_app = with_rule (new_app (codes "name")) (required (codes "HEX"))
 -- `show`.
 abbrev pub show_app : App
 show_app = new_app (codes "show")
-
--- A flag with a long name.
-abbrev pub flag : Text → Rule
-flag id = record (new_rule id) { long = Some id; action = Some SetTrue }
 
 -- `run CONFIG SCRIPT`, with the flag `--check`.
 abbrev pub run_app : App
@@ -34,11 +27,13 @@ run_app =
 abbrev pub program_app : App
 program_app = record { top = record (new_app (codes "bscline")).top { has_version = true }; subs = [] }
 
+-- The program with the commands that name transmissions.
+abbrev pub naming_app : App
+naming_app = with_subcommand (with_subcommand program_app name_app.top) show_app.top
+
 -- The program with its commands.
 abbrev pub bscline_app : App
-bscline_app =
-    with_subcommand (with_subcommand (with_subcommand program_app name_app.top) show_app.top)
-    run_app.top
+bscline_app = with_subcommand (with_subcommand naming_app run_app.top) station_app.top
 
 -- The kinds of error that `clap` may give at the words; none where the words are a command.
 unfoldable pub faults_at : List Text → Kinds
@@ -50,14 +45,7 @@ pub data Asked : Type 0 where
   name : Text → Asked
   show : Asked
   run : Text → Text → Bool → Asked
-
--- The value of a required argument.
-abbrev pub value_at : Text → List Row → Text
-value_at id rows = unwrap_or (first_of id rows) []
-
--- The text that `clap` has for a flag that was given.
-abbrev pub is_true_text : Text → Bool
-is_true_text text = bytes_eq text (codes "true")
+  station : AskedWords → Asked
 
 -- The configuration and the script, by their paths, and whether they are only checked.
 abbrev pub asked_run : List Row → Asked
@@ -65,11 +53,16 @@ asked_run rows =
     run (value_at (codes "CONFIG") rows) (value_at (codes "SCRIPT") rows)
     (is_true_text (value_at (codes "check") rows))
 
+-- One station, by its words.
+abbrev pub asked_station : List Row → Asked
+asked_station rows = station (words_in rows)
+
 -- By the name of the command and its values.
 abbrev pub asked_by : Text → List Row → Asked
 asked_by sub rows =
     if bytes_eq sub (codes "name") then name (value_at (codes "HEX") rows)
-    else (if bytes_eq sub (codes "run") then asked_run rows else show)
+    else (if bytes_eq sub (codes "run") then asked_run rows
+    else (if bytes_eq sub (codes "station") then asked_station rows else show))
 
 -- Without a command the names of standard input.
 abbrev pub asked_sub : Option (Text × List Row) → Asked
@@ -86,6 +79,7 @@ asked Names = names
 asked (Name hex) = name (string_bytes hex)
 asked Show = show
 asked (Run config script check) = run (string_bytes config) (string_bytes script) check
+asked (Station words) = station (asked_words words)
 
 -- The help or the version was asked for.
 abbrev pub IsHelp : ErrorKind → Type 0

@@ -6,6 +6,11 @@ use Rattle.clap.specs.declared.error.kind.ErrorKind.TheVariants as kind
 use Rattle.bsc_command.specs.declared.fault.Fault.{Fault}
 use Rattle.bsc_command.specs.declared.fault.Fault.TheVariants.{NotHexadecimal, NotHexadecimalAt, InputTooLong, Input, Output, OutOfMemory}
 use Rattle.bsc_command.specs.declared.fault.Fault.TheVariants.{CannotRead, FileTooLong, Config, Script, Sockets, Run, Usage}
+use Rattle.bsc_command.specs.declared.fault.Fault.TheVariants.{Offer, Connections, Closed, InDoubt, Undelivered}
+use Rattle.bsc_live.specs.declared.awaited.LiveError.{LiveError}
+use Rattle.bsc_live.specs.declared.awaited.LiveError.TheVariants as live
+use Rattle.bsc_sockets.specs.declared.error.SocketsError.{SocketsError}
+use Rattle.bsc_sockets.specs.declared.error.SocketsError.TheVariants as sockets
 use Rattle.bsc_config.specs.declared.error.ConfigError.{ConfigError}
 use Rattle.bsc_config.specs.declared.error.ConfigError.TheVariants as config
 use Rattle.bsc_script.specs.declared.script.ScriptError.{ScriptError}
@@ -24,7 +29,8 @@ abbrev pub run_status : RunError → ℕ
 run_status (run.Refused line why) = 3
 run_status _ = 1
 
--- The exit status: 2 for wrong usage, 3 for a refused event, 1 for every other fault.
+-- The exit status: 2 for wrong usage, 3 for a refused event and for records in doubt, 4 for records that are
+-- not delivered, 1 for every other fault.
 abbrev pub status_of : Fault → ℕ
 status_of NotHexadecimal = 1
 status_of (NotHexadecimalAt line) = 1
@@ -38,6 +44,11 @@ status_of (Config error) = 1
 status_of (Script error) = 1
 status_of Sockets = 1
 status_of (Run error) = run_status error
+status_of (Offer path error) = 1
+status_of (Connections error) = 1
+status_of (Closed error) = 1
+status_of InDoubt = 3
+status_of Undelivered = 4
 status_of (Usage text) = 2
 
 -- The fault of an input that was not read.
@@ -71,6 +82,18 @@ abbrev pub run_fault : RunError → Fault
 run_fault run.Output = Output
 run_fault run.Memory = OutOfMemory
 run_fault error = Run error
+
+-- The fault of connections of a station that were not made.
+abbrev pub sockets_fault : SocketsError → Fault
+sockets_fault sockets.Memory = OutOfMemory
+sockets_fault error = Connections error
+
+-- The fault of a station that is attended no longer.
+abbrev pub live_fault : LiveError → Fault
+live_fault live.Wait = Connections sockets.Sockets
+live_fault live.Count = Connections sockets.Sockets
+live_fault live.Output = Output
+live_fault live.Memory = OutOfMemory
 
 -- The faults of printing.
 abbrev pub IsPrintFault : Fault → Type 0
@@ -121,3 +144,15 @@ IsRunFault fault = IsTextFault fault ⊎ IsLineRunFault fault
 pub record IsWordsFault (error : Error) (fault : Fault) : Type 0 where
   pub memory : kind_of error ≡ kind.OutOfMemory → fault ≡ OutOfMemory
   pub usage : kind_of error ≢ kind.OutOfMemory → fault ≡ Usage error
+
+-- The fault of words that do not go together or have a wrong value.
+abbrev pub IsUsage : Fault → Type 0
+IsUsage (Usage text) = Unit {0}
+IsUsage OutOfMemory = Unit {0}
+IsUsage _ = ⊥
+
+-- The faults of the records that a station is to send: their text, its path, or that a line of it is no record.
+abbrev pub IsOfferFault : Fault → Type 0
+IsOfferFault (Offer path error) = Unit {0}
+IsOfferFault (Usage text) = Unit {0}
+IsOfferFault fault = IsTextFault fault

@@ -1,4 +1,6 @@
 pub mod Lines
 pub mod Faults
+pub mod Options
+pub mod StationWords
 pub mod CommandLine
 pub mod Program

@@ -1,20 +1,40 @@
 -- What is printed for the lines of the command's input. All of it is own.
-use Rattle.std.specs.Prelude.{◌≡◌, ℕ, ◌+◌, ◌&&◌, not, Bool, List, [], ◌∷◌, ◌++◌, take, position, Option, Some, None, is_none, if◌then◌else◌}
+use Rattle.std.specs.Prelude.{◌≡◌, ℕ, ◌+◌, ◌==◌, ◌&&◌, not, Bool, false, List, [], ◌∷◌, ◌++◌, take, position, Option, Some, None, is_none, if◌then◌else◌}
 use Rattle.std.specs.List.{flat_map}
 use Rattle.std.specs.Option.{option_to_list}
 use Rattle.std.specs.Io.KnownBytes.{Appends}
 use Rattle.bsc_frame.specs.declared.message.Heard.{Heard}
 use Rattle.bsc_input.specs.Hexadecimal.{octets_of}
 use Rattle.bsc_input.specs.Lines.{is_blank, lines_of}
+use Rattle.bsc_input.specs.Parts.{parts_at}
 use Rattle.bsc_names.specs.Names.{IsHeard}
 
--- Neither blank nor hexadecimal text.
-abbrev pub is_wrong : List ℕ → Bool
-is_wrong line = not (is_blank line) && is_none (octets_of line)
+-- A line of a trace begins with +.
+abbrev pub is_traced : List ℕ → Bool
+is_traced [] = false
+is_traced (code ∷ rest) = code == 43
 
--- The transmission that a line gives: none where it is blank.
+-- The last of some parts.
+abbrev pub last_part : List (List ℕ) → List ℕ
+last_part [] = []
+last_part (part ∷ []) = part
+last_part (part ∷ next ∷ parts) = last_part (next ∷ parts)
+
+-- The hexadecimal text of a line: in a trace what follows its last space.
+abbrev pub digits : List ℕ → List ℕ
+digits line = if is_traced line then last_part (parts_at 32 line) else line
+
+-- No line of a trace, and neither blank nor hexadecimal text.
+abbrev pub is_wrong : List ℕ → Bool
+is_wrong line = not (is_traced line) && (not (is_blank line) && is_none (octets_of line))
+
+-- The transmission that hexadecimal text gives: none where it is blank, or is no such text.
+abbrev pub given : List ℕ → List (List ℕ)
+given text = if is_blank text then [] else option_to_list (octets_of text)
+
+-- The transmission that a line gives.
 abbrev pub transmission : List ℕ → List (List ℕ)
-transmission line = if is_blank line then [] else option_to_list (octets_of line)
+transmission line = given (digits line)
 
 -- The text is what is shown of each of these transmissions, as it is heard, in order.
 abbrev pub AreShown : (Heard → List ℕ) → List (List ℕ) → List ℕ → Type 0

@@ -2,12 +2,16 @@
 ghost use Rattle.std.specs.Prelude.{◌≡◌};
 ghost use Rattle.bsc_command.specs.Faults.{status_of};
 
+use bsc_carrier::CarrierError;
 use bsc_config::ConfigError;
 use bsc_input::InputError;
+use bsc_live::LiveError;
 use bsc_loopback::LoopbackError;
 use bsc_names::PrintError;
 use bsc_run::RunError;
 use bsc_script::ScriptError;
+use bsc_sockets::SocketsError;
+use bsc_station::OfferError;
 use clap::error::ErrorKind;
 use std::alloc::{AllocError, AllocFailed};
 use thiserror::Error;
@@ -65,6 +69,26 @@ pub enum Fault {
     /// The run did not do all of the script.
     #[error("{error}")]
     Run { error: RunError },
+
+    /// The line of the records at this path is no record.
+    #[error("{path} {error}")]
+    Offer { path: String, error: OfferError },
+
+    /// The connections of a station could not be made, or could not be waited for.
+    #[error("{error}")]
+    Connections { error: SocketsError },
+
+    /// The connection of a terminal was closed for this reason.
+    #[error("connection closed: {error}")]
+    Closed { error: CarrierError },
+
+    /// A station ended, and of some records it does not know if they arrived.
+    #[error("records in doubt")]
+    InDoubt,
+
+    /// A station ended, and some records that were offered are not known to have arrived.
+    #[error("records not delivered")]
+    Undelivered,
 
     /// The words of the command line are no command. The text is that of `clap`, which is printed as
     /// it stands.
@@ -172,6 +196,35 @@ impl From<RunError> for Fault {
     }
 }
 
+impl From<SocketsError> for Fault {
+    ghost use Rattle.bsc_command.specs.Faults.{sockets_fault};
+
+    ghost from_gives = { λ error fault. fault ≡ sockets_fault error };
+
+    fn from(error: SocketsError) -> Fault {
+        match error {
+            SocketsError::Memory => Fault::OutOfMemory,
+            error => Fault::Connections { error },
+        }
+    }
+}
+
+impl From<LiveError> for Fault {
+    ghost use Rattle.bsc_command.specs.Faults.{live_fault};
+
+    ghost from_gives = { λ error fault. fault ≡ live_fault error };
+
+    fn from(error: LiveError) -> Fault {
+        match error {
+            LiveError::Wait | LiveError::Count => Fault::Connections {
+                error: SocketsError::Sockets,
+            },
+            LiveError::Output => Fault::Output,
+            LiveError::Memory => Fault::OutOfMemory,
+        }
+    }
+}
+
 impl From<clap::Error> for Fault {
     ghost use Rattle.bsc_command.specs.Faults.{IsWordsFault};
 
@@ -186,8 +239,9 @@ impl From<clap::Error> for Fault {
     }
 }
 
-/// The exit status of the program: 2 for wrong usage, 3 where the line refused an event of a script,
-/// and 1 for every other fault.
+/// The exit status of the program: 2 for wrong usage, 3 where the line refused an event of a script or
+/// a station ended in doubt, 4 where one ended with records that are not delivered, and 1 for every
+/// other fault.
 pub fn status(fault: &Fault) -> u8
     ensures { result ≡ status_of fault.now }
 {
@@ -196,6 +250,8 @@ pub fn status(fault: &Fault) -> u8
         Fault::Run {
             error: RunError::Refused { .. },
         } => 3,
+        Fault::InDoubt => 3,
+        Fault::Undelivered => 4,
         _ => 1,
     }
 }

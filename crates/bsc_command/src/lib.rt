@@ -1,12 +1,17 @@
-//! What the command `bscline` does: it names transmissions of a line, shows the units of texts, and
-//! runs a whole line over loopback connections.
+//! What the command `bscline` does: it names transmissions of a line, shows the units of texts, runs a
+//! whole line over loopback connections, and runs one station of a line over TCP.
 #![tactic(auto)]
 
 mod fault;
 mod host;
 mod naming;
+mod offering;
 mod program;
 mod running;
+mod station;
+mod station_settings;
+mod station_words;
+mod texts;
 mod words;
 
 pub use bsc_config::{Config, read_config};
@@ -14,9 +19,11 @@ pub use bsc_input::{InputError, MAX_INPUT, read_input};
 pub use bsc_run::run_line;
 pub use bsc_script::{Script, read_script};
 pub use fault::{Fault, status};
-pub use host::Host;
+pub use host::{Asked, Host, Opened};
 pub use naming::{name, names, show};
 pub use program::perform;
+pub use station_settings::Place;
+pub use station_words::StationWords;
 pub use words::{Work, help_or_fault, not_text, read_words};
 
 #[cfg(test)]

@@ -1,13 +1,14 @@
-//! Names of transmissions that are given in hexadecimal text.
+//! Names of transmissions that are given in hexadecimal text, or by the lines of a trace.
 ghost use Rattle.std.specs.Prelude.{◌≡◌, ◌+◌, ◌<◌, ◌^◌, ◌∷◌, [], length, true, false, None, OnOk, IfErr, IsErrOf, IsSomeAnd, ℕ};
 ghost use Rattle.bsc_input.specs.Hexadecimal.{octets_of};
+ghost use Rattle.bsc_input.specs.Parts.{parts_at};
 ghost use Rattle.bsc_names.specs.Names.{Prints, name_line, unit_lines, shown};
-ghost use Rattle.bsc_command.specs.Lines.{PrintsInput, PrintsLines, StopsAt, is_wrong};
+ghost use Rattle.bsc_command.specs.Lines.{PrintsInput, PrintsLines, StopsAt, is_traced, is_wrong, last_part};
 ghost use Rattle.bsc_command.specs.Faults.{IsLineFault, IsNameFault, IsPrintFault};
 
 use crate::Fault;
 use bsc_frame::decode;
-use bsc_input::{is_blank, read_octets, split_line, without_return};
+use bsc_input::{is_blank, read_octets, split_at_first, split_line, without_return};
 use bsc_names::{Detail, write_shown};
 use std::alloc::Allocator;
 use std::io::Write;
@@ -28,8 +29,10 @@ pub fn name<A: Allocator + Copy, W: Write>(alloc: A, text: &str, out: &mut W) ->
     }
 }
 
-/// Prints the name of each line's transmission, one a line. Blank lines are skipped and counted. At a
-/// line that is not hexadecimal text it stops; the names of the lines before stay printed.
+/// Prints the name of each line's transmission, one a line. A line that begins with `+` is a line of
+/// a trace: its transmission is the hexadecimal text after its last space, and where that is none it
+/// is skipped. Blank lines are skipped too, and all lines are counted. At any other line that is not
+/// hexadecimal text it stops; the names of the lines before stay printed. (Own.)
 pub fn names<A: Allocator + Copy, W: Write>(
     alloc: A,
     input: &[u8],
@@ -82,6 +85,49 @@ fn write_lines<A: Allocator + Copy, W: Write>(
     }
 }
 
+/// Whether the line is one of a trace.
+fn is_traced_line(line: &[u8]) -> bool
+    ensures { result ≡ is_traced line.now }
+{
+    !line.is_empty() && line[0] == b'+'
+}
+
+/// What follows the last space of the line; all of it where there is none.
+fn last_word(line: &[u8]) -> &[u8]
+    ensures { result.now ≡ last_part (parts_at 32 line.now) }
+{
+    let mut left = line;
+    'words: loop {
+        let (word, rest) = split_at_first(left, b' ');
+        match rest {
+            Some(rest) => left = rest,
+            None => return word,
+        }
+    }
+}
+
+/// Prints what a line of a trace gives.
+fn write_traced<A: Allocator + Copy, W: Write>(
+    alloc: A,
+    detail: Detail,
+    line: &[u8],
+    out: &mut W,
+) -> Result<(), Fault>
+    requires { is_traced line.now ≡ true }
+    ensures ok { OnOk result
+        (PrintsLines (shown detail) (line.now ∷ []) (W.contents out.old) (W.contents out.new)) }
+    ensures faults { IfErr result IsPrintFault }
+{
+    let word = last_word(line);
+    if is_blank(word) {
+        return Ok(());
+    }
+    match read_octets(alloc, word)? {
+        Some(octets) => write_transmission(alloc, detail, &octets, out),
+        None => Ok(()),
+    }
+}
+
 /// Prints what a line gives that has this many lines before it.
 fn write_line<A: Allocator + Copy, W: Write>(
     alloc: A,
@@ -98,6 +144,9 @@ fn write_line<A: Allocator + Copy, W: Write>(
         (n ≡ before + 1) × (is_wrong line.now ≡ true) × (out.new ≡ out.old) }
     ensures faults { IfErr result IsLineFault }
 {
+    if is_traced_line(line) {
+        return write_traced(alloc, detail, line, out);
+    }
     if is_blank(line) {
         return Ok(());
     }

@@ -1,16 +1,18 @@
 //! The work of the program, over any reader, any writer and any host.
 ghost use Rattle.std.specs.Prelude.{◌≡◌, ◌⊎◌, ℕ, OnOk, List, true};
-ghost use Rattle.bsc_command.specs.Program.{IsDone, StopsAtLine};
+ghost use Rattle.bsc_command.specs.Program.{IsDone, StopsAtLine, UnlessStation};
 ghost use Rattle.bsc_command.specs.CommandLine.{asked, run as run_asked};
 
 use crate::running::run;
+use crate::station::station;
 use crate::{Fault, Host, Work, name, names, read_input, show};
 use std::alloc::Global;
 use std::io::{Read, Write};
 
 /// Does the work. The input is read where the work asks for it, and as a whole before anything is
 /// printed. A run reads its files and makes its connections by the host; what it prints is told by
-/// `bsc_run::run_line`, and nothing where it only checks.
+/// `bsc_run::run_line`, and nothing where it only checks. A station is attended until it ends; what
+/// it prints is told by the calls of `bsc_station`.
 pub fn perform<R: Read, H: Host, W: Write>(
     alloc: Global,
     work: &Work,
@@ -24,7 +26,7 @@ pub fn perform<R: Read, H: Host, W: Write>(
         StopsAtLine (asked work.now) n (R.remaining input.old)
         (W.contents out.old) (W.contents out.new) }
     ensures unread { (result ≡ Err Fault.InputTooLong) ⊎ (result ≡ Err Fault.Input) →
-        out.new ≡ out.old }
+        UnlessStation (asked work.now) (out.new ≡ out.old) }
     ensures checked { (config script : List ℕ) → asked work.now ≡ run_asked config script true →
         out.new ≡ out.old }
 {
@@ -45,5 +47,6 @@ pub fn perform<R: Read, H: Host, W: Write>(
             host,
             out,
         ),
+        Work::Station(words) => station(alloc, words, input, host, out),
     }
 }

@@ -1,19 +1,16 @@
 //! A run of a line: its texts are read, then what they say is checked, and then the events are run.
 
 ghost use Rattle.std.specs.Prelude.{◌≡◌, ◌⊎◌, Err, IfErr, IsTrue};
-ghost use Rattle.bsc_command.specs.Faults.{IsLineRunFault, IsPathFault, IsRunFault, IsTextFault};
+ghost use Rattle.bsc_command.specs.Faults.{IsLineRunFault, IsRunFault};
 
+use crate::texts::{STANDARD_INPUT, read_text};
 use crate::words::two_standard_inputs;
 use crate::{Fault, Host};
 use bsc_config::{Config, read_config};
-use bsc_input::{InputError, read_input};
 use bsc_run::run_line;
 use bsc_script::{Script, read_script};
 use std::alloc::Global;
 use std::io::{Read, Write};
-
-/// The path that stands for standard input.
-const STANDARD_INPUT: &str = "-";
 
 /// Runs the events of the script on a line of the configuration, over a cable of the host, and prints
 /// what is on the line after each event that is heard, and a report at the end. Both are named by
@@ -59,36 +56,4 @@ fn run_on_cable<H: Host, W: Write>(
     let mut cable = host.connect(config.terminals())?;
     run_line(alloc, config, script, &mut cable, out)?;
     Ok(())
-}
-
-/// The whole of standard input, or of the file at this path.
-fn read_text<R: Read, H: Host>(
-    alloc: Global,
-    path: &str,
-    input: &mut R,
-    host: &mut H,
-) -> Result<Vec<u8>, Fault>
-    ensures { IfErr result IsTextFault }
-{
-    if path == STANDARD_INPUT {
-        return Ok(read_input(alloc, input)?);
-    }
-    match host.read_file(path) {
-        Ok(text) => Ok(text),
-        Err(error) => Err(file_fault(alloc, path, error)),
-    }
-}
-
-/// The fault of a file that was not read, which names its path.
-fn file_fault(alloc: Global, path: &str, error: InputError) -> Fault
-    ensures { IsPathFault path.now error result }
-{
-    let Ok(path) = String::from_str(alloc, path) else {
-        return Fault::OutOfMemory;
-    };
-    match error {
-        InputError::TooLong => Fault::FileTooLong { path },
-        InputError::Device => Fault::CannotRead { path },
-        InputError::Memory => Fault::OutOfMemory,
-    }
 }

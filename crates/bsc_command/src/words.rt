@@ -2,9 +2,11 @@
 ghost use Rattle.std.specs.Prelude.{◌≡◌, ◌⊎◌, ◌≢◌, [], map, IfOk, IfErr, OnOk, codes, false, string_bytes, unwrap_or};
 ghost use Rattle.clap.specs.Words.{app_of, kind_of, HasKind, first_value, found_of, rows_of, rule_of, subcommand_rows_of};
 ghost use Rattle.clap.specs.declared.builder.command.Command.TheViews.{out-Command};
-ghost use Rattle.bsc_command.specs.CommandLine.{IsHelp, bscline_app, flag, is_true_text, name_app, program_app, required, run_app, show_app, faults_at, asked, asked_of, asked_run, asked_sub};
+ghost use Rattle.bsc_command.specs.CommandLine.{IsHelp, bscline_app, name_app, naming_app, program_app, run_app, show_app, faults_at, asked, asked_of, asked_run, asked_station, asked_sub};
+ghost use Rattle.bsc_command.specs.Options.{flag, is_true_text, required};
 
 use crate::Fault;
+use crate::station_words::{StationWords, station_command, station_words};
 use clap::error::ErrorKind;
 use clap::{Arg, ArgAction, ArgMatches, Command, Error};
 use std::alloc::{AllocError, Global};
@@ -29,6 +31,9 @@ pub enum Work {
         script: String,
         check: bool,
     },
+
+    /// One station of a line over TCP.
+    Station(StationWords),
 }
 
 /// An argument that has to be there.
@@ -106,13 +111,20 @@ fn program<'a>(alloc: Global) -> Command<'a>
         .version("0.1.0")
 }
 
+/// The program with the commands that name transmissions.
+fn naming<'a>(alloc: Global) -> Result<Command<'a>, AllocError>
+    ensures { IfOk result (λ c. app_of c ≡ naming_app) }
+{
+    let named = program(alloc).subcommand(name_command(alloc)?)?;
+    named.subcommand(show_command(alloc))
+}
+
 /// The command line of `bscline`.
 fn command_line<'a>(alloc: Global) -> Result<Command<'a>, AllocError>
     ensures { IfOk result (λ c. app_of c ≡ bscline_app) }
 {
-    let named = program(alloc).subcommand(name_command(alloc)?)?;
-    let shown = named.subcommand(show_command(alloc))?;
-    shown.subcommand(run_command(alloc)?)
+    let running = naming(alloc)?.subcommand(run_command(alloc)?)?;
+    running.subcommand(station_command(alloc)?)
 }
 
 /// The text of a value that the command requires.
@@ -146,6 +158,13 @@ fn run_of(alloc: Global, matches: &ArgMatches<'_>) -> Result<Work, AllocError>
     })
 }
 
+/// The station that the matches of `station` ask for.
+fn station_of(alloc: Global, matches: &ArgMatches<'_>) -> Result<Work, AllocError>
+    ensures { IfOk result (λ w. asked w ≡ asked_station (rows_of (found_of matches.now))) }
+{
+    Ok(Work::Station(station_words(alloc, matches)?))
+}
+
 /// The work that the matches ask for.
 fn work_of(alloc: Global, matches: &ArgMatches<'_>) -> Result<Work, AllocError>
     ensures { IfOk result (λ w. asked w ≡ asked_sub (subcommand_rows_of matches.now)) }
@@ -155,6 +174,7 @@ fn work_of(alloc: Global, matches: &ArgMatches<'_>) -> Result<Work, AllocError>
         Some((sub, inner)) => match sub {
             "name" => Ok(Work::Name(text_of(alloc, inner, "HEX")?)),
             "run" => run_of(alloc, inner),
+            "station" => station_of(alloc, inner),
             _ => Ok(Work::Show),
         },
     }
@@ -211,6 +231,24 @@ fn two_standard_inputs_error(alloc: Global) -> Result<Error, AllocError>
         ErrorKind::ArgumentConflict,
         "CONFIG and SCRIPT cannot both be standard input",
     )
+}
+
+/// The answer where a value is wrong, or values do not go together, for this reason.
+pub(crate) fn wrong_words(alloc: Global, kind: ErrorKind, why: &str) -> Error
+    ensures { (kind_of result ≡ kind) ⊎ (kind_of result ≡ ErrorKind.OutOfMemory) }
+{
+    match wrong_words_error(alloc, kind, why) {
+        Ok(error) => error,
+        Err(error) => Error::from(error),
+    }
+}
+
+/// The same, unless memory ran out.
+fn wrong_words_error(alloc: Global, kind: ErrorKind, why: &str) -> Result<Error, AllocError>
+    ensures { IfOk result (λ e. kind_of e ≡ kind) }
+{
+    let mut command_line = command_line(alloc)?;
+    command_line.error(kind, why)
 }
 
 /// Prints the help or the version, where the words asked for one. Every other answer of `clap` is a

@@ -1,11 +1,23 @@
-//! The machine that the program runs on: its files, and its loopback address.
+//! The machine that the program runs on: its files, its loopback address, its network, its clock, and
+//! standard error.
 
 use bsc_carrier::Cable;
-use bsc_command::{Host, InputError, read_input};
+use bsc_command::{Asked, Host, InputError, Opened, Place, read_input};
 use bsc_loopback::{LoopbackError, connect};
+use bsc_sockets::{
+    Listening, Reading, Settings, Sockets, SocketsError, Writing, connect as connect_to, listen,
+};
+use bsc_station::Timer;
+use std::alloc::Global;
 use std::fs::File;
+use std::io;
+use std::io::{Error, ErrorKind, Write};
 use std::net::Net;
 use std::rt::Files;
+use std::time::{Clock, Duration, Instant};
+
+/// For how long a station that listens waits for each peer before it gives up, in milliseconds.
+const PATIENCE: u64 = 60_000;
 
 /// The machine of this runtime.
 #[derive(Drop)]
@@ -13,8 +25,59 @@ pub struct Machine<'a, R> {
     pub runtime: &'a R,
 }
 
-impl<R: AllocGlobal + Files + Net> Host for Machine<'_, R> {
+/// The time that has passed on this machine.
+#[derive(Drop)]
+pub struct Since<'a, R> {
+    runtime: &'a R,
+    start: Option<Instant>,
+}
+
+impl<R: Clock> Timer for Since<'_, R> {
+    fn milliseconds(&mut self) -> u64 {
+        let Some(start) = self.start else {
+            return 0;
+        };
+        match start.elapsed(self.runtime) {
+            Ok(time) => u64::try_from(time.as_millis()).unwrap_or(u64::MAX),
+            Err(_) => 0,
+        }
+    }
+}
+
+/// Standard error.
+#[derive(Drop)]
+pub struct Errors<'a, R> {
+    runtime: &'a R,
+}
+
+impl<R: Eprint> Write for Errors<'_, R> {
+    fn write(&mut self, octets: &[u8]) -> io::Result<usize> {
+        match str::from_utf8(octets) {
+            Ok(text) => {
+                eprint!(self.runtime; "{text}")?;
+                Ok(octets.len())
+            }
+            Err(_) => Err(Error::from(ErrorKind::InvalidData)),
+        }
+    }
+
+    fn flush(&mut self) -> io::Result<()> {
+        Ok(())
+    }
+}
+
+impl<'a, R: AllocGlobal + Clock + Eprint + Files + Net> Host for Machine<'a, R> {
     type Stream = R::Stream;
+
+    type Reader = Reading;
+
+    type Writer = Writing<'a, R, Global>;
+
+    type Waiter = Sockets<'a, R, Global>;
+
+    type Timer = Since<'a, R>;
+
+    type Trace = Errors<'a, R>;
 
     fn read_file(&mut self, path: &str) -> Result<Vec<u8>, InputError> {
         match File::open(self.runtime, path) {
@@ -25,5 +88,57 @@ impl<R: AllocGlobal + Files + Net> Host for Machine<'_, R> {
 
     fn connect(&mut self, count: usize) -> Result<Cable<R::Stream>, LoopbackError> {
         connect(self.runtime, self.runtime.alloc(), count)
+    }
+
+    fn open(
+        &mut self,
+        asked: &Asked<'_>,
+    ) -> Result<Opened<Self::Reader, Self::Writer, Self::Waiter>, SocketsError> {
+        let (runtime, alloc) = (self.runtime, self.runtime.alloc());
+        let settings = Settings {
+            time_out: Duration::from_millis(asked.time_out),
+            gap: Duration::from_millis(asked.gap),
+            begins: asked.begins,
+        };
+        let begun = match asked.place {
+            Place::Connect { address } => {
+                connect_to(runtime, alloc, address, settings.time_out, settings)?
+            }
+            Place::Listen { address } => {
+                let listening = Listening::bind(runtime, address)?;
+                let patience = Duration::from_millis(PATIENCE);
+                let peers = asked.connections.min(64);
+                listen(
+                    runtime,
+                    alloc,
+                    listening,
+                    peers,
+                    patience,
+                    asked.stays,
+                    settings,
+                )?
+            }
+        };
+        Ok(Opened {
+            waiter: begun.sockets,
+            connections: begun.connections,
+        })
+    }
+
+    fn timer(&mut self) -> Since<'a, R> {
+        let start = match Instant::now(self.runtime) {
+            Ok(start) => Some(start),
+            Err(_) => None,
+        };
+        Since {
+            runtime: self.runtime,
+            start,
+        }
+    }
+
+    fn trace(&mut self) -> Errors<'a, R> {
+        Errors {
+            runtime: self.runtime,
+        }
     }
 }

@@ -10,6 +10,7 @@ use std::io::{BufWriter, ErrorKind, Write};
 use std::net::Net;
 use std::process::ExitCode;
 use std::rt::{Env, Files};
+use std::time::Clock;
 use std::{env, io};
 
 fn main(rt: HostRuntime) -> ExitCode {
@@ -32,7 +33,9 @@ fn report<R: Eprint>(rt: &R, fault: &Fault) {
 }
 
 /// Runs the command with a buffer before standard output. What was printed before a fault leaves it too.
-fn run<R: AllocGlobal + Env + Files + Input + Net + Print>(rt: &R) -> Result<(), Fault> {
+fn run<R: AllocGlobal + Clock + Env + Eprint + Files + Input + Net + Print>(
+    rt: &R,
+) -> Result<(), Fault> {
     let Ok(mut out) = BufWriter::new(rt.alloc(), io::writer(rt)) else {
         return Err(Fault::OutOfMemory);
     };
@@ -44,7 +47,7 @@ fn run<R: AllocGlobal + Env + Files + Input + Net + Print>(rt: &R) -> Result<(),
 }
 
 /// Does what the command line asks for.
-fn obey<R: AllocGlobal + Env + Files + Input + Net, W: Write>(
+fn obey<R: AllocGlobal + Clock + Env + Eprint + Files + Input + Net, W: Write>(
     rt: &R,
     out: &mut W,
 ) -> Result<(), Fault> {

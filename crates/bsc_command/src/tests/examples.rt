@@ -1,8 +1,10 @@
 //! The examples of the repository, with the texts of their files, run over loopback connections.
 
-use crate::{Host, InputError, Work, perform};
+use super::streams::{NoTimer, NoWaiter, Nothing};
+use crate::{Asked, Host, InputError, Opened, Work, perform};
 use bsc_carrier::Cable;
 use bsc_loopback::{LoopbackError, connect};
+use bsc_sockets::SocketsError;
 use std::alloc::Global;
 use std::net::Net;
 use std::test::Fail;
@@ -206,6 +208,16 @@ struct Files<'a, R> {
 impl<R: Net> Host for Files<'_, R> {
     type Stream = R::Stream;
 
+    type Reader = Nothing;
+
+    type Writer = Nothing;
+
+    type Waiter = NoWaiter;
+
+    type Timer = NoTimer;
+
+    type Trace = Nothing;
+
     fn read_file(&mut self, path: &str) -> Result<Vec<u8>, InputError> {
         let text = match path {
             "line.toml" => self.line,
@@ -222,6 +234,21 @@ impl<R: Net> Host for Files<'_, R> {
 
     fn connect(&mut self, count: usize) -> Result<Cable<R::Stream>, LoopbackError> {
         connect(self.runtime, self.alloc, count)
+    }
+
+    fn open(
+        &mut self,
+        _asked: &Asked<'_>,
+    ) -> Result<Opened<Nothing, Nothing, NoWaiter>, SocketsError> {
+        Err(SocketsError::NobodyThere)
+    }
+
+    fn timer(&mut self) -> NoTimer {
+        NoTimer
+    }
+
+    fn trace(&mut self) -> Nothing {
+        Nothing
     }
 }
 

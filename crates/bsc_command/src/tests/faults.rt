@@ -1,10 +1,14 @@
 use crate::{Fault, InputError, not_text, status};
 use bsc_block::RecordError;
+use bsc_carrier::CarrierError;
 use bsc_config::ConfigError;
 use bsc_line::LineError;
+use bsc_live::LiveError;
 use bsc_loopback::LoopbackError;
 use bsc_run::RunError;
 use bsc_script::ScriptError;
+use bsc_sockets::SocketsError;
+use bsc_station::OfferError;
 use std::test::Fail;
 
 /// The line of standard error and the exit status of each fault.
@@ -120,6 +124,41 @@ fn texts_and_status_of_refused_events(rt: HostRuntime) -> Result<(), Fail> {
         let fault = Fault::from(RunError::Refused { line: 9, why });
         assert_eq!(rt; fault.to_string(rt.alloc())?.as_str(), text);
         assert_eq!(rt; status(&fault), 3);
+    }
+    Ok(())
+}
+
+/// The same of each fault of a station.
+#[test]
+fn texts_and_statuses_of_a_station(rt: HostRuntime) -> Result<(), Fail> {
+    let alloc = rt.alloc();
+    let path = String::from_str(alloc, "cards.txt")?;
+    let (line, why) = (3, RecordError::TooLong);
+    let error = OfferError::Refused { line, why };
+    let faults = [
+        (
+            Fault::Offer { path, error },
+            "cards.txt line 3: record too long",
+            1,
+        ),
+        (Fault::from(SocketsError::AddressInUse), "address in use", 1),
+        (Fault::from(SocketsError::Memory), "out of memory", 1),
+        (Fault::from(LiveError::Wait), "cannot make the sockets", 1),
+        (Fault::from(LiveError::Output), "output fault", 1),
+        (Fault::from(LiveError::Memory), "out of memory", 1),
+        (
+            Fault::Closed {
+                error: CarrierError::Short,
+            },
+            "connection closed: the input ended within a record",
+            1,
+        ),
+        (Fault::InDoubt, "records in doubt", 3),
+        (Fault::Undelivered, "records not delivered", 4),
+    ];
+    for (fault, text, exit) in &faults {
+        assert_eq!(rt; fault.to_string(alloc)?.as_str(), *text);
+        assert_eq!(rt; status(fault), *exit);
     }
     Ok(())
 }

@@ -127,3 +127,31 @@ fn failing_write(rt: HostRuntime) -> Result<(), Fail> {
     assert!(rt; matches!(&named, Err(Fault::Output)));
     Ok(())
 }
+
+/// A trace that `station` wrote: time-outs and connections give nothing, and a line of hexadecimal
+/// text between stays as it is.
+#[test]
+fn names_of_a_trace(rt: HostRuntime) -> Result<(), Fail> {
+    let trace: &[u8] = b"+1 control heard CALL A 161604ff1616c185ff
++3 terminal 0 sent TEXT ETX 1 161602c84919839bff
++3000 silence
++3050 connection 0 joined
+16 16 10 B0 FF
+
++3100 connection 0 closed: the input ended within a record
++3200 connection 0 closed
++
++ \n";
+    let mut out = Vec::new(rt.alloc());
+    show(rt.alloc(), trace, &mut out)?;
+    assert_eq!(rt;
+        out.as_slice(),
+        b"CALL A\nTEXT ETX 1\nunit 4849 EM\nACK0\n".as_slice()
+    );
+    // A line without the sign is still hexadecimal text or a fault.
+    match show(rt.alloc(), b"+2 silence\n3000 silence\n", &mut out) {
+        Err(Fault::NotHexadecimalAt { line }) => assert_eq!(rt; line, 2),
+        _ => return Err(Fail::new("no fault")),
+    }
+    Ok(())
+}

@@ -1,7 +1,10 @@
 //! A reader and a writer that fail, and a host that has nothing.
-use crate::{Host, InputError};
+use crate::{Asked, Host, InputError, Opened};
 use bsc_carrier::Cable;
+use bsc_live::{Awaited, LiveError, Wait, Waiter};
 use bsc_loopback::LoopbackError;
+use bsc_sockets::SocketsError;
+use bsc_station::Timer;
 use std::io;
 use std::io::{Error, ErrorKind, Read, Write};
 
@@ -67,6 +70,16 @@ pub struct NoHost;
 impl Host for NoHost {
     type Stream = Nothing;
 
+    type Reader = Nothing;
+
+    type Writer = Nothing;
+
+    type Waiter = NoWaiter;
+
+    type Timer = NoTimer;
+
+    type Trace = Nothing;
+
     fn read_file(&mut self, _path: &str) -> Result<Vec<u8>, InputError> {
         Err(InputError::Device)
     }
@@ -74,4 +87,49 @@ impl Host for NoHost {
     fn connect(&mut self, _count: usize) -> Result<Cable<Nothing>, LoopbackError> {
         Err(LoopbackError::Sockets)
     }
+
+    fn open(
+        &mut self,
+        _asked: &Asked<'_>,
+    ) -> Result<Opened<Nothing, Nothing, NoWaiter>, SocketsError> {
+        Err(SocketsError::NobodyThere)
+    }
+
+    fn timer(&mut self) -> NoTimer {
+        NoTimer
+    }
+
+    fn trace(&mut self) -> Nothing {
+        Nothing
+    }
+}
+
+/// A clock that stands.
+#[derive(Drop)]
+pub struct NoTimer;
+
+impl Timer for NoTimer {
+    fn milliseconds(&mut self) -> u64 {
+        0
+    }
+}
+
+/// What waits for nothing.
+#[derive(Drop)]
+pub struct NoWaiter;
+
+impl Waiter<Nothing, Nothing> for NoWaiter {
+    ghost waits = { λ _ _ _ _. Unit {0} };
+
+    fn wait(&mut self, _wait: Wait) -> Result<Awaited, LiveError> {
+        Err(LiveError::Wait)
+    }
+
+    fn nothing_left(&mut self, _connection: usize) {}
+
+    fn join(&mut self, _connection: usize) -> Option<(Nothing, Nothing)> {
+        None
+    }
+
+    fn turn_away(&mut self) {}
 }

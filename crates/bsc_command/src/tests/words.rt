@@ -20,7 +20,47 @@ fn answer(alloc: Global, words: &[&str]) -> Result<Vec<u8>, Fail> {
 
 #[test]
 fn work_of_the_words(rt: HostRuntime) -> Result<(), Fail> {
-    let table: [(&[&str], &[u8]); 9] = [
+    let table: [(&[&str], &[u8]); 11] = [
+        (
+            &[
+                "bscline",
+                "station",
+                "c",
+                "--control",
+                "--listen",
+                "h:1",
+                "--trace",
+            ],
+            b"Station(StationWords { config: \"c\", control: true, terminal: None, \
+listen: Some(\"h:1\"), connect: None, shared: false, raw: false, gap: None, time_out: None, \
+rounds: None, idle_rounds: None, offers: [], text: false, trace: true })",
+        ),
+        (
+            &[
+                "bscline",
+                "station",
+                "--terminal=1",
+                "--connect",
+                "h:1",
+                "--raw",
+                "--gap=9",
+                "--time-out=8",
+                "--offer",
+                "a",
+                "--text",
+                "c",
+                "--offer",
+                "b",
+                "--shared",
+                "--rounds=7",
+                "--idle-rounds",
+                "6",
+            ],
+            b"Station(StationWords { config: \"c\", control: false, terminal: Some(\"1\"), \
+listen: None, connect: Some(\"h:1\"), shared: true, raw: true, gap: Some(\"9\"), \
+time_out: Some(\"8\"), rounds: Some(\"7\"), idle_rounds: Some(\"6\"), \
+offers: [\"a\", \"b\"], text: true, trace: false })",
+        ),
         (&["bscline"], b"Names"),
         (&["bscline", "show"], b"Show"),
         (&["bscline", "name", "161610B0FF"], b"Name(\"161610B0FF\")"),
@@ -50,10 +90,11 @@ fn help(rt: HostRuntime) -> Result<(), Fail> {
 Usage: bscline [COMMAND]
 
 Commands:
-  name  Print the name of one transmission
-  show  Print the names of standard input, with the units of texts
-  run   Run a line over loopback sockets, and print what is on it
-  help  Print this message or the help of the given subcommand(s)
+  name     Print the name of one transmission
+  show     Print the names of standard input, with the units of texts
+  run      Run a line over loopback sockets, and print what is on it
+  station  Run one station of a line over TCP
+  help     Print this message or the help of the given subcommand(s)
 
 Options:
   -h, --help     Print help

@@ -1,7 +1,8 @@
 use Rattle.std.proofs.Common.{ap, ◌≡◌, ◌∙◌, List, [], Option, unwrap_or, codes, string_bytes, ℕ}
 use Rattle.clap.specs.Words.{Text, first_value, found_of, rows_of}
 use Rattle.clap.proofs.WalkLemmas.{first_value-rows}
-use Rattle.bsc_command.specs.CommandLine.{is_true_text, run, value_at}
+use Rattle.bsc_command.specs.CommandLine.{run}
+use Rattle.bsc_command.specs.Options.{is_true_text, value_at}
 use Rattle.bsc_command.proofs.words.run_of.Goals as goal
 
 pub returns : goal.returns
