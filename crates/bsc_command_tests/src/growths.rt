@@ -1,31 +1,9 @@
 //! Growths refused: each in turn, all from one on, and all above a size.
 
 use bsc_command::{Fault, names};
-use refusing_alloc::Refusing;
+use refusing_alloc::{Refusal, Refusing};
 use std::alloc::Global;
 use std::test::Fail;
-
-/// Which growths are refused.
-#[derive(Clone, Copy)]
-enum Rule {
-    /// The one of a number.
-    Nth,
-
-    /// Each from the one of a number on.
-    From,
-
-    /// Each of more than a number of octets.
-    Above,
-}
-
-/// Refuses the growths that this rule and number name.
-fn refuse(alloc: &Refusing, rule: Rule, number: usize) {
-    match rule {
-        Rule::Nth => alloc.refuse_nth(number),
-        Rule::From => alloc.refuse_from(number),
-        Rule::Above => alloc.refuse_larger(number),
-    }
-}
 
 /// Four transmissions, of which one is noise.
 const INPUT: &[u8] = b"16 16 10 B0 FF\n16 16 10 30 FF\n16 16 04 FF 16 16 C1 85 FF\n16 04\n";
@@ -48,10 +26,10 @@ fn is_due(printed: &[u8], answer: Result<(), Fault>, is_refused: bool) -> bool {
 
 /// Prints the names until no growth is refused: how often one was; None where the answer was not
 /// due.
-fn refusals(alloc: Global, rule: Rule) -> Result<Option<usize>, Fail> {
+fn refusals(alloc: Global, refusal: Refusal) -> Result<Option<usize>, Fail> {
     let refusing = Refusing::new(alloc);
     for number in 1..100usize {
-        refuse(&refusing, rule, number);
+        refusing.refuse(refusal, number);
         let mut out = Vec::new(alloc);
         let answer = names(&refusing, INPUT, &mut out);
         let is_refused = refusing.refused() > 0;
@@ -67,8 +45,8 @@ fn refusals(alloc: Global, rule: Rule) -> Result<Option<usize>, Fail> {
 
 #[test]
 fn each_growth_of_names_is_refused(rt: HostRuntime) -> Result<(), Fail> {
-    for rule in [Rule::Nth, Rule::From, Rule::Above] {
-        let refused = refusals(rt.alloc(), rule)?.ok_or("not as expected")?;
+    for refusal in [Refusal::Nth, Refusal::From, Refusal::Above { octets: 1 }] {
+        let refused = refusals(rt.alloc(), refusal)?.ok_or("not as expected")?;
         assert!(rt; refused > 3);
     }
     Ok(())

@@ -11,34 +11,13 @@ use crate::refusals::{SETTINGS, Setting};
 use bsc_control::Way::{FromTerminal, ToTerminal};
 use bsc_control::{SetupError, Way};
 use bsc_line::{Line, LineError};
-use refusing_alloc::Refusing;
+use refusing_alloc::{Refusal, Refusing};
 use std::alloc::{Allocator, Global};
 use std::process::Abort;
 use std::test::Fail;
 
-/// Which growths are refused.
-#[derive(Clone, Copy)]
-enum Rule {
-    /// The one of a number.
-    Nth,
-
-    /// Each from the one of a number on.
-    From,
-
-    /// Each of more than a number of units of 64 octets.
-    Above,
-}
-
-impl Rule {
-    /// From here on refuses the growths that this number names.
-    fn refuse(self, alloc: &Refusing, number: usize) {
-        match self {
-            Rule::Nth => alloc.refuse_nth(number),
-            Rule::From => alloc.refuse_from(number),
-            Rule::Above => alloc.refuse_larger(number.saturating_mul(64)),
-        }
-    }
-}
+/// Growths of more octets than a number of units of 64.
+const ABOVE: Refusal = Refusal::Above { octets: 64 };
 
 /// An exchange on a line of two terminals: what is offered on each channel, in order, and whether
 /// terminal 0 then asks for the line.
@@ -249,17 +228,17 @@ fn delivers_rest<A: Allocator>(
 /// What was refused a growth in an exchange: an offer, a spool.
 type Refused = (bool, bool);
 
-/// Plays an exchange on a new line, growths of which this rule and number name: what was refused;
+/// Plays an exchange on a new line, while growths are refused by this number: what was refused;
 /// None where something was wrong.
 fn refused_in(
     alloc: &Refusing,
-    rule: Rule,
+    which: Refusal,
     number: usize,
     exchange: &Exchange<'_>,
 ) -> Result<Option<Refused>, Fail> {
     alloc.refuse_none();
     let mut line = line_of_two(alloc)?;
-    rule.refuse(alloc, number);
+    alloc.refuse(which, number);
     let refusals = refusals_in(alloc, &mut line, exchange)?;
     let is_delivered = delivers_rest(alloc, &mut line, exchange.offered)?;
     match refusals {
@@ -269,10 +248,14 @@ fn refused_in(
 }
 
 /// Plays an exchange until nothing is refused a growth: what was.
-fn refused_in_turn(alloc: &Refusing, rule: Rule, exchange: &Exchange<'_>) -> Result<Refused, Fail> {
+fn refused_in_turn(
+    alloc: &Refusing,
+    which: Refusal,
+    exchange: &Exchange<'_>,
+) -> Result<Refused, Fail> {
     let (mut offers, mut rooms) = (false, false);
     for number in 1..1000 {
-        match refused_in(alloc, rule, number, exchange)? {
+        match refused_in(alloc, which, number, exchange)? {
             None => return Err("not as expected".into()),
             Some((false, false)) => return Ok((offers, rooms)),
             Some((offer, room)) => {
@@ -286,27 +269,27 @@ fn refused_in_turn(alloc: &Refusing, rule: Rule, exchange: &Exchange<'_>) -> Res
 
 /// Asserts that in each exchange an offer and a spool are refused a growth, and that all is as
 /// expected.
-fn passes_each(rt: &(impl Abort + AllocGlobal), rule: Rule) -> Result<(), Fail> {
+fn passes_each(rt: &(impl Abort + AllocGlobal), which: Refusal) -> Result<(), Fail> {
     let alloc = Refusing::new(rt.alloc());
     for exchange in EXCHANGES {
-        assert_eq!(rt; refused_in_turn(&alloc, rule, exchange)?, (true, true));
+        assert_eq!(rt; refused_in_turn(&alloc, which, exchange)?, (true, true));
     }
     Ok(())
 }
 
 #[test]
 fn each_growth_of_an_exchange_is_refused_in_turn(rt: HostRuntime) -> Result<(), Fail> {
-    passes_each(&rt, Rule::Nth)
+    passes_each(&rt, Refusal::Nth)
 }
 
 #[test]
 fn all_growths_of_an_exchange_are_refused_from_each_on(rt: HostRuntime) -> Result<(), Fail> {
-    passes_each(&rt, Rule::From)
+    passes_each(&rt, Refusal::From)
 }
 
 #[test]
 fn all_growths_of_an_exchange_are_refused_above_each_size(rt: HostRuntime) -> Result<(), Fail> {
-    passes_each(&rt, Rule::Above)
+    passes_each(&rt, ABOVE)
 }
 
 /// Asks for a line until nothing is refused a growth, and it is answered as is due: how often it
@@ -315,12 +298,12 @@ fn all_growths_of_an_exchange_are_refused_above_each_size(rt: HostRuntime) -> Re
 fn refusals_of(
     global: Global,
     alloc: &Refusing,
-    rule: Rule,
+    which: Refusal,
     (codes, poll_list, expected): &Setting<'_>,
 ) -> Result<Option<usize>, Fail> {
     let terminals = terminals_of(global, codes)?;
     for number in 1..1000usize {
-        rule.refuse(alloc, number);
+        alloc.refuse(which, number);
         let answer = refusal(alloc, &terminals, poll_list)?;
         if alloc.refused() == 0 {
             return Ok((answer == *expected).then_some(number));
@@ -334,10 +317,10 @@ fn refusals_of(
 
 /// Asserts that each setting is answered as it is where no growth is refused, or is out of memory
 /// where one is. The numbers of terminals are looked at before memory is asked for.
-fn asks_for_each(rt: &(impl Abort + AllocGlobal), rule: Rule) -> Result<(), Fail> {
+fn asks_for_each(rt: &(impl Abort + AllocGlobal), which: Refusal) -> Result<(), Fail> {
     let alloc = Refusing::new(rt.alloc());
     for (place, setting) in SETTINGS.iter().enumerate() {
-        let runs = refusals_of(rt.alloc(), &alloc, rule, setting)?;
+        let runs = refusals_of(rt.alloc(), &alloc, which, setting)?;
         assert_eq!(rt; runs.map(|runs| runs > 1), Some(place > 1), "at {place}");
     }
     Ok(())
@@ -345,8 +328,8 @@ fn asks_for_each(rt: &(impl Abort + AllocGlobal), rule: Rule) -> Result<(), Fail
 
 #[test]
 fn each_growth_of_a_new_line_is_refused(rt: HostRuntime) -> Result<(), Fail> {
-    for rule in [Rule::Nth, Rule::From, Rule::Above] {
-        asks_for_each(&rt, rule)?;
+    for which in [Refusal::Nth, Refusal::From, ABOVE] {
+        asks_for_each(&rt, which)?;
     }
     Ok(())
 }

@@ -86,8 +86,8 @@ const LONGEST: &[u8] = &[b'A'; 144];
 /// As many of them as a text may have.
 const SEVEN_LONGEST: &[&[u8]] = &[LONGEST; 7];
 
-/// The octets of the text of these records, 1,033, the most that are sent: each unit is 144 times A,
-/// EM, the ending character and the check, to which the even number of A adds nothing.
+/// The octets of the text of these records, 1,033, the most that are sent: each unit is 144 times
+/// A, EM, the ending character and the check, to which the even number of A adds nothing.
 fn longest_text(alloc: Global) -> Result<Vec<u8>, AllocError> {
     let mut octets = Vec::new(alloc);
     octets.extend_from_slice(&[0x16, 0x16, 0x02])?;

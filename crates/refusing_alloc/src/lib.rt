@@ -7,4 +7,4 @@ mod tally;
 #[cfg(test)]
 mod tests;
 
-pub use refusing::Refusing;
+pub use refusing::{Refusal, Refusing};

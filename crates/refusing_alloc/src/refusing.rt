@@ -3,6 +3,19 @@ use crate::tally::{Rule, Tally};
 use std::alloc::{AllocError, Allocator, Global};
 use std::cell::Cell;
 
+/// Which requests are refused, by a number that a test counts up.
+#[derive(Clone, Copy, Debug, PartialEq, Eq)]
+pub enum Refusal {
+    /// Only the request of the number, where 1 is the next one.
+    Nth,
+
+    /// The request of the number and each later one.
+    From,
+
+    /// Each request of more octets than the number times this many.
+    Above { octets: usize },
+}
+
 /// An allocator over `B` that refuses the requests that a test names. A test makes one over
 /// `rt.alloc()`, and hands `&refusing`, which is a `Copy` allocator, to what it tests.
 ///
@@ -47,6 +60,15 @@ impl<B: Allocator> Refusing<B> {
     /// From here on refuses each request of more than `size` octets. Counting starts anew.
     pub fn refuse_larger(&self, size: usize) {
         self.tally.set(Tally::new(Rule::LargerThan { size }));
+    }
+
+    /// From here on refuses the requests that the number names. Counting starts anew.
+    pub fn refuse(&self, refusal: Refusal, number: usize) {
+        match refusal {
+            Refusal::Nth => self.refuse_nth(number),
+            Refusal::From => self.refuse_from(number),
+            Refusal::Above { octets } => self.refuse_larger(number.saturating_mul(octets)),
+        }
     }
 
     /// How many requests there were since counting began, refused or not.

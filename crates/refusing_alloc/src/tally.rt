@@ -35,7 +35,8 @@ impl Tally {
     /// Counts one more request, of `size` octets, and says whether it is refused. A count that is
     /// at `usize::MAX` stays there.
     pub(crate) fn ask(&mut self, size: usize) -> bool
-        ensures refuses { IsTrue result ↔ IsRefused self.old.rule (next_count self.old.requests) size }
+        ensures refuses { IsTrue result
+            ↔ IsRefused self.old.rule (next_count self.old.requests) size }
         ensures rule { self.new.rule ≡ self.old.rule }
         ensures requests { self.new.requests ≡ next_count self.old.requests }
         ensures refused { self.new.refused ≡ count_if result self.old.refused }

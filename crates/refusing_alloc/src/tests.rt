@@ -1,4 +1,4 @@
-use crate::Refusing;
+use crate::{Refusal, Refusing};
 use linked_list_allocator::LocalHeap;
 use std::alloc::{AllocError, Allocator, Global};
 use std::collections::BTreeMap;
@@ -131,5 +131,33 @@ fn an_allocator_below_that_is_full_is_no_refusal(rt: HostRuntime) -> Result<(), 
     let alloc = Refusing::new(&heap);
     assert!(rt; Vec::<u8, &Refusing<&LocalHeap>>::with_capacity(&alloc, 65).is_err());
     assert_eq!(rt; (alloc.requests(), alloc.refused()), (1, 0));
+    Ok(())
+}
+
+/// Five requests of 1 to 5 octets, and which of them are refused by each refusal and number.
+#[test]
+fn refusals_by_a_number(rt: HostRuntime) -> Result<(), Fail> {
+    let alloc = Refusing::new(rt.alloc());
+    for (refusal, number, granted) in [
+        (Refusal::Nth, 2, [true, false, true, true, true]),
+        (Refusal::From, 4, [true, true, true, false, false]),
+        (
+            Refusal::Above { octets: 2 },
+            1,
+            [true, true, false, false, false],
+        ),
+        (
+            Refusal::Above { octets: 1 },
+            4,
+            [true, true, true, true, false],
+        ),
+    ] {
+        alloc.refuse(refusal, number);
+        for (place, is_granted) in granted.iter().enumerate() {
+            let asked = Vec::<u8, &Refusing>::with_capacity(&alloc, place + 1);
+            assert_eq!(rt; asked.is_ok(), *is_granted);
+        }
+        assert_eq!(rt; alloc.requests(), 5);
+    }
     Ok(())
 }

@@ -1,4 +1,5 @@
-//! What a refused growth of a spool changes in the trace of a run, before a text is stored and after.
+//! What a refused growth of a spool changes in the trace of a run, before a text is stored and
+//! after.
 
 use super::fixtures::{TWO_TERMINALS, two_connections};
 use crate::run_on;
@@ -71,8 +72,8 @@ fn printed_without<R: Abort + Net<Listener = TcpListener, Stream = TcpStream>>(
     Ok((out, refusing.refused()))
 }
 
-/// The first growth is that of the offer, and the next two are those for which the control station's
-/// spool is asked, before the text is stored and after.
+/// The first growth is that of the offer, and the next two are those for which the control
+/// station's spool is asked, before the text is stored and after.
 #[test]
 fn a_text_for_which_there_is_no_room_is_asked_for_again(rt: HostRuntime) -> Result<(), Fail> {
     let (printed, refused) = printed_without(&rt, rt.alloc(), 2)?;

@@ -5,7 +5,7 @@ use super::watched::{Part, Plan, Trouble, Watch, When};
 use super::worked::{Case, WORKED, Worked};
 use crate::RunError;
 use bsc_line::LineError;
-use refusing_alloc::Refusing;
+use refusing_alloc::{Refusal, Refusing};
 use std::alloc::Global;
 use std::process::Abort;
 use std::test::Fail;
@@ -17,24 +17,6 @@ const NO_TROUBLE: Plan = Plan {
     when: When::At { call: 0 },
     most: usize::MAX,
 };
-
-/// Which growths are refused, by a number: the one of this number, that one and each later one,
-/// and each of more than eight times as many octets.
-#[derive(Clone, Copy, Debug, PartialEq, Eq)]
-enum Rule {
-    Nth,
-    From,
-    LargerThan,
-}
-
-/// From here on these growths are refused, and counting starts anew.
-fn refuse(alloc: &Refusing, rule: Rule, number: usize) {
-    match rule {
-        Rule::Nth => alloc.refuse_nth(number),
-        Rule::From => alloc.refuse_from(number),
-        Rule::LargerThan => alloc.refuse_larger(number.saturating_mul(8)),
-    }
-}
 
 /// What a run does where a growth was refused.
 #[derive(Clone, Copy, Debug, PartialEq, Eq)]
@@ -52,7 +34,7 @@ enum Told {
     Whole,
 }
 
-/// What this is that is printed and answered; none where it is not allowed. Where one growth alone
+/// What this is that is printed and answered; none where it is not allowed. Where only one growth
 /// was refused, what comes before out of memory is as where nothing goes wrong.
 fn what_is_told(
     worked: &Worked<'_>,
@@ -92,23 +74,23 @@ fn is_delayed(worked: &Worked<'_>, printed: &[u8]) -> bool {
 
 /// Runs the script while these growths are refused: what is told, or none where no growth was
 /// refused.
-fn try_rule(
+fn try_refusal(
     rt: &impl Abort,
     alloc: Global,
     refusing: &Refusing,
     case: &Case<'_>,
-    rule: Rule,
+    refusal: Refusal,
     number: usize,
 ) -> Result<Option<Told>, Fail> {
-    refuse(refusing, rule, number);
+    refusing.refuse(refusal, number);
     let watch = Watch::new(NO_TROUBLE);
     let (printed, answer) = case.run(rt, alloc, refusing, &watch)?;
     let refused = refusing.refused();
-    let told = what_is_told(case.worked, &printed, answer, rule == Rule::Nth);
-    assert!(rt; told.is_some(), "{rule:?} {number}");
+    let told = what_is_told(case.worked, &printed, answer, refusal == Refusal::Nth);
+    assert!(rt; told.is_some(), "{refusal:?} {number}");
     assert!(rt;
         refused > 0 || told == Some(Told::Whole),
-        "{rule:?} {number}"
+        "{refusal:?} {number}"
     );
     Ok(if refused == 0 { None } else { told })
 }
@@ -127,19 +109,19 @@ fn add(counts: Counts, told: Told) -> Counts {
     }
 }
 
-/// Runs the script under the rule of each number in turn, until no growth is refused: how often
+/// Runs the script under the refusal by each number in turn, until no growth is refused: how often
 /// each was told.
 fn count_told(
     rt: &impl Abort,
     alloc: Global,
     worked: &Worked<'_>,
-    rule: Rule,
+    refusal: Refusal,
 ) -> Result<Counts, Fail> {
     let case = Case::read(alloc, worked)?;
     let refusing = Refusing::new(alloc);
     let mut counts = (0, 0, 0);
     for number in 1..100_000usize {
-        match try_rule(rt, alloc, &refusing, &case, rule, number)? {
+        match try_refusal(rt, alloc, &refusing, &case, refusal, number)? {
             Some(told) => counts = add(counts, told),
             None => return Ok(counts),
         }
@@ -152,7 +134,7 @@ fn count_told(
 #[test]
 fn each_growth_of_a_run_is_refused_in_turn(rt: HostRuntime) -> Result<(), Fail> {
     for worked in &WORKED {
-        let (memory, offers, delays) = count_told(&rt, rt.alloc(), worked, Rule::Nth)?;
+        let (memory, offers, delays) = count_told(&rt, rt.alloc(), worked, Refusal::Nth)?;
         assert!(rt; memory > 3);
         assert_eq!(rt; (offers, delays), (1, 2));
     }
@@ -162,7 +144,7 @@ fn each_growth_of_a_run_is_refused_in_turn(rt: HostRuntime) -> Result<(), Fail> 
 #[test]
 fn all_growths_of_a_run_from_each_on_are_refused(rt: HostRuntime) -> Result<(), Fail> {
     for worked in &WORKED {
-        let (memory, offers, _) = count_told(&rt, rt.alloc(), worked, Rule::From)?;
+        let (memory, offers, _) = count_told(&rt, rt.alloc(), worked, Refusal::From)?;
         assert!(rt; memory > 3 && offers == 1);
     }
     Ok(())
@@ -171,7 +153,7 @@ fn all_growths_of_a_run_from_each_on_are_refused(rt: HostRuntime) -> Result<(), 
 #[test]
 fn growths_of_a_run_above_each_size_are_refused(rt: HostRuntime) -> Result<(), Fail> {
     for worked in &WORKED {
-        let (memory, _, _) = count_told(&rt, rt.alloc(), worked, Rule::LargerThan)?;
+        let (memory, _, _) = count_told(&rt, rt.alloc(), worked, Refusal::Above { octets: 8 })?;
         assert!(rt; memory > 3);
     }
     Ok(())
@@ -184,12 +166,12 @@ fn what_arrived_without_memory_is_in_order(rt: HostRuntime) -> Result<(), Fail> 
     let watch = Watch::new(NO_TROUBLE);
     for worked in &WORKED {
         let case = Case::read(rt.alloc(), worked)?;
-        for rule in [Rule::Nth, Rule::From] {
+        for refusal in [Refusal::Nth, Refusal::From] {
             for number in 1..60usize {
-                refuse(&refusing, rule, number);
+                refusing.refuse(refusal, number);
                 assert!(rt;
                     case.is_in_order(&rt, rt.alloc(), &refusing, &watch)?,
-                    "{rule:?} {number}"
+                    "{refusal:?} {number}"
                 );
             }
             assert_eq!(rt; refusing.refused(), 0);
