@@ -62,8 +62,10 @@ struct bsc_content {
     uint8_t address_len;                        /* of a call: 1 to 7 */
 };
 
-/* What the octets are heard as: an enum bsc_kind. For BSC_CALL and BSC_TEXT the content is filled in. For
- * each other kind it is left as it was. */
+/* What the octets are heard as: an enum bsc_kind. For BSC_CALL the address and address_len are filled in, for
+ * BSC_TEXT the first count units, count and end. All else of the content is left as it was: for BSC_CALL the
+ * units, count, end and the codes after the first address_len; for BSC_TEXT the address, address_len, the units
+ * after the first count, and in each unit the codes after the first len; for each other kind all of it. */
 uint32_t bsc_decode(const uint8_t *octets, size_t len, struct bsc_content *content);
 
 /* Puts the octets that are sent for a message of this enum bsc_kind with this content at the front of a

@@ -1,5 +1,6 @@
 -- How waiting records are cut into blocks.
-use Rattle.std.proofs.Common.{◌≡◌, ◌≢◌, ℕ, zero, suc, ◌≤◌, arith, refl, ap, List, [], ◌∷◌, length, take, drop, length-drop}
+use Rattle.std.proofs.Common.{◌≡◌, ◌≢◌, ℕ, zero, suc, ◌≤◌, arith, refl, ap, List, [], ◌∷◌, length, take, drop}
+use Rattle.std.proofs.Common.{length-drop}
 use Rattle.bsc_block.specs.Format.{FormatValue, IsFormat}
 use Rattle.bsc_block.specs.Blocks.{taken, cut, blocks, AreShort}
 use Rattle.bsc_block.proofs.Elements.{all-drop}
@@ -9,7 +10,8 @@ use Rattle.bsc_block.proofs.Taking.{taken-IsTaken, taken-some}
 rest : FormatValue → List (List ℕ) → List (List ℕ)
 rest f rs = drop (taken f rs) rs
 
-length-rest : (f : FormatValue) (r : List ℕ) (rs : List (List ℕ)) → IsFormat f → AreShort f.full (r ∷ rs) → length (rest f (r ∷ rs)) ≤ length rs
+length-rest : (f : FormatValue) (r : List ℕ) (rs : List (List ℕ)) → IsFormat f → AreShort f.full (r ∷ rs)
+    → length (rest f (r ∷ rs)) ≤ length rs
 unfolding rest
 length-rest f r rs i s =
     omega (arith, length-drop (taken f (r ∷ rs)) (r ∷ rs), taken-some f (r ∷ rs) (taken f (r ∷ rs)) i s (taken-IsTaken f (r ∷ rs)) (λ e. cc))
@@ -19,7 +21,8 @@ unfolding rest
 short-rest f rs s = all-drop (λ r. length r ≤ f.full) (taken f rs) rs s
 
 -- more blocks than there are records are not cut
-cut-length : (n m : ℕ) (f : FormatValue) (rs : List (List ℕ)) → IsFormat f → AreShort f.full rs → length rs ≤ n → length rs ≤ m → cut n f rs ≡ cut m f rs
+cut-length : (n m : ℕ) (f : FormatValue) (rs : List (List ℕ)) → IsFormat f → AreShort f.full rs
+    → length rs ≤ n → length rs ≤ m → cut n f rs ≡ cut m f rs
 unfolding rest
 cut-length zero zero f rs i s l k = refl
 cut-length zero (suc m) f [] i s l k = refl
@@ -31,7 +34,8 @@ cut-length (suc n) (suc m) f (r ∷ rs) i s l k =
     let shorter : length (rest f (r ∷ rs)) ≤ length rs = length-rest f r rs i s in
     ap (λ bs. take (taken f (r ∷ rs)) (r ∷ rs) ∷ bs) (cut-length n m f (rest f (r ∷ rs)) i (short-rest f (r ∷ rs) s) (omega arith) (omega arith))
 
-pub blocks-next : (f : FormatValue) (rs : List (List ℕ)) → IsFormat f → AreShort f.full rs → rs ≢ [] → blocks f rs ≡ take (taken f rs) rs ∷ blocks f (drop (taken f rs) rs)
+pub blocks-next : (f : FormatValue) (rs : List (List ℕ)) → IsFormat f → AreShort f.full rs → rs ≢ []
+    → blocks f rs ≡ take (taken f rs) rs ∷ blocks f (drop (taken f rs) rs)
 unfolding rest
 blocks-next f [] i s n = absurd (n refl)
 blocks-next f (r ∷ rs) i s n =

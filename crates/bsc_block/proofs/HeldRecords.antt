@@ -1,5 +1,6 @@
 -- The records that units hold.
-use Rattle.std.proofs.Common.{◌≡◌, ℕ, ◌+◌, ◌≤◌, ◌∙◌, arith, refl, ap, List, [], ◌∷◌, ◌++◌, take, map, true, false, slice_get, Some}
+use Rattle.std.proofs.Common.{◌≡◌, ℕ, ◌+◌, ◌≤◌, ◌∙◌, arith, refl, ap, List, [], ◌∷◌, ◌++◌, take, map, true}
+use Rattle.std.proofs.Common.{false, slice_get, Some}
 use Rattle.std.proofs.lemmas.List.{append-nil, map-append, take_more}
 use Rattle.std.proofs.lemmas.Option.{slice_get_within, get_or_from_slice_get}
 use Rattle.std.proofs.lemmas.List.Elements.{filter-append}
@@ -23,9 +24,11 @@ records_in-units full [] l = refl
 records_in-units full (r ∷ rs) l = rw (held full r l) (ap (λ rest. r ∷ rest) (records_in-units full rs l))
 
 -- one unit more
-more : (us : List TextUnit) (i : ℕ) (u : TextUnit) → slice_get us i ≡ Some u → records_in (take (i + 1) us) ≡ records_in (take i us) ++ records_in (u ∷ [])
+more : (us : List TextUnit) (i : ℕ) (u : TextUnit) → slice_get us i ≡ Some u
+    → records_in (take (i + 1) us) ≡ records_in (take i us) ++ records_in (u ∷ [])
 more us i u e =
-    let front : take (i + 1) us ≡ take i us ++ u ∷ [] = take_more us i u (slice_get_within us i u e) ∙ ap (λ v. take i us ++ v ∷ []) (get_or_from_slice_get us i u u e) in
+    let front : take (i + 1) us ≡ take i us ++ u ∷ [] =
+    take_more us i u (slice_get_within us i u e) ∙ ap (λ v. take i us ++ v ∷ []) (get_or_from_slice_get us i u u e) in
     rw front (records_in-append (take i us) (u ∷ []))
 
 pub records_in-held : (us : List TextUnit) (i : ℕ) (u : TextUnit) → slice_get us i ≡ Some u → holds_record u ≡ true → records_in (take (i + 1) us) ≡ records_in (take i us) ++ u.chars ∷ []
@@ -35,7 +38,8 @@ pub records_in-empty : (us : List TextUnit) (i : ℕ) (u : TextUnit) → slice_g
 records_in-empty us i u e h = rw (more us i u e, h) (append-nil (records_in (take i us)))
 
 -- the characters of a unit of a text are those of a record
-pub unit-IsRecord : (us : List TextUnit) (i : ℕ) (u : TextUnit) → AllByRecursion IsUnit us → slice_get us i ≡ Some u → IsRecord u.chars
+pub unit-IsRecord : (us : List TextUnit) (i : ℕ) (u : TextUnit) → AllByRecursion IsUnit us
+    → slice_get us i ≡ Some u → IsRecord u.chars
 unit-IsRecord us i u h e =
     let k : IsUnit u = all-slice_get IsUnit us i u h e in
     record { most = k.most; each = k.each }

@@ -1,9 +1,11 @@
 -- How many records the next block takes.
-use Rattle.std.proofs.Common.{◌≡◌, ◌≢◌, ◌⊎◌, inl, inr, ℕ, zero, suc, ◌+◌, ◌<◌, ◌≤◌, arith, refl, List, [], ◌∷◌, length, Bool, true, false, min, nat_le, nat_lt, if◌then◌else◌}
+use Rattle.std.proofs.Common.{◌≡◌, ◌≢◌, ◌⊎◌, inl, inr, ℕ, zero, suc, ◌+◌, ◌<◌, ◌≤◌, arith, refl, List, []}
+use Rattle.std.proofs.Common.{◌∷◌, length, Bool, true, false, min, nat_le, nat_lt, if◌then◌else◌}
 use Rattle.std.proofs.lemmas.Bool.{leb-true, le-leb, cases_lt}
 use Rattle.bsc_block.specs.Format.{FormatValue, IsFormat}
 use Rattle.bsc_block.specs.Blocks.{front_cost, greatest, taken, IsTaken, AreShort}
 use Rattle.bsc_block.proofs.Fronts.{front_cost-le}
+use Rattle.bsc_frame.specs.declared.limits.TheConstants.{MAX_UNITS}
 
 pub greatest-le : (p : ℕ → Bool) (n : ℕ) → greatest p n ≤ n
 greatest-le p zero = omega arith
@@ -37,13 +39,14 @@ fits_none f rs = omega arith
 pub taken-IsTaken : (f : FormatValue) (rs : List (List ℕ)) → IsTaken f rs (taken f rs)
 taken-IsTaken f rs =
     let p : ℕ → Bool = λ k. nat_le (front_cost f k rs) f.block_chars in
-    let most : taken f rs ≤ min 7 (length rs) = greatest-le p (min 7 (length rs)) in
-    let passes : p (taken f rs) ≡ true = greatest-passes p (min 7 (length rs)) (le-leb (front_cost f 0 rs) f.block_chars (fits_none f rs)) in
+    let most : taken f rs ≤ min MAX_UNITS (length rs) = greatest-le p (min MAX_UNITS (length rs)) in
+    let passes : p (taken f rs) ≡ true =
+    greatest-passes p (min MAX_UNITS (length rs)) (le-leb (front_cost f 0 rs) f.block_chars (fits_none f rs)) in
     record {
       few = omega arith;
       there = omega arith;
       fits = leb-true (front_cost f (taken f rs) rs) f.block_chars passes;
-      greatest = λ j few there fits. greatest-above p (min 7 (length rs)) j (omega arith) (le-leb (front_cost f j rs) f.block_chars fits);
+      greatest = λ j few there fits. greatest-above p (min MAX_UNITS (length rs)) j (omega arith) (le-leb (front_cost f j rs) f.block_chars fits);
     }
 
 -- and no other
@@ -53,11 +56,13 @@ IsTaken-taken f rs k t =
     omega (arith, t.greatest (taken f rs) u.few u.there u.fits, u.greatest k t.few t.there t.fits)
 
 -- a front that fits is the block where it is all, or has seven records, or one record more does not fit
-pub stops_there : (f : FormatValue) (rs : List (List ℕ)) (k : ℕ) → k ≤ 7 → k ≤ length rs → front_cost f k rs ≤ f.block_chars
-    → (7 ≤ k) ⊎ (length rs ≤ k) ⊎ (f.block_chars < front_cost f (k + 1) rs) → IsTaken f rs k
-stops_there f rs k few there fits stop = record { few = few; there = there; fits = fits; greatest = λ j l m c. above j l m c stop }
+pub stops_there : (f : FormatValue) (rs : List (List ℕ)) (k : ℕ) → k ≤ MAX_UNITS → k ≤ length rs
+    → front_cost f k rs ≤ f.block_chars
+    → (MAX_UNITS ≤ k) ⊎ (length rs ≤ k) ⊎ (f.block_chars < front_cost f (k + 1) rs) → IsTaken f rs k
+stops_there f rs k few there fits stop =
+    record { few = few; there = there; fits = fits; greatest = λ j l m c. above j l m c stop }
   where
-    above : (j : ℕ) → j ≤ 7 → j ≤ length rs → front_cost f j rs ≤ f.block_chars → (7 ≤ k) ⊎ (length rs ≤ k) ⊎ (f.block_chars < front_cost f (k + 1) rs) → j ≤ k
+    above : (j : ℕ) → j ≤ MAX_UNITS → j ≤ length rs → front_cost f j rs ≤ f.block_chars → (MAX_UNITS ≤ k) ⊎ (length rs ≤ k) ⊎ (f.block_chars < front_cost f (k + 1) rs) → j ≤ k
     above j l m c (inl seven) = omega arith
     above j l m c (inr (inl all)) = omega arith
     above j l m c (inr (inr past)) = within (cases_lt k j)
@@ -67,7 +72,8 @@ stops_there f rs k few there fits stop = record { few = few; there = there; fits
         within (inl above) = absurd (omega (arith, front_cost-le f (k + 1) j rs (omega arith)))
 
 -- a short record fits by itself
-pub taken-some : (f : FormatValue) (rs : List (List ℕ)) (k : ℕ) → IsFormat f → AreShort f.full rs → IsTaken f rs k → rs ≢ [] → 1 ≤ k
+pub taken-some : (f : FormatValue) (rs : List (List ℕ)) (k : ℕ) → IsFormat f → AreShort f.full rs
+    → IsTaken f rs k → rs ≢ [] → 1 ≤ k
 taken-some f [] k i s t n = absurd (n refl)
 taken-some f (r ∷ rs) k i s t n = t.greatest 1 (omega arith) (omega arith) (one (nat_lt (length r) f.full))
   where

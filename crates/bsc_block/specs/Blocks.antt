@@ -3,11 +3,13 @@
 -- not full; how records are marked, counted and limited is own. The units are the blocks of the
 -- standard that ITB divides (GA27-3004: intermediate text blocks), of which US is the character in
 -- USASCII.
-use Rattle.std.specs.Prelude.{ℕ, zero, suc, ◌+◌, ◌≤◌, nat_lt, nat_le, Bool, ◌||◌, if◌then◌else◌, List, [], ◌∷◌, length, take, drop, map, filter, sum_by, min}
+use Rattle.std.specs.Prelude.{ℕ, zero, suc, ◌+◌, ◌≤◌, nat_lt, nat_le, Bool, ◌||◌, if◌then◌else◌}
+use Rattle.std.specs.Prelude.{List, [], ◌∷◌, length, take, drop, map, filter, sum_by, min}
 use Rattle.std.specs.List.{AllByRecursion}
 use Rattle.bsc_frame.specs.Texts.{TextUnit, TextValue}
 use Rattle.bsc_frame.specs.declared.text.End.{End}
 use Rattle.bsc_block.specs.Format.{FormatValue}
+use Rattle.bsc_frame.specs.declared.limits.TheConstants.{MAX_UNITS}
 
 -- The unit of a record: its characters, marked by EM exactly where they are fewer than the full
 -- length (own).
@@ -36,23 +38,24 @@ abbrev pub greatest : (ℕ → Bool) → ℕ → ℕ
 greatest p zero = zero
 greatest p (suc n) = if p (suc n) then suc n else greatest p n
 
--- How many of the waiting records the next block takes: the greatest number of them, at most seven,
--- that count together at most what a block may (own).
+-- How many of the waiting records the next block takes: the greatest number of them, at most as
+-- many as a text has units, that count together at most what a block may (own).
 abbrev pub taken : FormatValue → List (List ℕ) → ℕ
-taken f rs = greatest (λ k. nat_le (front_cost f k rs) f.block_chars) (min 7 (length rs))
+taken f rs = greatest (λ k. nat_le (front_cost f k rs) f.block_chars) (min MAX_UNITS (length rs))
 
 -- The number k is that one: it is within the limits, and no greater number is.
 pub record IsTaken (f : FormatValue) (rs : List (List ℕ)) (k : ℕ) : Type 0 where
-  pub few : k ≤ 7
+  pub few : k ≤ MAX_UNITS
   pub there : k ≤ length rs
   pub fits : front_cost f k rs ≤ f.block_chars
-  pub greatest : (j : ℕ) → j ≤ 7 → j ≤ length rs → front_cost f j rs ≤ f.block_chars → j ≤ k
+  pub greatest : (j : ℕ) → j ≤ MAX_UNITS → j ≤ length rs → front_cost f j rs ≤ f.block_chars → j ≤ k
 
 -- The first n blocks of the waiting records, or all where these are fewer.
 abbrev pub cut : ℕ → FormatValue → List (List ℕ) → List (List (List ℕ))
 cut zero f rs = []
 cut (suc n) f [] = []
-cut (suc n) f (r ∷ rs) = take (taken f (r ∷ rs)) (r ∷ rs) ∷ cut n f (drop (taken f (r ∷ rs)) (r ∷ rs))
+cut (suc n) f (r ∷ rs) =
+    take (taken f (r ∷ rs)) (r ∷ rs) ∷ cut n f (drop (taken f (r ∷ rs)) (r ∷ rs))
 
 -- The waiting records, cut into blocks until nothing is left: no more blocks than records.
 abbrev pub blocks : FormatValue → List (List ℕ) → List (List (List ℕ))

@@ -3,6 +3,8 @@
 use Rattle.std.specs.Prelude.{ℕ, ◌≤◌, Bool, ◌&&◌, nat_le, if◌then◌else◌, Result, Ok, Err}
 use Rattle.bsc_block.specs.declared.format.FormatError.{FormatError}
 use Rattle.bsc_block.specs.declared.format.FormatError.TheVariants.{Full, BlockChars}
+use Rattle.bsc_frame.specs.declared.limits.TheConstants.{MAX_CHARS}
+use Rattle.bsc_block.specs.declared.format.TheConstants.{MIN_BLOCK_CHARS, MAX_BLOCK_CHARS}
 
 -- How many characters a full record has, and how many a block may count.
 pub record FormatValue : Type 0 where
@@ -12,17 +14,22 @@ pub record FormatValue : Type 0 where
 -- A full record has 1 to 144 characters; a block may count 146 to 400.
 pub record IsFormat (f : FormatValue) : Type 0 where
   pub full_from : 1 ≤ f.full
-  pub full_to : f.full ≤ 144
-  pub block_from : 146 ≤ f.block_chars
-  pub block_to : f.block_chars ≤ 400
+  pub full_to : f.full ≤ MAX_CHARS
+  pub block_from : MIN_BLOCK_CHARS ≤ f.block_chars
+  pub block_to : f.block_chars ≤ MAX_BLOCK_CHARS
 
 -- Whether n is a number from low to high.
 abbrev pub is_within : ℕ → ℕ → ℕ → Bool
 is_within low high n = nat_le low n && nat_le n high
 
+-- The format of two numbers of which the first is in its range.
+abbrev pub within_block : ℕ → ℕ → Result FormatValue FormatError
+within_block full block_chars =
+    if is_within MIN_BLOCK_CHARS MAX_BLOCK_CHARS block_chars
+    then Ok (record { full = full; block_chars = block_chars })
+    else Err BlockChars
+
 -- The format of two numbers, or the first of them that is out of its range.
 abbrev pub format_of : ℕ → ℕ → Result FormatValue FormatError
 format_of full block_chars =
-    if is_within 1 144 full
-    then (if is_within 146 400 block_chars then Ok (record { full = full; block_chars = block_chars }) else Err BlockChars)
-    else Err Full
+    if is_within 1 MAX_CHARS full then within_block full block_chars else Err Full

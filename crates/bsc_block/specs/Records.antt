@@ -1,14 +1,16 @@
 -- Records: what is handed in at one end of a line and given out at the other (own; in the manner of
 -- the IBM 2780, whose records are lines of print and cards).
-use Rattle.std.specs.Prelude.{ℕ, ◌≤◌, nat_lt, not, if◌then◌else◌, List, length, position, IsTrue, Option, Some, None, Result, Ok, Err}
+use Rattle.std.specs.Prelude.{ℕ, ◌≤◌, nat_lt, not, if◌then◌else◌, List, length, position, IsTrue}
+use Rattle.std.specs.Prelude.{Option, Some, None, Result, Ok, Err}
 use Rattle.std.specs.List.{AllByRecursion}
 use Rattle.bsc_octet.specs.Octet.{is_record_char}
 use Rattle.bsc_block.specs.declared.record.RecordError.{RecordError}
 use Rattle.bsc_block.specs.declared.record.RecordError.TheVariants.{TooLong, NotText}
+use Rattle.bsc_frame.specs.declared.limits.TheConstants.{MAX_CHARS}
 
 -- A record: at most 144 record characters.
 pub record IsRecord (codes : List ℕ) : Type 0 where
-  pub most : length codes ≤ 144
+  pub most : length codes ≤ MAX_CHARS
   pub each : AllByRecursion (λ c. IsTrue (is_record_char c)) codes
 
 -- The codes, or the error that names the first wrong place.
@@ -19,4 +21,5 @@ unless_wrong (Some place) codes = Err (NotText place)
 -- The record that codes are, or why they are none: more than the full length, a wrong one.
 abbrev pub record_of : ℕ → List ℕ → Result (List ℕ) RecordError
 record_of full codes =
-    if nat_lt full (length codes) then Err TooLong else unless_wrong (position (λ c. not (is_record_char c)) codes) codes
+    if nat_lt full (length codes) then Err TooLong
+    else unless_wrong (position (λ c. not (is_record_char c)) codes) codes

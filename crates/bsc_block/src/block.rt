@@ -7,13 +7,14 @@ ghost use Rattle.bsc_block.specs.Blocks.{holds_record, records_in};
 
 use crate::Record;
 use arrayvec::ArrayVec;
+use bsc_frame::limits::MAX_UNITS;
 use bsc_frame::{Text, Unit};
 use std::marker::Model;
 
 /// The records of a text, in order: 0 to 7 slices that live as long as the text.
 #[derive(Drop)]
 pub struct Block<'a> {
-    records: ArrayVec<&'a [u8], 7>,
+    records: ArrayVec<&'a [u8], MAX_UNITS>,
 }
 
 impl<'a> Model for Block<'a> {
@@ -53,7 +54,7 @@ impl<'a> Block<'a> {
     /// How many records there are, 0 to 7.
     pub fn count(&self) -> usize
         ensures count { result ≡ length self.now }
-        ensures few { result ≤ 7 }
+        ensures few { result ≤ MAX_UNITS }
     {
         self.records.len()
     }

@@ -2,8 +2,19 @@
 //! terminals on it. What is received is not held to them.
 ghost use Rattle.std.specs.Prelude.{◌≡◌, IfOk};
 
+use bsc_frame::limits::MAX_CHARS;
 use std::marker::Model;
 use thiserror::Error;
+
+/// The greatest full length: a record goes into one unit.
+const MAX_FULL: u8 = MAX_CHARS as u8;
+
+/// The least that a block may count, so that each record fits one: its characters, EM and the
+/// ending character.
+pub(crate) const MIN_BLOCK_CHARS: u16 = MAX_CHARS as u16 + 2;
+
+/// The most that a block may count (own: the buffer of a terminal).
+const MAX_BLOCK_CHARS: u16 = 400;
 
 /// Why two numbers are no format.
 #[derive(Clone, Copy, Debug, Error, PartialEq, Eq)]
@@ -45,10 +56,10 @@ impl Format {
         ensures value { result ≡ format_of full block_chars }
         ensures format { IfOk result (λ f. IsFormat f) }
     {
-        if !(1..=144).contains(&full) {
+        if !(1..=MAX_FULL).contains(&full) {
             return Err(FormatError::Full);
         }
-        if !(146..=400).contains(&block_chars) {
+        if !(MIN_BLOCK_CHARS..=MAX_BLOCK_CHARS).contains(&block_chars) {
             return Err(FormatError::BlockChars);
         }
         Ok(Format { full, block_chars })

@@ -13,10 +13,11 @@ pub fn records_back()
 /// them, and the other blocks are those of the rest, in which no record is longer either.
 pub fn cut_into_blocks()
     ensures taken { (f : FormatValue) (rs : List (List ℕ)) → IsTaken f rs (taken f rs) }
-    ensures some { (f : FormatValue) (rs : List (List ℕ)) → IsFormat f → AreShort f.full rs → rs ≢ []
-        → 1 ≤ taken f rs }
+    ensures some { (f : FormatValue) (rs : List (List ℕ)) → IsFormat f → AreShort f.full rs
+        → rs ≢ [] → 1 ≤ taken f rs }
     ensures none { (f : FormatValue) → blocks f [] ≡ [] }
-    ensures next { (f : FormatValue) (rs : List (List ℕ)) → IsFormat f → AreShort f.full rs → rs ≢ []
-        → blocks f rs ≡ take (taken f rs) rs ∷ blocks f (drop (taken f rs) rs) }
-    ensures rest { (full k : ℕ) (rs : List (List ℕ)) → AreShort full rs → AreShort full (drop k rs) }
+    ensures next { (f : FormatValue) (rs : List (List ℕ)) → IsFormat f → AreShort f.full rs
+        → rs ≢ [] → blocks f rs ≡ take (taken f rs) rs ∷ blocks f (drop (taken f rs) rs) }
+    ensures rest { (full k : ℕ) (rs : List (List ℕ)) → AreShort full rs
+        → AreShort full (drop k rs) }
 {}

@@ -2,9 +2,12 @@
 ghost use Rattle.std.specs.Prelude.{◌≡◌, ◌≤◌, ◌<◌, ◌≢◌, [], length};
 ghost use Rattle.bsc_frame.specs.Texts.{IsUnit};
 ghost use Rattle.bsc_frame.specs.Units.{text_unit};
-ghost use Rattle.bsc_block.specs.Blocks.{unit_of, cost as cost_of, taken, AreShort, IsTaken, block_text};
+ghost use Rattle.bsc_block.specs.Blocks.{unit_of, cost as cost_of, taken, AreShort, IsTaken};
+ghost use Rattle.bsc_block.specs.Blocks.{block_text};
 
+use crate::format::MIN_BLOCK_CHARS;
 use crate::{Format, Record};
+use bsc_frame::limits::MAX_UNITS;
 use bsc_frame::{End, Text, Unit};
 
 /// How many of these records, which wait, go into the next block: as many from the front as fit its
@@ -19,7 +22,7 @@ pub fn pack(records: &[Record], format: Format) -> usize
     let mut total = 0;
     for (count, record) in records.iter().enumerate() {
         total += cost(record, format);
-        if count == 7 || total > limit {
+        if count == MAX_UNITS || total > limit {
             return count;
         }
     }
@@ -30,7 +33,7 @@ pub fn pack(records: &[Record], format: Format) -> usize
 /// marked.
 fn cost(record: &Record, format: Format) -> usize
     ensures value { result ≡ cost_of format «record».now }
-    ensures bound { result ≤ 146 }
+    ensures bound { result ≤ MIN_BLOCK_CHARS }
 {
     let unit = unit(record, format);
     unit.chars.len() + 1 + usize::from(unit.em)
@@ -51,14 +54,14 @@ fn unit(record: &Record, format: Format) -> Unit<'_>
 /// The text of 1 to 7 records, with this end. No record is longer than the full length.
 pub fn build(records: &[Record], format: Format, end: End) -> Text
     requires some { 1 ≤ length records.now }
-    requires few { length records.now ≤ 7 }
+    requires few { length records.now ≤ MAX_UNITS }
     requires short { AreShort format.full records.now }
     ensures { result ≡ block_text format records.now end }
 {
     let mut units = [Unit {
         chars: &[],
         em: false,
-    }; 7];
+    }; MAX_UNITS];
     for (place, record) in records.iter().enumerate() {
         units[place] = unit(record, format);
     }

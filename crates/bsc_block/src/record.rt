@@ -3,6 +3,7 @@ ghost use Rattle.std.specs.Prelude.{◌≡◌, ◌≤◌, IfOk, length, not, pos
 ghost use Rattle.bsc_octet.specs.Octet.{is_record_char as is_record_code};
 
 use arrayvec::ArrayVec;
+use bsc_frame::limits::MAX_CHARS;
 use bsc_octet::is_record_char;
 use std::marker::Model;
 use thiserror::Error;
@@ -22,7 +23,7 @@ pub enum RecordError {
 /// A record: at most 144 record characters.
 #[derive(Debug, Drop)]
 pub struct Record {
-    chars: ArrayVec<u8, 144>,
+    chars: ArrayVec<u8, MAX_CHARS>,
 }
 
 impl Model for Record {
@@ -51,7 +52,7 @@ impl Record {
     /// characters of the line procedure, and 0x80 and above.
     pub fn read(codes: &[u8], full: u8) -> Result<Record, RecordError>
         requires low { 1 ≤ full }
-        requires high { full ≤ 144 }
+        requires high { full ≤ MAX_CHARS }
         ensures value { result ≡ record_of full codes.now }
         ensures codes { IfOk result (λ r. r ≡ codes.now) }
         ensures record { IfOk result (λ r. IsRecord r) }

@@ -1,5 +1,5 @@
 -- The kind and the content that what is heard leaves.
-use Rattle.std.proofs.Common.{◌≡◌, inl, inr, ◌↔◌, ℕ, ◌∙◌, refl, sym, ap, List, Some, arith}
+use Rattle.std.proofs.Common.{◌≡◌, inl, inr, ◌↔◌, ℕ, ◌∙◌, refl, sym, ap, subst, List, Some, arith}
 use Rattle.std.proofs.lemmas.Bool.Decides.{nat_tests}
 use Rattle.bsc_frame.specs.declared.message.Message.{Message}
 use Rattle.bsc_frame.specs.declared.message.Heard.{Heard}
@@ -10,7 +10,7 @@ use Rattle.bsc_frame.specs.Texts.{TextValue}
 use Rattle.bsc_frame.specs.declared.message.Message.TheVariants.{Text}
 use Rattle.bsc_embed.specs.Kinds.{kind_at}
 use Rattle.bsc_embed.specs.Contents.{message_as, message_in}
-use Rattle.bsc_embed.specs.Decoded.{IsLeft, HoldsNoContent, Tells}
+use Rattle.bsc_embed.specs.Decoded.{StandsFor, KeepsRest, KeepsRestOfHeard, Tells}
 use Rattle.bsc_embed.specs.declared.kind.Kind.{Kind}
 use Rattle.bsc_embed.specs.declared.kind.Kind.TheVariants as kind
 use Rattle.bsc_embed.specs.declared.content.Content.{Content}
@@ -22,7 +22,8 @@ not_noise : (k : Kind) (c : Content) (x : Message) → message_as k c ≡ Some x
 not_noise k c x s e = let r : message_as kind.Noise c ≡ Some x = rw e at s in cc
 
 -- what is heard is told by what it leaves
-pub tells : (octets : List ℕ) (h : Heard) (k : Kind) (old new : Content) → IsHeard octets h → IsLeft h k new → (HoldsNoContent h → new ≡ old) → Tells octets k old new
+pub tells : (octets : List ℕ) (h : Heard) (k : Kind) (old new : Content) → IsHeard octets h
+    → StandsFor h k new → KeepsRestOfHeard h old new → Tells octets k old new
 tells octets (Whole x) k old new w s n = record {
   whole = λ m. (
     λ q. let r : Some x ≡ Some m = sym s ∙ q in let same : x ≡ m = cc in (w.whole m).0 (ap Whole same),
@@ -30,34 +31,41 @@ tells octets (Whole x) k old new w s n = record {
   );
   failed = (λ e. absurd (not_failed k new x s e), λ f. let r : Whole x ≡ Failed = w.failed.1 f in cc);
   noise = (λ e. absurd (not_noise k new x s e), λ f. let r : Whole x ≡ Noise = w.noise.1 f in cc);
-  kept = λ e. n (e x ((w.whole x).0 refl));
+  kept = λ m q. let r : Whole x ≡ Whole m = (w.whole m).1 q in let same : x ≡ m = cc in subst (λ z. KeepsRest z old new) same n;
+  unspelled = λ e. absurd (e x ((w.whole x).0 refl));
 }
 tells octets Failed k old new w s n = record {
   whole = λ m. (λ q. let r : message_as kind.Failed new ≡ Some m = rw s at q in cc, λ q. let r : Failed ≡ Whole m = (w.whole m).1 q in cc);
   failed = (λ e. w.failed.0 refl, λ f. s);
   noise = (λ e. cc, λ f. let r : Failed ≡ Noise = w.noise.1 f in cc);
-  kept = λ e. n tt;
+  kept = λ m q. let r : Failed ≡ Whole m = (w.whole m).1 q in cc;
+  unspelled = λ e. n;
 }
 tells octets Noise k old new w s n = record {
   whole = λ m. (λ q. let r : message_as kind.Noise new ≡ Some m = rw s at q in cc, λ q. let r : Noise ≡ Whole m = (w.whole m).1 q in cc);
   failed = (λ e. cc, λ f. let r : Noise ≡ Failed = w.failed.1 f in cc);
   noise = (λ e. w.noise.0 refl, λ f. s);
-  kept = λ e. n tt;
+  kept = λ m q. let r : Noise ≡ Whole m = (w.whole m).1 q in cc;
+  unspelled = λ e. n;
 }
 
 -- a number stands for its kind
-pub by_kind : (number : ℕ) (k : Kind) (c : Content) → kind_at number ≡ Some k → message_in number c ≡ message_as k c
+pub by_kind : (number : ℕ) (k : Kind) (c : Content) → kind_at number ≡ Some k
+    → message_in number c ≡ message_as k c
 unfolding message_in
 by_kind number k c e = rw e refl
 
 pub failed_number : (number : ℕ) (k : Kind) → kind_at number ≡ Some k → (number ≡ 1) ↔ (k ≡ kind.Failed)
-failed_number number k e = (λ n. let r : kind_at 1 ≡ Some k = rw n at e in cc, λ f. let r : kind_at number ≡ Some kind.Failed = rw f at e in grind (arith, nat_tests))
+failed_number number k e =
+    (λ n. let r : kind_at 1 ≡ Some k = rw n at e in cc, λ f. let r : kind_at number ≡ Some kind.Failed = rw f at e in grind (arith, nat_tests))
 
 pub noise_number : (number : ℕ) (k : Kind) → kind_at number ≡ Some k → (number ≡ 0) ↔ (k ≡ kind.Noise)
-noise_number number k e = (λ n. let r : kind_at 0 ≡ Some k = rw n at e in cc, λ f. let r : kind_at number ≡ Some kind.Noise = rw f at e in grind (arith, nat_tests))
+noise_number number k e =
+    (λ n. let r : kind_at 0 ≡ Some k = rw n at e in cc, λ f. let r : kind_at number ≡ Some kind.Noise = rw f at e in grind (arith, nat_tests))
 
 -- what begins as a text and spells a message spells a text
-pub only_text : (octets : List ℕ) (m : Message) → BeginsText octets → IsHeard octets (Whole m) → ((t : TextValue) → m ≡ Text t → ⊥) → ⊥
+pub only_text : (octets : List ℕ) (m : Message) → BeginsText octets → IsHeard octets (Whole m)
+    → ((t : TextValue) → m ≡ Text t → ⊥) → ⊥
 only_text octets m (inl (t, s)) w n =
     let r : Whole m ≡ Whole (Text t) = (w.whole (Text t)).1 s in
     n t cc
@@ -66,7 +74,8 @@ only_text octets m (inr f) w n =
     cc
 
 -- what a call of the decoder says of its answer is said of what the answer is
-pub heard_is : (octets : List ℕ) (r h : Heard) → r ≡ h → ((m : Message) → (r ≡ Whole m) ↔ Spells octets m) → (r ≡ Failed) ↔ IsFailed octets → (r ≡ Noise) ↔ IsNoise octets
+pub heard_is : (octets : List ℕ) (r h : Heard) → r ≡ h → ((m : Message) → (r ≡ Whole m) ↔ Spells octets m)
+    → (r ≡ Failed) ↔ IsFailed octets → (r ≡ Noise) ↔ IsNoise octets
     → IsHeard octets h
 heard_is octets r h e whole failed noise =
     let w : IsHeard octets r = record { whole = whole; failed = failed; noise = noise } in

@@ -1,4 +1,5 @@
 mod UnitLemmas
 mod AddressLemmas
 mod TextLemmas
+mod KeptLemmas
 mod HeardLemmas

@@ -1,5 +1,6 @@
 -- The message that a number and a content of C's stand for, where they stand for one.
-use Rattle.std.specs.Prelude.{ℕ, ◌==◌, ◌&&◌, nat_le, nat_lt, if◌then◌else◌, List, [], ◌∷◌, take, Option, Some, None, option_map, option_and_then}
+use Rattle.std.specs.Prelude.{ℕ, ◌==◌, ◌&&◌, nat_le, nat_lt, if◌then◌else◌, List, [], ◌∷◌, take}
+use Rattle.std.specs.Prelude.{Option, Some, None, option_map, option_and_then}
 use Rattle.std.specs.List.{list_all}
 use Rattle.std.specs.Result.{result_ok}
 use Rattle.bsc_octet.specs.Octet.{is_record_char}
@@ -8,18 +9,21 @@ use Rattle.bsc_frame.specs.Message.{read_address}
 use Rattle.bsc_frame.specs.declared.text.End.{End}
 use Rattle.bsc_frame.specs.declared.text.End.TheVariants.{Etb, Etx}
 use Rattle.bsc_frame.specs.declared.message.Message.{Message}
-use Rattle.bsc_frame.specs.declared.message.Message.TheVariants.{Eot, Call, Enq, Ack0, Ack1, Nak, Wack, Rvi, Text}
+use Rattle.bsc_frame.specs.declared.message.Message.TheVariants.{Eot, Call, Enq, Ack0, Ack1, Nak}
+use Rattle.bsc_frame.specs.declared.message.Message.TheVariants.{Wack, Rvi, Text}
 use Rattle.bsc_embed.specs.declared.kind.Kind.{Kind}
 use Rattle.bsc_embed.specs.declared.kind.Kind.TheVariants as kind
 use Rattle.bsc_embed.specs.declared.content.Content.{Content}
 use Rattle.bsc_embed.specs.declared.content.StoredUnit.{StoredUnit}
 use Rattle.bsc_embed.specs.Kinds.{kind_at}
+use Rattle.bsc_frame.specs.declared.limits.TheConstants.{MAX_UNITS, MAX_CHARS, MAX_ADDRESS}
 
 -- A unit: its first len characters, at most 144 record characters; EM follows where em is not 0
 -- (own).
 unfoldable pub unit_in : StoredUnit → Option TextUnit
 unit_in s =
-    if nat_le s.len 144 && list_all is_record_char (take s.len s.chars) then Some (record { chars = take s.len s.chars; em = nat_lt 0 s.em })
+    if nat_le s.len MAX_CHARS && list_all is_record_char (take s.len s.chars)
+    then Some (record { chars = take s.len s.chars; em = nat_lt 0 s.em })
     else None
 
 -- Units, where each is one.
@@ -43,11 +47,16 @@ with_end (Some e) (Some us) = Some (record { units = us; end = e })
 
 -- A text: its first count units, 1 to 7, and its end (own).
 unfoldable pub text_in : Content → Option TextValue
-text_in c = if nat_le 1 c.count && nat_le c.count 7 then with_end (end_at c.end) (units_in (take c.count c.units)) else None
+text_in c =
+    if nat_le 1 c.count && nat_le c.count MAX_UNITS
+    then with_end (end_at c.end) (units_in (take c.count c.units))
+    else None
 
 -- An address: its first address_len codes (own).
 unfoldable pub address_in : Content → Option (List ℕ)
-address_in c = if nat_le c.address_len 7 then result_ok (read_address (take c.address_len c.address)) else None
+address_in c =
+    if nat_le c.address_len MAX_ADDRESS then result_ok (read_address (take c.address_len c.address))
+    else None
 
 -- The message of a kind. Noise and Failed are kinds of what is heard, and no messages.
 abbrev pub message_as : Kind → Content → Option Message
@@ -66,15 +75,3 @@ message_as kind.Text c = option_map Text (text_in c)
 -- The message of a kind by its number.
 unfoldable pub message_in : ℕ → Content → Option Message
 message_in number c = option_and_then (λ k. message_as k c) (kind_at number)
-
--- Messages of all kinds but a call and a text hold nothing.
-abbrev pub HoldsNothing : Message → Type 0
-HoldsNothing Eot = Unit {0}
-HoldsNothing (Call a) = ⊥
-HoldsNothing Enq = Unit {0}
-HoldsNothing Ack0 = Unit {0}
-HoldsNothing Ack1 = Unit {0}
-HoldsNothing Nak = Unit {0}
-HoldsNothing Wack = Unit {0}
-HoldsNothing Rvi = Unit {0}
-HoldsNothing (Text t) = ⊥

@@ -1,30 +1,68 @@
 -- What a kind and a content tell of octets.
-use Rattle.std.specs.Prelude.{◌≡◌, ◌↔◌, ℕ, List, Some}
+use Rattle.std.specs.Prelude.{◌≡◌, ◌↔◌, ℕ, List, [], ◌∷◌, drop, Some}
 use Rattle.bsc_frame.specs.Spells.{Spells, IsFailed, IsNoise}
 use Rattle.bsc_frame.specs.declared.message.Message.{Message}
+use Rattle.bsc_frame.specs.declared.message.Message.TheVariants.{Eot, Call, Enq, Ack0, Ack1, Nak}
+use Rattle.bsc_frame.specs.declared.message.Message.TheVariants.{Wack, Rvi, Text}
 use Rattle.bsc_frame.specs.declared.message.Heard.{Heard}
 use Rattle.bsc_frame.specs.declared.message.Heard.TheVariants.{Whole, Failed, Noise}
 use Rattle.bsc_embed.specs.declared.kind.Kind.{Kind}
 use Rattle.bsc_embed.specs.declared.kind.Kind.TheVariants as kind
 use Rattle.bsc_embed.specs.declared.content.Content.{Content}
-use Rattle.bsc_embed.specs.Contents.{message_as, HoldsNothing}
+use Rattle.bsc_embed.specs.declared.content.StoredUnit.{StoredUnit}
+use Rattle.bsc_embed.specs.Contents.{message_as}
 
 -- The kind and the content are those of what was heard.
-abbrev pub IsLeft : Heard → Kind → Content → Type 0
-IsLeft (Whole m) k c = message_as k c ≡ Some m
-IsLeft Failed k c = k ≡ kind.Failed
-IsLeft Noise k c = k ≡ kind.Noise
+abbrev pub StandsFor : Heard → Kind → Content → Type 0
+StandsFor (Whole m) k c = message_as k c ≡ Some m
+StandsFor Failed k c = k ≡ kind.Failed
+StandsFor Noise k c = k ≡ kind.Noise
 
--- Nothing was heard that a content holds.
-abbrev pub HoldsNoContent : Heard → Type 0
-HoldsNoContent (Whole m) = HoldsNothing m
-HoldsNoContent Failed = Unit {0}
-HoldsNoContent Noise = Unit {0}
+-- Each unit has the characters after its own as they were.
+abbrev pub KeepCharsAfter : List StoredUnit → List StoredUnit → Type 0
+KeepCharsAfter [] [] = Unit {0}
+KeepCharsAfter [] (n ∷ ns) = ⊥
+KeepCharsAfter (o ∷ os) [] = ⊥
+KeepCharsAfter (o ∷ os) (n ∷ ns) = (drop n.len n.chars ≡ drop n.len o.chars) × KeepCharsAfter os ns
 
--- The kind and the content tell what the octets are heard as, and the content is the old one where
--- they spell nothing that it would hold.
+-- All but an address is as it was: the units with their count and end, and the codes after it.
+pub record KeepsRestOfCall (old new : Content) : Type 0 where
+  pub units : new.units ≡ old.units
+  pub count : new.count ≡ old.count
+  pub end : new.end ≡ old.end
+  pub codes : drop new.address_len new.address ≡ drop new.address_len old.address
+
+-- All but a text is as it was: the address, the units after its own, and in each of its units the
+-- characters after those of the unit.
+pub record KeepsRestOfText (old new : Content) : Type 0 where
+  pub address : new.address ≡ old.address
+  pub address_len : new.address_len ≡ old.address_len
+  pub units : drop new.count new.units ≡ drop new.count old.units
+  pub chars : KeepCharsAfter old.units new.units
+
+-- All that the message does not hold is as it was.
+abbrev pub KeepsRest : Message → Content → Content → Type 0
+KeepsRest Eot old new = new ≡ old
+KeepsRest (Call a) old new = KeepsRestOfCall old new
+KeepsRest Enq old new = new ≡ old
+KeepsRest Ack0 old new = new ≡ old
+KeepsRest Ack1 old new = new ≡ old
+KeepsRest Nak old new = new ≡ old
+KeepsRest Wack old new = new ≡ old
+KeepsRest Rvi old new = new ≡ old
+KeepsRest (Text t) old new = KeepsRestOfText old new
+
+-- The same of what was heard: where it was no message, all is as it was.
+abbrev pub KeepsRestOfHeard : Heard → Content → Content → Type 0
+KeepsRestOfHeard (Whole m) old new = KeepsRest m old new
+KeepsRestOfHeard Failed old new = new ≡ old
+KeepsRestOfHeard Noise old new = new ≡ old
+
+-- The kind and the content tell what the octets are heard as, and all of the content that a message
+-- does not hold is as it was; where they spell none, that is all of it.
 pub record Tells (octets : List ℕ) (k : Kind) (old new : Content) : Type 0 where
   pub whole : (m : Message) → (message_as k new ≡ Some m) ↔ Spells octets m
   pub failed : (k ≡ kind.Failed) ↔ IsFailed octets
   pub noise : (k ≡ kind.Noise) ↔ IsNoise octets
-  pub kept : ((m : Message) → Spells octets m → HoldsNothing m) → new ≡ old
+  pub kept : (m : Message) → Spells octets m → KeepsRest m old new
+  pub unspelled : ((m : Message) → Spells octets m → ⊥) → new ≡ old

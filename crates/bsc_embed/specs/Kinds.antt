@@ -1,7 +1,8 @@
 -- The numbers of `enum bsc_kind` in bsc.h.
 use Rattle.std.specs.Prelude.{ℕ, ◌==◌, if◌then◌else◌, Option, Some, None}
 use Rattle.bsc_embed.specs.declared.kind.Kind.{Kind}
-use Rattle.bsc_embed.specs.declared.kind.Kind.TheVariants.{Noise, Failed, Eot, Call, Enq, Ack0, Ack1, Nak, Wack, Rvi, Text}
+use Rattle.bsc_embed.specs.declared.kind.Kind.TheVariants.{Noise, Failed, Eot, Call, Enq, Ack0}
+use Rattle.bsc_embed.specs.declared.kind.Kind.TheVariants.{Ack1, Nak, Wack, Rvi, Text}
 
 -- The kind that a number of C's names (own).
 abbrev pub kind_at : ℕ → Option Kind

@@ -1,11 +1,14 @@
 //! What a call or a text holds, in storage of fixed size that C declares.
-ghost use Rattle.std.specs.Prelude.{◌≡◌, Some, option_map};
+ghost use Rattle.std.specs.Prelude.{◌≡◌, Some, option_map, drop};
 ghost use Rattle.std.specs.List.{list_all};
 ghost use Rattle.bsc_octet.specs.Octet.{is_record_char as is_record_code};
 ghost use Rattle.bsc_frame.specs.Units.{text_unit};
 ghost use Rattle.bsc_frame.specs.Texts.{IsUnit};
 ghost use Rattle.bsc_embed.specs.Contents.{unit_in, end_at, text_in, address_in};
+ghost use Rattle.bsc_embed.specs.Decoded.{KeepsRestOfCall, KeepsRestOfText};
 
+use bsc_frame::limits::{MAX_ADDRESS, MAX_CHARS, MAX_UNITS};
+use bsc_frame::octets::{ETB_CODE, ETX_CODE};
 use bsc_frame::{Address, End, Text, Unit};
 use bsc_octet::is_record_char;
 
@@ -14,7 +17,7 @@ use bsc_octet::is_record_char;
 #[derive(Clone, Copy)]
 pub struct StoredUnit {
     /// The codes, of which the first `len` count.
-    pub chars: [u8; 144],
+    pub chars: [u8; MAX_CHARS],
 
     /// How many characters there are: 0 to 144.
     pub len: u8,
@@ -29,7 +32,7 @@ pub struct StoredUnit {
 #[derive(Clone, Copy)]
 pub struct Content {
     /// The units of a text, of which the first `count` count.
-    pub units: [StoredUnit; 7],
+    pub units: [StoredUnit; MAX_UNITS],
 
     /// How many units the text has: 1 to 7.
     pub count: u8,
@@ -38,7 +41,7 @@ pub struct Content {
     pub end: u8,
 
     /// The codes of the address of a call, of which the first `address_len` count.
-    pub address: [u8; 7],
+    pub address: [u8; MAX_ADDRESS],
 
     /// How many codes the address has: 1 to 7.
     pub address_len: u8,
@@ -48,7 +51,8 @@ impl StoredUnit {
     /// Puts the unit here.
     fn put(&mut self, unit: Unit<'_>)
         requires { IsUnit (text_unit unit) }
-        ensures { unit_in self.new ≡ Some (text_unit unit.entry) }
+        ensures unit { unit_in self.new ≡ Some (text_unit unit.entry) }
+        ensures kept { drop self.new.len self.new.chars ≡ drop self.new.len self.old.chars }
     {
         let len = unit.chars.len();
         self.chars[..len].copy_from_slice(unit.chars);
@@ -62,7 +66,7 @@ impl StoredUnit {
         ensures { option_map text_unit result ≡ unit_in self.now }
     {
         let len = self.len as usize;
-        if len > 144 {
+        if len > MAX_CHARS {
             return None;
         }
         let chars = &self.chars[..len];
@@ -92,8 +96,8 @@ fn end_of(code: u8) -> Option<End>
     ensures { result ≡ end_at code }
 {
     match code {
-        0x17 => Some(End::Etb),
-        0x03 => Some(End::Etx),
+        ETB_CODE => Some(End::Etb),
+        ETX_CODE => Some(End::Etx),
         _ => None,
     }
 }
@@ -103,15 +107,16 @@ fn end_code(end: End) -> u8
     ensures { end_at result ≡ Some end }
 {
     match end {
-        End::Etb => 0x17,
-        End::Etx => 0x03,
+        End::Etb => ETB_CODE,
+        End::Etx => ETX_CODE,
     }
 }
 
 impl Content {
     /// Puts the address here.
     pub(crate) fn put_address(&mut self, address: &Address)
-        ensures { address_in self.new ≡ Some address.now }
+        ensures address { address_in self.new ≡ Some address.now }
+        ensures kept { KeepsRestOfCall self.old self.new }
     {
         let codes = address.codes();
         self.address[..codes.len()].copy_from_slice(codes);
@@ -124,7 +129,7 @@ impl Content {
         ensures { result ≡ address_in self.now }
     {
         let len = self.address_len as usize;
-        if len > 7 {
+        if len > MAX_ADDRESS {
             return None;
         }
         Address::read(&self.address[..len]).ok()
@@ -132,7 +137,8 @@ impl Content {
 
     /// Puts the text here.
     pub(crate) fn put_text(&mut self, text: &Text)
-        ensures { text_in self.new ≡ Some text.now }
+        ensures text { text_in self.new ≡ Some text.now }
+        ensures kept { KeepsRestOfText self.old self.new }
     {
         for place in 0..text.count() {
             self.units[place].put(text.unit(place));
@@ -141,19 +147,20 @@ impl Content {
         self.end = end_code(text.end());
     }
 
-    /// The text here, if it is one.
+    /// The text here, if it is one. Its own function, since only here there must be room for units.
+    #[inline(never)]
     pub(crate) fn text(&self) -> Option<Text>
         ensures { result ≡ text_in self.now }
     {
         let count = self.count as usize;
-        if count == 0 || count > 7 {
+        if count == 0 || count > MAX_UNITS {
             return None;
         }
         let end = end_of(self.end)?;
         let mut units = [Unit {
             chars: &[],
             em: false,
-        }; 7];
+        }; MAX_UNITS];
         for place in 0..count {
             units[place] = self.units[place].unit()?;
         }

@@ -3,16 +3,16 @@ ghost use Rattle.std.specs.Prelude.{◌≡◌, ◌↔◌, Some};
 ghost use Rattle.bsc_frame.specs.Short.{heard_as, BeginsText};
 ghost use Rattle.bsc_frame.specs.Spells.{Spells, IsFailed, IsNoise};
 ghost use Rattle.bsc_frame.specs.declared.message.Message.{Message};
-ghost use Rattle.bsc_embed.specs.Contents.{message_in, HoldsNothing};
-ghost use Rattle.bsc_embed.specs.Decoded.{IsLeft, HoldsNoContent, Tells};
+ghost use Rattle.bsc_embed.specs.Contents.{message_in};
+ghost use Rattle.bsc_embed.specs.Decoded.{StandsFor, KeepsRest, KeepsRestOfHeard, Tells};
 
 use crate::{Content, Kind};
 use bsc_frame::{Heard, Message, Short, decode, decode_short};
 
 /// Puts what the short message holds into the content, and gives its kind.
 fn put_short(short: &Short, content: &mut Content) -> Kind
-    ensures left { IsLeft (heard_as short.now) result content.new }
-    ensures kept { HoldsNoContent (heard_as short.now) → content.new ≡ content.old }
+    ensures left { StandsFor (heard_as short.now) result content.new }
+    ensures kept { KeepsRestOfHeard (heard_as short.now) content.old content.new }
 {
     match short {
         Short::Eot => Kind::Eot,
@@ -61,15 +61,16 @@ fn decode_kind(octets: &[u8], content: &mut Content) -> Kind
 
 /// What the octets are heard as, by the number of its kind: 0 where they are noise, 1 where they
 /// begin as a text and spell no message, else the number of the message that they spell. The
-/// address of a call and the units and the end of a text are put into the content; else it stays as
-/// it was (GA27-3004: control sequences, polling and selection, ITB blocks, VRC and LRC checking).
-/// For C `octets` is two arguments, a pointer and a length, as `bsc.h` declares them.
+/// address of a call and the units and the end of a text are put into the content; all else of it
+/// stays as it was (GA27-3004: control sequences, polling and selection, ITB blocks, VRC and LRC
+/// checking). For C `octets` is two arguments, a pointer and a length, as `bsc.h` declares them.
 #[unsafe(no_mangle)]
 pub extern "C" fn bsc_decode(octets: &[u8], content: &mut Content) -> u32
     ensures whole { (m : Message) → (message_in result content.new ≡ Some m) ↔ Spells octets.now m }
     ensures failed { (result ≡ 1) ↔ IsFailed octets.now }
     ensures noise { (result ≡ 0) ↔ IsNoise octets.now }
-    ensures kept { ((m : Message) → Spells octets.now m → HoldsNothing m) → content.new ≡ content.old }
+    ensures kept { (m : Message) → Spells octets.now m → KeepsRest m content.old content.new }
+    ensures unspelled { ((m : Message) → Spells octets.now m → ⊥) → content.new ≡ content.old }
 {
     decode_kind(octets, content).number()
 }

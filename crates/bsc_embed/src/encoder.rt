@@ -31,8 +31,11 @@ fn message_of(number: u32, content: &Content) -> Option<Message>
 /// blocks). For C `octets` is two arguments, a pointer and a length, as `bsc.h` declares them.
 #[unsafe(no_mangle)]
 pub extern "C" fn bsc_encode(kind: u32, content: &Content, octets: &mut [u8]) -> usize
-    ensures count { result ≡ length (octets_within (length octets.old) (message_in kind content.now)) }
-    ensures octets { octets.new ≡ octets_within (length octets.old) (message_in kind content.now) ++ drop result octets.old }
+    ensures count { result
+        ≡ length (octets_within (length octets.old) (message_in kind content.now)) }
+    ensures octets { octets.new
+        ≡ octets_within (length octets.old) (message_in kind content.now)
+        ++ drop result octets.old }
 {
     let Some(message) = message_of(kind, content) else {
         return 0;

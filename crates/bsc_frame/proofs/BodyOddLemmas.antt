@@ -8,7 +8,8 @@ use Rattle.bsc_frame.specs.Addresses.{is_address_code}
 use Rattle.bsc_frame.specs.Spells.{AreAll, IsBody, IsCall}
 use Rattle.bsc_frame.specs.TurnedBits.{IsBodyOctet}
 use Rattle.bsc_frame.specs.declared.message.Message.{Message}
-use Rattle.bsc_frame.specs.declared.message.Message.TheVariants.{Eot, Call, Enq, Ack0, Ack1, Nak, Wack, Rvi, Text}
+use Rattle.bsc_frame.specs.declared.message.Message.TheVariants.{Eot, Call, Enq, Ack0, Ack1, Nak, Wack, Rvi}
+use Rattle.bsc_frame.specs.declared.message.Message.TheVariants.{Text}
 use Rattle.bsc_frame.proofs.ControlLemmas.{plain}
 use Rattle.bsc_frame.proofs.OddLemmas.{units_odd, fill_odd}
 use Rattle.bsc_frame.proofs.PlaceLemmas.{all_both}
@@ -51,25 +52,32 @@ rvi_odd = IsOdd-odd_octet 0x3c (omega arith)
 
 -- ---- calls
 
-pub address_odd : (a : List ℕ) → AllByRecursion (λ c. IsTrue (is_address_code c)) a → AllByRecursion IsOdd (map odd_octet a)
+-- the octets of an address have odd parity
+pub address_odd : (a : List ℕ) → AllByRecursion (λ c. IsTrue (is_address_code c)) a
+    → AllByRecursion IsOdd (map odd_octet a)
 address_odd [] h = tt
 address_odd (c ∷ a) h = let k = plain c h.0 in (IsOdd-odd_octet c (omega (arith, k.high)), address_odd a h.1)
 
 -- the octets of a call after its EOT and PAD
-pub called_odd : (syns a : List ℕ) → AreAll 0x16 syns → AllByRecursion (λ c. IsTrue (is_address_code c)) a → AllByRecursion IsOdd (syns ++ map odd_octet a ++ 0x85 ∷ [])
+pub called_odd : (syns a : List ℕ) → AreAll 0x16 syns → AllByRecursion (λ c. IsTrue (is_address_code c)) a
+    → AllByRecursion IsOdd (syns ++ map odd_octet a ++ 0x85 ∷ [])
 called_odd syns a s h =
     all_both IsOdd (syns ++ map odd_octet a) (0x85 ∷ []) (all_both IsOdd syns (map odd_octet a) (fill_odd syns s) (address_odd a h)) (enq_odd, tt)
 
 -- ---- all
 
-odd_fits : (m : Message) (octets : List ℕ) → AllByRecursion IsOdd octets → AllByRecursion (IsBodyOctet m) octets
+-- octets of odd parity may stand in any body
+odd_fits : (m : Message) (octets : List ℕ) → AllByRecursion IsOdd octets
+    → AllByRecursion (IsBodyOctet m) octets
 odd_fits m [] h = tt
 odd_fits m (x ∷ octets) h = (inl h.0, odd_fits m octets h.1)
 
+-- so may PAD in the body of a call
 pads_fit : (a pads : List ℕ) → AreAll 0xff pads → AllByRecursion (IsBodyOctet (Call a)) pads
 pads_fit a [] h = tt
 pads_fit a (x ∷ pads) h = (inr ((a, refl), h.0), pads_fit a pads h.1)
 
+-- each octet of the body of a call is one that may stand there
 call_fits : (a body : List ℕ) → IsCall a body → AllByRecursion (IsBodyOctet (Call a)) body
 call_fits a body c =
     rw c.whole (
@@ -81,6 +89,7 @@ call_fits a body c =
           (inl enq_odd, tt),
     )
 
+-- each octet of the body of a message is one that may stand there
 pub body_fits : (m : Message) (body : List ℕ) → IsBody m body → AllByRecursion (IsBodyOctet m) body
 body_fits Eot body h = rw h (inl eot_odd, tt)
 body_fits (Call a) body h = call_fits a body h
@@ -90,4 +99,5 @@ body_fits Ack0 body h = rw h (inl dle_odd, (inl ack0_odd, tt))
 body_fits Ack1 body h = rw h (inl dle_odd, (inl ack1_odd, tt))
 body_fits Wack body h = rw h (inl dle_odd, (inl wack_odd, tt))
 body_fits Rvi body h = rw h (inl dle_odd, (inl rvi_odd, tt))
-body_fits (Text t) body h = rw h.whole (odd_fits (Text t) (0x02 ∷ h.rest) (stx_odd, units_odd false t.units t.end h.rest h.units h.text.each))
+body_fits (Text t) body h =
+    rw h.whole (odd_fits (Text t) (0x02 ∷ h.rest) (stx_odd, units_odd false t.units t.end h.rest h.units h.text.each))

@@ -1,5 +1,6 @@
 -- Octets that carry their low seven bits.
-use Rattle.std.proofs.Common.{◌≡◌, ℕ, ◌+◌, ◌%◌, ◌<◌, ◌==◌, Bool, true, false, cond, refl, sym, ap, ◌∙◌, arith, List, [], ◌∷◌, map, get_or, Some, All, Fits, w8}
+use Rattle.std.proofs.Common.{◌≡◌, ℕ, ◌+◌, ◌%◌, ◌<◌, ◌==◌, Bool, true, false, cond, refl, sym, ap, ◌∙◌, arith}
+use Rattle.std.proofs.Common.{List, [], ◌∷◌, map, get_or, Some, All, Fits, w8}
 use Rattle.std.specs.List.{AllByRecursion}
 use Rattle.std.specs.Int.{bit_at}
 use Rattle.std.specs.Int.Count.{ones}
@@ -8,47 +9,59 @@ use Rattle.std.proofs.lemmas.List.Elements.{All-from_get_or, recursion_from_All}
 use Rattle.std.proofs.lemmas.List.Sums.{sum_by-cons}
 use Rattle.bsc_octet.specs.Octet.{IsOdd, odd_octet, code_of, longitudinal_sum, with_bit}
 use Rattle.bsc_octet.proofs.ParityLemmas.{code_of_odd, code_of_some}
-use Rattle.bsc_frame.specs.Reading.{low_bits, is_ending_code, is_ending_octet, behind_start, behind_check}
+use Rattle.bsc_frame.specs.Reading.{low_bits, is_ending_code, is_ending_octet, after_start, after_check}
 
 -- each octet carries its low seven bits
 abbrev pub AreCarried : List ℕ → Type 0
 AreCarried = AllByRecursion (λ x. code_of x ≡ Some (low_bits x))
 
+-- octets of odd parity are those that carry their low seven bits
 carried_by : (s : List ℕ) → AllByRecursion IsOdd s → AllByRecursion (λ x. x < 256) s → AreCarried s
 carried_by [] o f = tt
 carried_by (x ∷ s) o f = (code_of_odd x f.0 o.0, carried_by s o.1 f.1)
 
+-- the same where each one is known to be an octet by its place
 pub carried : (s : List ℕ) → All IsOdd s → ((i : ℕ) → Fits w8 (get_or s i 0)) → AreCarried s
 carried s o f =
     carried_by s (recursion_from_All IsOdd s o) (recursion_from_All (λ x. x < 256) s (All-from_get_or (λ x. x < 256) s 0 (λ i _. (f i).fits)))
 
 -- ---- one octet
 
+-- two comparisons agree where each one follows from the other
 same_test : (a b c d : ℕ) → (a ≡ b → c ≡ d) → (c ≡ d → a ≡ b) → (a == b) ≡ (c == d)
 same_test a b c d f g = grind (arith, nat_tests, f, g)
 
 -- an octet is the one of a code where its low bits are the code
-low_test : (x k o : ℕ) → code_of x ≡ Some (low_bits x) → odd_octet k ≡ o → o % 128 ≡ k → (low_bits x == k) ≡ (x == o)
-low_test x k o c e l = same_test (low_bits x) k x o (λ h. sym (code_of_some x (low_bits x) c).1 ∙ ap odd_octet h ∙ e) (λ h. ap low_bits h ∙ l)
+low_test : (x k o : ℕ) → code_of x ≡ Some (low_bits x) → odd_octet k ≡ o → o % 128 ≡ k
+    → (low_bits x == k) ≡ (x == o)
+low_test x k o c e l =
+    same_test (low_bits x) k x o (λ h. sym (code_of_some x (low_bits x) c).1 ∙ ap odd_octet h ∙ e) (λ h. ap low_bits h ∙ l)
 
+-- an octet with the low bits of a code is the one that carries this code
 pub low_is : (x k o : ℕ) → code_of x ≡ Some (low_bits x) → odd_octet k ≡ o → low_bits x ≡ k → x ≡ o
 low_is x k o c e h = sym (code_of_some x (low_bits x) c).1 ∙ ap odd_octet h ∙ e
 
+-- an octet of odd parity carries an ending character where it is one of the three octets
 pub ending_same : (x : ℕ) → code_of x ≡ Some (low_bits x) → is_ending_code (low_bits x) ≡ is_ending_octet x
 unfolding odd_octet ones
-ending_same x c = rw (low_test x 0x1f 0x1f c refl refl, low_test x 0x17 0x97 c refl refl, low_test x 0x03 0x83 c refl refl) refl
+ending_same x c =
+    rw (low_test x 0x1f 0x1f c refl refl, low_test x 0x17 0x97 c refl refl, low_test x 0x03 0x83 c refl refl) refl
 
+-- and STX where it is the octet of STX
 pub stx_same : (x : ℕ) → code_of x ≡ Some (low_bits x) → (low_bits x == 0x02) ≡ (x == 0x02)
 unfolding odd_octet ones
 stx_same x c = low_test x 0x02 0x02 c refl refl
 
+-- and EM only where it is the octet of EM
 pub em_is : (x : ℕ) → code_of x ≡ Some (low_bits x) → low_bits x ≡ 0x19 → x ≡ 0x19
 unfolding odd_octet ones
 em_is x c h = low_is x 0x19 0x19 c refl h
 
 -- ---- sums
 
-with_bit_low : (i : ℕ) → ((x : ℕ) → bit_at (low_bits x) i ≡ bit_at x i) → (s : List ℕ) → with_bit i (map low_bits s) ≡ with_bit i s
+-- a bit that the low bits keep is in as many low bits as octets
+with_bit_low : (i : ℕ) → ((x : ℕ) → bit_at (low_bits x) i ≡ bit_at x i) → (s : List ℕ)
+    → with_bit i (map low_bits s) ≡ with_bit i s
 with_bit_low i e [] = refl
 with_bit_low i e (x ∷ s) =
     sum_by-cons (λ y. cond (bit_at y i == 1) 1 0) (low_bits x) (map low_bits s)
@@ -69,17 +82,22 @@ sum_low s =
       with_bit_low 6 (λ x. omega arith) s,
     ) refl
 
-pub check_low : (s octets : List ℕ) → behind_check (map low_bits s) octets ≡ behind_check s octets
+-- a check is the same of octets and of their low bits, since no sum has parity bits
+pub check_low : (s octets : List ℕ) → after_check (map low_bits s) octets ≡ after_check s octets
 check_low s [] = refl
 check_low s (k ∷ rest) = rw (sum_low s) refl
 
 -- ---- an STX after a check
 
-by_stx : (b : Bool) (x : ℕ) (s : List ℕ) → cond b (map low_bits s) (low_bits x ∷ map low_bits s) ≡ map low_bits (cond b s (x ∷ s))
+-- a first octet is left out of the low bits where it is left out of the octets
+by_stx : (b : Bool) (x : ℕ) (s : List ℕ)
+    → cond b (map low_bits s) (low_bits x ∷ map low_bits s) ≡ map low_bits (cond b s (x ∷ s))
 by_stx true x s = refl
 by_stx false x s = refl
 
-pub start_low : (behind : Bool) (s : List ℕ) → AreCarried s → behind_start behind (map low_bits s) ≡ map low_bits (behind_start behind s)
+-- an STX after a check is dropped alike from octets and from their low bits
+pub start_low : (after_us : Bool) (s : List ℕ) → AreCarried s
+    → after_start after_us (map low_bits s) ≡ map low_bits (after_start after_us s)
 start_low false s c = refl
 start_low true [] c = refl
 start_low true (x ∷ s) c = rw (stx_same x c.0) (by_stx (x == 0x02) x s)

@@ -1,5 +1,7 @@
 -- Units of which one octet is another with odd parity, neither of which is SYN or ends a unit.
-use Rattle.std.proofs.Common.{◌≡◌, ◌≢◌, inl, inr, ℕ, zero, suc, ◌%◌, ◌<◌, ◌≤◌, Bool, true, false, refl, sym, ap, subst, ◌∙◌, arith, List, [], ◌∷◌, ◌++◌, length, map, Some, None, append_assoc, append-nil, length-append}
+use Rattle.std.proofs.Common.{◌≡◌, ◌≢◌, inl, inr, ℕ, zero, suc, ◌%◌, ◌<◌, ◌≤◌, Bool, true, false, refl, sym}
+use Rattle.std.proofs.Common.{ap, subst, ◌∙◌, arith, List, [], ◌∷◌, ◌++◌, length, map, Some, None}
+use Rattle.std.proofs.Common.{append_assoc, append-nil, length-append}
 use Rattle.std.specs.List.{AllByRecursion}
 use Rattle.std.specs.Int.Count.{ones}
 use Rattle.std.proofs.lemmas.List.{map-append}
@@ -8,7 +10,7 @@ use Rattle.bsc_octet.proofs.ParityLemmas.{odd_of_low, odd_octet-low, code_of_odd
 use Rattle.bsc_octet.proofs.SumLemmas.{longitudinal_sum-lt}
 use Rattle.bsc_frame.specs.Texts.{TextUnit, IsUnit}
 use Rattle.bsc_frame.specs.Units.{unit_codes, unit_wire, units_wire, ending}
-use Rattle.bsc_frame.specs.Reading.{low_bits, is_ending_code, is_ending_octet, behind_check, unit_at, units_at}
+use Rattle.bsc_frame.specs.Reading.{low_bits, is_ending_code, is_ending_octet, after_check, unit_at, units_at}
 use Rattle.bsc_frame.specs.TurnedBits.{IsOtherOctet}
 use Rattle.bsc_frame.specs.declared.text.End.{End}
 use Rattle.bsc_frame.proofs.ReadLemmas.{test_false}
@@ -18,9 +20,11 @@ use Rattle.bsc_frame.proofs.UnitLemmas.{unit_at_read, run_unit, length-unit_code
 use Rattle.bsc_frame.proofs.UnitSteps.{units_stop}
 use Rattle.bsc_frame.proofs.PlaceLemmas.{parted}
 use Rattle.bsc_frame.proofs.SumChanges.{one_changed}
+use Rattle.bsc_frame.specs.declared.limits.TheConstants.{MAX_UNIT_CODES}
 
 -- ---- the codes of a unit with one of them changed
 
+-- a code among those of a unit is no SYN and below 128
 run_member : (front : List ℕ) (c : ℕ) (back : List ℕ) → IsRun (front ++ c ∷ back) → IsOther c
 run_member [] c [] r = r.0
 run_member [] c (x ∷ back) r = r.0
@@ -30,36 +34,46 @@ run_member (b ∷ d ∷ front) c back r = run_member (d ∷ front) c back r.2
 not_true : (b : Bool) → b ≡ false → b ≡ true → ⊥
 not_true b e f = let k : false ≡ true = sym e ∙ f in cc
 
-run_changed : (front : List ℕ) (c d : ℕ) (back : List ℕ) → is_ending_code c ≡ false → IsOther d → is_ending_code d ≡ false → IsRun (front ++ c ∷ back) → IsRun (front ++ d ∷ back)
+-- codes of a unit stay such where one that does not end it is changed to another such code
+run_changed : (front : List ℕ) (c d : ℕ) (back : List ℕ) → is_ending_code c ≡ false → IsOther d
+    → is_ending_code d ≡ false → IsRun (front ++ c ∷ back) → IsRun (front ++ d ∷ back)
 run_changed [] c d [] was o e r = absurd (not_true (is_ending_code c) was r.1)
 run_changed [] c d (x ∷ back) was o e r = (o, e, r.2)
 run_changed (b ∷ []) c d back was o e r = (r.0, r.1, run_changed [] c d back was o e r.2)
 run_changed (b ∷ k ∷ front) c d back was o e r = (r.0, r.1, run_changed (k ∷ front) c d back was o e r.2)
 
+-- two codes that are carried by the same octet are the same
 same_odd : (c d : ℕ) → c < 128 → d < 128 → odd_octet c ≡ odd_octet d → c ≡ d
 same_odd c d l k e = sym (odd_octet-low c l) ∙ ap (λ o. o % 128) e ∙ odd_octet-low d k
 
-wrong_check : (codes : List ℕ) (k : ℕ) (rest : List ℕ) → (odd_octet (longitudinal_sum codes) ≡ k → ⊥) → behind_check codes (k ∷ rest) ≡ None
+-- after codes with another check there is no rest
+wrong_check : (codes : List ℕ) (k : ℕ) (rest : List ℕ) → (odd_octet (longitudinal_sum codes) ≡ k → ⊥)
+    → after_check codes (k ∷ rest) ≡ None
 wrong_check codes k rest h = rw (test_false (odd_octet (longitudinal_sum codes)) k h) refl
 
 -- codes whose check is wrong are no unit
-unchecked : (behind : Bool) (codes : List ℕ) (k : ℕ) (rest : List ℕ) → IsRun codes → length codes ≤ 147 → (odd_octet (longitudinal_sum codes) ≡ k → ⊥)
-    → unit_at behind (map odd_octet codes ++ k ∷ rest) ≡ None
+unchecked : (after_us : Bool) (codes : List ℕ) (k : ℕ) (rest : List ℕ) → IsRun codes
+    → length codes ≤ MAX_UNIT_CODES → (odd_octet (longitudinal_sum codes) ≡ k → ⊥)
+    → unit_at after_us (map odd_octet codes ++ k ∷ rest) ≡ None
 unfolding unit_at
-unchecked behind codes k rest r l h = rw (gathered_read 147 codes (map odd_octet codes) (k ∷ rest) (filled_plain codes) r l, wrong_check codes k rest h) refl
+unchecked after_us codes k rest r l h =
+    rw (gathered_read MAX_UNIT_CODES codes (map odd_octet codes) (k ∷ rest) (filled_plain codes) r l, wrong_check codes k rest h) refl
 
-changed_code : (behind : Bool) (front : List ℕ) (c d : ℕ) (back rest : List ℕ) → IsRun (front ++ c ∷ back) → length (front ++ c ∷ back) ≤ 147
+-- a unit with one code changed, and the check of the old codes, is no unit
+changed_code : (after_us : Bool) (front : List ℕ) (c d : ℕ) (back rest : List ℕ) → IsRun (front ++ c ∷ back)
+    → length (front ++ c ∷ back) ≤ MAX_UNIT_CODES
     → d ≢ c → is_ending_code c ≡ false → IsOther d → is_ending_code d ≡ false
-    → unit_at behind (map odd_octet (front ++ d ∷ back) ++ odd_octet (longitudinal_sum (front ++ c ∷ back)) ∷ rest) ≡ None
-changed_code behind front c d back rest r l differs was o e =
+    → unit_at after_us (map odd_octet (front ++ d ∷ back) ++ odd_octet (longitudinal_sum (front ++ c ∷ back)) ∷ rest) ≡ None
+changed_code after_us front c d back rest r l differs was o e =
     let codes : List ℕ = front ++ d ∷ back in
     let sent : List ℕ = front ++ c ∷ back in
-    unchecked behind codes (odd_octet (longitudinal_sum sent)) rest (run_changed front c d back was o e r) (omega (arith, l, length-append front (c ∷ back), length-append front (d ∷ back)))
+    unchecked after_us codes (odd_octet (longitudinal_sum sent)) rest (run_changed front c d back was o e r) (omega (arith, l, length-append front (c ∷ back), length-append front (d ∷ back)))
     (λ same. differs (one_changed front d c back o.code (run_member front c back r).code
     (same_odd (longitudinal_sum codes) (longitudinal_sum sent) (longitudinal_sum-lt codes) (longitudinal_sum-lt sent) same)))
 
 -- ---- octets by the codes that they carry
 
+-- the code that an octet in the line stands for, and the codes before and after it
 record Mapped (codes before : List ℕ) (o : ℕ) (after : List ℕ) : Type 0 where
   front : List ℕ
   code : ℕ
@@ -69,7 +83,9 @@ record Mapped (codes before : List ℕ) (o : ℕ) (after : List ℕ) : Type 0 wh
   octet_is : odd_octet code ≡ o
   after_is : map odd_octet back ≡ after
 
-mapped : (codes before : List ℕ) (o : ℕ) (after : List ℕ) → map odd_octet codes ≡ before ++ o ∷ after → Mapped codes before o after
+-- each octet of a line of codes stands for one of them
+mapped : (codes before : List ℕ) (o : ℕ) (after : List ℕ) → map odd_octet codes ≡ before ++ o ∷ after
+    → Mapped codes before o after
 mapped [] [] o after e = absurd (omega (arith, ap length e))
 mapped [] (x ∷ before) o after e = absurd (omega (arith, ap length e))
 mapped (c ∷ codes) [] o after e =
@@ -90,6 +106,7 @@ mapped (c ∷ codes) (x ∷ before) o after e =
       after_is = m.after_is;
     }
 
+-- SYN is carried as it is
 syn_octet : odd_octet 0x16 ≡ 0x16
 unfolding odd_octet ones
 syn_octet = refl
@@ -101,6 +118,7 @@ record NewCode (new : ℕ) : Type 0 where
   other : IsOther code
   no_end : is_ending_code code ≡ false
 
+-- the code of the octet that another one is changed to
 new_code : (old new : ℕ) → IsOtherOctet old new → NewCode new
 new_code old new h =
     let carries : odd_octet (new % 128) ≡ new = odd_of_low new h.octet h.odd in
@@ -111,27 +129,35 @@ new_code old new h =
       no_end = ending_same new (code_of_odd new h.octet h.odd) ∙ h.no_end;
     }
 
-old_no_end : (c old : ℕ) → c < 128 → odd_octet c ≡ old → is_ending_octet old ≡ false → is_ending_code c ≡ false
+-- a code whose octet carries no ending character is no ending character
+old_no_end : (c old : ℕ) → c < 128 → odd_octet c ≡ old → is_ending_octet old ≡ false
+    → is_ending_code c ≡ false
 old_no_end c old l e h =
-    let carried : code_of (odd_octet c) ≡ Some (low_bits (odd_octet c)) = code_of-odd_octet c l ∙ ap Some (sym (odd_octet-low c l)) in
+    let carried : code_of (odd_octet c) ≡ Some (low_bits (odd_octet c)) =
+    code_of-odd_octet c l ∙ ap Some (sym (odd_octet-low c l)) in
     ap is_ending_code (sym (odd_octet-low c l)) ∙ ending_same (odd_octet c) carried ∙ ap is_ending_octet e ∙ h
 
 -- ---- a unit
 
-fits : (u : TextUnit) (e : ℕ) → IsUnit u → length (unit_codes u e) ≤ 147
+-- a unit within its limits has few enough codes to be read
+fits : (u : TextUnit) (e : ℕ) → IsUnit u → length (unit_codes u e) ≤ MAX_UNIT_CODES
 fits u e h = omega (arith, h.most, length-unit_codes u e)
 
-in_codes : (behind : Bool) (u : TextUnit) (e : ℕ) (before : List ℕ) (old new : ℕ) (after rest : List ℕ) → IsUnit u → is_ending_code e ≡ true → IsOtherOctet old new
+-- a change in the octets of the codes of a unit leaves no unit
+in_codes : (after_us : Bool) (u : TextUnit) (e : ℕ) (before : List ℕ) (old new : ℕ) (after rest : List ℕ)
+    → IsUnit u → is_ending_code e ≡ true → IsOtherOctet old new
     → map odd_octet (unit_codes u e) ≡ before ++ old ∷ after
-    → unit_at behind (before ++ new ∷ (after ++ odd_octet (longitudinal_sum (unit_codes u e)) ∷ rest)) ≡ None
-in_codes behind u e before old new after rest h k o w =
+    → unit_at after_us (before ++ new ∷ (after ++ odd_octet (longitudinal_sum (unit_codes u e)) ∷ rest)) ≡ None
+in_codes after_us u e before old new after rest h k o w =
     let m = mapped (unit_codes u e) before old after w in
     let n = new_code old new o in
     let run : IsRun (m.front ++ m.code ∷ m.back) = subst IsRun m.whole (run_unit u e h k) in
-    let short : length (m.front ++ m.code ∷ m.back) ≤ 147 = subst (λ z. length z ≤ 147) m.whole (fits u e h) in
+    let short : length (m.front ++ m.code ∷ m.back) ≤ MAX_UNIT_CODES =
+    subst (λ z. length z ≤ MAX_UNIT_CODES) m.whole (fits u e h) in
     let differs : n.code ≢ m.code = λ same. o.differs (sym n.carries ∙ ap odd_octet same ∙ m.octet_is) in
-    let was : is_ending_code m.code ≡ false = old_no_end m.code old (run_member m.front m.code m.back run).code m.octet_is o.was_no_end in
-    let none = changed_code behind m.front m.code n.code m.back rest run short differs was n.other n.no_end in
+    let was : is_ending_code m.code ≡ false =
+    old_no_end m.code old (run_member m.front m.code m.back run).code m.octet_is o.was_no_end in
+    let none = changed_code after_us m.front m.code n.code m.back rest run short differs was n.other n.no_end in
     let octets : map odd_octet (m.front ++ n.code ∷ m.back) ≡ before ++ new ∷ after =
     map-append odd_octet m.front (n.code ∷ m.back) ∙ ap (λ z. z ++ odd_octet n.code ∷ map odd_octet m.back) m.before_is
     ∙ ap (λ z. before ++ z ∷ map odd_octet m.back) n.carries ∙ ap (λ z. before ++ new ∷ z) m.after_is in
@@ -140,40 +166,52 @@ in_codes behind u e before old new after rest h k o w =
     ap (λ z. z ++ odd_octet (longitudinal_sum (m.front ++ m.code ∷ m.back)) ∷ rest) octets
     ∙ ap (λ z. (before ++ new ∷ after) ++ odd_octet (longitudinal_sum z) ∷ rest) (sym m.whole)
     ∙ append_assoc before (new ∷ after) (odd_octet (longitudinal_sum (unit_codes u e)) ∷ rest) in
-    ap (unit_at behind) (sym all) ∙ none
+    ap (unit_at after_us) (sym all) ∙ none
 
-in_check : (behind : Bool) (u : TextUnit) (e : ℕ) (new : ℕ) (rest : List ℕ) → IsUnit u → is_ending_code e ≡ true → new ≢ odd_octet (longitudinal_sum (unit_codes u e))
-    → unit_at behind (map odd_octet (unit_codes u e) ++ new ∷ rest) ≡ None
-in_check behind u e new rest h k differs = unchecked behind (unit_codes u e) new rest (run_unit u e h k) (fits u e h) (λ same. differs (sym same))
+-- nor does a change of its check
+in_check : (after_us : Bool) (u : TextUnit) (e : ℕ) (new : ℕ) (rest : List ℕ) → IsUnit u
+    → is_ending_code e ≡ true → new ≢ odd_octet (longitudinal_sum (unit_codes u e))
+    → unit_at after_us (map odd_octet (unit_codes u e) ++ new ∷ rest) ≡ None
+in_check after_us u e new rest h k differs =
+    unchecked after_us (unit_codes u e) new rest (run_unit u e h k) (fits u e h) (λ same. differs (sym same))
 
-last_one : (x : ℕ) (more : List ℕ) (o : ℕ) (after : List ℕ) → x ∷ [] ≡ more ++ o ∷ after → (more ≡ []) × (x ≡ o) × (after ≡ [])
+-- a list of one element has nothing before or after it
+last_one : (x : ℕ) (more : List ℕ) (o : ℕ) (after : List ℕ) → x ∷ [] ≡ more ++ o ∷ after
+    → (more ≡ []) × (x ≡ o) × (after ≡ [])
 last_one x [] o after e = (refl, cc, cc)
 last_one x (y ∷ more) o after e = absurd (omega (arith, ap length e, length-append more (o ∷ after)))
 
-in_unit : (behind : Bool) (u : TextUnit) (e : ℕ) (before : List ℕ) (old new : ℕ) (after rest : List ℕ) → IsUnit u → is_ending_code e ≡ true → IsOtherOctet old new
-    → unit_wire u e ≡ before ++ old ∷ after → unit_at behind (before ++ new ∷ (after ++ rest)) ≡ None
-in_unit behind u e before old new after rest h k o w =
+-- a change anywhere in a unit leaves no unit
+in_unit : (after_us : Bool) (u : TextUnit) (e : ℕ) (before : List ℕ) (old new : ℕ) (after rest : List ℕ)
+    → IsUnit u → is_ending_code e ≡ true → IsOtherOctet old new
+    → unit_wire u e ≡ before ++ old ∷ after → unit_at after_us (before ++ new ∷ (after ++ rest)) ≡ None
+in_unit after_us u e before old new after rest h k o w =
     elim (parted (map odd_octet (unit_codes u e)) (odd_octet (longitudinal_sum (unit_codes u e)) ∷ []) before old after w) [
       | inl p ↦
           let check : List ℕ = odd_octet (longitudinal_sum (unit_codes u e)) ∷ [] in
-          let tail : after ++ rest ≡ p.more ++ odd_octet (longitudinal_sum (unit_codes u e)) ∷ rest = ap (λ z. z ++ rest) p.rest ∙ append_assoc p.more check rest in
-          ap (λ z. unit_at behind (before ++ new ∷ z)) tail ∙ in_codes behind u e before old new p.more rest h k o p.first
+          let tail : after ++ rest ≡ p.more ++ odd_octet (longitudinal_sum (unit_codes u e)) ∷ rest =
+          ap (λ z. z ++ rest) p.rest ∙ append_assoc p.more check rest in
+          ap (λ z. unit_at after_us (before ++ new ∷ z)) tail ∙ in_codes after_us u e before old new p.more rest h k o p.first
       | inr p ↦
           let l = last_one (odd_octet (longitudinal_sum (unit_codes u e))) p.more old after p.rest in
-          let front : before ≡ map odd_octet (unit_codes u e) = p.first ∙ ap (λ z. map odd_octet (unit_codes u e) ++ z) l.0 ∙ append-nil (map odd_octet (unit_codes u e)) in
-          ap (λ z. unit_at behind (z ++ new ∷ (after ++ rest))) front ∙ in_check behind u e new (after ++ rest) h k (λ same. o.differs (same ∙ l.1))
+          let front : before ≡ map odd_octet (unit_codes u e) =
+          p.first ∙ ap (λ z. map odd_octet (unit_codes u e) ++ z) l.0 ∙ append-nil (map odd_octet (unit_codes u e)) in
+          ap (λ z. unit_at after_us (z ++ new ∷ (after ++ rest))) front ∙ in_check after_us u e new (after ++ rest) h k (λ same. o.differs (same ∙ l.1))
     ]
 
 -- ---- all units
 
-later_unit : (n : ℕ) (behind : Bool) (u : TextUnit) (us : List TextUnit) (end : End) (before : List ℕ) (old new : ℕ) (after : List ℕ) → IsUnit u
+-- a change in a later unit leaves no text, once the first unit is read
+later_unit : (n : ℕ) (after_us : Bool) (u : TextUnit) (us : List TextUnit) (end : End) (before : List ℕ) (old new : ℕ) (after : List ℕ)
+    → IsUnit u
     → units_wire us end ≡ before ++ old ∷ after → units_at n true (before ++ new ∷ after) ≡ None
-    → units_at (suc n) behind (unit_wire u (ending us end) ++ (before ++ new ∷ after)) ≡ None
+    → units_at (suc n) after_us (unit_wire u (ending us end) ++ (before ++ new ∷ after)) ≡ None
 unfolding units_at
-later_unit n behind u [] end before old new after h w none = absurd (omega (arith, ap length w, length-append before (old ∷ after)))
-later_unit n behind u (v ∷ us) end before old new after h w none =
-    let first : unit_at behind (unit_wire u 0x1f ++ (before ++ new ∷ after)) ≡ Some (u, 0x1f, before ++ new ∷ after) =
-    unit_at_read behind (unit_wire u 0x1f ++ (before ++ new ∷ after)) u 0x1f (before ++ new ∷ after) (record {
+later_unit n after_us u [] end before old new after h w none =
+    absurd (omega (arith, ap length w, length-append before (old ∷ after)))
+later_unit n after_us u (v ∷ us) end before old new after h w none =
+    let first : unit_at after_us (unit_wire u 0x1f ++ (before ++ new ∷ after)) ≡ Some (u, 0x1f, before ++ new ∷ after) =
+    unit_at_read after_us (unit_wire u 0x1f ++ (before ++ new ∷ after)) u 0x1f (before ++ new ∷ after) (record {
       start = [];
       front = map odd_octet (unit_codes u 0x1f);
       is_start = inl refl;
@@ -184,16 +222,21 @@ later_unit n behind u (v ∷ us) end before old new after h w none =
     }) in
     rw (first, none) refl
 
-pub changed_units : (n : ℕ) (behind : Bool) (us : List TextUnit) (end : End) (before : List ℕ) (old new : ℕ) (after : List ℕ) → AllByRecursion IsUnit us → IsOtherOctet old new
-    → units_wire us end ≡ before ++ old ∷ after → units_at n behind (before ++ new ∷ after) ≡ None
+-- a change in any unit leaves no text
+pub changed_units : (n : ℕ) (after_us : Bool) (us : List TextUnit) (end : End) (before : List ℕ) (old new : ℕ) (after : List ℕ)
+    → AllByRecursion IsUnit us → IsOtherOctet old new
+    → units_wire us end ≡ before ++ old ∷ after → units_at n after_us (before ++ new ∷ after) ≡ None
 unfolding units_at
-changed_units zero behind us end before old new after h o w = refl
-changed_units (suc n) behind [] end before old new after h o w = absurd (omega (arith, ap length w, length-append before (old ∷ after)))
-changed_units (suc n) behind (u ∷ us) end before old new after h o w = elim (parted (unit_wire u (ending us end)) (units_wire us end) before old after w) [
-  | inl p ↦
-      units_stop (suc n) behind (before ++ new ∷ after)
-      (ap (λ z. unit_at behind (before ++ new ∷ z)) p.rest ∙ in_unit behind u (ending us end) before old new p.more (units_wire us end) h.0 (ending_is us end) o p.first)
-  | inr p ↦
-      let front : before ++ new ∷ after ≡ unit_wire u (ending us end) ++ (p.more ++ new ∷ after) = ap (λ z. z ++ new ∷ after) p.first ∙ append_assoc (unit_wire u (ending us end)) p.more (new ∷ after) in
-      ap (units_at (suc n) behind) front ∙ later_unit n behind u us end p.more old new after h.0 p.rest (changed_units n true us end p.more old new after h.1 o p.rest)
-]
+changed_units zero after_us us end before old new after h o w = refl
+changed_units (suc n) after_us [] end before old new after h o w =
+    absurd (omega (arith, ap length w, length-append before (old ∷ after)))
+changed_units (suc n) after_us (u ∷ us) end before old new after h o w =
+    elim (parted (unit_wire u (ending us end)) (units_wire us end) before old after w) [
+      | inl p ↦
+          units_stop (suc n) after_us (before ++ new ∷ after)
+          (ap (λ z. unit_at after_us (before ++ new ∷ z)) p.rest ∙ in_unit after_us u (ending us end) before old new p.more (units_wire us end) h.0 (ending_is us end) o p.first)
+      | inr p ↦
+          let front : before ++ new ∷ after ≡ unit_wire u (ending us end) ++ (p.more ++ new ∷ after) =
+          ap (λ z. z ++ new ∷ after) p.first ∙ append_assoc (unit_wire u (ending us end)) p.more (new ∷ after) in
+          ap (units_at (suc n) after_us) front ∙ later_unit n after_us u us end p.more old new after h.0 p.rest (changed_units n true us end p.more old new after h.1 o p.rest)
+    ]

@@ -1,5 +1,8 @@
 -- Bodies that are no text: what is read is such a body, and such a body is read.
-use Rattle.std.proofs.Common.{◌≡◌, ◌⊎◌, inl, inr, ℕ, suc, ◌-◌, ◌<◌, ◌≤◌, ◌==◌, Bool, true, false, not, cond, refl, sym, ap, subst, ◌∙◌, arith, List, [], ◌∷◌, ◌++◌, length, drop, map, Option, Some, None, Result, Ok, Err, IsTrue, option_and_then, nat_lt, nat_le, ◌&&◌, position, append_assoc, length-append}
+use Rattle.std.proofs.Common.{◌≡◌, ◌⊎◌, inl, inr, ℕ, suc, ◌-◌, ◌<◌, ◌≤◌, ◌==◌, Bool, true, false, not, cond}
+use Rattle.std.proofs.Common.{refl, sym, ap, subst, ◌∙◌, arith, List, [], ◌∷◌, ◌++◌, length, drop, map}
+use Rattle.std.proofs.Common.{Option, Some, None, Result, Ok, Err, IsTrue, option_and_then, nat_lt, nat_le}
+use Rattle.std.proofs.Common.{◌&&◌, position, append_assoc, length-append}
 use Rattle.std.specs.List.{AllByRecursion, position_or_len}
 use Rattle.std.specs.Str.{bytes_eq}
 use Rattle.std.proofs.lemmas.Bool.{eqb-true, eqb-false}
@@ -13,13 +16,16 @@ use Rattle.bsc_frame.specs.Spells.{AreAll, IsCall, IsBody}
 use Rattle.bsc_frame.specs.Reading.{skip, is_octet, begins, called, at_end, with_code, call, call_to, control}
 use Rattle.bsc_frame.specs.declared.address.AddressError.{AddressError}
 use Rattle.bsc_frame.specs.declared.message.Message.{Message}
-use Rattle.bsc_frame.specs.declared.message.Message.TheVariants.{Eot, Call, Enq, Ack0, Ack1, Nak, Wack, Rvi, Text}
+use Rattle.bsc_frame.specs.declared.message.Message.TheVariants.{Eot, Call, Enq, Ack0, Ack1, Nak, Wack, Rvi}
+use Rattle.bsc_frame.specs.declared.message.Message.TheVariants.{Text}
 use Rattle.bsc_frame.proofs.AddressLemmas.{is_address}
 use Rattle.bsc_frame.proofs.ReadLemmas.{test_false}
 use Rattle.bsc_frame.proofs.FrontLemmas.{parts, skip-pass, skip-stays, pass_are, are_pass}
+use Rattle.bsc_frame.specs.declared.limits.TheConstants.{MAX_ADDRESS}
 
 -- which way a test went
-pub chosen : {A : Type 0} (b : Bool) (x y z : A) → cond b x y ≡ z → ((b ≡ true) × (x ≡ z)) ⊎ ((b ≡ false) × (y ≡ z))
+pub chosen : {A : Type 0} (b : Bool) (x y z : A) → cond b x y ≡ z
+    → ((b ≡ true) × (x ≡ z)) ⊎ ((b ≡ false) × (y ≡ z))
 chosen true x y z h = inl (refl, h)
 chosen false x y z h = inr (refl, h)
 
@@ -35,6 +41,7 @@ plain_from : (c : ℕ) (b : Bool) → nat_le 33 c ≡ b → (b && nat_le c 126) 
 plain_from c true e h = record { low = grind (arith, nat_tests); high = grind (arith, nat_tests) }
 plain_from c false e h = cc
 
+-- a code of an address is plain
 pub plain : (c : ℕ) → IsTrue (is_address_code c) → IsPlain c
 plain c h = plain_from c (nat_le 33 c) refl h
 
@@ -45,11 +52,13 @@ plain_odd c o p h = test_false (odd_octet c) o (λ e. elim (odd_cases c) [
   | inr k ↦ elim h [ inl u ↦ absurd (omega arith) | inr v ↦ elim v [ inl u ↦ absurd (omega arith) | inr u ↦ absurd (omega arith) ] ]
 ])
 
+-- where there is room for one more, room is not 0
 more_room : (n room : ℕ) → suc n ≤ room → room ≡ 0 → ⊥
 more_room n room h e = omega arith
 
 -- what is sent for an address and ENQ is read as its codes
-pub called_wire : (room : ℕ) (a : List ℕ) → length a ≤ room → AllByRecursion (λ c. IsTrue (is_address_code c)) a → called room (map odd_octet a ++ 0x85 ∷ []) ≡ Some a
+pub called_wire : (room : ℕ) (a : List ℕ) → length a ≤ room
+    → AllByRecursion (λ c. IsTrue (is_address_code c)) a → called room (map odd_octet a ++ 0x85 ∷ []) ≡ Some a
 unfolding called
 called_wire room [] h p = refl
 called_wire room (c ∷ a) h p =
@@ -65,7 +74,9 @@ ended : (s codes : List ℕ) → at_end s ≡ Some codes → (s ≡ []) × (code
 ended [] codes e = (refl, cc)
 ended (x ∷ s) codes e = cc
 
-coded : (x : ℕ) (s codes : List ℕ) (room : ℕ) (o : Option ℕ) (r : Option (List ℕ)) → code_of x ≡ o → called room s ≡ r
+-- one octet more: the codes that are read up to an ENQ are those that the octets carry
+coded : (x : ℕ) (s codes : List ℕ) (room : ℕ) (o : Option ℕ) (r : Option (List ℕ)) → code_of x ≡ o
+    → called room s ≡ r
     → ((cs : List ℕ) → called room s ≡ Some cs → s ≡ map odd_octet cs ++ 0x85 ∷ [])
     → with_code o r ≡ Some codes → x ∷ s ≡ map odd_octet codes ++ 0x85 ∷ []
 coded x s codes room None r k q f e = cc
@@ -91,7 +102,8 @@ called_step room x s codes f e = elim (chosen (x == 0x85) _ _ _ e) [
 ]
 
 -- octets that are read as codes are these and ENQ
-pub called_reads : (room : ℕ) (s : List ℕ) (codes : List ℕ) → called room s ≡ Some codes → s ≡ map odd_octet codes ++ 0x85 ∷ []
+pub called_reads : (room : ℕ) (s : List ℕ) (codes : List ℕ) → called room s ≡ Some codes
+    → s ≡ map odd_octet codes ++ 0x85 ∷ []
 unfolding called
 called_reads room [] codes e = cc
 called_reads room (x ∷ s) codes e = called_step room x s codes (called_reads (room - 1) s) e
@@ -107,7 +119,7 @@ scanned (Some k) codes a e = cc
 pub address_reads : (codes a : List ℕ) → read_address codes ≡ Ok a → (codes ≡ a) × IsAddress a
 address_reads codes a e = elim (chosen (length codes == 0) _ _ _ e) [
   | inl h ↦ cc
-  | inr h ↦ elim (chosen (nat_lt 7 (length codes)) _ _ _ h.1) [
+  | inr h ↦ elim (chosen (nat_lt MAX_ADDRESS (length codes)) _ _ _ h.1) [
     | inl q ↦ cc
     | inr q ↦
         let k = scanned (position (λ c. not (is_address_code c)) codes) codes a q.1 in
@@ -115,16 +127,21 @@ address_reads codes a e = elim (chosen (length codes == 0) _ _ _ e) [
   ]
 ]
 
-none_wrong : (a : List ℕ) → AllByRecursion (λ c. IsTrue (is_address_code c)) a → position_or_len (λ c. not (is_address_code c)) a ≡ length a
+-- in an address a search for a wrong code passes all of them
+none_wrong : (a : List ℕ) → AllByRecursion (λ c. IsTrue (is_address_code c)) a
+    → position_or_len (λ c. not (is_address_code c)) a ≡ length a
 none_wrong [] h = refl
 none_wrong (c ∷ a) h = rw (h.0, none_wrong a h.1) (omega arith)
 
+-- a search that passes the whole list finds nothing
 not_found : (k n : ℕ) → k ≡ n → cond (nat_lt k n) (Some k) None ≡ None
 not_found k n e = let t : nat_lt k n ≡ false = grind (arith, nat_tests) in rw t refl
 
-not_long : (n : ℕ) → n ≤ 7 → nat_lt 7 n ≡ false
+-- at most as many codes as an address has are not too many
+not_long : (n : ℕ) → n ≤ MAX_ADDRESS → nat_lt MAX_ADDRESS n ≡ false
 not_long n h = grind (arith, nat_tests)
 
+-- a number above 0 is not 0
 not_empty : (n : ℕ) → 0 < n → n ≡ 0 → ⊥
 not_empty n h e = omega arith
 
@@ -136,25 +153,30 @@ address_read a h =
 
 -- ---- a call after its EOT
 
-called_to : (o : Option (List ℕ)) (m : Message) → option_and_then (λ codes. call_to (read_address codes)) o ≡ Some m
+-- a call that is read has codes that are read as an address
+called_to : (o : Option (List ℕ)) (m : Message)
+    → option_and_then (λ codes. call_to (read_address codes)) o ≡ Some m
     → (codes : List ℕ) × (o ≡ Some codes) × (call_to (read_address codes) ≡ Some m)
 called_to None m e = cc
 called_to (Some codes) m e = (codes, refl, e)
 
-to_call : (r : Result (List ℕ) AddressError) (m : Message) → call_to r ≡ Some m → (a : List ℕ) × (r ≡ Ok a) × (m ≡ Call a)
+-- what is read as a call is the call of an address
+to_call : (r : Result (List ℕ) AddressError) (m : Message) → call_to r ≡ Some m
+    → (a : List ℕ) × (r ≡ Ok a) × (m ≡ Call a)
 to_call (Ok a) m e = (a, refl, cc)
 to_call (Err x) m e = cc
 
 -- octets after EOT that are read as a call are one
-pub call_reads : (rest : List ℕ) (m : Message) → call rest ≡ Some m → (a : List ℕ) × (m ≡ Call a) × IsCall a (0x04 ∷ rest)
+pub call_reads : (rest : List ℕ) (m : Message) → call rest ≡ Some m
+    → (a : List ℕ) × (m ≡ Call a) × IsCall a (0x04 ∷ rest)
 unfolding call
 call_reads rest m e =
     let p = parts (is_octet 0xff) rest in
     let q = parts (is_octet 0x16) (skip (is_octet 0xff) rest) in
-    let u = called_to (called 7 (skip (is_octet 0x16) (skip (is_octet 0xff) rest))) m e in
+    let u = called_to (called MAX_ADDRESS (skip (is_octet 0x16) (skip (is_octet 0xff) rest))) m e in
     let v = to_call (read_address u.0) m u.2 in
     let w = address_reads u.0 v.0 v.1 in
-    let body : skip (is_octet 0x16) (skip (is_octet 0xff) rest) ≡ map odd_octet v.0 ++ 0x85 ∷ [] = called_reads 7 _ u.0 u.1 ∙ ap (λ x. map odd_octet x ++ 0x85 ∷ []) w.0 in (
+    let body : skip (is_octet 0x16) (skip (is_octet 0xff) rest) ≡ map odd_octet v.0 ++ 0x85 ∷ [] = called_reads MAX_ADDRESS _ u.0 u.1 ∙ ap (λ x. map odd_octet x ++ 0x85 ∷ []) w.0 in (
       v.0,
       v.2,
       record {
@@ -169,12 +191,14 @@ call_reads rest m e =
     )
 
 -- what stands after the fills begins with neither
-begins_address : (o : ℕ) (a : List ℕ) → (o ≡ 0x16) ⊎ (o ≡ 0xff) → IsAddress a → begins (is_octet o) (map odd_octet a ++ 0x85 ∷ []) ≡ false
+begins_address : (o : ℕ) (a : List ℕ) → (o ≡ 0x16) ⊎ (o ≡ 0xff) → IsAddress a
+    → begins (is_octet o) (map odd_octet a ++ 0x85 ∷ []) ≡ false
 begins_address o [] h p = absurd (omega (arith, p.some))
 begins_address o (c ∷ a) h p = plain_odd c o (plain c p.each.0) (inr h)
 
 -- SYN before an address is no PAD
-begins_syns : (syns rest : List ℕ) → AreAll 0x16 syns → begins (is_octet 0xff) rest ≡ false → begins (is_octet 0xff) (syns ++ rest) ≡ false
+begins_syns : (syns rest : List ℕ) → AreAll 0x16 syns → begins (is_octet 0xff) rest ≡ false
+    → begins (is_octet 0xff) (syns ++ rest) ≡ false
 begins_syns [] rest h e = e
 begins_syns (x ∷ syns) rest h e = rw h.0 refl
 
@@ -183,25 +207,29 @@ pub call_read : (rest a : List ℕ) → IsCall a (0x04 ∷ rest) → call rest �
 unfolding call
 call_read rest a c =
     let tail : List ℕ = map odd_octet a ++ 0x85 ∷ [] in
-    let grouped : rest ≡ c.pads ++ (c.syns ++ tail) = ap (drop 1) c.whole ∙ append_assoc (c.pads ++ c.syns) (map odd_octet a) (0x85 ∷ []) ∙ append_assoc c.pads c.syns tail in
+    let grouped : rest ≡ c.pads ++ (c.syns ++ tail) =
+    ap (drop 1) c.whole ∙ append_assoc (c.pads ++ c.syns) (map odd_octet a) (0x85 ∷ []) ∙ append_assoc c.pads c.syns tail in
     let first : skip (is_octet 0xff) rest ≡ c.syns ++ tail =
     ap (skip (is_octet 0xff)) grouped ∙ skip-pass (is_octet 0xff) c.pads (c.syns ++ tail) (are_pass 0xff c.pads c.are_pads)
     ∙ skip-stays (is_octet 0xff) (c.syns ++ tail) (begins_syns c.syns tail c.are_syns (begins_address 0xff a (inr refl) c.address)) in
     let second : skip (is_octet 0x16) (c.syns ++ tail) ≡ tail =
     skip-pass (is_octet 0x16) c.syns tail (are_pass 0x16 c.syns c.are_syns)
     ∙ skip-stays (is_octet 0x16) tail (begins_address 0x16 a (inl refl) c.address) in
-    rw (first, second, called_wire 7 a c.address.most c.address.each, address_read a c.address) refl
+    rw (first, second, called_wire MAX_ADDRESS a c.address.most c.address.each, address_read a c.address) refl
 
 -- ---- all
 
+-- lists that compare as equal are the same
 pub equal : (x y : List ℕ) → bytes_eq x y ≡ true → x ≡ y
 equal x y h = (bytes_eq-Decides x y).0 h
 
+-- what two options that are the same hold is the same
 pub some_is : {A : Type 0} (x y : A) → Some x ≡ Some y → x ≡ y
 some_is x y e = cc
 
 -- a body that begins with EOT and is read as a message is that of a call
-by_eot : (body : List ℕ) (m : Message) → begins (is_octet 0x04) body ≡ true → call (drop 1 body) ≡ Some m → IsBody m body
+by_eot : (body : List ℕ) (m : Message) → begins (is_octet 0x04) body ≡ true → call (drop 1 body) ≡ Some m
+    → IsBody m body
 by_eot [] m h e = cc
 by_eot (x ∷ rest) m h e =
     let k = call_reads rest m e in
@@ -239,7 +267,8 @@ control_reads body m e = elim (chosen (bytes_eq body (0x04 ∷ [])) _ _ _ e) [
 -- a call is longer than EOT
 call_control : (a rest : List ℕ) → IsCall a (0x04 ∷ rest) → control (0x04 ∷ rest) ≡ Some (Call a)
 unfolding control
-call_control a [] c = absurd (omega (arith, ap length c.whole, length-append (0x04 ∷ c.pads ++ c.syns ++ map odd_octet a) (0x85 ∷ [])))
+call_control a [] c =
+    absurd (omega (arith, ap length c.whole, length-append (0x04 ∷ c.pads ++ c.syns ++ map odd_octet a) (0x85 ∷ [])))
 call_control a (x ∷ xs) c = call_read (x ∷ xs) a c
 
 -- the body of a call is read as it

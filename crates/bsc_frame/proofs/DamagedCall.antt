@@ -1,5 +1,6 @@
 -- A call of which one octet after its EOT has the other parity is no message, unless that octet is fill.
-use Rattle.std.proofs.Common.{◌≡◌, ◌⊎◌, inl, inr, ℕ, suc, refl, sym, ap, subst, ◌∙◌, arith, List, [], ◌∷◌, ◌++◌, length, length-append, append_assoc, append-nil, map, count_ones, IsTrue}
+use Rattle.std.proofs.Common.{◌≡◌, ◌⊎◌, inl, inr, ℕ, suc, refl, sym, ap, subst, ◌∙◌, arith, List, [], ◌∷◌}
+use Rattle.std.proofs.Common.{◌++◌, length, length-append, append_assoc, append-nil, map, count_ones, IsTrue}
 use Rattle.std.specs.List.{AllByRecursion}
 use Rattle.std.specs.Int.Count.{ones-ones}
 use Rattle.std.proofs.lemmas.Bool.{eqb-false}
@@ -8,14 +9,16 @@ use Rattle.bsc_frame.specs.Addresses.{IsAddress, is_address_code}
 use Rattle.bsc_frame.specs.Spells.{IsBody, AreAll}
 use Rattle.bsc_frame.specs.TurnedBits.{HaveOtherParity, IsCallFill}
 use Rattle.bsc_frame.specs.declared.message.Message.{Message}
-use Rattle.bsc_frame.specs.declared.message.Message.TheVariants.{Eot, Call, Enq, Ack0, Ack1, Nak, Wack, Rvi, Text}
+use Rattle.bsc_frame.specs.declared.message.Message.TheVariants.{Eot, Call, Enq, Ack0, Ack1, Nak, Wack, Rvi}
+use Rattle.bsc_frame.specs.declared.message.Message.TheVariants.{Text}
 use Rattle.bsc_frame.proofs.ControlLemmas.{plain, plain_odd}
 use Rattle.bsc_frame.proofs.OddLemmas.{syn_odd}
 use Rattle.bsc_frame.proofs.BodyOddLemmas.{called_odd, address_odd, enq_odd}
 use Rattle.bsc_frame.proofs.PlaceLemmas.{parted, all_here, all_after, all_both}
-use Rattle.bsc_frame.proofs.InsideLemmas.{Behind}
+use Rattle.bsc_frame.proofs.InsideLemmas.{AfterFirst}
 use Rattle.bsc_frame.proofs.DamagedText.{heads, tails, not_both_odd, not_same}
 
+-- PAD has no odd parity
 pub pad_even : IsOdd 0xff → ⊥
 pad_even h = let eight : count_ones 0xff ≡ 8 = ones-ones 8 in omega (arith, eight, h)
 
@@ -36,7 +39,8 @@ record Called (rest : List ℕ) : Type 0 where
   is_address : IsAddress address
   are_trail : AreAll 0xff trail
 
-called_or_end : (n : Message) (rest : List ℕ) → Behind 0x04 rest n → Called rest ⊎ AreAll 0xff rest
+-- after EOT a message goes on as a call, or there is only PAD
+called_or_end : (n : Message) (rest : List ℕ) → AfterFirst 0x04 rest n → Called rest ⊎ AreAll 0xff rest
 called_or_end n rest b = by_message n b.is_body
   where
     ended : b.body ≡ [] → AreAll 0xff rest
@@ -66,15 +70,18 @@ called_or_end n rest b = by_message n b.is_body
     by_message (Text t) h = absurd (omega (arith, heads h.whole))
 
 -- the first octet after the PAD is odd
-first_odd : (syns a trail : List ℕ) (o : ℕ) (rest : List ℕ) → AreAll 0x16 syns → IsAddress a → o ∷ rest ≡ (syns ++ map odd_octet a ++ 0x85 ∷ []) ++ trail → IsOdd o
+first_odd : (syns a trail : List ℕ) (o : ℕ) (rest : List ℕ) → AreAll 0x16 syns → IsAddress a
+    → o ∷ rest ≡ (syns ++ map odd_octet a ++ 0x85 ∷ []) ++ trail → IsOdd o
 first_odd (s ∷ syns) a trail o rest k h e = rw (heads e, k.0) syn_odd
 first_odd [] [] trail o rest k h e = rw (heads e) enq_odd
 first_odd [] (c ∷ a) trail o rest k h e = rw (heads e) (address_odd (c ∷ a) h.each).0
 
+-- there is no ENQ among the octets of an address
 no_enq : (a : List ℕ) → AllByRecursion (λ c. IsTrue (is_address_code c)) a → NoEnq (map odd_octet a)
 no_enq [] h = tt
 no_enq (c ∷ a) h = (eqb-false (odd_octet c) 0x85 (plain_odd c 0x85 (plain c h.0) (inl refl)), no_enq a h.1)
 
+-- nor among SYN
 syns_no_enq : (syns : List ℕ) → AreAll 0x16 syns → NoEnq syns
 syns_no_enq [] h = tt
 syns_no_enq (s ∷ syns) h = ((λ e. absurd (omega (arith, h.0, e))), syns_no_enq syns h.1)
@@ -88,19 +95,25 @@ one_enq xs front more o h e = elim (parted xs (0x85 ∷ []) front 0x85 (o ∷ mo
 
 -- ---- in place of the PAD after EOT
 
-third_syn : (syns a trail : List ℕ) (o : ℕ) (rest : List ℕ) → AreAll 0x16 syns → IsAddress a → o ∷ 0x16 ∷ rest ≡ (syns ++ map odd_octet a ++ 0x85 ∷ []) ++ trail → o ≡ 0x16
+-- the octet before a SYN, at the front of what follows the PAD of a call, is SYN
+third_syn : (syns a trail : List ℕ) (o : ℕ) (rest : List ℕ) → AreAll 0x16 syns → IsAddress a
+    → o ∷ 0x16 ∷ rest ≡ (syns ++ map odd_octet a ++ 0x85 ∷ []) ++ trail → o ≡ 0x16
 third_syn (s ∷ syns) a trail o rest k h e = heads e ∙ k.0
 third_syn [] [] trail o rest k h e = absurd (omega (arith, h.some))
 third_syn [] (c ∷ []) trail o rest k h e = absurd (omega (arith, heads (tails e)))
 third_syn [] (c ∷ d ∷ a) trail o rest k h e =
     absurd (eqb-false (odd_octet d) 0x16 (plain_odd d 0x16 (plain d h.each.1.0) (inr (inl refl))) (sym (heads (tails e))))
 
-third_pads : (pads syns a trail : List ℕ) (o : ℕ) (rest : List ℕ) → AreAll 0xff pads → AreAll 0x16 syns → IsAddress a → HaveOtherParity o 0xff
+-- the octet after EOT, of other parity than PAD, is SYN where a SYN follows and it is a call
+third_pads : (pads syns a trail : List ℕ) (o : ℕ) (rest : List ℕ) → AreAll 0xff pads → AreAll 0x16 syns
+    → IsAddress a → HaveOtherParity o 0xff
     → o ∷ 0x16 ∷ rest ≡ pads ++ ((syns ++ map odd_octet a ++ 0x85 ∷ []) ++ trail) → o ≡ 0x16
 third_pads [] syns a trail o rest p k h other e = third_syn syns a trail o rest k h e
 third_pads (x ∷ pads) syns a trail o rest p k h other e = absurd (not_same o 0xff other (heads e ∙ p.0))
 
-third : (new : ℕ) (rest : List ℕ) (n : Message) → HaveOtherParity new 0xff → Behind 0x04 (new ∷ 0x16 ∷ rest) n → new ≡ 0x16
+-- the same of whatever message is read
+third : (new : ℕ) (rest : List ℕ) (n : Message) → HaveOtherParity new 0xff
+    → AfterFirst 0x04 (new ∷ 0x16 ∷ rest) n → new ≡ 0x16
 third new rest n other b = elim (called_or_end n (new ∷ 0x16 ∷ rest) b) [
   | inl c ↦ third_pads c.pads c.syns c.address c.trail new rest c.are_pads c.are_syns c.is_address other c.whole
   | inr e ↦ absurd (omega (arith, e.1.0))
@@ -108,13 +121,18 @@ third new rest n other b = elim (called_or_end n (new ∷ 0x16 ∷ rest) b) [
 
 -- ---- in place of the SYN after that
 
-fourth_pads : (pads syns a trail : List ℕ) (new : ℕ) (rest : List ℕ) → AreAll 0xff pads → AreAll 0x16 syns → IsAddress a → HaveOtherParity new 0x16
+-- the octet after PAD, of other parity than SYN, is PAD where it is a call
+fourth_pads : (pads syns a trail : List ℕ) (new : ℕ) (rest : List ℕ) → AreAll 0xff pads → AreAll 0x16 syns
+    → IsAddress a → HaveOtherParity new 0x16
     → 0xff ∷ new ∷ rest ≡ pads ++ ((syns ++ map odd_octet a ++ 0x85 ∷ []) ++ trail) → new ≡ 0xff
 fourth_pads [] syns a trail new rest p k h other e = absurd (pad_even (first_odd syns a trail 0xff (new ∷ rest) k h e))
-fourth_pads (x ∷ []) syns a trail new rest p k h other e = absurd (not_both_odd new 0x16 other (first_odd syns a trail new rest k h (tails e)) syn_odd)
+fourth_pads (x ∷ []) syns a trail new rest p k h other e =
+    absurd (not_both_odd new 0x16 other (first_odd syns a trail new rest k h (tails e)) syn_odd)
 fourth_pads (x ∷ y ∷ pads) syns a trail new rest p k h other e = heads (tails e) ∙ p.1.0
 
-fourth : (new : ℕ) (rest : List ℕ) (n : Message) → HaveOtherParity new 0x16 → Behind 0x04 (0xff ∷ new ∷ 0x16 ∷ rest) n → new ≡ 0xff
+-- the same of whatever message is read
+fourth : (new : ℕ) (rest : List ℕ) (n : Message) → HaveOtherParity new 0x16
+    → AfterFirst 0x04 (0xff ∷ new ∷ 0x16 ∷ rest) n → new ≡ 0xff
 fourth new rest n other b = elim (called_or_end n (0xff ∷ new ∷ 0x16 ∷ rest) b) [
   | inl c ↦ fourth_pads c.pads c.syns c.address c.trail new (0x16 ∷ rest) c.are_pads c.are_syns c.is_address other c.whole
   | inr e ↦ absurd (omega (arith, e.1.1.0))
@@ -124,7 +142,8 @@ fourth new rest n other b = elim (called_or_end n (0xff ∷ new ∷ 0x16 ∷ res
 
 -- one PAD stands before the first SYN
 one_pad : (pads syns a trail : List ℕ) (rest : List ℕ) → AreAll 0xff pads → AreAll 0x16 syns → IsAddress a
-    → 0xff ∷ 0x16 ∷ rest ≡ pads ++ ((syns ++ map odd_octet a ++ 0x85 ∷ []) ++ trail) → 0x16 ∷ rest ≡ (syns ++ map odd_octet a ++ 0x85 ∷ []) ++ trail
+    → 0xff ∷ 0x16 ∷ rest ≡ pads ++ ((syns ++ map odd_octet a ++ 0x85 ∷ []) ++ trail)
+    → 0x16 ∷ rest ≡ (syns ++ map odd_octet a ++ 0x85 ∷ []) ++ trail
 one_pad [] syns a trail rest p k h e = absurd (pad_even (first_odd syns a trail 0xff (0x16 ∷ rest) k h e))
 one_pad (x ∷ []) syns a trail rest p k h e = tails e
 one_pad (x ∷ y ∷ pads) syns a trail rest p k h e = absurd (omega (arith, heads (tails e), p.1.0))
@@ -142,7 +161,8 @@ record Later (a front : List ℕ) (o : ℕ) (after : List ℕ) (new : ℕ) : Typ
   are_trail : AreAll 0xff trail
 
 -- the octet stood in the address, or was the SYN before it
-later_address : (a front : List ℕ) (o : ℕ) (after : List ℕ) (new : ℕ) (more : List ℕ) → Later a front o after new → HaveOtherParity new o
+later_address : (a front : List ℕ) (o : ℕ) (after : List ℕ) (new : ℕ) (more : List ℕ)
+    → Later a front o after new → HaveOtherParity new o
     → 0x16 ∷ map odd_octet a ≡ front ++ o ∷ more → after ≡ more ++ 0x85 ∷ 0xff ∷ [] → ⊥
 later_address a front o after new more l other first rest =
     let sent_odd : AllByRecursion IsOdd (0x16 ∷ map odd_octet a) = (syn_odd, address_odd a l.is_address.each) in
@@ -150,27 +170,33 @@ later_address a front o after new more l other first rest =
     elim (parted (l.syns ++ map odd_octet l.other_address ++ 0x85 ∷ []) l.trail (0x16 ∷ front) new after l.heard) [
       | inl q ↦ not_both_odd new o other (all_here IsOdd (0x16 ∷ front) new q.more (rw q.first at (called_odd l.syns l.other_address l.are_syns l.is_other.each))) was
       | inr q ↦
-          let pads : AreAll 0xff after = (all_after (λ x. x ≡ 0xff) q.more (new ∷ after) (rw q.rest at l.are_trail)).1 in
+          let pads : AreAll 0xff after =
+          (all_after (λ x. x ≡ 0xff) q.more (new ∷ after) (rw q.rest at l.are_trail)).1 in
           omega (arith, all_here (λ x. x ≡ 0xff) more 0x85 (0xff ∷ []) (rw rest at pads))
     ]
 
+-- there is no ENQ before the end of the address of a call
 line_no_enq : (syns a : List ℕ) → AreAll 0x16 syns → IsAddress a → NoEnq (syns ++ map odd_octet a)
 line_no_enq syns a k h = all_both (λ x. x ≡ 0x85 → ⊥) syns (map odd_octet a) (syns_no_enq syns k) (no_enq a h.each)
 
 -- the octet was the ENQ
-later_enq : (a front : List ℕ) (after : List ℕ) (new : ℕ) → Later a front 0x85 after new → HaveOtherParity new 0x85 → front ≡ 0x16 ∷ map odd_octet a → ⊥
+later_enq : (a front : List ℕ) (after : List ℕ) (new : ℕ) → Later a front 0x85 after new
+    → HaveOtherParity new 0x85 → front ≡ 0x16 ∷ map odd_octet a → ⊥
 later_enq a front after new l other first =
     elim (parted (l.syns ++ map odd_octet l.other_address ++ 0x85 ∷ []) l.trail (0x16 ∷ front) new after l.heard) [
       | inl q ↦ not_both_odd new 0x85 other (all_here IsOdd (0x16 ∷ front) new q.more (rw q.first at (called_odd l.syns l.other_address l.are_syns l.is_other.each))) enq_odd
       | inr q ↦
-          let all : NoEnq (0x16 ∷ 0x16 ∷ map odd_octet a) = ((λ e. omega (arith, e)), ((λ e. omega (arith, e)), no_enq a l.is_address.each)) in
+          let all : NoEnq (0x16 ∷ 0x16 ∷ map odd_octet a) =
+          ((λ e. omega (arith, e)), ((λ e. omega (arith, e)), no_enq a l.is_address.each)) in
           let none : NoEnq (0x16 ∷ front) = subst (λ z. NoEnq (0x16 ∷ z)) (sym first) all in
-          let there : 0x16 ∷ front ≡ (l.syns ++ map odd_octet l.other_address) ++ 0x85 ∷ q.more = q.first ∙ append_assoc (l.syns ++ map odd_octet l.other_address) (0x85 ∷ []) q.more in
+          let there : 0x16 ∷ front ≡ (l.syns ++ map odd_octet l.other_address) ++ 0x85 ∷ q.more =
+          q.first ∙ append_assoc (l.syns ++ map odd_octet l.other_address) (0x85 ∷ []) q.more in
           all_here (λ x. x ≡ 0x85 → ⊥) (l.syns ++ map odd_octet l.other_address) 0x85 q.more (subst (λ z. NoEnq z) there none) refl
     ]
 
 -- the octet was the PAD at the end
-later_pad : (a front : List ℕ) (after : List ℕ) (new : ℕ) → Later a front 0xff after new → HaveOtherParity new 0xff → front ≡ 0x16 ∷ map odd_octet a ++ 0x85 ∷ [] → ⊥
+later_pad : (a front : List ℕ) (after : List ℕ) (new : ℕ) → Later a front 0xff after new
+    → HaveOtherParity new 0xff → front ≡ 0x16 ∷ map odd_octet a ++ 0x85 ∷ [] → ⊥
 later_pad a front after new l other first =
     elim (parted (l.syns ++ map odd_octet l.other_address ++ 0x85 ∷ []) l.trail (0x16 ∷ front) new after l.heard) [
       | inl q ↦
@@ -180,7 +206,9 @@ later_pad a front after new l other first =
       | inr q ↦ not_same new 0xff other (all_here (λ x. x ≡ 0xff) q.more new after (rw q.rest at l.are_trail))
     ]
 
-later_end : (a front : List ℕ) (o : ℕ) (after : List ℕ) (new : ℕ) (more : List ℕ) → Later a front o after new → HaveOtherParity new o
+-- a change in the ENQ of a call, or in the PAD after it, leaves no call
+later_end : (a front : List ℕ) (o : ℕ) (after : List ℕ) (new : ℕ) (more : List ℕ) → Later a front o after new
+    → HaveOtherParity new o
     → front ≡ (0x16 ∷ map odd_octet a) ++ more → 0x85 ∷ 0xff ∷ [] ≡ more ++ o ∷ after → ⊥
 later_end a front o after new [] l other first rest =
     let was : o ≡ 0x85 = sym (heads rest) in
@@ -188,9 +216,12 @@ later_end a front o after new [] l other first rest =
 later_end a front o after new (x ∷ []) l other first rest =
     let was : o ≡ 0xff = sym (heads (tails rest)) in
     later_pad a front after new (rw was at l) (rw was at other) (first ∙ ap (λ z. (0x16 ∷ map odd_octet a) ++ z ∷ []) (sym (heads rest)))
-later_end a front o after new (x ∷ y ∷ more) l other first rest = omega (arith, ap length rest, length-append more (o ∷ after))
+later_end a front o after new (x ∷ y ∷ more) l other first rest =
+    omega (arith, ap length rest, length-append more (o ∷ after))
 
-later : (a front : List ℕ) (o : ℕ) (after : List ℕ) (new : ℕ) → Later a front o after new → HaveOtherParity new o → ⊥
+-- a change after the fourth octet of a call leaves no call
+later : (a front : List ℕ) (o : ℕ) (after : List ℕ) (new : ℕ) → Later a front o after new
+    → HaveOtherParity new o → ⊥
 later a front o after new l other = elim (parted (0x16 ∷ map odd_octet a) (0x85 ∷ 0xff ∷ []) front o after l.sent) [
   | inl p ↦ later_address a front o after new p.more l other p.first p.rest
   | inr p ↦ later_end a front o after new p.more l other p.first p.rest
@@ -202,8 +233,11 @@ later a front o after new l other = elim (parted (0x16 ∷ map odd_octet a) (0x8
 abbrev pub call_tail : List ℕ → List ℕ
 call_tail a = 0xff ∷ 0x16 ∷ 0x16 ∷ (map odd_octet a ++ 0x85 ∷ []) ++ 0xff ∷ []
 
-pub spared_call : (a : List ℕ) (n : Message) (before : List ℕ) (o : ℕ) (after : List ℕ) (new : ℕ) → IsAddress a
-    → call_tail a ≡ before ++ o ∷ after → HaveOtherParity new o → Behind 0x04 (before ++ new ∷ after) n → IsCallFill (suc (suc (suc (length before)))) new
+-- where a call with one octet of other parity is read as a message, the octet is fill
+pub spared_call : (a : List ℕ) (n : Message) (before : List ℕ) (o : ℕ) (after : List ℕ) (new : ℕ)
+    → IsAddress a
+    → call_tail a ≡ before ++ o ∷ after → HaveOtherParity new o → AfterFirst 0x04 (before ++ new ∷ after) n
+    → IsCallFill (suc (suc (suc (length before)))) new
 spared_call a n [] o after new h whole other b =
     let was : o ≡ 0xff = sym (heads whole) in
     let then : after ≡ 0x16 ∷ 0x16 ∷ (map odd_octet a ++ 0x85 ∷ []) ++ 0xff ∷ [] = sym (tails whole) in
@@ -217,7 +251,7 @@ spared_call a n (x ∷ y ∷ front) o after new h whole other b =
     let first : x ≡ 0xff = sym (heads whole) in
     let second : y ≡ 0x16 = sym (heads (tails whole)) in
     let then : 0x16 ∷ (map odd_octet a ++ 0x85 ∷ []) ++ 0xff ∷ [] ≡ front ++ o ∷ after = tails (tails whole) in
-    let heard : Behind 0x04 (0xff ∷ 0x16 ∷ front ++ new ∷ after) n = rw (first, second) at b in
+    let heard : AfterFirst 0x04 (0xff ∷ 0x16 ∷ front ++ new ∷ after) n = rw (first, second) at b in
     elim (called_or_end n (0xff ∷ 0x16 ∷ front ++ new ∷ after) heard) [
       | inl c ↦ absurd (later a front o after new (record {
         sent = sym (append_assoc (0x16 ∷ map odd_octet a) (0x85 ∷ []) (0xff ∷ [])) ∙ then;

@@ -1,5 +1,7 @@
 -- What is heard of a message of which one octet has the other parity.
-use Rattle.std.proofs.Common.{◌≡◌, ◌≢◌, ◌⊎◌, ◌↔◌, inl, inr, ℕ, zero, suc, ◌<◌, ◌≤◌, ◌==◌, false, refl, sym, ap, subst, ◌∙◌, arith, List, [], ◌∷◌, ◌++◌, length, get_or, set, length-set, map, length-append, append-nil}
+use Rattle.std.proofs.Common.{◌≡◌, ◌≢◌, ◌⊎◌, ◌↔◌, inl, inr, ℕ, zero, suc, ◌<◌, ◌≤◌, ◌==◌, false, refl, sym}
+use Rattle.std.proofs.Common.{ap, subst, ◌∙◌, arith, List, [], ◌∷◌, ◌++◌, length, get_or, set, length-set}
+use Rattle.std.proofs.Common.{map, length-append, append-nil}
 use Rattle.bsc_octet.specs.Octet.{IsOdd, odd_octet}
 use Rattle.bsc_frame.specs.Addresses.{IsAddress}
 use Rattle.bsc_frame.specs.Texts.{TextValue, IsText}
@@ -7,19 +9,24 @@ use Rattle.bsc_frame.specs.Units.{units_wire}
 use Rattle.bsc_frame.specs.Message.{IsMessage}
 use Rattle.bsc_frame.specs.Wire.{wire, framed}
 use Rattle.bsc_frame.specs.Spells.{Spells, IsBody, AreAll, IsFailed}
-use Rattle.bsc_frame.specs.TurnedBits.{HaveOtherParity, IsSomeCall, IsSomeText, IsLeadingPad, IsCallFill, IsFillIn}
+use Rattle.bsc_frame.specs.TurnedBits.{HaveOtherParity, IsSomeCall, IsSomeText, IsLeadingPad, IsCallFill}
+use Rattle.bsc_frame.specs.TurnedBits.{IsFillIn}
 use Rattle.bsc_frame.specs.declared.message.Message.{Message}
-use Rattle.bsc_frame.specs.declared.message.Message.TheVariants.{Eot, Call, Enq, Ack0, Ack1, Nak, Wack, Rvi, Text}
+use Rattle.bsc_frame.specs.declared.message.Message.TheVariants.{Eot, Call, Enq, Ack0, Ack1, Nak, Wack, Rvi}
+use Rattle.bsc_frame.specs.declared.message.Message.TheVariants.{Text}
 use Rattle.bsc_frame.specs.declared.message.Heard.TheVariants.{Whole, Failed, Noise}
 use Rattle.bsc_frame.proofs.ReadLemmas.{test_false}
 use Rattle.bsc_frame.proofs.OddLemmas.{syn_odd}
 use Rattle.bsc_frame.proofs.HeardLemmas.{heard_spelled, heard_failed, length-wire, one_message}
 use Rattle.bsc_frame.proofs.UnitLemmas.{wire_units}
-use Rattle.bsc_frame.proofs.BodyOddLemmas.{eot_odd, enq_odd, nak_odd, dle_odd, stx_odd, ack0_odd, ack1_odd, wack_odd, rvi_odd}
+use Rattle.bsc_frame.proofs.BodyOddLemmas.{eot_odd, enq_odd, nak_odd, dle_odd, stx_odd, ack0_odd, ack1_odd}
+use Rattle.bsc_frame.proofs.BodyOddLemmas.{wack_odd, rvi_odd}
 use Rattle.bsc_frame.proofs.PlaceLemmas.{around}
-use Rattle.bsc_frame.proofs.InsideLemmas.{Inside, inside, failed_inside, Behind, behind, first_is_odd, starts_wrong, pad_or_not}
+use Rattle.bsc_frame.proofs.InsideLemmas.{Inside, inside, failed_inside, AfterFirst, after_first}
+use Rattle.bsc_frame.proofs.InsideLemmas.{first_is_odd, starts_wrong, pad_or_not}
 use Rattle.bsc_frame.proofs.DamagedText.{heads, tails, not_both_odd, not_same, lost_text}
 use Rattle.bsc_frame.proofs.DamagedCall.{call_tail, spared_call}
+use Rattle.bsc_frame.specs.declared.limits.TheConstants.{MAX_HEARD}
 
 -- ---- bodies of one and of two octets
 
@@ -47,9 +54,11 @@ no_more x Wack y p q h = p (heads h)
 no_more x Rvi y p q h = p (heads h)
 no_more x (Text t) y p q h = q (heads h.whole)
 
+-- a message of one octet is lost where the PAD after it is changed to the other parity
 lost_single : (x : ℕ) (n : Message) (before : List ℕ) (o : ℕ) (after : List ℕ) (new : ℕ) → x ≢ 0x10 → x ≢ 0x02
-    → 0xff ∷ [] ≡ before ++ o ∷ after → HaveOtherParity new o → Behind x (before ++ new ∷ after) n → ⊥
-lost_single x n (y ∷ before) o after new p q whole other b = omega (arith, ap length whole, length-append before (o ∷ after))
+    → 0xff ∷ [] ≡ before ++ o ∷ after → HaveOtherParity new o → AfterFirst x (before ++ new ∷ after) n → ⊥
+lost_single x n (y ∷ before) o after new p q whole other b =
+    omega (arith, ap length whole, length-append before (o ∷ after))
 lost_single x n [] o after new p q whole other b =
     let was : o ≡ 0xff = sym (heads whole) in
     let none : after ≡ [] = sym (tails whole) in
@@ -67,6 +76,7 @@ record Reply (body : List ℕ) : Type 0 where
   whole : body ≡ second ∷ []
   odd : IsOdd second
 
+-- the body of a message that begins with DLE is that of a reply of two octets
 reply_body : (n : Message) (body : List ℕ) → IsBody n (0x10 ∷ body) → Reply body
 reply_body Eot body h = absurd (omega (arith, heads h))
 reply_body (Call a) body h = absurd (omega (arith, heads h.whole))
@@ -78,8 +88,10 @@ reply_body Wack body h = record { second = 0x3b; whole = tails h; odd = wack_odd
 reply_body Rvi body h = record { second = 0xbc; whole = tails h; odd = rvi_odd }
 reply_body (Text t) body h = absurd (omega (arith, heads h.whole))
 
+-- a reply of two octets is lost where one octet after its DLE is changed to the other parity
 lost_reply : (y : ℕ) (n : Message) (before : List ℕ) (o : ℕ) (after : List ℕ) (new : ℕ) → IsOdd y
-    → y ∷ 0xff ∷ [] ≡ before ++ o ∷ after → HaveOtherParity new o → Behind 0x10 (before ++ new ∷ after) n → ⊥
+    → y ∷ 0xff ∷ [] ≡ before ++ o ∷ after → HaveOtherParity new o → AfterFirst 0x10 (before ++ new ∷ after) n
+    → ⊥
 lost_reply y n [] o after new odd whole other b =
     let r = reply_body n b.body b.is_body in
     let was : y ≡ o = heads whole in
@@ -91,7 +103,8 @@ lost_reply y n (x ∷ []) o after new odd whole other b =
     let all : x ∷ new ∷ after ≡ r.second ∷ b.trail = b.whole ∙ ap (λ z. z ++ b.trail) r.whole in
     let pads : AreAll 0xff (new ∷ after) = subst (AreAll 0xff) (sym (tails all)) b.are_trail in
     not_same new o other (pads.0 ∙ was)
-lost_reply y n (x ∷ z ∷ before) o after new odd whole other b = omega (arith, ap length whole, length-append before (o ∷ after))
+lost_reply y n (x ∷ z ∷ before) o after new odd whole other b =
+    omega (arith, ap length whole, length-append before (o ∷ after))
 
 -- ---- what is sent for each message
 
@@ -101,6 +114,7 @@ pub record Sent (m : Message) : Type 0 where
   pub whole : wire m ≡ framed body
   pub is_body : IsBody m body
 
+-- what is sent for a message is its body between two SYN and a PAD
 pub sent_of : (m : Message) → IsMessage m → Sent m
 sent_of Eot h = record { body = 0x04 ∷ []; whole = refl; is_body = refl }
 sent_of (Call a) h = record {
@@ -136,6 +150,7 @@ record Shape (m : Message) : Type 0 where
   lost : LostBehind m x tail
   starts_text : x ≡ 0x02 → IsSomeText m
 
+-- each message has its first octet, of odd parity and no SYN, and what is left of it
 shape : (m : Message) → IsMessage m → Shape m
 shape Eot h = record {
   x = 0x04;
@@ -143,7 +158,7 @@ shape Eot h = record {
   whole = refl;
   odd = eot_odd;
   other = refl;
-  lost = λ n before o after new w p i. absurd (lost_single 0x04 n before o after new (λ e. omega (arith, e)) (λ e. omega (arith, e)) w p (behind 0x04 (before ++ new ∷ after) n i));
+  lost = λ n before o after new w p i. absurd (lost_single 0x04 n before o after new (λ e. omega (arith, e)) (λ e. omega (arith, e)) w p (after_first 0x04 (before ++ new ∷ after) n i));
   starts_text = λ e. absurd (omega (arith, e));
 }
 shape (Call a) h = record {
@@ -152,7 +167,7 @@ shape (Call a) h = record {
   whole = refl;
   odd = eot_odd;
   other = refl;
-  lost = λ n before o after new w p i. ((a, refl), spared_call a n before o after new h w p (behind 0x04 (before ++ new ∷ after) n i));
+  lost = λ n before o after new w p i. ((a, refl), spared_call a n before o after new h w p (after_first 0x04 (before ++ new ∷ after) n i));
   starts_text = λ e. absurd (omega (arith, e));
 }
 shape Enq h = record {
@@ -161,7 +176,7 @@ shape Enq h = record {
   whole = refl;
   odd = enq_odd;
   other = refl;
-  lost = λ n before o after new w p i. absurd (lost_single 0x85 n before o after new (λ e. omega (arith, e)) (λ e. omega (arith, e)) w p (behind 0x85 (before ++ new ∷ after) n i));
+  lost = λ n before o after new w p i. absurd (lost_single 0x85 n before o after new (λ e. omega (arith, e)) (λ e. omega (arith, e)) w p (after_first 0x85 (before ++ new ∷ after) n i));
   starts_text = λ e. absurd (omega (arith, e));
 }
 shape Nak h = record {
@@ -170,7 +185,7 @@ shape Nak h = record {
   whole = refl;
   odd = nak_odd;
   other = refl;
-  lost = λ n before o after new w p i. absurd (lost_single 0x15 n before o after new (λ e. omega (arith, e)) (λ e. omega (arith, e)) w p (behind 0x15 (before ++ new ∷ after) n i));
+  lost = λ n before o after new w p i. absurd (lost_single 0x15 n before o after new (λ e. omega (arith, e)) (λ e. omega (arith, e)) w p (after_first 0x15 (before ++ new ∷ after) n i));
   starts_text = λ e. absurd (omega (arith, e));
 }
 shape Ack0 h = record {
@@ -179,7 +194,7 @@ shape Ack0 h = record {
   whole = refl;
   odd = dle_odd;
   other = refl;
-  lost = λ n before o after new w p i. absurd (lost_reply 0xb0 n before o after new ack0_odd w p (behind 0x10 (before ++ new ∷ after) n i));
+  lost = λ n before o after new w p i. absurd (lost_reply 0xb0 n before o after new ack0_odd w p (after_first 0x10 (before ++ new ∷ after) n i));
   starts_text = λ e. absurd (omega (arith, e));
 }
 shape Ack1 h = record {
@@ -188,7 +203,7 @@ shape Ack1 h = record {
   whole = refl;
   odd = dle_odd;
   other = refl;
-  lost = λ n before o after new w p i. absurd (lost_reply 0x31 n before o after new ack1_odd w p (behind 0x10 (before ++ new ∷ after) n i));
+  lost = λ n before o after new w p i. absurd (lost_reply 0x31 n before o after new ack1_odd w p (after_first 0x10 (before ++ new ∷ after) n i));
   starts_text = λ e. absurd (omega (arith, e));
 }
 shape Wack h = record {
@@ -197,7 +212,7 @@ shape Wack h = record {
   whole = refl;
   odd = dle_odd;
   other = refl;
-  lost = λ n before o after new w p i. absurd (lost_reply 0x3b n before o after new wack_odd w p (behind 0x10 (before ++ new ∷ after) n i));
+  lost = λ n before o after new w p i. absurd (lost_reply 0x3b n before o after new wack_odd w p (after_first 0x10 (before ++ new ∷ after) n i));
   starts_text = λ e. absurd (omega (arith, e));
 }
 shape Rvi h = record {
@@ -206,7 +221,7 @@ shape Rvi h = record {
   whole = refl;
   odd = dle_odd;
   other = refl;
-  lost = λ n before o after new w p i. absurd (lost_reply 0xbc n before o after new rvi_odd w p (behind 0x10 (before ++ new ∷ after) n i));
+  lost = λ n before o after new w p i. absurd (lost_reply 0xbc n before o after new rvi_odd w p (after_first 0x10 (before ++ new ∷ after) n i));
   starts_text = λ e. absurd (omega (arith, e));
 }
 shape (Text t) h = record {
@@ -221,7 +236,10 @@ shape (Text t) h = record {
 
 -- ---- where a message is spelled still
 
-by_place : (m : Message) (s : Shape m) (place new : ℕ) (n : Message) → place < length (0x16 ∷ 0x16 ∷ s.x ∷ s.tail) → HaveOtherParity new (get_or (0x16 ∷ 0x16 ∷ s.x ∷ s.tail) place 0)
+-- a change that leaves a message is fill, by the place where it stands
+by_place : (m : Message) (s : Shape m) (place new : ℕ) (n : Message)
+    → place < length (0x16 ∷ 0x16 ∷ s.x ∷ s.tail)
+    → HaveOtherParity new (get_or (0x16 ∷ 0x16 ∷ s.x ∷ s.tail) place 0)
     → Spells (set (0x16 ∷ 0x16 ∷ s.x ∷ s.tail) place new) n → IsFillIn m place new
 by_place m s zero new n l p h = elim (pad_or_not new) [
   | inl k ↦ inl (refl, k)
@@ -242,16 +260,21 @@ by_place m s (suc (suc (suc place))) new n l p h =
     let k = s.lost n r.before r.here r.after new r.whole (rw r.is_here at p) i in
     inr (rw r.long at k)
 
-pub spelled_fill : (m : Message) → IsMessage m → (place new : ℕ) (n : Message) → place < length (wire m) → HaveOtherParity new (get_or (wire m) place 0)
+-- where a message is spelled after one octet was changed to the other parity, the octet is fill
+pub spelled_fill : (m : Message) → IsMessage m → (place new : ℕ) (n : Message) → place < length (wire m)
+    → HaveOtherParity new (get_or (wire m) place 0)
     → Spells (set (wire m) place new) n → IsFillIn m place new
 spelled_fill m h place new n l p k =
     let s = shape m h in
     by_place m s place new n (rw s.whole at l) (rw s.whole at p) (rw s.whole at k)
 
-small : (m : Message) → IsMessage m → (place new : ℕ) → length (set (wire m) place new) ≤ 2048
+-- a change makes a transmission no longer, so it is heard
+small : (m : Message) → IsMessage m → (place new : ℕ) → length (set (wire m) place new) ≤ MAX_HEARD
 small m h place new = omega (arith, length-set (wire m) place new, length-wire m h)
 
-pad_spells : (m : Message) (body : List ℕ) (new : ℕ) → length (set (framed body) 0 new) ≤ 2048 → IsBody m body → (new ≡ 0x55) ⊎ (new ≡ 0xaa) → Spells (set (framed body) 0 new) m
+-- with a leading pad in place of the first SYN the message is still spelled
+pad_spells : (m : Message) (body : List ℕ) (new : ℕ) → length (set (framed body) 0 new) ≤ MAX_HEARD
+    → IsBody m body → (new ≡ 0x55) ⊎ (new ≡ 0xaa) → Spells (set (framed body) 0 new) m
 pad_spells m body new l h k = record {
   small = l;
   body = body;
@@ -259,7 +282,9 @@ pad_spells m body new l h k = record {
   is_body = h;
 }
 
-call_spells : (a body : List ℕ) → length (framed body) ≤ 2048 → IsBody (Call a) body → Spells (framed body) (Call a)
+-- a transmission with the body of a call spells it
+call_spells : (a body : List ℕ) → length (framed body) ≤ MAX_HEARD → IsBody (Call a) body
+    → Spells (framed body) (Call a)
 call_spells a body l h = record {
   small = l;
   body = body;
@@ -267,7 +292,9 @@ call_spells a body l h = record {
   is_body = h;
 }
 
-fill_in_call : (a : List ℕ) (h : IsAddress a) (place new : ℕ) → IsCallFill place new → Spells (set (wire (Call a)) place new) (Call a)
+-- with other fill after its EOT a call is still spelled
+fill_in_call : (a : List ℕ) (h : IsAddress a) (place new : ℕ) → IsCallFill place new
+    → Spells (set (wire (Call a)) place new) (Call a)
 fill_in_call a h place new (inl k) =
     rw (k.0, k.1) (call_spells a (0x04 ∷ 0x16 ∷ 0x16 ∷ 0x16 ∷ [] ++ map odd_octet a ++ 0x85 ∷ []) (small (Call a) h 3 0x16)
     (record { pads = []; syns = 0x16 ∷ 0x16 ∷ 0x16 ∷ []; whole = refl; are_pads = tt; are_syns = (refl, (refl, (refl, tt))); address = h }))
@@ -275,10 +302,12 @@ fill_in_call a h place new (inr k) =
     rw (k.0, k.1) (call_spells a (0x04 ∷ 0xff ∷ 0xff ∷ 0x16 ∷ [] ++ map odd_octet a ++ 0x85 ∷ []) (small (Call a) h 4 0xff)
     (record { pads = 0xff ∷ 0xff ∷ []; syns = 0x16 ∷ []; whole = refl; are_pads = (refl, (refl, tt)); are_syns = (refl, tt); address = h }))
 
-pub fill_spells : (m : Message) → IsMessage m → (place new : ℕ) → IsFillIn m place new → Spells (set (wire m) place new) m
+-- with fill in place of an octet the message is still spelled
+pub fill_spells : (m : Message) → IsMessage m → (place new : ℕ) → IsFillIn m place new
+    → Spells (set (wire m) place new) m
 fill_spells m h place new (inl k) =
     let s = sent_of m h in
-    let long : length (set (framed s.body) 0 new) ≤ 2048 = rw s.whole at (small m h 0 new) in
+    let long : length (set (framed s.body) 0 new) ≤ MAX_HEARD = rw s.whole at (small m h 0 new) in
     rw (k.0, s.whole) (pad_spells m s.body new long s.is_body k.1)
 fill_spells m h place new (inr k) =
     let call : m ≡ Call k.0.0 = k.0.1 in
@@ -286,7 +315,9 @@ fill_spells m h place new (inr k) =
 
 -- ---- where a text has failed
 
-text_fails : (t : TextValue) → IsText t → (place new : ℕ) → 2 < place → place < length (wire (Text t)) → HaveOtherParity new (get_or (wire (Text t)) place 0) → IsFailed (set (wire (Text t)) place new)
+-- a text with one octet after its STX changed to the other parity fails
+text_fails : (t : TextValue) → IsText t → (place new : ℕ) → 2 < place → place < length (wire (Text t))
+    → HaveOtherParity new (get_or (wire (Text t)) place 0) → IsFailed (set (wire (Text t)) place new)
 text_fails t h zero new u l p = absurd (omega arith)
 text_fails t h (suc zero) new u l p = absurd (omega arith)
 text_fails t h (suc (suc zero)) new u l p = absurd (omega arith)
@@ -309,7 +340,10 @@ text_fails t h (suc (suc (suc place))) new u l p = record {
   ];
 }
 
-by_failed_place : (m : Message) (s : Shape m) (place new : ℕ) → (IsLeadingPad place new → ⊥) → place < length (0x16 ∷ 0x16 ∷ s.x ∷ s.tail) → HaveOtherParity new (get_or (0x16 ∷ 0x16 ∷ s.x ∷ s.tail) place 0)
+-- what fails begins as a text, so the change stands after the STX, by the place where it stands
+by_failed_place : (m : Message) (s : Shape m) (place new : ℕ) → (IsLeadingPad place new → ⊥)
+    → place < length (0x16 ∷ 0x16 ∷ s.x ∷ s.tail)
+    → HaveOtherParity new (get_or (0x16 ∷ 0x16 ∷ s.x ∷ s.tail) place 0)
     → IsFailed (set (0x16 ∷ 0x16 ∷ s.x ∷ s.tail) place new) → (2 < place) × IsSomeText m
 by_failed_place m s zero new q l p f = elim (pad_or_not new) [
   | inl k ↦ absurd (q (refl, k))
@@ -328,7 +362,9 @@ by_failed_place m s (suc (suc (suc place))) new q l p f =
     let k = failed_inside (0x16 ∷ 0x16 ∷ []) (s.x ∷ set s.tail place new) (refl, (refl, tt)) (λ e. cc) s.other f in
     (omega arith, s.starts_text (heads k.1))
 
-pub failed_place : (m : Message) → IsMessage m → (place new : ℕ) → place < length (wire m) → HaveOtherParity new (get_or (wire m) place 0)
+-- a change makes a transmission fail exactly where it stands after the STX of a text
+pub failed_place : (m : Message) → IsMessage m → (place new : ℕ) → place < length (wire m)
+    → HaveOtherParity new (get_or (wire m) place 0)
     → IsFailed (set (wire m) place new) ↔ ((2 < place) × IsSomeText m)
 failed_place m h place new l p = (there, back)
   where
@@ -345,7 +381,9 @@ failed_place m h place new l p = (there, back)
 
 -- ---- the laws
 
-pub spelled_where : (m n : Message) (place new : ℕ) → IsMessage m → place < length (wire m) → HaveOtherParity new (get_or (wire m) place 0)
+-- after a change a message is spelled exactly where it is that message and the octet is fill
+pub spelled_where : (m n : Message) (place new : ℕ) → IsMessage m → place < length (wire m)
+    → HaveOtherParity new (get_or (wire m) place 0)
     → Spells (set (wire m) place new) n ↔ ((n ≡ m) × IsFillIn m place new)
 spelled_where m n place new h l p = (there, back)
   where

@@ -1,5 +1,6 @@
 -- Codes that are gathered up to an ending character.
-use Rattle.std.proofs.Common.{◌≡◌, ◌≢◌, inl, inr, ℕ, suc, ◌-◌, ◌<◌, ◌≤◌, ◌==◌, true, false, cond, refl, sym, ap, ◌∙◌, arith, List, [], ◌∷◌, ◌++◌, length, Option, Some, None, append_assoc}
+use Rattle.std.proofs.Common.{◌≡◌, ◌≢◌, inl, inr, ℕ, suc, ◌-◌, ◌<◌, ◌≤◌, ◌==◌, true, false, cond, refl, sym}
+use Rattle.std.proofs.Common.{ap, ◌∙◌, arith, List, [], ◌∷◌, ◌++◌, length, Option, Some, None, append_assoc}
 use Rattle.std.proofs.lemmas.Bool.{eqb-true}
 use Rattle.bsc_octet.specs.Octet.{odd_octet, code_of}
 use Rattle.bsc_octet.proofs.ParityLemmas.{odd_cases, code_of_some, code_of-odd_octet}
@@ -14,11 +15,13 @@ EndsUnit [] = ⊥
 EndsUnit (c ∷ []) = is_ending_code c ≡ true
 EndsUnit (c ∷ d ∷ cs) = EndsUnit (d ∷ cs)
 
+-- the last code of a unit is an ending character
 pub EndsUnit-last : (front : List ℕ) (e : ℕ) → EndsUnit (front ++ e ∷ []) → is_ending_code e ≡ true
 EndsUnit-last [] e h = h
 EndsUnit-last (c ∷ []) e h = h
 EndsUnit-last (c ∷ d ∷ front) e h = EndsUnit-last (d ∷ front) e h
 
+-- octets that begin with these codes, filled, of which the last ends a unit, and the rest
 pub record Gathers (octets codes rest : List ℕ) : Type 0 where
   pub front : List ℕ
   pub whole : octets ≡ front ++ rest
@@ -35,7 +38,9 @@ filled_more octets (c ∷ cs) rest g = record {
   ends = g.ends;
 }
 
-more_codes : (x c : ℕ) (octets codes rest : List ℕ) → odd_octet c ≡ x → Gathers octets codes rest → Gathers (x ∷ octets) (c ∷ codes) rest
+-- one code more at the front
+more_codes : (x c : ℕ) (octets codes rest : List ℕ) → odd_octet c ≡ x → Gathers octets codes rest
+    → Gathers (x ∷ octets) (c ∷ codes) rest
 more_codes x c octets [] rest e g = absurd g.ends
 more_codes x c octets (d ∷ cs) rest e g = record {
   front = x ∷ g.front;
@@ -44,15 +49,20 @@ more_codes x c octets (d ∷ cs) rest e g = record {
   ends = g.ends;
 }
 
+-- what is read with one code more at the front is read without it
 before_some : (c : ℕ) (o : Option (List ℕ × List ℕ)) (g : List ℕ × List ℕ) → before_gathered c o ≡ Some g
     → (h : List ℕ × List ℕ) × (o ≡ Some h) × (g.0 ≡ c ∷ h.0) × (g.1 ≡ h.1)
 before_some c None g e = cc
 before_some c (Some h) g e = (h, refl, cc, cc)
 
-same_gathers : (octets codes codes' rest rest' : List ℕ) → codes ≡ codes' → rest ≡ rest' → Gathers octets codes' rest' → Gathers octets codes rest
+-- the same of equal lists
+same_gathers : (octets codes codes' rest rest' : List ℕ) → codes ≡ codes' → rest ≡ rest'
+    → Gathers octets codes' rest' → Gathers octets codes rest
 same_gathers octets codes codes' rest rest' e f g = rw (e, f) g
 
-gathers_code : (x : ℕ) (xs : List ℕ) (o : Option ℕ) (more : Option (List ℕ × List ℕ)) (g : List ℕ × List ℕ) → code_of x ≡ o
+-- one octet more that is no SYN, by the code that it carries
+gathers_code : (x : ℕ) (xs : List ℕ) (o : Option ℕ) (more : Option (List ℕ × List ℕ)) (g : List ℕ × List ℕ)
+    → code_of x ≡ o
     → ((h : List ℕ × List ℕ) → more ≡ Some h → Gathers xs h.0 h.1)
     → gather_code o xs more ≡ Some g → Gathers (x ∷ xs) g.0 g.1
 gathers_code x xs None more g k f e = cc
@@ -71,6 +81,7 @@ gathers_code x xs (Some c) more g k f e = elim (chosen (is_ending_code c) _ _ _ 
       same_gathers (x ∷ xs) g.0 (c ∷ b.0.0) g.1 b.0.1 b.2 b.3 (more_codes x c xs b.0.0 b.0.1 (code_of_some x c k).1 (f b.0 b.1))
 ]
 
+-- one octet more, which may be SYN
 gathers_octet : (room x : ℕ) (xs : List ℕ) (g : List ℕ × List ℕ)
     → (gathered room xs ≡ Some g → Gathers xs g.0 g.1)
     → ((h : List ℕ × List ℕ) → gathered (room - 1) xs ≡ Some h → Gathers xs h.0 h.1)
@@ -84,7 +95,9 @@ gathers_octet room x xs g same more e = elim (chosen (x == 0x16) _ _ _ e) [
   ]
 ]
 
-pub gathered_reads : (room : ℕ) (octets : List ℕ) (g : List ℕ × List ℕ) → gathered room octets ≡ Some g → Gathers octets g.0 g.1
+-- the codes that are read are carried by the octets, with fill, up to the rest
+pub gathered_reads : (room : ℕ) (octets : List ℕ) (g : List ℕ × List ℕ) → gathered room octets ≡ Some g
+    → Gathers octets g.0 g.1
 unfolding gathered
 gathered_reads room [] g e = cc
 gathered_reads room (x ∷ xs) g e = gathers_octet room x xs g (gathered_reads room xs g) (gathered_reads (room - 1) xs) e
@@ -102,27 +115,37 @@ IsRun [] = ⊥
 IsRun (c ∷ []) = IsOther c × (is_ending_code c ≡ true)
 IsRun (c ∷ d ∷ cs) = IsOther c × (is_ending_code c ≡ false) × IsRun (d ∷ cs)
 
+-- the octet of a code that is no SYN is no SYN
 odd_other : (c : ℕ) → IsOther c → (odd_octet c == 0x16) ≡ false
-odd_other c o = test_false (odd_octet c) 0x16 (λ e. elim (odd_cases c) [ inl k ↦ absurd (o.other (sym k.0 ∙ e)) | inr k ↦ absurd (omega arith) ])
+odd_other c o =
+    test_false (odd_octet c) 0x16 (λ e. elim (odd_cases c) [ inl k ↦ absurd (o.other (sym k.0 ∙ e)) | inr k ↦ absurd (omega arith) ])
 
-behind_fill : (room : ℕ) (fill rest : List ℕ) → AreAll 0x16 fill → gathered room (fill ++ rest) ≡ gathered room rest
+-- the same is read after fill
+behind_fill : (room : ℕ) (fill rest : List ℕ) → AreAll 0x16 fill
+    → gathered room (fill ++ rest) ≡ gathered room rest
 unfolding gathered
 behind_fill room [] rest h = refl
 behind_fill room (x ∷ fill) rest h = rw h.0 (behind_fill room fill rest h.1)
 
+-- where there is room for one more, room is not 0
 has_room : (n room : ℕ) → suc n ≤ room → room ≡ 0 → ⊥
 has_room n room h e = omega arith
 
-pub gathered_read : (room : ℕ) (codes front rest : List ℕ) → AreFilled codes front → IsRun codes → length codes ≤ room → gathered room (front ++ rest) ≡ Some (codes, rest)
+-- codes that are carried, with fill, up to an ending character are read
+pub gathered_read : (room : ℕ) (codes front rest : List ℕ) → AreFilled codes front → IsRun codes
+    → length codes ≤ room → gathered room (front ++ rest) ≡ Some (codes, rest)
 unfolding gathered
 gathered_read room [] front rest f r l = absurd r
 gathered_read room (c ∷ []) front rest f r l =
     let some : (room == 0) ≡ false = test_false room 0 (has_room 0 room l) in
-    let first : gathered room (odd_octet c ∷ rest) ≡ Some (c ∷ [], rest) = rw (odd_other c r.0, some, code_of-odd_octet c r.0.code, r.1) refl in
+    let first : gathered room (odd_octet c ∷ rest) ≡ Some (c ∷ [], rest) =
+    rw (odd_other c r.0, some, code_of-odd_octet c r.0.code, r.1) refl in
     let here : front ≡ f.0 ++ odd_octet c ∷ [] = f.3 ∙ ap (λ z. f.0 ++ odd_octet c ∷ z) f.4 in
     ap (λ z. gathered room (z ++ rest)) here ∙ ap (gathered room) (append_assoc f.0 (odd_octet c ∷ []) rest) ∙ behind_fill room f.0 (odd_octet c ∷ rest) f.2 ∙ first
 gathered_read room (c ∷ d ∷ cs) front rest f r l =
     let some : (room == 0) ≡ false = test_false room 0 (has_room (length (d ∷ cs)) room l) in
-    let more : gathered (room - 1) (f.1 ++ rest) ≡ Some (d ∷ cs, rest) = gathered_read (room - 1) (d ∷ cs) f.1 rest f.4 r.2 (omega arith) in
-    let first : gathered room (odd_octet c ∷ f.1 ++ rest) ≡ Some (c ∷ d ∷ cs, rest) = rw (odd_other c r.0, some, code_of-odd_octet c r.0.code, r.1, more) refl in
+    let more : gathered (room - 1) (f.1 ++ rest) ≡ Some (d ∷ cs, rest) =
+    gathered_read (room - 1) (d ∷ cs) f.1 rest f.4 r.2 (omega arith) in
+    let first : gathered room (odd_octet c ∷ f.1 ++ rest) ≡ Some (c ∷ d ∷ cs, rest) =
+    rw (odd_other c r.0, some, code_of-odd_octet c r.0.code, r.1, more) refl in
     ap (λ z. gathered room (z ++ rest)) f.3 ∙ ap (gathered room) (append_assoc f.0 (odd_octet c ∷ f.1) rest) ∙ behind_fill room f.0 (odd_octet c ∷ f.1 ++ rest) f.2 ∙ first

@@ -1,5 +1,7 @@
 -- What is heard is what is spelled.
-use Rattle.std.proofs.Common.{◌≡◌, ◌≢◌, ◌⊎◌, inl, inr, ℕ, ◌≤◌, ◌==◌, true, false, refl, sym, ap, subst, ◌∙◌, arith, List, [], ◌∷◌, ◌++◌, length, drop, map, Option, Some, None, length-append}
+use Rattle.std.proofs.Common.{◌≡◌, ◌≢◌, ◌⊎◌, inl, inr, ℕ, ◌≤◌, ◌==◌, true, false, refl, sym, ap, subst, ◌∙◌}
+use Rattle.std.proofs.Common.{arith, List, [], ◌∷◌, ◌++◌, length, drop, map, Option, Some, None}
+use Rattle.std.proofs.Common.{length-append}
 use Rattle.std.proofs.lemmas.Bool.{eqb-true}
 use Rattle.std.proofs.lemmas.List.{length-map}
 use Rattle.bsc_octet.specs.Octet.{odd_octet}
@@ -8,14 +10,18 @@ use Rattle.bsc_frame.specs.Units.{units_wire}
 use Rattle.bsc_frame.specs.Message.{IsMessage}
 use Rattle.bsc_frame.specs.Wire.{wire, framed}
 use Rattle.bsc_frame.specs.Spells.{Spells, IsBody, IsTextBody, Carries, IsFailed, IsNoise}
-use Rattle.bsc_frame.specs.Reading.{is_octet, begins, control, heard, heard_body, whole_or_noise, whole_or_failed, units_at}
+use Rattle.bsc_frame.specs.Reading.{is_octet, begins, control, heard, heard_body, whole_or_noise}
+use Rattle.bsc_frame.specs.Reading.{whole_or_failed, units_at}
 use Rattle.bsc_frame.specs.declared.message.Message.{Message}
-use Rattle.bsc_frame.specs.declared.message.Message.TheVariants.{Eot, Call, Enq, Ack0, Ack1, Nak, Wack, Rvi, Text}
+use Rattle.bsc_frame.specs.declared.message.Message.TheVariants.{Eot, Call, Enq, Ack0, Ack1, Nak, Wack, Rvi}
+use Rattle.bsc_frame.specs.declared.message.Message.TheVariants.{Text}
 use Rattle.bsc_frame.specs.declared.message.Heard.{Heard}
 use Rattle.bsc_frame.specs.declared.message.Heard.TheVariants.{Whole, Failed, Noise}
 use Rattle.bsc_frame.proofs.FrontLemmas.{bodies, heard_carried, Ends, trimmed-body, trimmed-begins}
 use Rattle.bsc_frame.proofs.ControlLemmas.{control_reads, control_read, IsControl, chosen}
-use Rattle.bsc_frame.proofs.UnitLemmas.{units_at_reads, units_at_read, units_end, wire_units, length-units_wire}
+use Rattle.bsc_frame.proofs.UnitLemmas.{units_at_reads, units_at_read, units_end, wire_units}
+use Rattle.bsc_frame.proofs.UnitLemmas.{length-units_wire}
+use Rattle.bsc_frame.specs.declared.limits.TheConstants.{MAX_UNITS, MAX_SENT}
 
 -- ---- bodies
 
@@ -25,15 +31,17 @@ or_noise None m e = cc
 or_noise (Some k) m e = cc
 
 -- what is heard whole or else as failed was read as a text
-or_failed : (o : Option TextValue) (m : Message) → whole_or_failed o ≡ Whole m → (t : TextValue) × (o ≡ Some t) × (Text t ≡ m)
+or_failed : (o : Option TextValue) (m : Message) → whole_or_failed o ≡ Whole m
+    → (t : TextValue) × (o ≡ Some t) × (Text t ≡ m)
 or_failed None m e = cc
 or_failed (Some t) m e = (t, refl, cc)
 
 -- a body that is read as a text is that of the text
-text_reads : (body : List ℕ) (t : TextValue) → begins (is_octet 0x02) body ≡ true → units_at 7 false (drop 1 body) ≡ Some t → IsTextBody t body
+text_reads : (body : List ℕ) (t : TextValue) → begins (is_octet 0x02) body ≡ true
+    → units_at MAX_UNITS false (drop 1 body) ≡ Some t → IsTextBody t body
 text_reads [] t h e = cc
 text_reads (x ∷ rest) t h e =
-    let r = units_at_reads 7 false rest t e in
+    let r = units_at_reads MAX_UNITS false rest t e in
     record { rest = rest; whole = ap (λ z. z ∷ rest) (eqb-true x 0x02 h); units = r.units; text = record { some = r.some; most = r.most; each = r.each } }
 
 -- a body that is heard as a message is that of the message
@@ -41,7 +49,7 @@ pub body_reads : (body : List ℕ) (m : Message) → heard_body body ≡ Whole m
 unfolding heard_body
 body_reads body m e = elim (chosen (begins (is_octet 0x02) body) _ _ _ e) [
   | inl h ↦
-      let t = or_failed (units_at 7 false (drop 1 body)) m h.1 in
+      let t = or_failed (units_at MAX_UNITS false (drop 1 body)) m h.1 in
       subst (λ k. IsBody k body) t.2 (text_reads body t.0 h.0 t.1)
   | inr h ↦ control_reads body m (or_noise (control body) m h.1)
 ]
@@ -51,12 +59,17 @@ record Plain (body : List ℕ) : Type 0 where
   begins_other : (x : ℕ) × (rest : List ℕ) × (body ≡ x ∷ rest) × ((x == 0x16) ≡ false)
   ends : Ends body
 
+-- a body of one octet that is neither SYN nor PAD has no SYN first and no PAD last
 short : (x : ℕ) → ((x == 0x16) ≡ false) → ((x == 0xff) ≡ false) → (body : List ℕ) → body ≡ x ∷ [] → Plain body
-short x a c body e = record { begins_other = (x, [], e, a); ends = record { front = []; last = x; whole = e; other = c } }
+short x a c body e =
+    record { begins_other = (x, [], e, a); ends = record { front = []; last = x; whole = e; other = c } }
 
+-- nor has one of DLE and an octet that is no PAD
 reply : (y : ℕ) → ((y == 0xff) ≡ false) → (body : List ℕ) → body ≡ 0x10 ∷ y ∷ [] → Plain body
-reply y c body e = record { begins_other = (0x10, y ∷ [], e, refl); ends = record { front = 0x10 ∷ []; last = y; whole = e; other = c } }
+reply y c body e =
+    record { begins_other = (0x10, y ∷ [], e, refl); ends = record { front = 0x10 ∷ []; last = y; whole = e; other = c } }
 
+-- a text ends as its units do
 ends_text : (rest : List ℕ) → Ends rest → Ends (0x02 ∷ rest)
 ends_text rest e = record { front = 0x02 ∷ e.front; last = e.last; whole = ap (λ z. 0x02 ∷ z) e.whole; other = e.other }
 
@@ -79,7 +92,8 @@ plain_body body (Text t) h = record {
 }
 
 -- the body of a message without a text is heard as it
-control_body : (x : ℕ) (rest : List ℕ) (m : Message) → (x == 0x02) ≡ false → IsControl m → (body : List ℕ) → body ≡ x ∷ rest → IsBody m body → heard_body body ≡ Whole m
+control_body : (x : ℕ) (rest : List ℕ) (m : Message) → (x == 0x02) ≡ false → IsControl m → (body : List ℕ)
+    → body ≡ x ∷ rest → IsBody m body → heard_body body ≡ Whole m
 unfolding heard_body
 control_body x rest m n k body e h =
     let other : begins (is_octet 0x02) body ≡ false = ap (begins (is_octet 0x02)) e ∙ n in
@@ -97,7 +111,8 @@ body_read body Ack1 h = control_body 0x10 _ Ack1 refl tt body h h
 body_read body Wack h = control_body 0x10 _ Wack refl tt body h h
 body_read body Rvi h = control_body 0x10 _ Rvi refl tt body h h
 body_read body (Text t) h =
-    let units : units_at 7 false h.rest ≡ Some t = units_at_read 7 false t.units t.end h.rest h.units h.text.some h.text.most h.text.each in
+    let units : units_at MAX_UNITS false h.rest ≡ Some t =
+    units_at_read MAX_UNITS false t.units t.end h.rest h.units h.text.some h.text.most h.text.each in
     rw (h.whole, units) refl
 
 -- ---- whole
@@ -106,11 +121,13 @@ body_read body (Text t) h =
 pub heard_spelled : (octets : List ℕ) (m : Message) → Spells octets m → heard octets ≡ Whole m
 heard_spelled octets m s =
     let p = plain_body s.body m s.is_body in
-    let stops : begins (is_octet 0x16) (s.body ++ s.carried.trail) ≡ false = ap (λ b. begins (is_octet 0x16) (b ++ s.carried.trail)) p.begins_other.2 ∙ p.begins_other.3 in
+    let stops : begins (is_octet 0x16) (s.body ++ s.carried.trail) ≡ false =
+    ap (λ b. begins (is_octet 0x16) (b ++ s.carried.trail)) p.begins_other.2 ∙ p.begins_other.3 in
     heard_carried octets s.body s.carried s.small stops
     ∙ ap heard_body (trimmed-body s.body s.carried.trail p.ends s.carried.are_trail)
     ∙ body_read s.body m s.is_body
 
+-- a message is no noise
 loud_whole : (h : Heard) (m : Message) → h ≡ Whole m → h ≢ Noise
 loud_whole h m e n = cc
 
@@ -136,14 +153,16 @@ failed_begins (x ∷ rest) e = elim (chosen (x == 0x02) _ _ _ e) [
     not_failed (Some m) e = cc
 
 -- a body that begins with STX is never noise
-text_loud : (rest : List ℕ) → (heard_body (0x02 ∷ rest) ≡ Failed) ⊎ ((m : Message) × (heard_body (0x02 ∷ rest) ≡ Whole m))
+text_loud : (rest : List ℕ)
+    → (heard_body (0x02 ∷ rest) ≡ Failed) ⊎ ((m : Message) × (heard_body (0x02 ∷ rest) ≡ Whole m))
 unfolding heard_body
-text_loud rest = by_units (units_at 7 false rest)
+text_loud rest = by_units (units_at MAX_UNITS false rest)
   where
     by_units : (o : Option TextValue) → (whole_or_failed o ≡ Failed) ⊎ ((m : Message) × (whole_or_failed o ≡ Whole m))
     by_units None = inl refl
     by_units (Some t) = inr (Text t, refl)
 
+-- a failed text is no noise
 loud_failed : (h : Heard) → h ≡ Failed → h ≢ Noise
 loud_failed h e n = cc
 
@@ -158,7 +177,8 @@ failed_heard octets e =
 pub heard_failed : (octets : List ℕ) → IsFailed octets → heard octets ≡ Failed
 heard_failed octets f =
     let t = trimmed-begins 0x02 (f.rest ++ f.carried.trail) refl in
-    let same : heard octets ≡ heard_body (0x02 ∷ t.0) = heard_carried octets (0x02 ∷ f.rest) f.carried f.small refl ∙ ap heard_body t.1 in
+    let same : heard octets ≡ heard_body (0x02 ∷ t.0) =
+    heard_carried octets (0x02 ∷ f.rest) f.carried f.small refl ∙ ap heard_body t.1 in
     elim (text_loud t.0) [
       | inl h ↦ same ∙ h
       | inr h ↦ absurd (f.none h.0 (spelled_heard octets h.0 (same ∙ h.1)))
@@ -170,6 +190,7 @@ heard_failed octets f =
 pub noise_heard : (octets : List ℕ) → heard octets ≡ Noise → IsNoise octets
 noise_heard octets e = (λ m s. let k = heard_spelled octets m s in cc, λ f. let k = heard_failed octets f in cc)
 
+-- octets that are noise by the relation are heard as noise
 noise_by : (octets : List ℕ) (h : Heard) → heard octets ≡ h → IsNoise octets → heard octets ≡ Noise
 noise_by octets (Whole m) e n = absurd (n.0 m (spelled_heard octets m e))
 noise_by octets Failed e n = absurd (n.1 (failed_heard octets e))
@@ -187,19 +208,23 @@ one_message octets m n s t =
     let k : Whole m ≡ Whole n = sym (heard_spelled octets m s) ∙ heard_spelled octets n t in
     cc
 
-pub length-wire : (m : Message) → IsMessage m → length (wire m) ≤ 1033
+-- what is sent for a message is at most this long
+pub length-wire : (m : Message) → IsMessage m → length (wire m) ≤ MAX_SENT
 length-wire Eot h = omega arith
-length-wire (Call a) h = omega (arith, h.most, length-append (map odd_octet a ++ 0x85 ∷ []) (0xff ∷ []), length-append (map odd_octet a) (0x85 ∷ []), length-map a odd_octet)
+length-wire (Call a) h =
+    omega (arith, h.most, length-append (map odd_octet a ++ 0x85 ∷ []) (0xff ∷ []), length-append (map odd_octet a) (0x85 ∷ []), length-map a odd_octet)
 length-wire Enq h = omega arith
 length-wire Nak h = omega arith
 length-wire Ack0 h = omega arith
 length-wire Ack1 h = omega arith
 length-wire Wack h = omega arith
 length-wire Rvi h = omega arith
-length-wire (Text t) h = omega (arith, h.most, length-units_wire t.units t.end h.each, length-append (units_wire t.units t.end) (0xff ∷ []))
+length-wire (Text t) h =
+    omega (arith, h.most, length-units_wire t.units t.end h.each, length-append (units_wire t.units t.end) (0xff ∷ []))
 
 -- two SYN, a body and one PAD spell the message of the body
-sent : (body : List ℕ) (m : Message) → length (framed body) ≤ 1033 → IsBody m body → Spells (framed body) m
+sent : (body : List ℕ) (m : Message) → length (framed body) ≤ MAX_SENT → IsBody m body
+    → Spells (framed body) m
 sent body m short h = record {
   small = omega arith;
   body = body;
@@ -210,11 +235,13 @@ sent body m short h = record {
 -- what is sent for a message spells it
 pub wire_spells : (m : Message) → IsMessage m → Spells (wire m) m
 wire_spells Eot h = sent _ Eot (length-wire Eot h) refl
-wire_spells (Call a) h = sent _ (Call a) (length-wire (Call a) h) (record { pads = 0xff ∷ []; syns = 0x16 ∷ 0x16 ∷ []; whole = refl; are_pads = (refl, tt); are_syns = (refl, (refl, tt)); address = h })
+wire_spells (Call a) h =
+    sent _ (Call a) (length-wire (Call a) h) (record { pads = 0xff ∷ []; syns = 0x16 ∷ 0x16 ∷ []; whole = refl; are_pads = (refl, tt); are_syns = (refl, (refl, tt)); address = h })
 wire_spells Enq h = sent _ Enq (length-wire Enq h) refl
 wire_spells Nak h = sent _ Nak (length-wire Nak h) refl
 wire_spells Ack0 h = sent _ Ack0 (length-wire Ack0 h) refl
 wire_spells Ack1 h = sent _ Ack1 (length-wire Ack1 h) refl
 wire_spells Wack h = sent _ Wack (length-wire Wack h) refl
 wire_spells Rvi h = sent _ Rvi (length-wire Rvi h) refl
-wire_spells (Text t) h = sent _ (Text t) (length-wire (Text t) h) (record { rest = units_wire t.units t.end; whole = refl; units = wire_units false t.units t.end; text = h })
+wire_spells (Text t) h =
+    sent _ (Text t) (length-wire (Text t) h) (record { rest = units_wire t.units t.end; whole = refl; units = wire_units false t.units t.end; text = h })

@@ -1,16 +1,19 @@
 -- What octets that spell a message, or failed, have after their SYN.
-use Rattle.std.proofs.Common.{◌≡◌, ◌≢◌, ◌⊎◌, inl, inr, ℕ, ◌≤◌, ◌==◌, Bool, true, false, cond, refl, sym, ap, subst, ◌∙◌, List, [], ◌∷◌, ◌++◌, length, append-nil, map, nat_lt}
+use Rattle.std.proofs.Common.{◌≡◌, ◌≢◌, ◌⊎◌, inl, inr, ℕ, ◌≤◌, ◌==◌, Bool, true, false, cond, refl, sym, ap}
+use Rattle.std.proofs.Common.{subst, ◌∙◌, List, [], ◌∷◌, ◌++◌, length, append-nil, map, nat_lt}
 use Rattle.std.proofs.lemmas.Bool.{eqb-true}
 use Rattle.bsc_octet.specs.Octet.{IsOdd, odd_octet}
 use Rattle.bsc_frame.specs.Spells.{Spells, IsBody, Carries, AreAll, IsFailed}
 use Rattle.bsc_frame.specs.Reading.{skip, is_octet, is_pad_octet, begins, heard, heard_body, trimmed}
 use Rattle.bsc_frame.specs.declared.message.Message.{Message}
-use Rattle.bsc_frame.specs.declared.message.Message.TheVariants.{Eot, Call, Enq, Ack0, Ack1, Nak, Wack, Rvi, Text}
+use Rattle.bsc_frame.specs.declared.message.Message.TheVariants.{Eot, Call, Enq, Ack0, Ack1, Nak, Wack, Rvi}
+use Rattle.bsc_frame.specs.declared.message.Message.TheVariants.{Text}
 use Rattle.bsc_frame.specs.declared.message.Heard.{Heard}
 use Rattle.bsc_frame.specs.declared.message.Heard.TheVariants.{Noise}
 use Rattle.bsc_frame.proofs.FrontLemmas.{heard_carried, trail_of}
 use Rattle.bsc_frame.proofs.HeardLemmas.{body_reads, heard_spelled, heard_failed, failed_begins}
 use Rattle.bsc_frame.proofs.BodyOddLemmas.{eot_odd, enq_odd, nak_odd, dle_odd, stx_odd}
+use Rattle.bsc_frame.specs.declared.limits.TheConstants.{MAX_HEARD}
 
 -- a body and the PAD after it
 pub record Inside (rest : List ℕ) (n : Message) : Type 0 where
@@ -20,7 +23,9 @@ pub record Inside (rest : List ℕ) (n : Message) : Type 0 where
   pub are_trail : AreAll 0xff trail
   pub is_body : IsBody n body
 
-heard_syns : (syns rest : List ℕ) → AreAll 0x16 syns → syns ≢ [] → begins (is_octet 0x16) rest ≡ false → length (syns ++ rest) ≤ 2048
+-- a body after SYN without pads is heard as itself, without PAD at its end
+heard_syns : (syns rest : List ℕ) → AreAll 0x16 syns → syns ≢ [] → begins (is_octet 0x16) rest ≡ false
+    → length (syns ++ rest) ≤ MAX_HEARD
     → heard (syns ++ rest) ≡ heard_body (trimmed rest)
 heard_syns syns rest are some stops small =
     let c : Carries (syns ++ rest) rest = record {
@@ -35,7 +40,9 @@ heard_syns syns rest are some stops small =
     } in
     heard_carried (syns ++ rest) rest c small (ap (begins (is_octet 0x16)) (append-nil rest) ∙ stops) ∙ ap (λ z. heard_body (trimmed z)) (append-nil rest)
 
-pub inside : (syns rest : List ℕ) (n : Message) → AreAll 0x16 syns → syns ≢ [] → begins (is_octet 0x16) rest ≡ false → Spells (syns ++ rest) n → Inside rest n
+-- what is after SYN carries the body of the message that is spelled
+pub inside : (syns rest : List ℕ) (n : Message) → AreAll 0x16 syns → syns ≢ []
+    → begins (is_octet 0x16) rest ≡ false → Spells (syns ++ rest) n → Inside rest n
 inside syns rest n are some stops s =
     let t = trail_of rest in
     record {
@@ -47,7 +54,8 @@ inside syns rest n are some stops s =
     }
 
 -- what failed has STX after its SYN
-pub failed_inside : (syns rest : List ℕ) → AreAll 0x16 syns → syns ≢ [] → begins (is_octet 0x16) rest ≡ false → IsFailed (syns ++ rest) → (more : List ℕ) × (rest ≡ 0x02 ∷ more)
+pub failed_inside : (syns rest : List ℕ) → AreAll 0x16 syns → syns ≢ [] → begins (is_octet 0x16) rest ≡ false
+    → IsFailed (syns ++ rest) → (more : List ℕ) × (rest ≡ 0x02 ∷ more)
 failed_inside syns rest are some stops f =
     let t = trail_of rest in
     let k = failed_begins (trimmed rest) (sym (heard_syns syns rest are some stops f.small) ∙ heard_failed (syns ++ rest) f) in
@@ -55,15 +63,18 @@ failed_inside syns rest are some stops f =
 
 -- ---- the first octet
 
+-- the first octet of a body
 pub record First (body : List ℕ) : Type 0 where
   pub first : ℕ
   pub more : List ℕ
   pub whole : body ≡ first ∷ more
   pub odd : IsOdd first
 
+-- a body has a first octet, and this has odd parity
 pub first_of : (n : Message) (body : List ℕ) → IsBody n body → First body
 first_of Eot body h = record { first = 0x04; more = []; whole = h; odd = eot_odd }
-first_of (Call a) body h = record { first = 0x04; more = h.pads ++ h.syns ++ map odd_octet a ++ 0x85 ∷ []; whole = h.whole; odd = eot_odd }
+first_of (Call a) body h =
+    record { first = 0x04; more = h.pads ++ h.syns ++ map odd_octet a ++ 0x85 ∷ []; whole = h.whole; odd = eot_odd }
 first_of Enq body h = record { first = 0x85; more = []; whole = h; odd = enq_odd }
 first_of Nak body h = record { first = 0x15; more = []; whole = h; odd = nak_odd }
 first_of Ack0 body h = record { first = 0x10; more = 0xb0 ∷ []; whole = h; odd = dle_odd }
@@ -73,15 +84,16 @@ first_of Rvi body h = record { first = 0x10; more = 0xbc ∷ []; whole = h; odd 
 first_of (Text t) body h = record { first = 0x02; more = h.rest; whole = h.whole; odd = stx_odd }
 
 -- the rest of a body, after its first octet
-pub record Behind (x : ℕ) (rest : List ℕ) (n : Message) : Type 0 where
+pub record AfterFirst (x : ℕ) (rest : List ℕ) (n : Message) : Type 0 where
   pub body : List ℕ
   pub trail : List ℕ
   pub whole : rest ≡ body ++ trail
   pub are_trail : AreAll 0xff trail
   pub is_body : IsBody n (x ∷ body)
 
-pub behind : (x : ℕ) (rest : List ℕ) (n : Message) → Inside (x ∷ rest) n → Behind x rest n
-behind x rest n i =
+-- what is left of the message after its first octet
+pub after_first : (x : ℕ) (rest : List ℕ) (n : Message) → Inside (x ∷ rest) n → AfterFirst x rest n
+after_first x rest n i =
     let f = first_of n i.body i.is_body in
     let all : x ∷ rest ≡ f.first ∷ (f.more ++ i.trail) = i.whole ∙ ap (λ z. z ++ i.trail) f.whole in
     let head : f.first ≡ x = cc in
@@ -104,14 +116,18 @@ first_is_odd o rest n i =
 
 -- ---- no pad and no SYN at the front
 
+-- noise by both branches is noise
 either_noise : (b : Bool) (h : Heard) → h ≡ Noise → cond b Noise h ≡ Noise
 either_noise true h e = refl
 either_noise false h e = e
 
-pub starts_wrong : (o : ℕ) (rest : List ℕ) → is_pad_octet o ≡ false → (o == 0x16) ≡ false → heard (o ∷ rest) ≡ Noise
+-- octets that begin with neither a pad nor SYN are noise
+pub starts_wrong : (o : ℕ) (rest : List ℕ) → is_pad_octet o ≡ false → (o == 0x16) ≡ false
+    → heard (o ∷ rest) ≡ Noise
 unfolding heard skip
-starts_wrong o rest p s = rw p (either_noise (nat_lt 2048 (length (o ∷ rest))) _ (rw s refl))
+starts_wrong o rest p s = rw p (either_noise (nat_lt MAX_HEARD (length (o ∷ rest))) _ (rw s refl))
 
+-- an octet is one of the two leading pads, or none
 pub pad_or_not : (o : ℕ) → ((o ≡ 0x55) ⊎ (o ≡ 0xaa)) ⊎ (is_pad_octet o ≡ false)
 pad_or_not o = by_tests (o == 0x55) (o == 0xaa) refl refl
   where

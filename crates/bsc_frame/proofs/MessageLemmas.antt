@@ -3,14 +3,17 @@ use Rattle.std.proofs.Common.{◌≡◌, true, false, refl, sym, ap, subst}
 use Rattle.std.specs.Bool.{Decides}
 use lib.Pointwise.{bytes_decides}
 use mathlib.Core.Bool.{true≢false}
-use Rattle.bsc_frame.specs.Same.{text-Decides}
+use Rattle.bsc_frame.specs.TextEquality.{text-Decides}
 use Rattle.bsc_frame.specs.declared.message.Message.{Message}
-use Rattle.bsc_frame.specs.declared.message.Message.TheVariants.{Eot, Call, Enq, Ack0, Ack1, Nak, Wack, Rvi, Text}
+use Rattle.bsc_frame.specs.declared.message.Message.TheVariants.{Eot, Call, Enq, Ack0, Ack1, Nak, Wack, Rvi}
+use Rattle.bsc_frame.specs.declared.message.Message.TheVariants.{Text}
 use Rattle.bsc_frame.specs.contracts.message.MessagePartialEq.TheImpl.{eq-value}
 
+-- false is not true
 never : false ≡ true → ⊥
 never e = true≢false (sym e)
 
+-- messages that compare as equal are the same
 told : (m n : Message) → eq-value.it m n ≡ true → m ≡ n
 told Eot Eot e = refl
 told Eot (Call b) e = absurd (never e)
@@ -94,6 +97,7 @@ told (Text t) Wack e = absurd (never e)
 told (Text t) Rvi e = absurd (never e)
 told (Text t) (Text u) e = ap Text ((text-Decides t u).0 e)
 
+-- a message compares as equal to itself
 itself : (m : Message) → eq-value.it m m ≡ true
 itself Eot = refl
 itself (Call a) = (bytes_decides a a).1 refl
@@ -105,5 +109,6 @@ itself Wack = refl
 itself Rvi = refl
 itself (Text t) = (text-Decides t t).1 refl
 
+-- so the comparison tells exactly whether two messages are the same
 pub message-Decides : (m n : Message) → Decides (eq-value.it m n) (m ≡ n)
 message-Decides m n = (told m n, λ e. subst (λ (k : Message). eq-value.it m k ≡ true) e (itself m))

@@ -1,5 +1,6 @@
 -- Lists around a place, and two ways to part one list.
-use Rattle.std.proofs.Common.{◌≡◌, ◌⊎◌, inl, inr, ℕ, zero, suc, ◌<◌, refl, sym, ap, ◌∙◌, arith, List, [], ◌∷◌, ◌++◌, length, get_or, set}
+use Rattle.std.proofs.Common.{◌≡◌, ◌⊎◌, inl, inr, ℕ, zero, suc, ◌<◌, refl, sym, ap, ◌∙◌, arith, List, [], ◌∷◌}
+use Rattle.std.proofs.Common.{◌++◌, length, get_or, set}
 use Rattle.std.specs.List.{AllByRecursion}
 
 -- a list around a place
@@ -12,9 +13,11 @@ pub record Around (xs : List ℕ) (place : ℕ) : Type 0 where
   pub is_here : get_or xs place 0 ≡ here
   pub changed : (o : ℕ) → set xs place o ≡ before ++ o ∷ after
 
+-- a place in a list parts it
 pub around : (xs : List ℕ) (place : ℕ) → place < length xs → Around xs place
 around [] place l = absurd (omega arith)
-around (x ∷ xs) zero l = record { before = []; here = x; after = xs; whole = refl; long = refl; is_here = refl; changed = λ o. refl }
+around (x ∷ xs) zero l =
+    record { before = []; here = x; after = xs; whole = refl; long = refl; is_here = refl; changed = λ o. refl }
 around (x ∷ xs) (suc place) l =
     let r = around xs place (omega arith) in
     record {
@@ -33,12 +36,15 @@ pub record InFirst (xs ys front : List ℕ) (o : ℕ) (back : List ℕ) : Type 0
   pub first : xs ≡ front ++ o ∷ more
   pub rest : back ≡ more ++ ys
 
+-- the octet stands in the second of two lists
 pub record InSecond (xs ys front : List ℕ) (o : ℕ) (back : List ℕ) : Type 0 where
   pub more : List ℕ
   pub first : front ≡ xs ++ more
   pub rest : ys ≡ more ++ o ∷ back
 
-pub parted : (xs ys front : List ℕ) (o : ℕ) (back : List ℕ) → xs ++ ys ≡ front ++ o ∷ back → InFirst xs ys front o back ⊎ InSecond xs ys front o back
+-- an octet in two lists stands in the first or in the second
+pub parted : (xs ys front : List ℕ) (o : ℕ) (back : List ℕ) → xs ++ ys ≡ front ++ o ∷ back
+    → InFirst xs ys front o back ⊎ InSecond xs ys front o back
 parted [] ys front o back e = inr (record { more = front; first = refl; rest = e })
 parted (x ∷ xs) ys [] o back e =
     let head : x ≡ o = cc in
@@ -53,14 +59,19 @@ parted (x ∷ xs) ys (y ∷ front) o back e =
     ]
 
 -- what holds of each member
-pub all_here : (P : ℕ → Type 0) (front : List ℕ) (o : ℕ) (back : List ℕ) → AllByRecursion P (front ++ o ∷ back) → P o
+pub all_here : (P : ℕ → Type 0) (front : List ℕ) (o : ℕ) (back : List ℕ)
+    → AllByRecursion P (front ++ o ∷ back) → P o
 all_here P [] o back h = h.0
 all_here P (x ∷ front) o back h = all_here P front o back h.1
 
-pub all_after : (P : ℕ → Type 0) (front back : List ℕ) → AllByRecursion P (front ++ back) → AllByRecursion P back
+-- what holds of all elements of two lists holds of those of the second
+pub all_after : (P : ℕ → Type 0) (front back : List ℕ) → AllByRecursion P (front ++ back)
+    → AllByRecursion P back
 all_after P [] back h = h
 all_after P (x ∷ front) back h = all_after P front back h.1
 
-pub all_both : (P : ℕ → Type 0) (xs ys : List ℕ) → AllByRecursion P xs → AllByRecursion P ys → AllByRecursion P (xs ++ ys)
+-- what holds of all elements of each holds of those of both
+pub all_both : (P : ℕ → Type 0) (xs ys : List ℕ) → AllByRecursion P xs → AllByRecursion P ys
+    → AllByRecursion P (xs ++ ys)
 all_both P [] ys h k = k
 all_both P (x ∷ xs) ys h k = (h.0, all_both P xs ys h.1 k)

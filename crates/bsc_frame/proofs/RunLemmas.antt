@@ -1,5 +1,8 @@
 -- The octets at the front that pass a test, counted one by one or 32 at a time.
-use Rattle.std.proofs.Common.{◌≡◌, ℕ, zero, suc, ◌+◌, ◌-◌, ◌<◌, ◌≤◌, Bool, true, false, cond, List, [], ◌∷◌, length, take, drop, get_or, add-one, drop-cons, drop-drop, length-drop, length-take, take-add, append-nil, append_assoc, ◌++◌, ◌||◌, ◌==◌, refl, sym, ap, ◌∙◌, arith}
+use Rattle.std.proofs.Common.{◌≡◌, ℕ, zero, suc, ◌+◌, ◌-◌, ◌<◌, ◌≤◌, Bool, true, false, cond, List, [], ◌∷◌}
+use Rattle.std.proofs.Common.{length, take, drop, get_or, add-one, drop-cons, drop-drop, length-drop}
+use Rattle.std.proofs.Common.{length-take, take-add, append-nil, append_assoc, ◌++◌, ◌||◌, ◌==◌, refl, sym}
+use Rattle.std.proofs.Common.{ap, ◌∙◌, arith}
 use Rattle.std.specs.List.{prefix_len}
 use Rattle.std.proofs.lemmas.List.{drop_all}
 use Rattle.std.proofs.lemmas.Bool.{eqb-true}
@@ -11,31 +14,41 @@ pub record CountedTo (p : ℕ → Bool) (at : ℕ) (s : List ℕ) : Type 0 where
   pub within : at ≤ length s
   pub rest : at + prefix_len p (drop at s) ≡ prefix_len p s
 
-pub run_more : (p : ℕ → Bool) (at : ℕ) (s : List ℕ) → CountedTo p at s → at < length s → p (get_or s at 0) ≡ true → CountedTo p (at + 1) s
+-- one octet more passes
+pub run_more : (p : ℕ → Bool) (at : ℕ) (s : List ℕ) → CountedTo p at s → at < length s
+    → p (get_or s at 0) ≡ true → CountedTo p (at + 1) s
 run_more p at s c l h =
-    let step : prefix_len p (drop at s) ≡ 1 + prefix_len p (drop (at + 1) s) = rw (add-one at, drop-cons s at 0 l, h) refl in
+    let step : prefix_len p (drop at s) ≡ 1 + prefix_len p (drop (at + 1) s) =
+    rw (add-one at, drop-cons s at 0 l, h) refl in
     record { within = omega arith; rest = omega (arith, c.rest) }
 
-pub run_stop : (p : ℕ → Bool) (at : ℕ) (s : List ℕ) → CountedTo p at s → at < length s → p (get_or s at 0) ≡ false → at ≡ prefix_len p s
+-- the first octet that does not pass ends the front
+pub run_stop : (p : ℕ → Bool) (at : ℕ) (s : List ℕ) → CountedTo p at s → at < length s
+    → p (get_or s at 0) ≡ false → at ≡ prefix_len p s
 run_stop p at s c l h =
     let step : prefix_len p (drop at s) ≡ 0 = rw (drop-cons s at 0 l, h) refl in
     omega (arith, c.rest)
 
-pub run_end : (p : ℕ → Bool) (at : ℕ) (s : List ℕ) → CountedTo p at s → length s ≤ at → length s ≡ prefix_len p s
+-- all octets pass
+pub run_end : (p : ℕ → Bool) (at : ℕ) (s : List ℕ) → CountedTo p at s → length s ≤ at
+    → length s ≡ prefix_len p s
 run_end p at s c l =
     let step : prefix_len p (drop at s) ≡ 0 = rw (drop_all at s l) refl in
     omega (arith, c.rest, c.within)
 
+-- the first octet does not pass
 pub run_none : (p : ℕ → Bool) (s : List ℕ) → p (get_or s 0 0) ≡ false → 0 ≡ prefix_len p s
 run_none p [] h = refl
 run_none p (x ∷ s) h = rw h refl
 
 -- ---- many at a time
 
+-- the front that passes, by that of the first n: the same where it stops there, else it goes on
 record Cuts (p : ℕ → Bool) (n : ℕ) (s : List ℕ) : Type 0 where
   stops : prefix_len p (take n s) < n → prefix_len p s ≡ prefix_len p (take n s)
   goes_on : n ≤ prefix_len p (take n s) → prefix_len p s ≡ n + prefix_len p (drop n s)
 
+-- one octet more at the front
 cuts_head : (p : ℕ → Bool) (n x : ℕ) (s : List ℕ) (b : Bool) → p x ≡ b → Cuts p n s → Cuts p (suc n) (x ∷ s)
 cuts_head p n x s true e c = record {
   stops = rw e (λ l. ap (λ k. 1 + k) (c.stops (omega arith)));
@@ -43,72 +56,97 @@ cuts_head p n x s true e c = record {
 }
 cuts_head p n x s false e c = record { stops = rw e (λ l. refl); goes_on = rw e (λ l. absurd (omega arith)) }
 
+-- so it is of every list
 cuts : (p : ℕ → Bool) (n : ℕ) (s : List ℕ) → n ≤ length s → Cuts p n s
 cuts p zero s l = record { stops = λ h. absurd (omega arith); goes_on = λ h. omega arith }
 cuts p (suc n) [] l = absurd (omega arith)
 cuts p (suc n) (x ∷ s) l = cuts_head p n x s (p x) refl (cuts p n s (omega arith))
 
-pub run_stops : (p : ℕ → Bool) (at run : ℕ) (s : List ℕ) → CountedTo p at s → 32 ≤ length s - at → run ≡ prefix_len p (take 32 (drop at s)) → run < 32 → at + run ≡ prefix_len p s
+-- a lane that does not pass ends the front
+pub run_stops : (p : ℕ → Bool) (at run : ℕ) (s : List ℕ) → CountedTo p at s → 32 ≤ length s - at
+    → run ≡ prefix_len p (take 32 (drop at s)) → run < 32 → at + run ≡ prefix_len p s
 run_stops p at run s c l e h =
     let k = (cuts p 32 (drop at s) (omega (arith, length-drop at s))).stops (omega arith) in
     omega (arith, c.rest, k)
 
-pub run_goes_on : (p : ℕ → Bool) (at run : ℕ) (s : List ℕ) → CountedTo p at s → 32 ≤ length s - at → run ≡ prefix_len p (take 32 (drop at s)) → 32 ≤ run → CountedTo p (at + 32) s
+-- all lanes pass
+pub run_goes_on : (p : ℕ → Bool) (at run : ℕ) (s : List ℕ) → CountedTo p at s → 32 ≤ length s - at
+    → run ≡ prefix_len p (take 32 (drop at s)) → 32 ≤ run → CountedTo p (at + 32) s
 run_goes_on p at run s c l e h =
     let k = (cuts p 32 (drop at s) (omega (arith, length-drop at s))).goes_on (omega arith) in
-    let further : prefix_len p (drop 32 (drop at s)) ≡ prefix_len p (drop (at + 32) s) = ap (prefix_len p) (drop-drop 32 at s) in
+    let further : prefix_len p (drop 32 (drop at s)) ≡ prefix_len p (drop (at + 32) s) =
+    ap (prefix_len p) (drop-drop 32 at s) in
     record { within = omega arith; rest = omega (arith, c.rest, k, further) }
 
-pub run_rest : (p : ℕ → Bool) (at run : ℕ) (s : List ℕ) → CountedTo p at s → run ≡ prefix_len p (take (length s - at) (drop at s)) → at + run ≡ prefix_len p s
+-- what is counted after the last whole lanes is added
+pub run_rest : (p : ℕ → Bool) (at run : ℕ) (s : List ℕ) → CountedTo p at s
+    → run ≡ prefix_len p (take (length s - at) (drop at s)) → at + run ≡ prefix_len p s
 run_rest p at run s c e =
     let k : run ≡ prefix_len p (drop at s) = e ∙ ap (prefix_len p) (rest_is s at) in
     omega (arith, c.rest, k)
 
 -- ---- what is skipped
 
-skip_head : (test : ℕ → Bool) (x : ℕ) (s : List ℕ) (b : Bool) → test x ≡ b → skip test s ≡ drop (prefix_len test s) s → skip test (x ∷ s) ≡ drop (prefix_len test (x ∷ s)) (x ∷ s)
+-- one octet more at the front
+skip_head : (test : ℕ → Bool) (x : ℕ) (s : List ℕ) (b : Bool) → test x ≡ b
+    → skip test s ≡ drop (prefix_len test s) s → skip test (x ∷ s) ≡ drop (prefix_len test (x ∷ s)) (x ∷ s)
 unfolding skip
 skip_head test x s true e h = let one : 1 + prefix_len test s ≡ suc (prefix_len test s) = omega arith in rw (e, one) h
 skip_head test x s false e h = rw e refl
 
+-- what is skipped is the front that passes
 skip-drop : (test : ℕ → Bool) (s : List ℕ) → skip test s ≡ drop (prefix_len test s) s
 unfolding skip
 skip-drop test [] = refl
 skip-drop test (x ∷ s) = skip_head test x s (test x) refl (skip-drop test s)
 
+-- tests that agree skip the same
 skip-same : (p q : ℕ → Bool) → ((x : ℕ) → p x ≡ q x) → (s : List ℕ) → skip p s ≡ skip q s
 unfolding skip
 skip-same p q e [] = refl
 skip-same p q e (x ∷ s) = rw (e x, skip-same p q e s) refl
 
+-- a test or itself
 twice : (b : Bool) → (b || b) ≡ b
 twice true = refl
 twice false = refl
 
-pub skip_pads : (s : List ℕ) (n : ℕ) → n ≡ prefix_len (is_either 0x55 0xaa) s → take (length s - n) (drop n s) ≡ skip is_pad_octet s
+-- the octets after a front of leading pads
+pub skip_pads : (s : List ℕ) (n : ℕ) → n ≡ prefix_len (is_either 0x55 0xaa) s
+    → take (length s - n) (drop n s) ≡ skip is_pad_octet s
 skip_pads s n e = rest_is s n ∙ ap (λ k. drop k s) e ∙ sym (skip-drop (is_either 0x55 0xaa) s)
 
-pub skip_all : (s : List ℕ) (n octet : ℕ) → n ≡ prefix_len (is_either octet octet) s → take (length s - n) (drop n s) ≡ skip (is_octet octet) s
-skip_all s n octet e = rest_is s n ∙ ap (λ k. drop k s) e ∙ sym (skip-drop (is_either octet octet) s) ∙ skip-same (is_either octet octet) (is_octet octet) (λ x. twice (x == octet)) s
+-- the octets after a front of this octet
+pub skip_all : (s : List ℕ) (n octet : ℕ) → n ≡ prefix_len (is_either octet octet) s
+    → take (length s - n) (drop n s) ≡ skip (is_octet octet) s
+skip_all s n octet e =
+    rest_is s n ∙ ap (λ k. drop k s) e ∙ sym (skip-drop (is_either octet octet) s) ∙ skip-same (is_either octet octet) (is_octet octet) (λ x. twice (x == octet)) s
 
 -- ---- what is trimmed
 
+-- one PAD more at the end changes nothing, and so on for all of them
 pad_head : (front : List ℕ) (x : ℕ) (pads : List ℕ) (b : Bool) → (x == 0xff) ≡ b
     → (length pads ≤ prefix_len (is_either 0xff 0xff) pads → trimmed ((front ++ x ∷ []) ++ pads) ≡ trimmed (front ++ x ∷ []))
-    → suc (length pads) ≤ cond (b || b) (1 + prefix_len (is_either 0xff 0xff) pads) 0 → trimmed (front ++ x ∷ pads) ≡ trimmed front
+    → suc (length pads) ≤ cond (b || b) (1 + prefix_len (is_either 0xff 0xff) pads) 0
+    → trimmed (front ++ x ∷ pads) ≡ trimmed front
 pad_head front x pads true e h l =
     let pad : x ≡ 0xff = eqb-true x 0xff e in
     ap trimmed (sym (append_assoc front (x ∷ []) pads)) ∙ h (omega arith) ∙ ap (λ z. trimmed (front ++ z ∷ [])) pad ∙ trimmed-push_pad front
 pad_head front x pads false e h l = absurd (omega arith)
 
-trimmed_pads : (front pads : List ℕ) → length pads ≤ prefix_len (is_either 0xff 0xff) pads → trimmed (front ++ pads) ≡ trimmed front
+-- PAD at the end changes nothing
+trimmed_pads : (front pads : List ℕ) → length pads ≤ prefix_len (is_either 0xff 0xff) pads
+    → trimmed (front ++ pads) ≡ trimmed front
 trimmed_pads front [] l = ap trimmed (append-nil front)
 trimmed_pads front (x ∷ pads) l = pad_head front x pads (x == 0xff) refl (trimmed_pads (front ++ x ∷ []) pads) l
 
-pub trim_more : (s : List ℕ) (end run : ℕ) → trimmed (take end s) ≡ trimmed s → end ≤ length s → 32 ≤ end → run ≡ prefix_len (is_either 0xff 0xff) (take 32 (drop (end - 32) s)) → 32 ≤ run
+-- lanes of PAD at the end change nothing
+pub trim_more : (s : List ℕ) (end run : ℕ) → trimmed (take end s) ≡ trimmed s → end ≤ length s → 32 ≤ end
+    → run ≡ prefix_len (is_either 0xff 0xff) (take 32 (drop (end - 32) s)) → 32 ≤ run
     → trimmed (take (end - 32) s) ≡ trimmed s
 trim_more s end run same within l e all =
     let back : (end - 32) + 32 ≡ end = omega arith in
-    let parts : take end s ≡ take (end - 32) s ++ take 32 (drop (end - 32) s) = ap (λ k. take k s) (sym back) ∙ take-add (end - 32) 32 s in
+    let parts : take end s ≡ take (end - 32) s ++ take 32 (drop (end - 32) s) =
+    ap (λ k. take k s) (sym back) ∙ take-add (end - 32) 32 s in
     let long : length (take 32 (drop (end - 32) s)) ≤ 32 = omega (arith, length-take 32 (drop (end - 32) s)) in
     sym (trimmed_pads (take (end - 32) s) (take 32 (drop (end - 32) s)) (omega arith)) ∙ ap trimmed (sym parts) ∙ same

@@ -1,14 +1,17 @@
 -- A buffer with its marks is read off the units that it holds, so two texts are the same where their marks,
 -- characters and ends are.
-use Rattle.std.proofs.Common.{◌≡◌, ℕ, ◌+◌, ◌-◌, ◌≤◌, Bool, true, false, ◌&&◌, ◌==◌, refl, sym, ap, ◌∙◌, subst, arith, List, [], ◌∷◌, ◌++◌, length, drop, length-take, length-drop, drop-drop, take-append-drop, slice_range}
+use Rattle.std.proofs.Common.{◌≡◌, ℕ, ◌+◌, ◌-◌, ◌≤◌, Bool, true, false, ◌&&◌, ◌==◌, refl, sym, ap, ◌∙◌, subst}
+use Rattle.std.proofs.Common.{arith, List, [], ◌∷◌, ◌++◌, length, drop, length-take, length-drop, drop-drop}
+use Rattle.std.proofs.Common.{take-append-drop, slice_range}
 use Rattle.std.proofs.lemmas.List.{drop_all}
 use Rattle.std.specs.Bool.{Decides, one_answer, beq}
 use Rattle.std.specs.Cmp.{unsigned_Decides, booleans_Decides}
 use lib.Pointwise.{pointwise, pointwise_decides, bytes_decides}
 use denote.Enum.Bare.{sameb}
 use Rattle.bsc_frame.specs.contracts.text.End.{the_type}
-use Rattle.bsc_frame.specs.Texts.{TextUnit, TextValue, units_from, AreMarked, HoldsText, text_of}
-use Rattle.bsc_frame.specs.Same.{is_same_text, text-Decides, both_true}
+use Rattle.bsc_frame.specs.Texts.{TextUnit, TextValue, units_from, AreMarked, HoldsText, marked_text}
+use Rattle.bsc_frame.specs.Same.{is_same_text}
+use Rattle.bsc_frame.specs.TextEquality.{text-Decides, both_true}
 use Rattle.bsc_frame.specs.declared.text.End.{End}
 use Rattle.bsc_frame.specs.declared.text.End.TheVariants.{Etb, Etx}
 use Rattle.bsc_frame.specs.declared.text.Mark.{Mark}
@@ -19,10 +22,13 @@ record SameFrom (start : ℕ) (ms ns : List Mark) (xs ys : List ℕ) : Type 0 wh
   chars : drop start xs ≡ drop start ys
 
 -- a unit and what stands after it
-unit_length : (start end : ℕ) (xs : List ℕ) → start ≤ end → end ≤ length xs → length (slice_range xs start end) ≡ end - start
+unit_length : (start end : ℕ) (xs : List ℕ) → start ≤ end → end ≤ length xs
+    → length (slice_range xs start end) ≡ end - start
 unit_length start end xs h l = omega (arith, h, l, length-take (end - start) (drop start xs), length-drop start xs)
 
-unit_first : (start end : ℕ) (xs : List ℕ) → start ≤ end → drop start xs ≡ slice_range xs start end ++ drop end xs
+-- what is left after a start is the range up to an end, and what is left after that
+unit_first : (start end : ℕ) (xs : List ℕ) → start ≤ end
+    → drop start xs ≡ slice_range xs start end ++ drop end xs
 unit_first start end xs h =
     let to : start + (end - start) ≡ end = omega arith in
     sym (take-append-drop (end - start) (drop start xs))
@@ -36,6 +42,7 @@ abbrev after_first : List TextUnit → List TextUnit
 after_first [] = []
 after_first (u ∷ us) = us
 
+-- marks and characters that give the same units from a start on are the same
 same_from : (start : ℕ) (ms ns : List Mark) (xs ys : List ℕ) → AreMarked start ms xs → AreMarked start ns ys →
     units_from start ms xs ≡ units_from start ns ys → SameFrom start ms ns xs ys
 same_from start [] [] xs ys h k e =
@@ -67,14 +74,18 @@ pub record IsKeptAlike (ms ns : List Mark) (xs ys : List ℕ) (e f : End) : Type
   pub end : e ≡ f
   pub chars : xs ≡ ys
 
+-- two buffers that hold the same text are kept alike
 kept_alike : (ms ns : List Mark) (xs ys : List ℕ) (e f : End) → HoldsText ms xs e → HoldsText ns ys f →
-    text_of ms xs e ≡ text_of ns ys f → IsKeptAlike ms ns xs ys e f
+    marked_text ms xs e ≡ marked_text ns ys f → IsKeptAlike ms ns xs ys e f
 kept_alike ms ns xs ys e f h k same =
-    let from : SameFrom 0 ms ns xs ys = same_from 0 ms ns xs ys h.marked k.marked (ap (λ (t : TextValue). t.units) same) in
+    let from : SameFrom 0 ms ns xs ys =
+    same_from 0 ms ns xs ys h.marked k.marked (ap (λ (t : TextValue). t.units) same) in
     record { end = ap (λ (t : TextValue). t.end) same; marks = from.marks; chars = from.chars }
 
-text_alike : (ms ns : List Mark) (xs ys : List ℕ) (e f : End) → IsKeptAlike ms ns xs ys e f → text_of ms xs e ≡ text_of ns ys f
-text_alike ms ns xs ys e f a = λ i. text_of (a.marks i) (a.chars i) (a.end i)
+-- two buffers that are kept alike hold the same text
+text_alike : (ms ns : List Mark) (xs ys : List ℕ) (e f : End) → IsKeptAlike ms ns xs ys e f
+    → marked_text ms xs e ≡ marked_text ns ys f
+text_alike ms ns xs ys e f a = λ i. marked_text (a.marks i) (a.chars i) (a.end i)
 
 -- the test that the code makes of what is kept
 abbrev pub is_same_mark : Mark → Mark → Bool
@@ -83,26 +94,31 @@ is_same_mark a b = (a.end == b.end) && beq a.em b.em
 abbrev pub is_kept_alike : List Mark → List Mark → List ℕ → List ℕ → End → End → Bool
 is_kept_alike ms ns xs ys e f = pointwise is_same_mark ms ns && (sameb the_type e f && pointwise ◌==◌ xs ys)
 
+-- the comparison of marks tells exactly whether they are the same
 mark-Decides : (a b : Mark) → Decides (is_same_mark a b) (a ≡ b)
 mark-Decides a b =
     both_true (a.end == b.end) (beq a.em b.em) (unsigned_Decides a.end b.end) (booleans_Decides a.em b.em)
     (λ end em i. record { end = end i; em = em i }) (ap (λ (m : Mark). m.end)) (ap (λ (m : Mark). m.em))
 
+-- and that of ends
 ends-Decides : (e f : End) → Decides (sameb the_type e f) (e ≡ f)
 ends-Decides Etb Etb = (λ t. refl, λ t. refl)
 ends-Decides Etb Etx = (λ t. absurd (cc), λ t. absurd (cc))
 ends-Decides Etx Etb = (λ t. absurd (cc), λ t. absurd (cc))
 ends-Decides Etx Etx = (λ t. refl, λ t. refl)
 
-kept-Decides : (ms ns : List Mark) (xs ys : List ℕ) (e f : End) → Decides (is_kept_alike ms ns xs ys e f) (IsKeptAlike ms ns xs ys e f)
+-- and that of what two texts keep
+kept-Decides : (ms ns : List Mark) (xs ys : List ℕ) (e f : End)
+    → Decides (is_kept_alike ms ns xs ys e f) (IsKeptAlike ms ns xs ys e f)
 kept-Decides ms ns xs ys e f =
     both_true {P = ms ≡ ns} {Q = (e ≡ f) × (xs ≡ ys)} (pointwise is_same_mark ms ns) (sameb the_type e f && pointwise ◌==◌ xs ys) (pointwise_decides mark-Decides ms ns)
     (both_true (sameb the_type e f) (pointwise ◌==◌ xs ys) (ends-Decides e f) (bytes_decides xs ys) (λ a b. (a, b)) (λ a. a.0) (λ a. a.1))
     (λ a b. record { marks = a; end = b.0; chars = b.1 }) (λ a. a.marks) (λ a. (a.end, a.chars))
 
 -- a test of what is kept is one of the texts
-pub tells_text : (ms ns : List Mark) (xs ys : List ℕ) (e f : End) (a b : TextValue) (r : Bool) → HoldsText ms xs e → HoldsText ns ys f →
-    text_of ms xs e ≡ a → text_of ns ys f ≡ b → r ≡ is_kept_alike ms ns xs ys e f → r ≡ is_same_text a b
+pub tells_text : (ms ns : List Mark) (xs ys : List ℕ) (e f : End) (a b : TextValue) (r : Bool)
+    → HoldsText ms xs e → HoldsText ns ys f →
+    marked_text ms xs e ≡ a → marked_text ns ys f ≡ b → r ≡ is_kept_alike ms ns xs ys e f → r ≡ is_same_text a b
 tells_text ms ns xs ys e f a b r h k is_a is_b tests =
     let d = kept-Decides ms ns xs ys e f in
     tests ∙ one_answer (is_kept_alike ms ns xs ys e f) (is_same_text a b)
@@ -113,9 +129,11 @@ tells_text ms ns xs ys e f a b r h k is_a is_b tests =
 pub third_tells : (p q r s : Bool) → p ≡ true → q ≡ true → s ≡ r → s ≡ (p && (q && r))
 third_tells p q r s a b e = rw (a, b) e
 
+-- where the first of three comparisons fails, the texts differ
 pub first_fails : (p q r s : Bool) → p ≡ false → s ≡ false → s ≡ (p && (q && r))
 first_fails p q r s a e = rw a e
 
+-- and where the second fails
 pub second_fails : (p q r s : Bool) → q ≡ false → s ≡ false → s ≡ (p && (q && r))
 second_fails true q r s b e = rw b e
 second_fails false q r s b e = e

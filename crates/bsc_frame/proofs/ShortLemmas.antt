@@ -2,11 +2,15 @@
 use Rattle.std.proofs.Common.{◌≡◌, inl, inr, ℕ, true, false, refl, sym, ◌∙◌, List, drop, Option, Some, None}
 use Rattle.bsc_frame.specs.Texts.{TextValue}
 use Rattle.bsc_frame.specs.Short.{IsHeard, BeginsText}
-use Rattle.bsc_frame.specs.Reading.{is_octet, begins, control, heard, heard_body, whole_or_noise, whole_or_failed, units_at}
+use Rattle.bsc_frame.specs.Reading.{is_octet, begins, control, heard, heard_body, whole_or_noise}
+use Rattle.bsc_frame.specs.Reading.{whole_or_failed, units_at}
 use Rattle.bsc_frame.specs.declared.message.Message.TheVariants.{Text}
 use Rattle.bsc_frame.specs.declared.message.Heard.{Heard}
-use Rattle.bsc_frame.proofs.HeardLemmas.{spelled_heard, heard_spelled, failed_heard, heard_failed, noise_heard, heard_noise}
+use Rattle.bsc_frame.proofs.HeardLemmas.{spelled_heard, heard_spelled, failed_heard, heard_failed}
+use Rattle.bsc_frame.proofs.HeardLemmas.{noise_heard, heard_noise}
+use Rattle.bsc_frame.specs.declared.limits.TheConstants.{MAX_UNITS}
 
+-- what is read from left to right is what is heard by the relations
 is_heard : (octets : List ℕ) (h : Heard) → heard octets ≡ h → IsHeard octets h
 is_heard octets h e = record {
   whole = λ m. (λ k. spelled_heard octets m (e ∙ k), λ s. sym e ∙ heard_spelled octets m s);
@@ -14,13 +18,17 @@ is_heard octets h e = record {
   noise = (λ k. noise_heard octets (e ∙ k), λ n. sym e ∙ heard_noise octets n);
 }
 
-pub short_is_heard : (octets body : List ℕ) (h : Heard) → heard octets ≡ heard_body body → false ≡ begins (is_octet 0x02) body → h ≡ whole_or_noise (control body) → IsHeard octets h
+-- a body that is no text is heard as what it reads as
+pub short_is_heard : (octets body : List ℕ) (h : Heard) → heard octets ≡ heard_body body
+    → false ≡ begins (is_octet 0x02) body → h ≡ whole_or_noise (control body) → IsHeard octets h
 unfolding heard_body
 short_is_heard octets body h e n k = is_heard octets h (e ∙ rw (← n) (sym k))
 
-pub text_begins : (octets body : List ℕ) → heard octets ≡ heard_body body → true ≡ begins (is_octet 0x02) body → BeginsText octets
+-- a body that begins with STX is a text, or failed as one
+pub text_begins : (octets body : List ℕ) → heard octets ≡ heard_body body → true ≡ begins (is_octet 0x02) body
+    → BeginsText octets
 unfolding heard_body
-text_begins octets body e b = by_units (units_at 7 false (drop 1 body)) (e ∙ rw (← b) refl)
+text_begins octets body e b = by_units (units_at MAX_UNITS false (drop 1 body)) (e ∙ rw (← b) refl)
   where
     by_units : (o : Option TextValue) → heard octets ≡ whole_or_failed o → BeginsText octets
     by_units None k = inr (failed_heard octets k)

@@ -1,11 +1,13 @@
 -- What changed members do to a longitudinal sum.
-use Rattle.std.proofs.Common.{◌≡◌, ℕ, zero, suc, ◌+◌, ◌*◌, ◌/◌, ◌%◌, ◌<◌, ◌==◌, cond, refl, sym, ap, ◌∙◌, arith, List, [], ◌∷◌, ◌++◌, bit_xor}
+use Rattle.std.proofs.Common.{◌≡◌, ℕ, zero, suc, ◌+◌, ◌*◌, ◌/◌, ◌%◌, ◌<◌, ◌==◌, cond, refl, sym, ap, ◌∙◌}
+use Rattle.std.proofs.Common.{arith, List, [], ◌∷◌, ◌++◌, bit_xor}
 use Rattle.std.specs.Int.{bit_at}
 use Rattle.std.proofs.lemmas.Nat.Bits.{bit_at_xor, bit_at-lt}
 use Rattle.std.proofs.lemmas.List.Sums.{sum_by-cons}
 use Rattle.bsc_octet.specs.Octet.{longitudinal_sum, with_bit}
 use Rattle.bsc_octet.proofs.LaneLemmas.{with_bit-append}
 
+-- a bit is counted where it is 1
 bit_counts : (x i : ℕ) → cond (bit_at x i == 1) 1 0 ≡ bit_at x i
 bit_counts x i = by_bit (bit_at x i) (bit_at-lt x i)
   where
@@ -15,12 +17,15 @@ bit_counts x i = by_bit (bit_at x i) (bit_at-lt x i)
     by_bit (suc (suc b)) l = absurd (omega arith)
 
 -- the members with a bit, around one of them
-around_bit : (i : ℕ) (front : List ℕ) (c : ℕ) (back : List ℕ) → with_bit i (front ++ c ∷ back) ≡ with_bit i front + (bit_at c i + with_bit i back)
+around_bit : (i : ℕ) (front : List ℕ) (c : ℕ) (back : List ℕ)
+    → with_bit i (front ++ c ∷ back) ≡ with_bit i front + (bit_at c i + with_bit i back)
 around_bit i front c back =
     with_bit-append i front (c ∷ back)
     ∙ ap (λ n. with_bit i front + n) (sum_by-cons (λ y. cond (bit_at y i == 1) 1 0) c back ∙ ap (λ n. n + with_bit i back) (bit_counts c i))
 
-same_sum : (s t : List ℕ) → ((i : ℕ) → with_bit i s % 2 ≡ with_bit i t % 2) → longitudinal_sum s ≡ longitudinal_sum t
+-- lists with the same parity of each bit have the same sum
+same_sum : (s t : List ℕ) → ((i : ℕ) → with_bit i s % 2 ≡ with_bit i t % 2)
+    → longitudinal_sum s ≡ longitudinal_sum t
 unfolding longitudinal_sum
 same_sum s t h = rw (h 0, h 1, h 2, h 3, h 4, h 5, h 6) refl
 
@@ -41,34 +46,42 @@ two_turned front middle back c d mask =
 
 -- ---- one changed member changes the sum
 
+-- each bit of a sum is the parity of the members that have it: bit 0
 sum_bit_0 : (s : List ℕ) → longitudinal_sum s % 2 ≡ with_bit 0 s % 2
 unfolding longitudinal_sum
 sum_bit_0 s = omega arith
 
+-- bit 1
 sum_bit_1 : (s : List ℕ) → longitudinal_sum s / 2 % 2 ≡ with_bit 1 s % 2
 unfolding longitudinal_sum
 sum_bit_1 s = omega arith
 
+-- bit 2
 sum_bit_2 : (s : List ℕ) → longitudinal_sum s / 4 % 2 ≡ with_bit 2 s % 2
 unfolding longitudinal_sum
 sum_bit_2 s = omega arith
 
+-- bit 3
 sum_bit_3 : (s : List ℕ) → longitudinal_sum s / 8 % 2 ≡ with_bit 3 s % 2
 unfolding longitudinal_sum
 sum_bit_3 s = omega arith
 
+-- bit 4
 sum_bit_4 : (s : List ℕ) → longitudinal_sum s / 16 % 2 ≡ with_bit 4 s % 2
 unfolding longitudinal_sum
 sum_bit_4 s = omega arith
 
+-- bit 5
 sum_bit_5 : (s : List ℕ) → longitudinal_sum s / 32 % 2 ≡ with_bit 5 s % 2
 unfolding longitudinal_sum
 sum_bit_5 s = omega arith
 
+-- bit 6
 sum_bit_6 : (s : List ℕ) → longitudinal_sum s / 64 % 2 ≡ with_bit 6 s % 2
 unfolding longitudinal_sum
 sum_bit_6 s = omega arith
 
+-- two codes with the same seven bits
 record SameBits (c d : ℕ) : Type 0 where
   b0 : bit_at c 0 ≡ bit_at d 0
   b1 : bit_at c 1 ≡ bit_at d 1
@@ -78,10 +91,15 @@ record SameBits (c d : ℕ) : Type 0 where
   b5 : bit_at c 5 ≡ bit_at d 5
   b6 : bit_at c 6 ≡ bit_at d 6
 
-same_bit : (i : ℕ) (front : List ℕ) (c d : ℕ) (back : List ℕ) → with_bit i (front ++ c ∷ back) % 2 ≡ with_bit i (front ++ d ∷ back) % 2 → bit_at c i ≡ bit_at d i
-same_bit i front c d back h = omega (arith, h, around_bit i front c back, around_bit i front d back, bit_at-lt c i, bit_at-lt d i)
+-- where one member is changed and the parity of a bit is not, the member has the bit as before
+same_bit : (i : ℕ) (front : List ℕ) (c d : ℕ) (back : List ℕ)
+    → with_bit i (front ++ c ∷ back) % 2 ≡ with_bit i (front ++ d ∷ back) % 2 → bit_at c i ≡ bit_at d i
+same_bit i front c d back h =
+    omega (arith, h, around_bit i front c back, around_bit i front d back, bit_at-lt c i, bit_at-lt d i)
 
-same_bits : (front : List ℕ) (c d : ℕ) (back : List ℕ) → longitudinal_sum (front ++ c ∷ back) ≡ longitudinal_sum (front ++ d ∷ back) → SameBits c d
+-- so where the sum is not changed, it has all bits as before
+same_bits : (front : List ℕ) (c d : ℕ) (back : List ℕ)
+    → longitudinal_sum (front ++ c ∷ back) ≡ longitudinal_sum (front ++ d ∷ back) → SameBits c d
 same_bits front c d back h = record {
   b0 = same_bit 0 front c d back (sym (sum_bit_0 (front ++ c ∷ back)) ∙ ap (λ n. n % 2) h ∙ sum_bit_0 (front ++ d ∷ back));
   b1 = same_bit 1 front c d back (sym (sum_bit_1 (front ++ c ∷ back)) ∙ ap (λ n. n / 2 % 2) h ∙ sum_bit_1 (front ++ d ∷ back));
@@ -97,7 +115,9 @@ code_by_bits : (c : ℕ) → c < 128
     → bit_at c 0 + 2 * bit_at c 1 + 4 * bit_at c 2 + 8 * bit_at c 3 + 16 * bit_at c 4 + 32 * bit_at c 5 + 64 * bit_at c 6 ≡ c
 code_by_bits c h = omega arith
 
-pub one_changed : (front : List ℕ) (c d : ℕ) (back : List ℕ) → c < 128 → d < 128 → longitudinal_sum (front ++ c ∷ back) ≡ longitudinal_sum (front ++ d ∷ back) → c ≡ d
+-- two codes of which one may stand for the other in a sum are the same
+pub one_changed : (front : List ℕ) (c d : ℕ) (back : List ℕ) → c < 128 → d < 128
+    → longitudinal_sum (front ++ c ∷ back) ≡ longitudinal_sum (front ++ d ∷ back) → c ≡ d
 one_changed front c d back l k h =
     let b = same_bits front c d back h in
     sym (code_by_bits c l) ∙ rw (b.b0, b.b1, b.b2, b.b3, b.b4, b.b5, b.b6) (code_by_bits d k)

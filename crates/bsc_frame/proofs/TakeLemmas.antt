@@ -1,5 +1,7 @@
 -- The steps of taking one unit from octets.
-use Rattle.std.proofs.Common.{◌≡◌, inl, inr, ℕ, suc, ◌+◌, ◌<◌, ◌≤◌, ◌==◌, ◌||◌, ◌&&◌, not, Bool, true, false, cond, refl, sym, ap, subst, ◌∙◌, arith, List, [], ◌∷◌, ◌++◌, length, take, drop, map, get_or, append_assoc, append-nil, Option, Some, None, All, IsTrue}
+use Rattle.std.proofs.Common.{◌≡◌, inl, inr, ℕ, suc, ◌+◌, ◌<◌, ◌≤◌, ◌==◌, ◌||◌, ◌&&◌, not, Bool, true, false}
+use Rattle.std.proofs.Common.{cond, refl, sym, ap, subst, ◌∙◌, arith, List, [], ◌∷◌, ◌++◌, length, take, drop}
+use Rattle.std.proofs.Common.{map, get_or, append_assoc, append-nil, Option, Some, None, All, IsTrue}
 use Rattle.std.specs.List.{AllByRecursion, filter, prefix_len, list_all, list_any}
 use Rattle.std.proofs.lemmas.Bool.{eqb-true, cases_lt}
 use Rattle.std.proofs.lemmas.List.{take_more, map-append, append_cancel_right, length-map}
@@ -8,15 +10,18 @@ use Rattle.std.proofs.lemmas.List.Sums.{prefix_len_stops}
 use Rattle.bsc_octet.specs.Octet.{IsOdd, is_record_char, code_of}
 use Rattle.bsc_frame.specs.Texts.{TextUnit, IsUnit}
 use Rattle.bsc_frame.specs.Units.{unit_codes}
-use Rattle.bsc_frame.specs.Reading.{◌>>=◌, low_bits, is_octet, begins, is_other, is_char_octet, is_before_ending, is_ending_code, is_ending_octet, IsFront, AreParts, behind_check, behind_start, unit_of, unit_before, unit_at}
+use Rattle.bsc_frame.specs.Reading.{◌>>=◌, low_bits, is_octet, begins, is_other, is_char_octet}
+use Rattle.bsc_frame.specs.Reading.{is_before_ending, is_ending_code, is_ending_octet, IsFront, AreParts}
+use Rattle.bsc_frame.specs.Reading.{after_check, after_start, read_unit, unit_before, unit_at}
 use Rattle.bsc_frame.proofs.UnitLemmas.{unit_of_reads, unit_of_read, length-unit_codes}
 use Rattle.bsc_frame.proofs.CarriedLemmas.{AreCarried, ending_same, em_is, check_low, start_low}
 use Rattle.bsc_frame.proofs.CutLemmas.{gathered_none, cut}
+use Rattle.bsc_frame.specs.declared.limits.TheConstants.{MAX_CHARS, MAX_UNIT_CODES}
 
 -- ---- the front
 
 -- an STX is at most one code
-length_start : (behind : Bool) (codes : List ℕ) → length codes ≤ length (behind_start behind codes) + 1
+length_start : (after_us : Bool) (codes : List ℕ) → length codes ≤ length (after_start after_us codes) + 1
 length_start false codes = omega arith
 length_start true [] = omega arith
 length_start true (x ∷ codes) = by_test (x == 0x02)
@@ -25,36 +30,40 @@ length_start true (x ∷ codes) = by_test (x == 0x02)
     by_test true = omega arith
     by_test false = omega arith
 
+-- where each way on gives nothing, all gives nothing
 none_after : {A B : Type 0} (o : Option A) (f : A → Option B) → ((x : A) → f x ≡ None) → (o >>= f) ≡ None
 none_after None f h = refl
 none_after (Some x) f h = h x
 
--- a unit has at most 147 codes
-long_unit : (behind : Bool) (codes octets : List ℕ) → 147 < length codes → unit_before behind codes octets ≡ None
-long_unit behind codes octets l =
-    let none : unit_of (behind_start behind codes) ≡ None = by_unit (unit_of (behind_start behind codes)) refl in
-    none_after (behind_check codes octets) _ (λ rest. rw none refl)
+-- a unit has at most MAX_UNIT_CODES codes
+long_unit : (after_us : Bool) (codes octets : List ℕ) → MAX_UNIT_CODES < length codes
+    → unit_before after_us codes octets ≡ None
+long_unit after_us codes octets l =
+    let none : read_unit (after_start after_us codes) ≡ None = by_unit (read_unit (after_start after_us codes)) refl in
+    none_after (after_check codes octets) _ (λ rest. rw none refl)
   where
-    by_unit : (o : Option (TextUnit × ℕ)) → unit_of (behind_start behind codes) ≡ o → o ≡ None
+    by_unit : (o : Option (TextUnit × ℕ)) → read_unit (after_start after_us codes) ≡ o → o ≡ None
     by_unit None e = refl
     by_unit (Some f) e =
-        let r = unit_of_reads (behind_start behind codes) f e in
-        absurd (omega (arith, r.1.most, ap length r.0, length-unit_codes f.0 f.1, length_start behind codes))
+        let r = unit_of_reads (after_start after_us codes) f e in
+        absurd (omega (arith, r.1.most, ap length r.0, length-unit_codes f.0 f.1, length_start after_us codes))
 
 -- where no octet ends a unit, no unit is read
-pub at_end : (behind : Bool) (s : List ℕ) (place : ℕ) → AreCarried s → place ≡ prefix_len is_before_ending s → place ≡ length s → unit_at behind s ≡ None
+pub at_end : (after_us : Bool) (s : List ℕ) (place : ℕ) → AreCarried s → place ≡ prefix_len is_before_ending s
+    → place ≡ length s → unit_at after_us s ≡ None
 unfolding unit_at
-at_end behind s place c e l = rw (gathered_none 147 s c (sym e ∙ l)) refl
+at_end after_us s place c e l = rw (gathered_none MAX_UNIT_CODES s c (sym e ∙ l)) refl
 
 -- the unit is that of the front without fill
-pub at_front : (behind : Bool) (s : List ℕ) (m : ℕ) → AreCarried s → m ≡ prefix_len is_before_ending s + 1 → m ≤ length s
-    → unit_at behind s ≡ unit_before behind (map low_bits (filter is_other (take m s))) (drop m s)
+pub at_front : (after_us : Bool) (s : List ℕ) (m : ℕ) → AreCarried s → m ≡ prefix_len is_before_ending s + 1
+    → m ≤ length s
+    → unit_at after_us s ≡ unit_before after_us (map low_bits (filter is_other (take m s))) (drop m s)
 unfolding unit_at
-at_front behind s m c e l =
-    let k = cut m 147 s c e l in
+at_front after_us s m c e l =
+    let k = cut m MAX_UNIT_CODES s c e l in
     let codes : List ℕ = map low_bits (filter is_other (take m s)) in
-    elim (cases_lt 147 (length (filter is_other (take m s)))) [
-      | inl many ↦ rw (k.full many) (sym (long_unit behind codes (drop m s) (omega (arith, many, length-map (filter is_other (take m s)) low_bits))))
+    elim (cases_lt MAX_UNIT_CODES (length (filter is_other (take m s)))) [
+      | inl many ↦ rw (k.full many) (sym (long_unit after_us codes (drop m s) (omega (arith, many, length-map (filter is_other (take m s)) low_bits))))
       | inr few ↦ rw (k.fits few) refl
     ]
 
@@ -68,6 +77,7 @@ no_fill (x ∷ s) h = by_test (x == 0x16) refl h (no_fill s)
     by_test true e h f = cc
     by_test false e h f = ap (λ t. x ∷ t) (f h)
 
+-- an octet that carries an ending character is no SYN
 ending_other : (x : ℕ) → is_ending_octet x ≡ true → is_other x ≡ true
 ending_other x e = by_test (x == 0x16) refl
   where
@@ -75,14 +85,17 @@ ending_other x e = by_test (x == 0x16) refl
     by_test true f = let z : x ≡ 0x16 = eqb-true x 0x16 f in let t : is_ending_octet x ≡ false = rw z refl in cc
     by_test false f = refl
 
+-- an octet that is not before an ending one is one
 not_before : (x : ℕ) (b : Bool) → is_ending_octet x ≡ b → not b ≡ false → b ≡ true
 not_before x true e h = refl
 not_before x false e h = cc
 
 -- the octets up to the first ending one are a front of a unit
-pub front_ends : (s : List ℕ) (place : ℕ) → place ≡ prefix_len is_before_ending s → place < length s → IsFront (take (place + 1) s)
+pub front_ends : (s : List ℕ) (place : ℕ) → place ≡ prefix_len is_before_ending s → place < length s
+    → IsFront (take (place + 1) s)
 front_ends s place e l =
-    let stops : is_before_ending (get_or s (prefix_len is_before_ending s) 0) ≡ false = prefix_len_stops is_before_ending s 0 (omega arith) in
+    let stops : is_before_ending (get_or s (prefix_len is_before_ending s) 0) ≡ false =
+    prefix_len_stops is_before_ending s 0 (omega arith) in
     record {
       front = take place s;
       last = get_or s place 0;
@@ -100,7 +113,7 @@ ends_filtered s e = record {
 }
 
 -- a front without an STX before it is one
-pub ends_start : (behind : Bool) (s : List ℕ) → IsFront s → IsFront (behind_start behind s)
+pub ends_start : (after_us : Bool) (s : List ℕ) → IsFront s → IsFront (after_start after_us s)
 ends_start false s e = e
 ends_start true [] e = e
 ends_start true (x ∷ s) e = by_test (x == 0x02) refl
@@ -131,81 +144,101 @@ snoc_same (x ∷ xs) (y ∷ ys) a b e =
     (let head : x ≡ y = cc in let rest = k.0 in cc, k.1)
 
 -- the last octet of a front ends the unit
-pub last_ends : (octets chars : List ℕ) (em : Bool) (last : ℕ) → IsFront octets → AreParts octets chars em last → is_ending_octet last ≡ true
+pub last_ends : (octets chars : List ℕ) (em : Bool) (last : ℕ) → IsFront octets
+    → AreParts octets chars em last → is_ending_octet last ≡ true
 last_ends octets chars em last e p =
     let k = snoc_same e.front (chars ++ cond em (0x19 ∷ []) []) e.last last (sym e.whole ∙ p.whole) in
     rw (← k.1) e.ends
 
+-- an octet in a list of odd parity carries its low bits
 carried_last : (xs : List ℕ) (x : ℕ) (ys : List ℕ) → AreCarried (xs ++ x ∷ ys) → code_of x ≡ Some (low_bits x)
 carried_last [] x ys c = c.0
 carried_last (z ∷ xs) x ys c = carried_last xs x ys c.1
 
+-- the front of a list of odd parity has odd parity
 carried_front : (xs ys : List ℕ) → AreCarried (xs ++ ys) → AreCarried xs
 carried_front [] ys c = tt
 carried_front (x ∷ xs) ys c = (c.0, carried_front xs ys c.1)
 
 -- the code of the last octet of a front is an ending character
-pub last_code : (octets chars : List ℕ) (em : Bool) (last : ℕ) → AreCarried octets → IsFront octets → AreParts octets chars em last → is_ending_code (low_bits last) ≡ true
+pub last_code : (octets chars : List ℕ) (em : Bool) (last : ℕ) → AreCarried octets → IsFront octets
+    → AreParts octets chars em last → is_ending_code (low_bits last) ≡ true
 last_code octets chars em last c e p =
     ending_same last (carried_last (chars ++ cond em (0x19 ∷ []) []) last [] (rw p.whole at c)) ∙ last_ends octets chars em last e p
 
+-- the low bits of EM are EM
 low_em : (em : Bool) → map low_bits (cond em (0x19 ∷ []) []) ≡ cond em (0x19 ∷ []) []
 low_em true = refl
 low_em false = refl
 
 -- the codes of the parts
-low_parts : (octets chars : List ℕ) (em : Bool) (last : ℕ) → AreParts octets chars em last → map low_bits octets ≡ unit_codes (record { chars = map low_bits chars; em = em }) (low_bits last)
+low_parts : (octets chars : List ℕ) (em : Bool) (last : ℕ) → AreParts octets chars em last
+    → map low_bits octets ≡ unit_codes (record { chars = map low_bits chars; em = em }) (low_bits last)
 low_parts octets chars em last p =
     ap (map low_bits) p.whole ∙ map-append low_bits (chars ++ cond em (0x19 ∷ []) []) (last ∷ [])
     ∙ ap (λ z. z ++ low_bits last ∷ []) (map-append low_bits chars (cond em (0x19 ∷ []) []) ∙ ap (λ z. map low_bits chars ++ z) (low_em em))
 
-char_head : (x : ℕ) (chars : List ℕ) (b : Bool) → is_char_octet x ≡ b → (list_all is_char_octet chars ≡ true → AllByRecursion (λ c. IsTrue (is_record_char c)) (map low_bits chars))
-    → (b && list_all is_char_octet chars) ≡ true → AllByRecursion (λ c. IsTrue (is_record_char c)) (map low_bits (x ∷ chars))
+-- one octet more that carries a record character
+char_head : (x : ℕ) (chars : List ℕ) (b : Bool) → is_char_octet x ≡ b
+    → (list_all is_char_octet chars ≡ true → AllByRecursion (λ c. IsTrue (is_record_char c)) (map low_bits chars))
+    → (b && list_all is_char_octet chars) ≡ true
+    → AllByRecursion (λ c. IsTrue (is_record_char c)) (map low_bits (x ∷ chars))
 char_head x chars true e f h = (e, f h)
 char_head x chars false e f h = cc
 
 -- octets that pass the test have codes that are record characters
-all_chars : (chars : List ℕ) → list_all is_char_octet chars ≡ true → AllByRecursion (λ c. IsTrue (is_record_char c)) (map low_bits chars)
+all_chars : (chars : List ℕ) → list_all is_char_octet chars ≡ true
+    → AllByRecursion (λ c. IsTrue (is_record_char c)) (map low_bits chars)
 all_chars [] h = tt
 all_chars (x ∷ chars) h = char_head x chars (is_char_octet x) refl (all_chars chars) h
 
 -- octets whose codes are record characters pass the test of the octets
-chars_all : (chars : List ℕ) → AllByRecursion (λ c. IsTrue (is_record_char c)) (map low_bits chars) → list_all is_char_octet chars ≡ true
+chars_all : (chars : List ℕ) → AllByRecursion (λ c. IsTrue (is_record_char c)) (map low_bits chars)
+    → list_all is_char_octet chars ≡ true
 chars_all [] h = refl
 chars_all (x ∷ chars) h = rw (h.0, chars_all chars h.1) refl
 
--- at most 144 octets that pass the test are the characters of a unit
-pub chars_unit : (chars : List ℕ) (em : Bool) → length chars ≤ 144 → list_all is_char_octet chars ≡ true → IsUnit (record { chars = map low_bits chars; em = em })
+-- at most MAX_CHARS octets that pass the test are the characters of a unit
+pub chars_unit : (chars : List ℕ) (em : Bool) → length chars ≤ MAX_CHARS → list_all is_char_octet chars ≡ true
+    → IsUnit (record { chars = map low_bits chars; em = em })
 chars_unit chars em l h = record { most = omega (arith, length-map chars low_bits); each = all_chars chars h }
 
 -- the characters are a unit
-pub parts_read : (octets chars : List ℕ) (em : Bool) (last : ℕ) → AreCarried octets → IsFront octets → AreParts octets chars em last → length chars ≤ 144 → list_all is_char_octet chars ≡ true
-    → unit_of (map low_bits octets) ≡ Some (record { chars = map low_bits chars; em = em }, low_bits last)
+pub parts_read : (octets chars : List ℕ) (em : Bool) (last : ℕ) → AreCarried octets → IsFront octets
+    → AreParts octets chars em last → length chars ≤ MAX_CHARS → list_all is_char_octet chars ≡ true
+    → read_unit (map low_bits octets) ≡ Some (record { chars = map low_bits chars; em = em }, low_bits last)
 parts_read octets chars em last c e p l h =
-    ap unit_of (low_parts octets chars em last p) ∙ unit_of_read (record { chars = map low_bits chars; em = em }) (low_bits last) (chars_unit chars em l h) (last_code octets chars em last c e p)
+    ap read_unit (low_parts octets chars em last p) ∙ unit_of_read (record { chars = map low_bits chars; em = em }) (low_bits last) (chars_unit chars em l h) (last_code octets chars em last c e p)
 
 -- ---- no other characters are
 
-all_last : (xs : List ℕ) (x : ℕ) → AllByRecursion (λ c. IsTrue (is_record_char c)) (xs ++ x ∷ []) → is_record_char x ≡ true
+-- where all are record characters, the last one is
+all_last : (xs : List ℕ) (x : ℕ) → AllByRecursion (λ c. IsTrue (is_record_char c)) (xs ++ x ∷ [])
+    → is_record_char x ≡ true
 all_last [] x h = h.0
 all_last (y ∷ xs) x h = all_last xs x h.1
 
+-- EM is no record character
 em_no_char : is_record_char 0x19 ≡ false
 unfolding is_record_char
 em_no_char = refl
 
 -- characters and EM after them are cut in one way
-same_chars : (chars : List ℕ) (em : Bool) (more : List ℕ) (marked : Bool) → chars ++ cond em (0x19 ∷ []) [] ≡ more ++ cond marked (0x19 ∷ []) []
-    → AllByRecursion (λ c. IsTrue (is_record_char c)) more → (em ≡ false → (front : List ℕ) → chars ≡ front ++ 0x19 ∷ [] → ⊥) → chars ≡ more
+same_chars : (chars : List ℕ) (em : Bool) (more : List ℕ) (marked : Bool)
+    → chars ++ cond em (0x19 ∷ []) [] ≡ more ++ cond marked (0x19 ∷ []) []
+    → AllByRecursion (λ c. IsTrue (is_record_char c)) more
+    → (em ≡ false → (front : List ℕ) → chars ≡ front ++ 0x19 ∷ [] → ⊥) → chars ≡ more
 same_chars chars true more true e h n = append_cancel_right chars more (0x19 ∷ []) e
 same_chars chars false more false e h n = sym (append-nil chars) ∙ e ∙ append-nil more
 same_chars chars true more false e h n =
-    let last : is_record_char 0x19 ≡ true = all_last chars 0x19 (subst (AllByRecursion (λ c. IsTrue (is_record_char c))) (sym (append-nil more) ∙ sym e) h) in
+    let last : is_record_char 0x19 ≡ true =
+    all_last chars 0x19 (subst (AllByRecursion (λ c. IsTrue (is_record_char c))) (sym (append-nil more) ∙ sym e) h) in
     absurd (let k = em_no_char in cc)
 same_chars chars false more true e h n = absurd (n refl more (sym (append-nil chars) ∙ e))
 
 -- EM at the end of the codes is EM at the end of the octets
-last_em : (xs front : List ℕ) → AreCarried xs → map low_bits xs ≡ front ++ 0x19 ∷ [] → (before : List ℕ) × (xs ≡ before ++ 0x19 ∷ [])
+last_em : (xs front : List ℕ) → AreCarried xs → map low_bits xs ≡ front ++ 0x19 ∷ []
+    → (before : List ℕ) × (xs ≡ before ++ 0x19 ∷ [])
 last_em [] [] c e = absurd cc
 last_em [] (y ∷ front) c e = absurd cc
 last_em (x ∷ []) [] c e = ([], let k = em_is x c.0 (let w : low_bits x ≡ 0x19 = cc in w) in ap (λ z. z ∷ []) k)
@@ -215,14 +248,15 @@ last_em (x ∷ xs) (y ∷ front) c e =
     (x ∷ k.0, ap (λ t. x ∷ t) k.1)
 
 -- parts of which the characters are too many, or no record characters, are no unit
-pub parts_none : (octets chars : List ℕ) (em : Bool) (last : ℕ) → AreCarried octets → AreParts octets chars em last → (length chars ≤ 144 → list_all is_char_octet chars ≡ true → ⊥)
-    → unit_of (map low_bits octets) ≡ None
-parts_none octets chars em last c p n = by_unit (unit_of (map low_bits octets)) refl
+pub parts_none : (octets chars : List ℕ) (em : Bool) (last : ℕ) → AreCarried octets
+    → AreParts octets chars em last → (length chars ≤ MAX_CHARS → list_all is_char_octet chars ≡ true → ⊥)
+    → read_unit (map low_bits octets) ≡ None
+parts_none octets chars em last c p n = by_unit (read_unit (map low_bits octets)) refl
   where
     carried_chars : AreCarried chars
     carried_chars = carried_front chars (cond em (0x19 ∷ []) [] ++ last ∷ []) (rw (p.whole ∙ append_assoc chars (cond em (0x19 ∷ []) []) (last ∷ [])) at c)
 
-    by_unit : (o : Option (TextUnit × ℕ)) → unit_of (map low_bits octets) ≡ o → o ≡ None
+    by_unit : (o : Option (TextUnit × ℕ)) → read_unit (map low_bits octets) ≡ o → o ≡ None
     by_unit None e = refl
     by_unit (Some f) e =
         let r = unit_of_reads (map low_bits octets) f e in
@@ -234,22 +268,26 @@ parts_none octets chars em last c p n = by_unit (unit_of (map low_bits octets)) 
 -- ---- the check, and an STX after one
 
 -- a wrong check: no unit is read
-pub wrong_check : (behind : Bool) (front octets : List ℕ) → None ≡ behind_check front octets → unit_before behind (map low_bits front) octets ≡ None
-wrong_check behind front octets e = rw (check_low front octets, ← e) refl
+pub wrong_check : (after_us : Bool) (front octets : List ℕ) → None ≡ after_check front octets
+    → unit_before after_us (map low_bits front) octets ≡ None
+wrong_check after_us front octets e = rw (check_low front octets, ← e) refl
 
 -- a right check of codes that are no unit: none is read
-pub wrong_unit : (behind : Bool) (front octets rest : List ℕ) → AreCarried front → Some rest ≡ behind_check front octets → unit_of (map low_bits (behind_start behind front)) ≡ None
-    → unit_before behind (map low_bits front) octets ≡ None
-wrong_unit behind front octets rest c e n = rw (check_low front octets, ← e, start_low behind front c, n) refl
+pub wrong_unit : (after_us : Bool) (front octets rest : List ℕ) → AreCarried front
+    → Some rest ≡ after_check front octets → read_unit (map low_bits (after_start after_us front)) ≡ None
+    → unit_before after_us (map low_bits front) octets ≡ None
+wrong_unit after_us front octets rest c e n = rw (check_low front octets, ← e, start_low after_us front c, n) refl
 
 -- a right check of the codes of a unit: it is read
-pub right_unit : (behind : Bool) (front octets rest : List ℕ) (u : TextUnit) (k : ℕ) → AreCarried front → Some rest ≡ behind_check front octets
-    → unit_of (map low_bits (behind_start behind front)) ≡ Some (u, k) → unit_before behind (map low_bits front) octets ≡ Some (u, k, rest)
-right_unit behind front octets rest u k c e n = rw (check_low front octets, ← e, start_low behind front c, n) refl
+pub right_unit : (after_us : Bool) (front octets rest : List ℕ) (u : TextUnit) (k : ℕ) → AreCarried front
+    → Some rest ≡ after_check front octets
+    → read_unit (map low_bits (after_start after_us front)) ≡ Some (u, k)
+    → unit_before after_us (map low_bits front) octets ≡ Some (u, k, rest)
+right_unit after_us front octets rest u k c e n = rw (check_low front octets, ← e, start_low after_us front c, n) refl
 
 -- octets with odd parity have it without an STX too
-pub odd_start : (behind : Bool) (s : List ℕ) → All IsOdd s → All IsOdd (behind_start behind s)
-odd_start behind s h = by_test (behind && begins (is_octet 0x02) s)
+pub odd_start : (after_us : Bool) (s : List ℕ) → All IsOdd s → All IsOdd (after_start after_us s)
+odd_start after_us s h = by_test (after_us && begins (is_octet 0x02) s)
   where
     by_test : (b : Bool) → All IsOdd (cond b (drop 1 s) s)
     by_test true = All-drop IsOdd 1 s h
@@ -258,19 +296,24 @@ odd_start behind s h = by_test (behind && begins (is_octet 0x02) s)
 -- ---- the front and what stands after it
 
 -- where there is no fill, the unit is read from the front
-pub front_without_fill : (behind : Bool) (s : List ℕ) (place : ℕ) → AreCarried s → place ≡ prefix_len is_before_ending s → place < length s → list_any (is_octet 0x16) (take (place + 1) s) ≡ false
-    → unit_before behind (map low_bits (take (place + 1) s)) (drop (place + 1) s) ≡ unit_at behind s
-front_without_fill behind s place c e l n =
-    ap (λ z. unit_before behind (map low_bits z) (drop (place + 1) s)) (sym (no_fill (take (place + 1) s) n)) ∙ sym (at_front behind s (place + 1) c (omega arith) (omega arith))
+pub front_without_fill : (after_us : Bool) (s : List ℕ) (place : ℕ) → AreCarried s
+    → place ≡ prefix_len is_before_ending s → place < length s
+    → list_any (is_octet 0x16) (take (place + 1) s) ≡ false
+    → unit_before after_us (map low_bits (take (place + 1) s)) (drop (place + 1) s) ≡ unit_at after_us s
+front_without_fill after_us s place c e l n =
+    ap (λ z. unit_before after_us (map low_bits z) (drop (place + 1) s)) (sym (no_fill (take (place + 1) s) n)) ∙ sym (at_front after_us s (place + 1) c (omega arith) (omega arith))
 
 -- where fill was squeezed out, the unit is read from the octets that are left
-pub front_squeezed : (behind : Bool) (s : List ℕ) (place : ℕ) (unit : List ℕ) → AreCarried s → place ≡ prefix_len is_before_ending s → place < length s → unit ≡ filter is_other (take (place + 1) s)
-    → unit_before behind (map low_bits unit) (drop (place + 1) s) ≡ unit_at behind s
-front_squeezed behind s place unit c e l n =
-    ap (λ z. unit_before behind (map low_bits z) (drop (place + 1) s)) n ∙ sym (at_front behind s (place + 1) c (omega arith) (omega arith))
+pub front_squeezed : (after_us : Bool) (s : List ℕ) (place : ℕ) (unit : List ℕ) → AreCarried s
+    → place ≡ prefix_len is_before_ending s → place < length s → unit ≡ filter is_other (take (place + 1) s)
+    → unit_before after_us (map low_bits unit) (drop (place + 1) s) ≡ unit_at after_us s
+front_squeezed after_us s place unit c e l n =
+    ap (λ z. unit_before after_us (map low_bits z) (drop (place + 1) s)) n ∙ sym (at_front after_us s (place + 1) c (omega arith) (omega arith))
 
--- more than 147 octets without fill are no unit
-pub front_long : (behind : Bool) (s : List ℕ) (place : ℕ) → AreCarried s → place ≡ prefix_len is_before_ending s → place < length s → 147 < length (filter is_other (take (place + 1) s))
-    → unit_at behind s ≡ None
+-- more than MAX_UNIT_CODES octets without fill are no unit
+pub front_long : (after_us : Bool) (s : List ℕ) (place : ℕ) → AreCarried s
+    → place ≡ prefix_len is_before_ending s → place < length s
+    → MAX_UNIT_CODES < length (filter is_other (take (place + 1) s))
+    → unit_at after_us s ≡ None
 unfolding unit_at
-front_long behind s place c e l n = rw ((cut (place + 1) 147 s c (omega arith) (omega arith)).full n) refl
+front_long after_us s place c e l n = rw ((cut (place + 1) MAX_UNIT_CODES s c (omega arith) (omega arith)).full n) refl

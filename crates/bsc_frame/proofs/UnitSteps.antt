@@ -1,5 +1,7 @@
 -- The steps of reading units.
-use Rattle.std.proofs.Common.{◌≡◌, ℕ, zero, suc, ◌+◌, ◌-◌, ◌<◌, ◌≤◌, ◌==◌, Bool, true, false, cond, refl, sym, ap, subst, All, ◌∙◌, arith, List, [], ◌∷◌, ◌++◌, length, take, drop, get_or, append_assoc, length-append, Option, Some, None, nat_lt}
+use Rattle.std.proofs.Common.{◌≡◌, ℕ, zero, suc, ◌+◌, ◌-◌, ◌<◌, ◌≤◌, ◌==◌, Bool, true, false, cond, refl, sym}
+use Rattle.std.proofs.Common.{ap, subst, All, ◌∙◌, arith, List, [], ◌∷◌, ◌++◌, length, take, drop, get_or}
+use Rattle.std.proofs.Common.{append_assoc, length-append, Option, Some, None, nat_lt}
 use Rattle.std.proofs.lemmas.Bool.{eq-eqb}
 use Rattle.std.proofs.lemmas.Bool.Decides.{nat_tests}
 use Rattle.std.proofs.Math.Seq.{drop-append_seam}
@@ -9,33 +11,44 @@ use Rattle.bsc_octet.specs.Octet.{IsOdd, odd_octet, longitudinal_sum}
 use Rattle.bsc_octet.proofs.SumLemmas.{longitudinal_sum-lt}
 use Rattle.bsc_frame.specs.Texts.{TextUnit, TextValue}
 use Rattle.bsc_frame.specs.Drafts.{draft_units, IsDraft, TakesUnit, ReadsText}
-use Rattle.bsc_frame.specs.Reading.{behind_check, unit_at, units_at, before_units, last_unit}
+use Rattle.bsc_frame.specs.Reading.{after_check, unit_at, units_at, before_units, last_unit}
 use Rattle.bsc_frame.specs.declared.text.End.{End}
 use Rattle.bsc_frame.specs.declared.text.End.TheVariants.{Etb, Etx}
 use Rattle.bsc_frame.specs.declared.text.Draft.{Draft}
 use Rattle.bsc_frame.proofs.ReadLemmas.{test_false, rest_is}
 use Rattle.bsc_frame.proofs.UnitLemmas.{unit_at_reads}
+use Rattle.bsc_frame.specs.declared.limits.TheConstants.{MAX_UNITS}
 
 -- ---- the check
 
+-- a sum is below 128
 is_code : (s : List ℕ) → nat_lt (longitudinal_sum s) 128 ≡ true
 is_code s = grind (arith, nat_tests, longitudinal_sum-lt s)
 
 -- the sum has an octet
-pub check_no : (s : List ℕ) → cond (nat_lt (longitudinal_sum s) 128) (Some (odd_octet (longitudinal_sum s))) None ≡ None → ⊥
+pub check_no : (s : List ℕ)
+    → cond (nat_lt (longitudinal_sum s) 128) (Some (odd_octet (longitudinal_sum s))) None ≡ None → ⊥
 check_no s e = let h : Some (odd_octet (longitudinal_sum s)) ≡ None = rw (is_code s) at e in cc
 
-pub check_is : (s : List ℕ) (k : ℕ) → cond (nat_lt (longitudinal_sum s) 128) (Some (odd_octet (longitudinal_sum s))) None ≡ Some k → k ≡ odd_octet (longitudinal_sum s)
+-- the check that is found is the octet of the sum
+pub check_is : (s : List ℕ) (k : ℕ)
+    → cond (nat_lt (longitudinal_sum s) 128) (Some (odd_octet (longitudinal_sum s))) None ≡ Some k
+    → k ≡ odd_octet (longitudinal_sum s)
 check_is s k e = let h : Some (odd_octet (longitudinal_sum s)) ≡ Some k = rw (is_code s) at e in cc
 
-pub check_wrong : (s octets : List ℕ) → (get_or octets 0 0 ≡ odd_octet (longitudinal_sum s) → ⊥) → None ≡ behind_check s octets
+-- another octet than the check leaves nothing
+pub check_wrong : (s octets : List ℕ) → (get_or octets 0 0 ≡ odd_octet (longitudinal_sum s) → ⊥)
+    → None ≡ after_check s octets
 check_wrong s [] h = refl
 check_wrong s (x ∷ octets) h = rw (test_false (odd_octet (longitudinal_sum s)) x (λ w. h (sym w))) refl
 
-pub check_right : (s octets : List ℕ) → get_or octets 0 0 ≡ odd_octet (longitudinal_sum s) → (length octets ≡ 0 → ⊥)
-    → Some (take (length octets - 1) (drop 1 octets)) ≡ behind_check s octets
+-- the check leaves the octets after it
+pub check_right : (s octets : List ℕ) → get_or octets 0 0 ≡ odd_octet (longitudinal_sum s)
+    → (length octets ≡ 0 → ⊥)
+    → Some (take (length octets - 1) (drop 1 octets)) ≡ after_check s octets
 check_right s [] h p = absurd (p refl)
-check_right s (x ∷ octets) h p = rw (eq-eqb (odd_octet (longitudinal_sum s)) x (sym h)) (ap Some (rest_is (x ∷ octets) 1))
+check_right s (x ∷ octets) h p =
+    rw (eq-eqb (odd_octet (longitudinal_sum s)) x (sym h)) (ap Some (rest_is (x ∷ octets) 1))
 
 -- ---- all units
 
@@ -48,55 +61,72 @@ before_all us (Some t) = Some (record { units = us ++ t.units; end = t.end })
 pub record ReadTo (d : Draft) (n : ℕ) (rest s : List ℕ) : Type 0 where
   pub draft : IsDraft d
   pub count : length (draft_units d) ≡ n
-  pub most : n ≤ 7
-  pub same : before_all (draft_units d) (units_at (7 - n) (nat_lt 0 n) rest) ≡ units_at 7 false s
+  pub most : n ≤ MAX_UNITS
+  pub same : before_all (draft_units d) (units_at (MAX_UNITS - n) (nat_lt 0 n) rest) ≡ units_at MAX_UNITS false s
 
-before_more : (us : List TextUnit) (u : TextUnit) (o : Option TextValue) → before_all (us ++ u ∷ []) o ≡ before_all us (before_units u o)
+-- one unit more before the rest
+before_more : (us : List TextUnit) (u : TextUnit) (o : Option TextValue)
+    → before_all (us ++ u ∷ []) o ≡ before_all us (before_units u o)
 before_more us u None = refl
 before_more us u (Some t) = ap (λ z. Some (record { units = z; end = t.end })) (append_assoc us (u ∷ []) t.units)
 
-units_next : (n : ℕ) (behind : Bool) (s : List ℕ) (u : TextUnit) (e : ℕ) (rest : List ℕ) → 0 < n → unit_at behind s ≡ Some (u, e, rest)
-    → units_at n behind s ≡ cond (e == 0x1f) (before_units u (units_at (n - 1) true rest)) (last_unit u e rest)
+-- what is read where a first unit is read, by its ending character
+units_next : (n : ℕ) (after_us : Bool) (s : List ℕ) (u : TextUnit) (e : ℕ) (rest : List ℕ) → 0 < n
+    → unit_at after_us s ≡ Some (u, e, rest)
+    → units_at n after_us s ≡ cond (e == 0x1f) (before_units u (units_at (n - 1) true rest)) (last_unit u e rest)
 unfolding units_at
-units_next zero behind s u e rest p h = absurd (omega arith)
-units_next (suc n) behind s u e rest p h = let less : suc n - 1 ≡ n = omega arith in rw (less, h) refl
+units_next zero after_us s u e rest p h = absurd (omega arith)
+units_next (suc n) after_us s u e rest p h = let less : suc n - 1 ≡ n = omega arith in rw (less, h) refl
 
-pub units_stop : (n : ℕ) (behind : Bool) (s : List ℕ) → unit_at behind s ≡ None → units_at n behind s ≡ None
+-- without a first unit there is no text
+pub units_stop : (n : ℕ) (after_us : Bool) (s : List ℕ) → unit_at after_us s ≡ None
+    → units_at n after_us s ≡ None
 unfolding units_at
-units_stop zero behind s h = refl
-units_stop (suc n) behind s h = rw h refl
+units_stop zero after_us s h = refl
+units_stop (suc n) after_us s h = rw h refl
 
-pub read_stop : (d : Draft) (count : ℕ) (rest s : List ℕ) → ReadTo d count rest s → unit_at (nat_lt 0 count) rest ≡ None → None ≡ units_at 7 false s
-read_stop d count rest s r h = ap (before_all (draft_units d)) (sym (units_stop (7 - count) (nat_lt 0 count) rest h)) ∙ r.same
+-- without a next unit the whole is no text
+pub read_stop : (d : Draft) (count : ℕ) (rest s : List ℕ) → ReadTo d count rest s
+    → unit_at (nat_lt 0 count) rest ≡ None → None ≡ units_at MAX_UNITS false s
+read_stop d count rest s r h =
+    ap (before_all (draft_units d)) (sym (units_stop (MAX_UNITS - count) (nat_lt 0 count) rest h)) ∙ r.same
 
-pub read_more : (d new : Draft) (count e : ℕ) (rest more s : List ℕ) → ReadTo d count rest s → count < 7 → TakesUnit d new (unit_at (nat_lt 0 count) rest) e more → e ≡ 0x1f
+-- one unit more is read that ends with US
+pub read_more : (d new : Draft) (count e : ℕ) (rest more s : List ℕ) → ReadTo d count rest s
+    → count < MAX_UNITS → TakesUnit d new (unit_at (nat_lt 0 count) rest) e more → e ≡ 0x1f
     → ReadTo new (count + 1) more s
 read_more d new count e rest more s r l t us =
-    let next : units_at (7 - count) (nat_lt 0 count) rest ≡ before_units t.unit (units_at (7 - count - 1) true more) =
-    units_next (7 - count) (nat_lt 0 count) rest t.unit e more (omega arith) t.reads ∙ rw us refl in
-    let fewer : 7 - (count + 1) ≡ 7 - count - 1 = omega arith in
-    let behind : nat_lt 0 (count + 1) ≡ true = grind (arith, nat_tests) in
+    let next : units_at (MAX_UNITS - count) (nat_lt 0 count) rest ≡ before_units t.unit (units_at (MAX_UNITS - count - 1) true more) =
+    units_next (MAX_UNITS - count) (nat_lt 0 count) rest t.unit e more (omega arith) t.reads ∙ rw us refl in
+    let fewer : MAX_UNITS - (count + 1) ≡ MAX_UNITS - count - 1 = omega arith in
+    let later : nat_lt 0 (count + 1) ≡ true = grind (arith, nat_tests) in
     record {
       draft = t.draft;
       count = ap length t.units ∙ length-append (draft_units d) (t.unit ∷ []) ∙ omega (arith, r.count);
       most = omega arith;
-      same = rw (fewer, behind, t.units) (before_more (draft_units d) t.unit (units_at (7 - count - 1) true more) ∙ ap (before_all (draft_units d)) (sym next) ∙ r.same);
+      same = rw (fewer, later, t.units) (before_more (draft_units d) t.unit (units_at (MAX_UNITS - count - 1) true more) ∙ ap (before_all (draft_units d)) (sym next) ∙ r.same);
     }
 
-read_last : (d new : Draft) (count e : ℕ) (rest more s : List ℕ) → ReadTo d count rest s → count < 7 → (t : TakesUnit d new (unit_at (nat_lt 0 count) rest) e more) → (e ≡ 0x1f → ⊥)
-    → before_all (draft_units d) (last_unit t.unit e more) ≡ units_at 7 false s
+-- the last unit of a text is read
+read_last : (d new : Draft) (count e : ℕ) (rest more s : List ℕ) → ReadTo d count rest s → count < MAX_UNITS
+    → (t : TakesUnit d new (unit_at (nat_lt 0 count) rest) e more) → (e ≡ 0x1f → ⊥)
+    → before_all (draft_units d) (last_unit t.unit e more) ≡ units_at MAX_UNITS false s
 read_last d new count e rest more s r l t us =
-    let next : units_at (7 - count) (nat_lt 0 count) rest ≡ last_unit t.unit e more =
-    units_next (7 - count) (nat_lt 0 count) rest t.unit e more (omega arith) t.reads ∙ rw (test_false e 0x1f us) refl in
+    let next : units_at (MAX_UNITS - count) (nat_lt 0 count) rest ≡ last_unit t.unit e more =
+    units_next (MAX_UNITS - count) (nat_lt 0 count) rest t.unit e more (omega arith) t.reads ∙ rw (test_false e 0x1f us) refl in
     ap (before_all (draft_units d)) (sym next) ∙ r.same
 
-pub read_extra : (d new : Draft) (count e : ℕ) (rest more s : List ℕ) → ReadTo d count rest s → count < 7 → TakesUnit d new (unit_at (nat_lt 0 count) rest) e more → (e ≡ 0x1f → ⊥)
-    → (length more ≡ 0 → ⊥) → None ≡ units_at 7 false s
+-- octets after the last unit leave no text
+pub read_extra : (d new : Draft) (count e : ℕ) (rest more s : List ℕ) → ReadTo d count rest s
+    → count < MAX_UNITS → TakesUnit d new (unit_at (nat_lt 0 count) rest) e more → (e ≡ 0x1f → ⊥)
+    → (length more ≡ 0 → ⊥) → None ≡ units_at MAX_UNITS false s
 read_extra d new count e rest [] s r l t us p = absurd (p refl)
 read_extra d new count e rest (x ∷ more) s r l t us p = read_last d new count e rest (x ∷ more) s r l t us
 
-pub read_whole : (d new : Draft) (count e : ℕ) (rest more s : List ℕ) (end : End) → ReadTo d count rest s → count < 7 → TakesUnit d new (unit_at (nat_lt 0 count) rest) e more → (e ≡ 0x1f → ⊥)
-    → length more ≡ 0 → cond (e == 0x17) Etb Etx ≡ end → ReadsText new end (units_at 7 false s)
+-- the last unit ends the text
+pub read_whole : (d new : Draft) (count e : ℕ) (rest more s : List ℕ) (end : End) → ReadTo d count rest s
+    → count < MAX_UNITS → TakesUnit d new (unit_at (nat_lt 0 count) rest) e more → (e ≡ 0x1f → ⊥)
+    → length more ≡ 0 → cond (e == 0x17) Etb Etx ≡ end → ReadsText new end (units_at MAX_UNITS false s)
 read_whole d new count e rest (x ∷ more) s end r l t us p q = absurd (omega arith)
 read_whole d new count e rest [] s end r l t us p q = record {
   reads = sym (read_last d new count e rest [] s r l t us) ∙ ap Some (ap (λ z. record { units = draft_units d ++ t.unit ∷ []; end = z }) q ∙ sym (ap (λ z. record { units = z; end = end }) t.units));
@@ -105,21 +135,27 @@ read_whole d new count e rest [] s end r l t us p q = record {
 }
 
 -- what stands after a unit is odd as it was
-pub rest_odd : (behind : Bool) (s : List ℕ) (u : TextUnit) (e : ℕ) (rest : List ℕ) → All IsOdd s → unit_at behind s ≡ Some (u, e, rest) → All IsOdd rest
-rest_odd behind s u e rest h r =
-    let a = unit_at_reads behind s (u, e, rest) r in
+pub rest_odd : (after_us : Bool) (s : List ℕ) (u : TextUnit) (e : ℕ) (rest : List ℕ) → All IsOdd s
+    → unit_at after_us s ≡ Some (u, e, rest) → All IsOdd rest
+rest_odd after_us s u e rest h r =
+    let a = unit_at_reads after_us s (u, e, rest) r in
     let front : List ℕ = a.front ++ odd_octet (longitudinal_sum (a.start ++ unit_codes u e)) ∷ [] in
-    let whole : s ≡ front ++ rest = a.whole ∙ sym (append_assoc a.front (odd_octet (longitudinal_sum (a.start ++ unit_codes u e)) ∷ []) rest) in
+    let whole : s ≡ front ++ rest =
+    a.whole ∙ sym (append_assoc a.front (odd_octet (longitudinal_sum (a.start ++ unit_codes u e)) ∷ []) rest) in
     subst (All IsOdd) (ap (drop (length front)) whole ∙ drop-append_seam front rest) (All-drop IsOdd (length front) s h)
 
-pub read_all : (d : Draft) (count : ℕ) (rest s : List ℕ) → ReadTo d count rest s → 7 ≤ count → None ≡ units_at 7 false s
+-- there are more units than a text has
+pub read_all : (d : Draft) (count : ℕ) (rest s : List ℕ) → ReadTo d count rest s → MAX_UNITS ≤ count
+    → None ≡ units_at MAX_UNITS false s
 unfolding units_at
 read_all d count rest s r l =
-    let none : 7 - count ≡ 0 = omega arith in
+    let none : MAX_UNITS - count ≡ 0 = omega arith in
     ap (before_all (draft_units d)) (sym (ap (λ n. units_at n (nat_lt 0 count) rest) none)) ∙ r.same
 
+-- at first no unit is read
 pub read_start : (d : Draft) (s : List ℕ) → IsDraft d → draft_units d ≡ [] → ReadTo d 0 s s
-read_start d s h e = record { draft = h; count = ap length e; most = omega arith; same = rw e (nothing_before (units_at 7 false s)) }
+read_start d s h e =
+    record { draft = h; count = ap length e; most = omega arith; same = rw e (nothing_before (units_at MAX_UNITS false s)) }
   where
     nothing_before : (o : Option TextValue) → before_all [] o ≡ o
     nothing_before None = refl

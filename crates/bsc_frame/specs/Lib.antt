@@ -8,4 +8,5 @@ pub mod Spells
 pub mod Reading
 pub mod Short
 pub mod Same
+pub mod TextEquality
 pub mod TurnedBits

@@ -1,11 +1,14 @@
 -- Messages within their limits, and the reading of codes as an address.
-use Rattle.std.specs.Prelude.{ℕ, ◌==◌, nat_lt, not, if◌then◌else◌, List, length, position, Option, Some, None, Result, Ok, Err}
+use Rattle.std.specs.Prelude.{ℕ, ◌==◌, nat_lt, not, if◌then◌else◌, List, length, position, Option}
+use Rattle.std.specs.Prelude.{Some, None, Result, Ok, Err}
 use Rattle.bsc_frame.specs.Addresses.{IsAddress, is_address_code}
 use Rattle.bsc_frame.specs.Texts.{IsText}
+use Rattle.bsc_frame.specs.declared.limits.TheConstants.{MAX_ADDRESS}
 use Rattle.bsc_frame.specs.declared.address.AddressError.{AddressError}
 use Rattle.bsc_frame.specs.declared.address.AddressError.TheVariants.{Empty, TooLong, BadChar}
 use Rattle.bsc_frame.specs.declared.message.Message.{Message}
-use Rattle.bsc_frame.specs.declared.message.Message.TheVariants.{Eot, Call, Enq, Ack0, Ack1, Nak, Wack, Rvi, Text}
+use Rattle.bsc_frame.specs.declared.message.Message.TheVariants.{Eot, Call, Enq, Ack0, Ack1, Nak}
+use Rattle.bsc_frame.specs.declared.message.Message.TheVariants.{Wack, Rvi, Text}
 
 -- The codes, or the error that names the first wrong place.
 abbrev pub first_wrong : Option ℕ → List ℕ → Result (List ℕ) AddressError
@@ -16,7 +19,7 @@ first_wrong (Some place) codes = Err (BadChar place)
 abbrev pub read_address : List ℕ → Result (List ℕ) AddressError
 read_address codes =
     if length codes == 0 then Err Empty
-    else if nat_lt 7 (length codes) then Err TooLong
+    else if nat_lt MAX_ADDRESS (length codes) then Err TooLong
     else first_wrong (position (λ c. not (is_address_code c)) codes) codes
 
 -- A message within its limits: a call has an address, a text is one of 1 to 7 units.

@@ -1,14 +1,19 @@
 -- What octets read as, found from left to right.
-use Rattle.std.specs.Prelude.{ℕ, ◌-◌, ◌%◌, ◌==◌, ◌||◌, ◌&&◌, not, Bool, true, false, zero, suc, nat_lt, take, if◌then◌else◌, List, [], ◌∷◌, ◌++◌, ◌≡◌, length, drop, Option, Some, None, Result, Ok, Err, option_and_then}
+use Rattle.std.specs.Prelude.{ℕ, ◌-◌, ◌%◌, ◌==◌, ◌||◌, ◌&&◌, not, Bool, true, false, zero, suc}
+use Rattle.std.specs.Prelude.{nat_lt, take, if◌then◌else◌, List, [], ◌∷◌, ◌++◌, ◌≡◌, length, drop}
+use Rattle.std.specs.Prelude.{Option, Some, None, Result, Ok, Err, option_and_then}
 use Rattle.std.specs.Str.{bytes_eq}
 use Rattle.std.specs.List.{prefix_len}
 use Rattle.bsc_octet.specs.Octet.{code_of, odd_octet, longitudinal_sum, is_record_char}
 use Rattle.bsc_frame.specs.Texts.{TextUnit, TextValue}
+use Rattle.bsc_frame.specs.declared.limits.TheConstants.{MAX_UNITS, MAX_CHARS, MAX_UNIT_CODES}
+use Rattle.bsc_frame.specs.declared.limits.TheConstants.{MAX_ADDRESS, MAX_HEARD}
 use Rattle.bsc_frame.specs.declared.text.End.TheVariants.{Etb, Etx}
 use Rattle.bsc_frame.specs.Message.{read_address}
 use Rattle.bsc_frame.specs.declared.address.AddressError.{AddressError}
 use Rattle.bsc_frame.specs.declared.message.Message.{Message}
-use Rattle.bsc_frame.specs.declared.message.Message.TheVariants.{Eot, Call, Enq, Ack0, Ack1, Nak, Wack, Rvi, Text}
+use Rattle.bsc_frame.specs.declared.message.Message.TheVariants.{Eot, Call, Enq, Ack0, Ack1, Nak}
+use Rattle.bsc_frame.specs.declared.message.Message.TheVariants.{Wack, Rvi, Text}
 use Rattle.bsc_frame.specs.declared.message.Heard.{Heard}
 use Rattle.bsc_frame.specs.declared.message.Heard.TheVariants.{Whole, Failed, Noise}
 
@@ -61,7 +66,9 @@ call_to (Err e) = None
 
 -- a call, after its EOT
 unfoldable pub call : List ℕ → Option Message
-call rest = option_and_then (λ codes. call_to (read_address codes)) (called 7 (skip (is_octet 0x16) (skip (is_octet 0xff) rest)))
+call rest =
+    option_and_then (λ codes. call_to (read_address codes))
+    (called MAX_ADDRESS (skip (is_octet 0x16) (skip (is_octet 0xff) rest)))
 
 -- whether the first octet is there and passes
 abbrev pub begins : (ℕ → Bool) → List ℕ → Bool
@@ -122,7 +129,8 @@ before_gathered c (Some g) = Some (c ∷ g.0, g.1)
 
 abbrev pub gather_code : Option ℕ → List ℕ → Option (List ℕ × List ℕ) → Option (List ℕ × List ℕ)
 gather_code None rest more = None
-gather_code (Some c) rest more = if is_ending_code c then Some (c ∷ [], rest) else before_gathered c more
+gather_code (Some c) rest more =
+    if is_ending_code c then Some (c ∷ [], rest) else before_gathered c more
 
 -- The codes up to the first ending character, without SYN, and the octets after it: at most as many
 -- codes as there is room for.
@@ -134,25 +142,29 @@ gathered room (x ∷ xs) =
     else gather_code (code_of x) xs (gathered (room - 1) xs)
 
 -- the octets after the check of the codes
-abbrev pub behind_check : List ℕ → List ℕ → Option (List ℕ)
-behind_check codes [] = None
-behind_check codes (k ∷ rest) = if odd_octet (longitudinal_sum codes) == k then Some rest else None
+abbrev pub after_check : List ℕ → List ℕ → Option (List ℕ)
+after_check codes [] = None
+after_check codes (k ∷ rest) = if odd_octet (longitudinal_sum codes) == k then Some rest else None
 
 -- the codes without an STX after a check
-abbrev pub behind_start : Bool → List ℕ → List ℕ
-behind_start behind codes = if behind && begins (is_octet 0x02) codes then drop 1 codes else codes
+abbrev pub after_start : Bool → List ℕ → List ℕ
+after_start after_us codes =
+    if after_us && begins (is_octet 0x02) codes then drop 1 codes else codes
 
 -- the unit of these characters with its ending character, by what stands after the characters
 abbrev pub unit_of_tail : List ℕ → List ℕ → Option (TextUnit × ℕ)
 unit_of_tail chars [] = None
 unit_of_tail chars (e ∷ []) = Some (record { chars = chars; em = false }, e)
-unit_of_tail chars (m ∷ e ∷ []) = if m == 0x19 then Some (record { chars = chars; em = true }, e) else None
+unit_of_tail chars (m ∷ e ∷ []) =
+    if m == 0x19 then Some (record { chars = chars; em = true }, e) else None
 unit_of_tail chars (m ∷ e ∷ x ∷ xs) = None
 
-unfoldable pub unit_of : List ℕ → Option (TextUnit × ℕ)
-unit_of codes =
-    if nat_lt 144 (prefix_len is_record_char codes) then None
-    else unit_of_tail (take (prefix_len is_record_char codes) codes) (drop (prefix_len is_record_char codes) codes)
+unfoldable pub read_unit : List ℕ → Option (TextUnit × ℕ)
+read_unit codes =
+    if nat_lt MAX_CHARS (prefix_len is_record_char codes) then None
+    else
+    unit_of_tail (take (prefix_len is_record_char codes) codes)
+    (drop (prefix_len is_record_char codes) codes)
 
 -- octets of which the last carries an ending character
 pub record IsFront (octets : List ℕ) : Type 0 where
@@ -168,16 +180,16 @@ pub record AreParts (octets chars : List ℕ) (em : Bool) (last : ℕ) : Type 0 
 
 -- the unit of the codes before these octets, its ending character, and the octets after its check
 abbrev pub unit_before : Bool → List ℕ → List ℕ → Option (TextUnit × ℕ × List ℕ)
-unit_before behind codes octets = do
-  rest ← behind_check codes octets
-  u ← unit_of (behind_start behind codes)
+unit_before after_us codes octets = do
+  rest ← after_check codes octets
+  u ← read_unit (after_start after_us codes)
   Some (u.0, u.1, rest)
 
 -- the first unit, its ending character, and the octets after its check
 unfoldable pub unit_at : Bool → List ℕ → Option (TextUnit × ℕ × List ℕ)
-unit_at behind octets = do
-  g ← gathered 147 octets
-  unit_before behind g.0 g.1
+unit_at after_us octets = do
+  g ← gathered MAX_UNIT_CODES octets
+  unit_before after_us g.0 g.1
 
 abbrev pub before_units : TextUnit → Option TextValue → Option TextValue
 before_units u None = None
@@ -190,9 +202,9 @@ last_unit u e (x ∷ xs) = None
 
 -- at most this many units
 unfoldable pub units_at : ℕ → Bool → List ℕ → Option TextValue
-units_at zero behind octets = None
-units_at (suc n) behind octets = do
-  u ← unit_at behind octets
+units_at zero after_us octets = None
+units_at (suc n) after_us octets = do
+  u ← unit_at after_us octets
   if u.1 == 0x1f then before_units u.0 (units_at n true u.2) else last_unit u.0 u.1 u.2
 
 abbrev pub whole_or_failed : Option TextValue → Heard
@@ -201,7 +213,9 @@ whole_or_failed None = Failed
 
 -- what a body is heard as
 unfoldable pub heard_body : List ℕ → Heard
-heard_body body = if begins (is_octet 0x02) body then whole_or_failed (units_at 7 false (drop 1 body)) else whole_or_noise (control body)
+heard_body body =
+    if begins (is_octet 0x02) body then whole_or_failed (units_at MAX_UNITS false (drop 1 body))
+    else whole_or_noise (control body)
 
 -- after the pads
 abbrev pub heard_from_syn : List ℕ → Heard
@@ -209,4 +223,5 @@ heard_from_syn rest =
     if begins (is_octet 0x16) rest then heard_body (trimmed (skip (is_octet 0x16) rest)) else Noise
 
 unfoldable pub heard : List ℕ → Heard
-heard octets = if nat_lt 2048 (length octets) then Noise else heard_from_syn (skip is_pad_octet octets)
+heard octets =
+    if nat_lt MAX_HEARD (length octets) then Noise else heard_from_syn (skip is_pad_octet octets)

@@ -3,7 +3,8 @@ use Rattle.std.specs.Prelude.{◌≡◌, ◌⊎◌, ◌↔◌, List, ℕ}
 use Rattle.bsc_frame.specs.Texts.{TextValue}
 use Rattle.bsc_frame.specs.Spells.{Spells, IsFailed, IsNoise}
 use Rattle.bsc_frame.specs.declared.message.Message.{Message}
-use Rattle.bsc_frame.specs.declared.message.Message.TheVariants.{Eot, Call, Enq, Ack0, Ack1, Nak, Wack, Rvi, Text}
+use Rattle.bsc_frame.specs.declared.message.Message.TheVariants.{Eot, Call, Enq, Ack0, Ack1, Nak}
+use Rattle.bsc_frame.specs.declared.message.Message.TheVariants.{Wack, Rvi, Text}
 use Rattle.bsc_frame.specs.declared.message.Heard.{Heard}
 use Rattle.bsc_frame.specs.declared.message.Heard.TheVariants.{Whole, Failed, Noise}
 use Rattle.bsc_frame.specs.declared.short.Short.{Short}

@@ -1,15 +1,20 @@
 -- Which octets spell a message: what is sent for it, and what other equipment may send in its
 -- place, with other pads and fills (GA27-3004: synchronization, pads and SYN time fill; how far
 -- each is accepted is own).
-use Rattle.std.specs.Prelude.{◌≡◌, ◌≢◌, ◌⊎◌, ℕ, ◌≤◌, Bool, true, false, List, [], ◌∷◌, ◌++◌, length, map}
+use Rattle.std.specs.Prelude.{◌≡◌, ◌≢◌, ◌⊎◌, ℕ, ◌≤◌, Bool, true, false, List, [], ◌∷◌, ◌++◌, length}
+use Rattle.std.specs.Prelude.{map}
 use Rattle.std.specs.List.{AllByRecursion}
 use Rattle.bsc_octet.specs.Octet.{odd_octet, longitudinal_sum}
 use Rattle.bsc_frame.specs.Addresses.{IsAddress}
 use Rattle.bsc_frame.specs.Texts.{TextUnit, TextValue, IsText}
 use Rattle.bsc_frame.specs.Units.{unit_codes, ending}
+use Rattle.bsc_frame.specs.declared.limits.TheConstants.{MAX_HEARD}
 use Rattle.bsc_frame.specs.declared.text.End.{End}
 use Rattle.bsc_frame.specs.declared.message.Message.{Message}
-use Rattle.bsc_frame.specs.declared.message.Message.TheVariants.{Eot, Call, Enq, Ack0, Ack1, Nak, Wack, Rvi, Text}
+use Rattle.bsc_frame.specs.declared.message.Message.TheVariants.{Eot, Call, Enq, Ack0, Ack1, Nak}
+use Rattle.bsc_frame.specs.declared.message.Message.TheVariants.{Wack, Rvi, Text}
+use Rattle.bsc_frame.specs.declared.message.Heard.{Heard}
+use Rattle.bsc_frame.specs.declared.message.Heard.TheVariants.{Whole, Failed, Noise}
 
 -- Leading pads: only octets 55 and AA (GA27-3004: pad format).
 abbrev pub ArePads : List ℕ → Type 0
@@ -33,22 +38,25 @@ pub record IsCall (a body : List ℕ) : Type 0 where
 -- time fill).
 abbrev pub AreFilled : List ℕ → List ℕ → Type 0
 AreFilled [] octets = octets ≡ []
-AreFilled (c ∷ cs) octets = (fill rest : List ℕ) × AreAll 0x16 fill × (octets ≡ fill ++ odd_octet c ∷ rest) × AreFilled cs rest
+AreFilled (c ∷ cs) octets =
+    (fill rest : List ℕ) × AreAll 0x16 fill × (octets ≡ fill ++ odd_octet c ∷ rest)
+    × AreFilled cs rest
 
 -- What may stand before the codes of a unit and in its sum: nothing, and after the check of a US
 -- one STX.
 abbrev pub IsStart : Bool → List ℕ → Type 0
-IsStart behind start = (start ≡ []) ⊎ ((behind ≡ true) × (start ≡ 0x02 ∷ []))
+IsStart after_us start = (start ≡ []) ⊎ ((after_us ≡ true) × (start ≡ 0x02 ∷ []))
 
 -- The units of a text: for each its codes with fills, and at once, without fill, the check of these
 -- codes. An STX after the check of a US is the first code of the next sum (GA27-3004: intermediate
 -- text blocks).
 abbrev pub AreUnits : Bool → List TextUnit → End → List ℕ → Type 0
-AreUnits behind [] end octets = octets ≡ []
-AreUnits behind (u ∷ us) end octets =
-    (start front rest : List ℕ) × IsStart behind start
+AreUnits after_us [] end octets = octets ≡ []
+AreUnits after_us (u ∷ us) end octets =
+    (start front rest : List ℕ) × IsStart after_us start
     × AreFilled (start ++ unit_codes u (ending us end)) front
-    × (octets ≡ front ++ odd_octet (longitudinal_sum (start ++ unit_codes u (ending us end))) ∷ rest)
+    × (octets
+    ≡ front ++ odd_octet (longitudinal_sum (start ++ unit_codes u (ending us end))) ∷ rest)
     × AreUnits true us end rest
 
 -- The body of a text: STX, then its units.
@@ -81,9 +89,9 @@ pub record Carries (octets body : List ℕ) : Type 0 where
   pub some_syn : syns ≢ []
   pub are_trail : AreAll 0xff trail
 
--- The octets spell the message: they carry its body, and are at most 2,048 (the limit is own).
+-- The octets spell the message: they carry its body, and are at most MAX_HEARD (the limit is own).
 pub record Spells (octets : List ℕ) (m : Message) : Type 0 where
-  pub small : length octets ≤ 2048
+  pub small : length octets ≤ MAX_HEARD
   pub body : List ℕ
   pub carried : Carries octets body
   pub is_body : IsBody m body
@@ -91,7 +99,7 @@ pub record Spells (octets : List ℕ) (m : Message) : Type 0 where
 -- The octets failed as a text: they begin with STX after SYN, and spell no message (GA27-3004: a
 -- text whose check or form failed is answered by NAK).
 pub record IsFailed (octets : List ℕ) : Type 0 where
-  pub small : length octets ≤ 2048
+  pub small : length octets ≤ MAX_HEARD
   pub rest : List ℕ
   pub carried : Carries octets (0x02 ∷ rest)
   pub none : (m : Message) → Spells octets m → ⊥
@@ -99,3 +107,10 @@ pub record IsFailed (octets : List ℕ) : Type 0 where
 -- Noise: the octets spell no message and have not failed as a text.
 abbrev pub IsNoise : List ℕ → Type 0
 IsNoise octets = ((m : Message) → Spells octets m → ⊥) × (IsFailed octets → ⊥)
+
+-- What octets are heard as: the message that they spell, a text whose check or form failed, or
+-- noise. One of them holds of all octets, and no octets spell two messages.
+abbrev pub IsHeardAs : List ℕ → Heard → Type 0
+IsHeardAs octets (Whole m) = Spells octets m
+IsHeardAs octets Failed = IsFailed octets
+IsHeardAs octets Noise = IsNoise octets

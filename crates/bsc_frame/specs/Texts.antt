@@ -1,7 +1,9 @@
 -- Texts, by the list of their units.
-use Rattle.std.specs.Prelude.{◌≡◌, ℕ, zero, suc, ◌<◌, ◌≤◌, Bool, IsTrue, List, [], ◌∷◌, length, slice_range}
+use Rattle.std.specs.Prelude.{◌≡◌, ℕ, zero, suc, ◌<◌, ◌≤◌, Bool, IsTrue, List, [], ◌∷◌, length}
+use Rattle.std.specs.Prelude.{slice_range}
 use Rattle.std.specs.List.{AllByRecursion}
 use Rattle.bsc_octet.specs.Octet.{is_record_char}
+use Rattle.bsc_frame.specs.declared.limits.TheConstants.{MAX_UNITS, MAX_CHARS}
 use Rattle.bsc_frame.specs.declared.text.End.{End}
 use Rattle.bsc_frame.specs.declared.text.Mark.{Mark}
 
@@ -17,19 +19,20 @@ pub record TextValue : Type 0 where
 
 -- at most 144 record characters
 pub record IsUnit (u : TextUnit) : Type 0 where
-  pub most : length u.chars ≤ 144
+  pub most : length u.chars ≤ MAX_CHARS
   pub each : AllByRecursion (λ c. IsTrue (is_record_char c)) u.chars
 
 -- 1 to 7 units
 pub record IsText (t : TextValue) : Type 0 where
   pub some : 0 < length t.units
-  pub most : length t.units ≤ 7
+  pub most : length t.units ≤ MAX_UNITS
   pub each : AllByRecursion IsUnit t.units
 
 -- the units of a buffer of characters, by the marks at their ends
 abbrev pub units_from : ℕ → List Mark → List ℕ → List TextUnit
 units_from start [] chars = []
-units_from start (m ∷ ms) chars = record { chars = slice_range chars start m.end; em = m.em } ∷ units_from m.end ms chars
+units_from start (m ∷ ms) chars =
+    record { chars = slice_range chars start m.end; em = m.em } ∷ units_from m.end ms chars
 
 -- where a unit begins: at the end of the one before it
 abbrev pub start_before : ℕ → List Mark → ℕ → ℕ
@@ -42,10 +45,10 @@ abbrev pub AreMarked : ℕ → List Mark → List ℕ → Type 0
 AreMarked start [] chars = start ≡ length chars
 AreMarked start (m ∷ ms) chars = (start ≤ m.end) × (m.end ≤ length chars) × AreMarked m.end ms chars
 
-abbrev pub text_of : List Mark → List ℕ → End → TextValue
-text_of marks chars end = record { units = units_from 0 marks chars; end = end }
+abbrev pub marked_text : List Mark → List ℕ → End → TextValue
+marked_text marks chars end = record { units = units_from 0 marks chars; end = end }
 
 -- a buffer that holds a whole text
 pub record HoldsText (marks : List Mark) (chars : List ℕ) (end : End) : Type 0 where
   pub marked : AreMarked 0 marks chars
-  pub text : IsText (text_of marks chars end)
+  pub text : IsText (marked_text marks chars end)

@@ -1,6 +1,7 @@
 -- Octets of which one was changed on the line, as noise does it (GA27-3004: VRC and LRC checking;
 -- which changes are found is own).
-use Rattle.std.specs.Prelude.{◌≡◌, ◌≢◌, ◌⊎◌, ℕ, ◌^◌, ◌%◌, ◌<◌, true, false, List, [], ◌∷◌, slice_index, slice_set, bit_xor, count_ones}
+use Rattle.std.specs.Prelude.{◌≡◌, ◌≢◌, ◌⊎◌, ℕ, ◌^◌, ◌%◌, ◌<◌, true, false, List, [], ◌∷◌}
+use Rattle.std.specs.Prelude.{slice_index, slice_set, bit_xor, count_ones}
 use Rattle.bsc_octet.specs.Octet.{IsOdd}
 use Rattle.bsc_frame.specs.Texts.{TextValue}
 use Rattle.bsc_frame.specs.Reading.{is_ending_octet}

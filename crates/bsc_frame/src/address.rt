@@ -9,6 +9,7 @@ ghost use Rattle.std.proofs.Common.{rules};
 ghost use lib.Pointwise.{pointwise};
 ghost use Rattle.bsc_frame.specs.Addresses.{IsAddress, is_address_code};
 
+use crate::limits::MAX_ADDRESS;
 use std::cmp::Ordering;
 use std::hash::{Hash, Hasher};
 use std::marker::Model;
@@ -36,7 +37,7 @@ pub enum AddressError {
 /// Equality, order and hash are those of the list of its codes.
 #[derive(Clone, Copy, Debug)]
 pub struct Address {
-    buffer: [u8; 7],
+    buffer: [u8; MAX_ADDRESS],
     len: usize,
 }
 
@@ -72,7 +73,8 @@ impl Eq for Address {
 impl PartialOrd for Address {
     ghost partial_cmp = { as_partial_cmp (slice_cmp nat_cmp) };
 
-    ghost laws = { partial_order_from_own_ties (Prim.search (comparing, rules)) (Prim.search (comparing, rules)) };
+    ghost laws = { partial_order_from_own_ties (Prim.search (comparing, rules))
+        (Prim.search (comparing, rules)) };
 
     fn partial_cmp(&self, other: &Address) -> Option<Ordering> {
         Some(self.cmp(other))
@@ -130,13 +132,13 @@ impl Address {
         if codes.is_empty() {
             return Err(AddressError::Empty);
         }
-        if codes.len() > 7 {
+        if codes.len() > MAX_ADDRESS {
             return Err(AddressError::TooLong);
         }
         if let Some(place) = wrong_place(codes) {
             return Err(AddressError::BadChar(place));
         }
-        let mut buffer = [0; 7];
+        let mut buffer = [0; MAX_ADDRESS];
         buffer[..codes.len()].copy_from_slice(codes);
         Ok(Address {
             buffer,

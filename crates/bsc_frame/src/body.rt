@@ -1,22 +1,18 @@
 //! The body of a transmission: what stands between its pads and SYN and its PAD.
 ghost use Rattle.std.specs.Prelude.{◌≡◌};
-ghost use Rattle.bsc_frame.specs.Reading.{skip, is_pad_octet, is_octet, trimmed, begins, heard_body, heard};
+ghost use Rattle.bsc_frame.specs.Reading.{skip, is_pad_octet, is_octet, trimmed, begins};
+ghost use Rattle.bsc_frame.specs.Reading.{heard_body, heard};
 
 use crate::front::{LANES, either_front, either_in};
-
-/// The most octets that are heard as one transmission.
-const MAX_HEARD: usize = 2048;
-
-const SYN: u8 = 0x16;
-
-const PAD: u8 = 0xff;
+use crate::limits::MAX_HEARD;
+use crate::octets::{LEADING_PADS, PAD, SYN};
 
 /// What stands after the leading pads, 0x55 or 0xaa.
 #[tactic(auto, using(crate::proofs::RunLemmas::skip_pads))]
 fn behind_pads(octets: &[u8]) -> &[u8]
     ensures { result.now ≡ skip is_pad_octet octets.now }
 {
-    let start = either_front(octets, 0x55, 0xaa);
+    let start = either_front(octets, LEADING_PADS[0], LEADING_PADS[1]);
     &octets[start..]
 }
 

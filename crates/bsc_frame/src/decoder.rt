@@ -6,6 +6,8 @@ ghost use Rattle.bsc_frame.specs.declared.message.Message.{Message};
 ghost use Rattle.bsc_frame.specs.Reading.{heard, units_at, whole_or_failed};
 
 use crate::body::{body_of, starts_with};
+use crate::limits::MAX_UNITS;
+use crate::octets::STX;
 use crate::short::short_of;
 use crate::text::Draft;
 use crate::unit_decoder::read_units;
@@ -15,7 +17,7 @@ use bsc_octet::all_odd;
 /// What a text is heard as, after its STX.
 #[tactic(auto, using(crate::proofs::OddLemmas::not_odd_fails))]
 fn text_heard(units: &[u8]) -> Heard
-    ensures { result ≡ whole_or_failed (units_at 7 false units.now) }
+    ensures { result ≡ whole_or_failed (units_at MAX_UNITS false units.now) }
 {
     if !all_odd(units) {
         return Heard::Failed;
@@ -48,7 +50,7 @@ fn octets_heard(octets: &[u8]) -> Heard
     ensures { result ≡ heard octets.now }
 {
     let body = body_of(octets);
-    if starts_with(body, 0x02) {
+    if starts_with(body, STX) {
         return text_heard(&body[1..]);
     }
     match short_of(body) {

@@ -1,5 +1,6 @@
 //! From messages to octets: the one form in which each message is sent.
-ghost use Rattle.std.specs.Prelude.{◌≡◌, ◌≤◌, ◌<◌, ◌+◌, [], ◌∷◌, ◌++◌, length, take, drop, map, All, if◌then◌else◌};
+ghost use Rattle.std.specs.Prelude.{◌≡◌, ◌≤◌, ◌<◌, ◌+◌, [], ◌∷◌, ◌++◌, length, take, drop, map};
+ghost use Rattle.std.specs.Prelude.{All, if◌then◌else◌};
 ghost use Rattle.bsc_octet.specs.Octet.{odd_octet};
 ghost use Rattle.bsc_frame.specs.Texts.{IsUnit, IsText};
 ghost use Rattle.bsc_frame.specs.Message.{IsMessage};
@@ -7,19 +8,20 @@ ghost use Rattle.bsc_frame.specs.Units.{text_unit, end_code, ending, unit_wire, 
 ghost use Rattle.bsc_frame.specs.Wire.{wire as wire_of};
 
 use crate::buffer::append;
+use crate::limits::{MAX_SENT, MAX_UNIT_SENT};
+use crate::octets::{
+    ACK0, ACK1, CALL_START, EM_CODE, ENQ, EOT, ETB_CODE, ETX_CODE, NAK, PAD, RVI, START, STX,
+    US_CODE, WACK,
+};
 use crate::unit_decoder::check_of;
 use crate::{End, Message, Text, Unit};
 use arrayvec::ArrayVec;
 
 /// The octets of one transmission that is sent.
-pub type Wire = ArrayVec<u8, 1100>;
+pub type Wire = ArrayVec<u8, MAX_SENT>;
 
-const EM: u8 = 0x19;
-
-const US: u8 = 0x1f;
-
-/// The octets of a unit: 144 characters, EM, the ending character and the check.
-type UnitOctets = [u8; 147];
+/// The octets of a unit.
+type UnitOctets = [u8; MAX_UNIT_SENT];
 
 /// The octet that carries the code. It is found by folding bits, for a compiler makes lanes of
 /// that, and of a count of ones with a test it does not.
@@ -37,7 +39,7 @@ fn carried(code: u8) -> u8
 /// lanes of it.
 #[tactic(auto, using(crate::proofs::WireSteps::put_more, crate::proofs::WireSteps::put_all))]
 fn put_codes(octets: &mut UnitOctets, codes: &[u8])
-    requires room { length codes.now ≤ 147 }
+    requires room { length codes.now ≤ MAX_UNIT_SENT }
     requires codes { All (λ c. c < 128) codes.now }
     ensures { take (length codes.now) octets.new ≡ map odd_octet codes.now }
 {
@@ -49,7 +51,7 @@ fn put_codes(octets: &mut UnitOctets, codes: &[u8])
 /// Puts the octet after the first ones, and gives how many there are then.
 #[tactic(auto, using(std::proofs::lemmas::List::take_more_set))]
 fn put(octets: &mut UnitOctets, count: usize, octet: u8) -> usize
-    requires { count < 147 }
+    requires { count < MAX_UNIT_SENT }
     ensures octets { take result octets.new ≡ take count octets.old ++ octet ∷ [] }
     ensures count { result ≡ count + 1 }
 {
@@ -59,12 +61,13 @@ fn put(octets: &mut UnitOctets, count: usize, octet: u8) -> usize
 
 /// Puts EM after the first octets where the unit is marked, and gives how many there are then.
 fn put_em(octets: &mut UnitOctets, count: usize, em: bool) -> usize
-    requires { count < 147 }
-    ensures octets { take result octets.new ≡ take count octets.old ++ (if em then 0x19 ∷ [] else []) }
+    requires { count < MAX_UNIT_SENT }
+    ensures octets { take result octets.new
+        ≡ take count octets.old ++ (if em then 0x19 ∷ [] else []) }
     ensures count { result ≤ count + 1 }
 {
     if em {
-        return put(octets, count, EM);
+        return put(octets, count, EM_CODE);
     }
     count
 }
@@ -74,7 +77,7 @@ fn put_unit(octets: &mut UnitOctets, unit: Unit<'_>, ending: u8) -> usize
     requires unit { IsUnit (text_unit unit) }
     requires ending { ending < 128 }
     ensures octets { take result octets.new ≡ unit_wire (text_unit unit.entry) ending }
-    ensures count { result ≤ 147 }
+    ensures count { result ≤ MAX_UNIT_SENT }
 {
     put_codes(octets, unit.chars);
     let count = put_em(octets, unit.chars.len(), unit.em);
@@ -85,7 +88,7 @@ fn put_unit(octets: &mut UnitOctets, unit: Unit<'_>, ending: u8) -> usize
 
 /// Appends the octets that carry the codes, one at a time.
 fn append_codes(wire: &mut Wire, codes: &[u8])
-    requires room { length wire.old.items + length codes.now ≤ 1100 }
+    requires room { length wire.old.items + length codes.now ≤ MAX_SENT }
     requires codes { All (λ c. c < 128) codes.now }
     ensures { wire.new.items ≡ wire.old.items ++ map odd_octet codes.now }
 {
@@ -99,8 +102,8 @@ fn end_char(end: End) -> u8
     ensures { result ≡ end_code end }
 {
     match end {
-        End::Etb => 0x17,
-        End::Etx => 0x03,
+        End::Etb => ETB_CODE,
+        End::Etx => ETX_CODE,
     }
 }
 
@@ -108,10 +111,10 @@ fn end_char(end: End) -> u8
 fn append_unit(wire: &mut Wire, unit: Unit<'_>, ending: u8)
     requires unit { IsUnit (text_unit unit) }
     requires ending { ending < 128 }
-    requires room { length wire.old.items + length (unit_wire (text_unit unit) ending) ≤ 1100 }
+    requires room { length wire.old.items + length (unit_wire (text_unit unit) ending) ≤ MAX_SENT }
     ensures { wire.new.items ≡ wire.old.items ++ unit_wire (text_unit unit.entry) ending }
 {
-    let mut octets = [0; 147];
+    let mut octets = [0; MAX_UNIT_SENT];
     let count = put_unit(&mut octets, unit, ending);
     append(wire, &octets[..count]);
 }
@@ -125,18 +128,20 @@ fn ending_at(text: &Text, place: usize) -> u8
 {
     let count = text.count();
     if place + 1 < count {
-        US
+        US_CODE
     } else {
         end_char(text.end())
     }
 }
 
-/// Appends the units of the text.
+/// Appends the units of the text. Its own function, since only here there must be room for the
+/// octets of a unit.
+#[inline(never)]
 #[tactic(auto, using(crate::proofs::WireSteps::wire_next))]
 fn append_units(wire: &mut Wire, text: &Text)
     requires room { length wire.old.items ≤ 3 }
     ensures units { wire.new.items ≡ wire.old.items ++ units_wire text.now.units text.now.end }
-    ensures short { length wire.new.items < 1100 }
+    ensures short { length wire.new.items < MAX_SENT }
     ensures text { IsText text.now }
 {
     for place in 0..text.count() {
@@ -152,24 +157,24 @@ pub fn encode(message: &Message, wire: &mut Wire)
     ensures message { IsMessage message.now }
 {
     wire.clear();
-    append(wire, &[0x16, 0x16]);
+    append(wire, &START);
     match message {
-        Message::Eot => append(wire, &[0x04]),
+        Message::Eot => append(wire, &[EOT]),
         Message::Call(address) => {
-            append(wire, &[0x04, 0xff, 0x16, 0x16]);
+            append(wire, &CALL_START);
             append_codes(wire, address.codes());
-            append(wire, &[0x85]);
+            append(wire, &[ENQ]);
         }
-        Message::Enq => append(wire, &[0x85]),
-        Message::Ack0 => append(wire, &[0x10, 0xb0]),
-        Message::Ack1 => append(wire, &[0x10, 0x31]),
-        Message::Nak => append(wire, &[0x15]),
-        Message::Wack => append(wire, &[0x10, 0x3b]),
-        Message::Rvi => append(wire, &[0x10, 0xbc]),
+        Message::Enq => append(wire, &[ENQ]),
+        Message::Ack0 => append(wire, &ACK0),
+        Message::Ack1 => append(wire, &ACK1),
+        Message::Nak => append(wire, &[NAK]),
+        Message::Wack => append(wire, &WACK),
+        Message::Rvi => append(wire, &RVI),
         Message::Text(text) => {
-            append(wire, &[0x02]);
+            append(wire, &[STX]);
             append_units(wire, text);
         }
     }
-    append(wire, &[0xff]);
+    append(wire, &[PAD]);
 }

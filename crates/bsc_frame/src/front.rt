@@ -4,16 +4,11 @@ ghost use Rattle.std.specs.Int.{w64, trailing_zeros};
 ghost use Rattle.std.specs.List.{prefix_len};
 ghost use Rattle.bsc_frame.specs.Reading.{is_either, is_before_ending};
 
+use crate::octets::{ETB, ETX, US};
 use std::simd::prelude::*;
 
+/// How many octets are looked at together.
 pub(crate) const LANES: usize = 32;
-
-/// The octets that carry US, ETB and ETX.
-const US: u8 = 0x1f;
-
-const ETB: u8 = 0x97;
-
-const ETX: u8 = 0x83;
 
 /// The first lane of the 32 that is set in the mask; 32 where none is.
 fn first_lane(mask: u64) -> usize

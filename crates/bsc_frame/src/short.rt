@@ -5,6 +5,8 @@ ghost use Rattle.bsc_frame.specs.Reading.{called, call, control, whole_or_noise}
 
 use crate::Address;
 use crate::body::{behind_all, body_of, starts_with};
+use crate::limits::MAX_ADDRESS;
+use crate::octets::{ACK0, ACK1, ENQ, EOT, NAK, PAD, RVI, STX, SYN, WACK};
 use arrayvec::ArrayVec;
 use bsc_octet::from_line;
 
@@ -26,12 +28,12 @@ pub enum Short {
 
 /// The address of a call, after its EOT.
 #[tactic(auto, using(crate::proofs::ReadLemmas::called_end, crate::proofs::ReadLemmas::called_early, crate::proofs::ReadLemmas::called_full, crate::proofs::ReadLemmas::called_wrong, crate::proofs::ReadLemmas::called_more, crate::proofs::ReadLemmas::called_none))]
-fn address_codes(octets: &[u8]) -> Option<ArrayVec<u8, 7>>
-    ensures { option_map (λ v. v.items) result ≡ called 7 octets.now }
+fn address_codes(octets: &[u8]) -> Option<ArrayVec<u8, MAX_ADDRESS>>
+    ensures { option_map (λ v. v.items) result ≡ called MAX_ADDRESS octets.now }
 {
     let mut codes = ArrayVec::new();
     for (i, octet) in octets.iter().enumerate() {
-        if *octet == 0x85 {
+        if *octet == ENQ {
             return if i + 1 == octets.len() {
                 Some(codes)
             } else {
@@ -54,7 +56,7 @@ fn address_codes(octets: &[u8]) -> Option<ArrayVec<u8, 7>>
 fn short_call(octets: &[u8]) -> Short
     ensures { heard_as result ≡ whole_or_noise (call octets.now) }
 {
-    let Some(codes) = address_codes(behind_all(behind_all(octets, 0xff), 0x16)) else {
+    let Some(codes) = address_codes(behind_all(behind_all(octets, PAD), SYN)) else {
         return Short::Noise;
     };
     match Address::read(&codes) {
@@ -72,21 +74,21 @@ pub(crate) fn short_of(body: &[u8]) -> Short
     if body.is_empty() {
         return Short::Noise;
     }
-    if body == [0x04].as_slice() {
+    if body == [EOT].as_slice() {
         Short::Eot
-    } else if body == [0x85].as_slice() {
+    } else if body == [ENQ].as_slice() {
         Short::Enq
-    } else if body == [0x15].as_slice() {
+    } else if body == [NAK].as_slice() {
         Short::Nak
-    } else if body == [0x10, 0xb0].as_slice() {
+    } else if body == ACK0.as_slice() {
         Short::Ack0
-    } else if body == [0x10, 0x31].as_slice() {
+    } else if body == ACK1.as_slice() {
         Short::Ack1
-    } else if body == [0x10, 0x3b].as_slice() {
+    } else if body == WACK.as_slice() {
         Short::Wack
-    } else if body == [0x10, 0xbc].as_slice() {
+    } else if body == RVI.as_slice() {
         Short::Rvi
-    } else if starts_with(body, 0x04) {
+    } else if starts_with(body, EOT) {
         short_call(&body[1..])
     } else {
         Short::Noise
@@ -102,7 +104,7 @@ pub fn decode_short(octets: &[u8]) -> Option<Short>
     ensures text { IfNone result (BeginsText octets.now) }
 {
     let body = body_of(octets);
-    if starts_with(body, 0x02) {
+    if starts_with(body, STX) {
         return None;
     }
     Some(short_of(body))

@@ -1,23 +1,26 @@
 //! Loops over the octets of a unit that go to their end, so that a compiler makes lanes or moves of
 //! them: a branch that depends on the octet costs more than the work that it saves.
-ghost use Rattle.std.specs.Prelude.{◌≡◌, ◌<◌, ◌≤◌, ◌+◌, ◌++◌, length, take, map, filter, IfSome, IfNone};
+ghost use Rattle.std.specs.Prelude.{◌≡◌, ◌<◌, ◌≤◌, ◌+◌, ◌++◌, length, take, map, filter, IfSome};
+ghost use Rattle.std.specs.Prelude.{IfNone};
 ghost use Rattle.std.specs.List.{list_any, list_all};
 ghost use Rattle.bsc_octet.specs.Octet.{is_record_char};
 ghost use Rattle.bsc_frame.specs.Reading.{low_bits, is_octet, is_other, is_char_octet};
 
+use crate::limits::{MAX_CHARS, MAX_UNIT_CODES};
+use crate::octets::SYN;
 use bsc_octet::is_record_char;
 
-const SYN: u8 = 0x16;
-
-/// One more than the most codes of a unit: an STX after a check, 144 characters, EM, the ending
-/// character.
-const MAX_CODES: usize = 148;
+/// With this many octets without fill there are more than a unit has.
+const TOO_MANY: usize = MAX_UNIT_CODES + 1;
 
 /// How many octets are squeezed before their count is tested.
 const PART: usize = 16;
 
 /// Room for the octets of a unit without fill, and for a part more.
-pub(crate) type UnitBuffer = [u8; 164];
+pub(crate) const UNIT_ROOM: usize = TOO_MANY + PART;
+
+/// A buffer for the octets of a unit without fill.
+pub(crate) type UnitBuffer = [u8; UNIT_ROOM];
 
 /// Whether there is fill among the octets.
 #[tactic(auto, using(crate::proofs::SqueezeLemmas::fill_more))]
@@ -36,8 +39,8 @@ pub(crate) fn has_fill(octets: &[u8]) -> bool
 #[inline(always)]
 #[tactic(auto, using(crate::proofs::SqueezeLemmas::squeeze_more, crate::proofs::SqueezeLemmas::squeeze_start, crate::proofs::SqueezeLemmas::squeeze_all))]
 fn squeeze_part(octets: &[u8], buffer: &mut UnitBuffer, start: usize) -> usize
-    requires part { length octets.now ≤ 16 }
-    requires start { start ≤ 148 }
+    requires part { length octets.now ≤ PART }
+    requires start { start ≤ TOO_MANY }
     ensures octets { take result buffer.new ≡ take start buffer.old ++ filter is_other octets.now }
     ensures count { result ≤ start + length octets.now }
 {
@@ -53,19 +56,20 @@ fn squeeze_part(octets: &[u8], buffer: &mut UnitBuffer, start: usize) -> usize
 /// they are more than a unit has.
 #[tactic(auto, using(crate::proofs::SqueezeLemmas::part_start, crate::proofs::SqueezeLemmas::part_more, crate::proofs::SqueezeLemmas::part_full, crate::proofs::SqueezeLemmas::part_last))]
 pub(crate) fn squeeze(octets: &[u8], buffer: &mut UnitBuffer) -> Option<usize>
-    ensures some { IfSome result (λ n. (n ≤ 164) × (take n buffer.new ≡ filter is_other octets.now)) }
-    ensures none { IfNone result (147 < length (filter is_other octets.now)) }
+    ensures some { IfSome result (λ n. (n ≤ UNIT_ROOM)
+        × (take n buffer.new ≡ filter is_other octets.now)) }
+    ensures none { IfNone result (MAX_UNIT_CODES < length (filter is_other octets.now)) }
 {
     let mut at = 0;
     let mut count = 0;
     while octets.len() - at >= PART {
-        if count >= MAX_CODES {
+        if count >= TOO_MANY {
             return None;
         }
         count = squeeze_part(&octets[at..at + PART], buffer, count);
         at += PART;
     }
-    if count >= MAX_CODES {
+    if count >= TOO_MANY {
         return None;
     }
     Some(squeeze_part(&octets[at..], buffer, count))
@@ -74,8 +78,8 @@ pub(crate) fn squeeze(octets: &[u8], buffer: &mut UnitBuffer) -> Option<usize>
 /// Puts the codes of the octets to the front of the buffer, and says whether they all are record
 /// characters.
 #[tactic(auto, using(crate::proofs::SqueezeLemmas::codes_more, crate::proofs::SqueezeLemmas::codes_all))]
-pub(crate) fn copy_codes(octets: &[u8], buffer: &mut [u8; 144]) -> bool
-    requires { length octets.now ≤ 144 }
+pub(crate) fn copy_codes(octets: &[u8], buffer: &mut [u8; MAX_CHARS]) -> bool
+    requires { length octets.now ≤ MAX_CHARS }
     ensures codes { take (length octets.now) buffer.new ≡ map low_bits octets.now }
     ensures chars { result ≡ list_all is_char_octet octets.now }
 {

@@ -3,21 +3,16 @@ ghost use Rattle.std.specs.Prelude.{◌≡◌, ◌<◌, [], length, map, All, No
 ghost use Rattle.std.specs.Option.{option_copied};
 ghost use Rattle.bsc_octet.specs.Octet.{IsOdd, odd_octet, longitudinal_sum};
 ghost use Rattle.bsc_frame.specs.Drafts.{draft_units, IsDraft, AddsUnit, TakesUnit, ReadsText};
-ghost use Rattle.bsc_frame.specs.Reading.{low_bits, IsFront, AreParts, behind_check, behind_start, unit_of, unit_before, unit_at, units_at};
+ghost use Rattle.bsc_frame.specs.Reading.{low_bits, IsFront, AreParts, after_check, after_start};
+ghost use Rattle.bsc_frame.specs.Reading.{read_unit, unit_before, unit_at, units_at};
 
 use crate::front::before_ending;
-use crate::squeeze::{UnitBuffer, copy_codes, has_fill, squeeze};
+use crate::limits::{MAX_CHARS, MAX_UNITS};
+use crate::octets::{EM, ETB_CODE, STX, US_CODE};
+use crate::squeeze::{UNIT_ROOM, UnitBuffer, copy_codes, has_fill, squeeze};
 use crate::text::Draft;
 use crate::{End, Unit};
 use bsc_octet::{sum, to_line};
-
-const STX: u8 = 0x02;
-
-const ETB: u8 = 0x17;
-
-const EM: u8 = 0x19;
-
-const US: u8 = 0x1f;
 
 /// The check of the codes: the octet that carries their sum.
 #[tactic(auto, using(crate::proofs::UnitSteps::check_no, crate::proofs::UnitSteps::check_is))]
@@ -33,7 +28,7 @@ pub(crate) fn check_of(codes: &[u8]) -> u8
 /// The octets after the check of the unit.
 #[tactic(auto, using(crate::proofs::UnitSteps::check_wrong, crate::proofs::UnitSteps::check_right))]
 fn checked<'a>(unit: &[u8], octets: &'a [u8]) -> Option<&'a [u8]>
-    ensures { option_copied result ≡ behind_check unit.now octets.entry.now }
+    ensures { option_copied result ≡ after_check unit.now octets.entry.now }
 {
     if octets.is_empty() {
         return None;
@@ -45,10 +40,10 @@ fn checked<'a>(unit: &[u8], octets: &'a [u8]) -> Option<&'a [u8]>
 }
 
 /// The octets without an STX after a check.
-fn without_start(behind: bool, octets: &[u8]) -> &[u8]
-    ensures { result.now ≡ behind_start behind octets.now }
+fn without_start(after_us: bool, octets: &[u8]) -> &[u8]
+    ensures { result.now ≡ after_start after_us octets.now }
 {
-    if behind && !octets.is_empty() && octets[0] == STX {
+    if after_us && !octets.is_empty() && octets[0] == STX {
         &octets[1..]
     } else {
         octets
@@ -86,17 +81,18 @@ fn parts_of(octets: &[u8]) -> Parts<'_>
 /// Adds the unit of these octets to the draft, and gives its ending character.
 fn take_chars(octets: &[u8], draft: &mut Draft) -> Option<u8>
     requires draft { IsDraft draft.old }
-    requires room { length (draft_units draft.old) < 7 }
+    requires room { length (draft_units draft.old) < MAX_UNITS }
     requires odd { All IsOdd octets.now }
     requires ends { IsFront octets.now }
-    ensures found { IfSome result (λ e. AddsUnit draft.old draft.new (unit_of (map low_bits octets.now)) e) }
-    ensures none { IfNone result (unit_of (map low_bits octets.now) ≡ None) }
+    ensures found { IfSome result
+        (λ e. AddsUnit draft.old draft.new (read_unit (map low_bits octets.now)) e) }
+    ensures none { IfNone result (read_unit (map low_bits octets.now) ≡ None) }
 {
     let Parts { chars, em, last } = parts_of(octets);
-    if chars.len() > 144 {
+    if chars.len() > MAX_CHARS {
         return None;
     }
-    let mut codes = [0; 144];
+    let mut codes = [0; MAX_CHARS];
     if !copy_codes(chars, &mut codes) {
         return None;
     }
@@ -110,22 +106,23 @@ fn take_chars(octets: &[u8], draft: &mut Draft) -> Option<u8>
 /// Reads the unit of these octets without fill, adds it to the draft, and gives its ending
 /// character and the octets after its check.
 fn take_front<'a>(
-    behind: bool,
+    after_us: bool,
     front: &[u8],
     octets: &'a [u8],
     draft: &mut Draft,
 ) -> Option<(u8, &'a [u8])>
     requires draft { IsDraft draft.old }
-    requires room { length (draft_units draft.old) < 7 }
+    requires room { length (draft_units draft.old) < MAX_UNITS }
     requires odd { All IsOdd front.now }
     requires ends { IsFront front.now }
-    ensures found { IfSome result (λ r. TakesUnit draft.old draft.new (unit_before behind (map low_bits front.now) octets.entry.now) r.0 r.1.now) }
-    ensures none { IfNone result (unit_before behind (map low_bits front.now) octets.now ≡ None) }
+    ensures found { IfSome result (λ r. TakesUnit draft.old draft.new
+        (unit_before after_us (map low_bits front.now) octets.entry.now) r.0 r.1.now) }
+    ensures none { IfNone result (unit_before after_us (map low_bits front.now) octets.now ≡ None) }
 {
     let Some(rest) = checked(front, octets) else {
         return None;
     };
-    let Some(ending) = take_chars(without_start(behind, front), draft) else {
+    let Some(ending) = take_chars(without_start(after_us, front), draft) else {
         return None;
     };
     Some((ending, rest))
@@ -133,12 +130,13 @@ fn take_front<'a>(
 
 /// Reads the first unit, adds it to the draft, and gives its ending character and the octets after
 /// its check.
-fn take_unit<'a>(behind: bool, octets: &'a [u8], draft: &mut Draft) -> Option<(u8, &'a [u8])>
+fn take_unit<'a>(after_us: bool, octets: &'a [u8], draft: &mut Draft) -> Option<(u8, &'a [u8])>
     requires draft { IsDraft draft.old }
-    requires room { length (draft_units draft.old) < 7 }
+    requires room { length (draft_units draft.old) < MAX_UNITS }
     requires odd { All IsOdd octets.now }
-    ensures found { IfSome result (λ r. TakesUnit draft.old draft.new (unit_at behind octets.entry.now) r.0 r.1.now) }
-    ensures none { IfNone result (unit_at behind octets.now ≡ None) }
+    ensures found { IfSome result
+        (λ r. TakesUnit draft.old draft.new (unit_at after_us octets.entry.now) r.0 r.1.now) }
+    ensures none { IfNone result (unit_at after_us octets.now ≡ None) }
 {
     let place = before_ending(octets);
     if place == octets.len() {
@@ -146,13 +144,13 @@ fn take_unit<'a>(behind: bool, octets: &'a [u8], draft: &mut Draft) -> Option<(u
     }
     let (front, rest) = octets.split_at(place + 1);
     if !has_fill(front) {
-        return take_front(behind, front, rest, draft);
+        return take_front(after_us, front, rest, draft);
     }
-    let mut unit: UnitBuffer = [0; 164];
+    let mut unit: UnitBuffer = [0; UNIT_ROOM];
     let Some(count) = squeeze(front, &mut unit) else {
         return None;
     };
-    take_front(behind, &unit[..count], rest, draft)
+    take_front(after_us, &unit[..count], rest, draft)
 }
 
 /// Reads the units of a text, after its STX, into an empty draft, and gives the end of the text.
@@ -161,21 +159,26 @@ pub(crate) fn read_units(octets: &[u8], draft: &mut Draft) -> Option<End>
     requires draft { IsDraft draft.old }
     requires empty { draft_units draft.old ≡ [] }
     requires odd { All IsOdd octets.now }
-    ensures found { IfSome result (λ e. ReadsText draft.new e (units_at 7 false octets.now)) }
-    ensures none { IfNone result (units_at 7 false octets.now ≡ None) }
+    ensures found { IfSome result
+        (λ e. ReadsText draft.new e (units_at MAX_UNITS false octets.now)) }
+    ensures none { IfNone result (units_at MAX_UNITS false octets.now ≡ None) }
 {
     let mut rest = octets;
-    for count in 0..7usize {
-        let Some((ending, behind)) = take_unit(count > 0, rest, draft) else {
+    for count in 0..MAX_UNITS {
+        let Some((ending, left)) = take_unit(count > 0, rest, draft) else {
             return None;
         };
-        if ending != US {
-            if !behind.is_empty() {
+        if ending != US_CODE {
+            if !left.is_empty() {
                 return None;
             }
-            return Some(if ending == ETB { End::Etb } else { End::Etx });
+            return Some(if ending == ETB_CODE {
+                End::Etb
+            } else {
+                End::Etx
+            });
         }
-        rest = behind;
+        rest = left;
     }
     None
 }

@@ -1,5 +1,6 @@
 -- What `odd_octet` makes of a code, and which octets come from a code.
-use Rattle.std.proofs.Common.{◌≡◌, ◌⊎◌, inl, inr, ℕ, zero, suc, ◌+◌, ◌-◌, ◌*◌, ◌^◌, ◌%◌, ◌<◌, ◌≤◌, ◌==◌, cond, refl, sym, ap, ◌∙◌, arith, count_ones, Bool, true, false, Some, None}
+use Rattle.std.proofs.Common.{◌≡◌, ◌⊎◌, inl, inr, ℕ, zero, suc, ◌+◌, ◌-◌, ◌*◌, ◌^◌, ◌%◌, ◌<◌, ◌≤◌, ◌==◌, cond}
+use Rattle.std.proofs.Common.{refl, sym, ap, ◌∙◌, arith, count_ones, Bool, true, false, Some, None}
 use Rattle.std.proofs.lemmas.Nat.{ones_cat}
 use Rattle.std.proofs.lemmas.Bool.{cases_lt, eq-eqb, eqb-true}
 use Rattle.std.proofs.lemmas.Bool.Decides.{nat_tests}
@@ -12,18 +13,17 @@ ones-high c h =
     let e : c + 128 ≡ 1 * 2 ^ 7 + c = omega arith in
     ap count_ones e ∙ ones_cat 7 1 c h ∙ ap (λ n. n + count_ones c) (ones-ones 1)
 
-one_or_none : (c r : ℕ) → r < 2 → ((cond (r == 1) c (c + 128) ≡ c) × (r ≡ 1)) ⊎ ((cond (r == 1) c (c + 128) ≡ c + 128) × (r ≡ 0))
+one_or_none : (c r : ℕ) → r < 2
+    → ((cond (r == 1) c (c + 128) ≡ c) × (r ≡ 1)) ⊎ ((cond (r == 1) c (c + 128) ≡ c + 128) × (r ≡ 0))
 one_or_none c zero h = inr (refl, refl)
 one_or_none c (suc zero) h = inl (refl, refl)
 one_or_none c (suc (suc r)) h = absurd (omega arith)
 
 -- a code is carried as it is, or with the eighth bit set
-pub odd_cases : (c : ℕ) → ((odd_octet c ≡ c) × (count_ones c % 2 ≡ 1)) ⊎ ((odd_octet c ≡ c + 128) × (count_ones c % 2 ≡ 0))
+pub odd_cases : (c : ℕ)
+    → ((odd_octet c ≡ c) × (count_ones c % 2 ≡ 1)) ⊎ ((odd_octet c ≡ c + 128) × (count_ones c % 2 ≡ 0))
 unfolding odd_octet
 odd_cases c = one_or_none c (count_ones c % 2) (omega arith)
-
-pub odd_octet-lt : (c : ℕ) → c < 128 → odd_octet c < 256
-odd_octet-lt c h = elim (odd_cases c) [ inl e ↦ omega arith | inr e ↦ omega arith ]
 
 -- the code is the low seven bits of its octet
 pub odd_octet-low : (c : ℕ) → c < 128 → odd_octet c % 128 ≡ c
@@ -47,7 +47,8 @@ odd_of_low o h p = by_size (cases_lt o 128)
     by_size (inr l) =
         let e : o % 128 ≡ o - 128 = omega arith in
         let back : (o - 128) + 128 ≡ o = omega arith in
-        let high : count_ones o ≡ 1 + count_ones (o - 128) = ap count_ones (sym back) ∙ ones-high (o - 128) (omega arith) in
+        let high : count_ones o ≡ 1 + count_ones (o - 128) =
+        ap count_ones (sym back) ∙ ones-high (o - 128) (omega arith) in
         elim (odd_cases (o - 128)) [ inl k ↦ absurd (omega arith) | inr k ↦ rw e (k.0 ∙ back) ]
 
 -- from_line finds the code of an octet
@@ -56,7 +57,8 @@ code_of_odd o h p = rw (eq-eqb (odd_octet (o % 128)) o (odd_of_low o h p)) refl
 
 pub code_of_even : (o : ℕ) → (IsOdd o → ⊥) → None ≡ code_of o
 code_of_even o n =
-    let differs : odd_octet (o % 128) ≡ o → ⊥ = λ e. n (ap (λ x. count_ones x % 2) (sym e) ∙ IsOdd-odd_octet (o % 128) (omega arith)) in
+    let differs : odd_octet (o % 128) ≡ o → ⊥ =
+    λ e. n (ap (λ x. count_ones x % 2) (sym e) ∙ IsOdd-odd_octet (o % 128) (omega arith)) in
     let fails : (odd_octet (o % 128) == o) ≡ false = grind (arith, nat_tests, differs) in
     rw fails refl
 

@@ -1,5 +1,6 @@
 -- Characters of seven bits, the octets that carry them, and the longitudinal sum.
-use Rattle.std.specs.Prelude.{◌≡◌, ℕ, ◌+◌, ◌*◌, ◌%◌, Bool, ◌&&◌, not, ◌==◌, nat_lt, if◌then◌else◌, List, [], ◌∷◌, count_ones, count_by, Option, Some, None}
+use Rattle.std.specs.Prelude.{◌≡◌, ℕ, ◌+◌, ◌*◌, ◌%◌, Bool, ◌&&◌, not, ◌==◌, nat_lt, if◌then◌else◌}
+use Rattle.std.specs.Prelude.{List, [], ◌∷◌, count_ones, count_by, Option, Some, None}
 use Rattle.std.specs.List.{list_any}
 use Rattle.std.specs.Int.{bit_at}
 
@@ -24,7 +25,11 @@ with_bit i s = count_by (λ x. bit_at x i == 1) s
 -- of the members have bit i (GA27-3004: longitudinal redundancy checking).
 unfoldable pub longitudinal_sum : List ℕ → ℕ
 longitudinal_sum s =
-    with_bit 0 s % 2 + 2 * (with_bit 1 s % 2) + 4 * (with_bit 2 s % 2) + 8 * (with_bit 3 s % 2) + 16 * (with_bit 4 s % 2)
+    with_bit 0 s % 2
+    + 2 * (with_bit 1 s % 2)
+    + 4 * (with_bit 2 s % 2)
+    + 8 * (with_bit 3 s % 2)
+    + 16 * (with_bit 4 s % 2)
     + 32 * (with_bit 5 s % 2)
     + 64 * (with_bit 6 s % 2)
 

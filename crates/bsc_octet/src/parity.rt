@@ -1,6 +1,7 @@
 //! Odd parity: each octet on the line carries a code of seven bits, and its eighth bit makes the
 //! number of ones odd (GA27-3004: vertical redundancy checking in USASCII).
-ghost use Rattle.std.specs.Prelude.{◌≡◌, ◌≢◌, ℕ, ◌+◌, ◌*◌, ◌%◌, ◌<◌, nat_lt, if◌then◌else◌, Some, None, IsTrue, ◌↔◌, All, IfSome, IfNone};
+ghost use Rattle.std.specs.Prelude.{◌≡◌, ◌≢◌, ℕ, ◌+◌, ◌*◌, ◌%◌, ◌<◌, ◌≤◌, nat_lt, if◌then◌else◌};
+ghost use Rattle.std.specs.Prelude.{Some, None, IsTrue, ◌↔◌, All, IfSome, IfNone};
 ghost use Rattle.bsc_octet.specs.Octet.{IsOdd, code_of, odd_octet};
 
 use crate::lanes::are_odd;
@@ -9,7 +10,9 @@ use crate::lanes::are_odd;
 /// `None` from 0x80 up (GA27-3004: USASCII with odd parity).
 #[tactic(auto, unfolding(crate::specs::Octet::odd_octet))]
 pub fn to_line(code: u8) -> Option<u8>
-    ensures { result ≡ (if nat_lt code 128 then Some (odd_octet code) else None) }
+    ensures value { result ≡ (if nat_lt code 128 then Some (odd_octet code) else None) }
+    ensures odd { IfSome result (λ o. IsOdd o × (o % 128 ≡ code)) }
+    ensures none { IfNone result (128 ≤ code) }
 {
     if code < 0x80 {
         Some(if code.count_ones() % 2 == 1 {

@@ -4,10 +4,11 @@ use Rattle.bsc_frame.specs.Texts.{IsUnit}
 use Rattle.bsc_frame.specs.Units.{text_unit}
 use Rattle.bsc_block.specs.Blocks.{unit_of}
 use Rattle.bsc_block.proofs.packing.build.Given as goal
+use Rattle.bsc_frame.specs.declared.limits.TheConstants.{MAX_UNITS}
 
 abbrev pub invariant-loop-place : goal.invariant-loop-place
 invariant-loop-place l = record {
-  long : length l.units ≡ 7;
+  long : length l.units ≡ MAX_UNITS;
   units : map text_unit (take l.place l.units) ≡ map (unit_of l.format.full) (take l.place l.records);
   each : AllByRecursion IsUnit (map text_unit (take l.place l.units));
 }

@@ -13,4 +13,5 @@ returns c =
       failed = (λ n. t.failed.0 (failed.0 n), λ f. failed.1 (t.failed.1 f));
       noise = (λ n. t.noise.0 (noise.0 n), λ f. noise.1 (t.noise.1 f));
       kept = t.kept;
+      unspelled = t.unspelled;
     }

@@ -12,5 +12,6 @@ loop-place-preserved c = rw (c.append_unit.ensures, c.ending_at.ensures.value)
     (wire_next c.loop-place.wire.items c.args.wire.now.items c.args.text.now.units c.loop-place.place (text_unit c.unit.result) c.args.text.now.end c.unit.ensures c.loop-place.invariant)
 
 pub returns-clause-short : goal.returns-clause-short
-returns-clause-short c = wire_short c.loop-place.wire.items c.args.wire.now.items c.args.text.now.units c.loop-place.place c.args.text.now.end
+returns-clause-short c =
+    wire_short c.loop-place.wire.items c.args.wire.now.items c.args.text.now.units c.loop-place.place c.args.text.now.end
     c.requires.room c.count-place-end.ensures.text.most c.count-place-end.ensures.text.each c.loop-place.invariant

@@ -22,4 +22,5 @@ folds = refl
 
 pub returns : goal.returns
 unfolding fours twos folded
-returns c = eqb-true (folded c.args.code) (odd_octet c.args.code) (agree_below_at (λ x. folded x == odd_octet x) (λ _. true) 128 c.args.code folds c.requires)
+returns c =
+    eqb-true (folded c.args.code) (odd_octet c.args.code) (agree_below_at (λ x. folded x == odd_octet x) (λ _. true) 128 c.args.code folds c.requires)

@@ -1,4 +1,5 @@
-use Rattle.bsc_frame.proofs.HeardLemmas.{spelled_heard, heard_spelled, failed_heard, heard_failed, noise_heard, heard_noise}
+use Rattle.bsc_frame.proofs.HeardLemmas.{spelled_heard, heard_spelled, failed_heard, heard_failed}
+use Rattle.bsc_frame.proofs.HeardLemmas.{noise_heard, heard_noise}
 use Rattle.bsc_frame.proofs.laws.reading.Goals as goal
 
 pub returns-clause-whole : goal.returns-clause-whole

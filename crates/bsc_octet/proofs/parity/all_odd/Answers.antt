@@ -9,7 +9,8 @@ are_odd-requires c = rw c.as_chunks.ensures.front
     (recursion_from_All (λ x. x < 256) c.args.octets.now (All-from_get_or (λ x. x < 256) c.args.octets.now 0 (λ i _. (c.type_inv.octets i).fits))))
 
 pub returns-then-not-are_odd : goal.returns-then-not-are_odd
-returns-then-not-are_odd c = (λ e. cc, λ h. sym c.if-not-are_odd.true ∙ c.are_odd.ensures.1 (chunks_odd c.args.octets.now _ c.as_chunks.ensures.front h))
+returns-then-not-are_odd c =
+    (λ e. cc, λ h. sym c.if-not-are_odd.true ∙ c.are_odd.ensures.1 (chunks_odd c.args.octets.now _ c.as_chunks.ensures.front h))
 
 pub returns : goal.returns
 returns c = (
