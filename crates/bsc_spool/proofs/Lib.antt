@@ -1,2 +1,3 @@
 pub mod NextBlock
+pub mod Offers
 pub mod BlockCount

@@ -1,5 +1,6 @@
 -- What contracts see of a queue, and which block of it is sent next (own).
-use Rattle.std.specs.Prelude.{◌≡◌, ℕ, ◌+◌, ◌<◌, ◌≤◌, nat_eq, if◌then◌else◌, List, [], ◌∷◌, ◌++◌, length, drop, Option, None, Some}
+use Rattle.std.specs.Prelude.{◌≡◌, ℕ, ◌+◌, ◌<◌, ◌≤◌, nat_eq, if◌then◌else◌, List, [], ◌∷◌, ◌++◌}
+use Rattle.std.specs.Prelude.{length, drop, Option, None, Some}
 use Rattle.bsc_frame.specs.declared.text.End.TheVariants.{Etb, Etx}
 use Rattle.bsc_block.specs.Format.{FormatValue, IsFormat}
 use Rattle.bsc_block.specs.Blocks.{AreShort, taken}
@@ -39,7 +40,10 @@ waiting q = drop q.known q.offered
 abbrev pub next_after : FormatValue → List (List ℕ) → Option Next
 next_after f [] = None
 next_after f (r ∷ rs) =
-    Some (record { count = taken f (r ∷ rs); end = if nat_eq (taken f (r ∷ rs)) (length (r ∷ rs)) then Etx else Etb })
+    Some (record {
+      count = taken f (r ∷ rs);
+      end = if nat_eq (taken f (r ∷ rs)) (length (r ∷ rs)) then Etx else Etb;
+    })
 
 -- The next block of a queue.
 abbrev pub next_block : QueueValue → Option Next

@@ -14,4 +14,9 @@ with_delay n = min (n + 1) (2 ^ 64 - 1)
 
 -- The spool after room was asked for, with this answer: it holds the records that it held.
 abbrev pub room_asked : SpoolValue → Bool → SpoolValue
-room_asked s answer = record { records = s.records; room = answer; delays = if answer then s.delays else with_delay s.delays }
+room_asked s answer =
+    record {
+      records = s.records;
+      room = answer;
+      delays = if answer then s.delays else with_delay s.delays;
+    }

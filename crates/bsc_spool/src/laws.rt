@@ -1,7 +1,8 @@
 //! Laws over the definitions, each the contract of a function that does no work, for the layers
 //! above: what the next block of a queue is, and what keeps a queue.
 ghost use Rattle.std.specs.Prelude.{◌≡◌, ◌≤◌, ◌↔◌, ℕ, List, [], Some, None, length};
-ghost use Rattle.bsc_spool.specs.Queue.{QueueValue, waiting, next_block, with_offered, with_known, IsQueue, IsNext};
+ghost use Rattle.bsc_spool.specs.Queue.{QueueValue, waiting, next_block, with_offered, with_known};
+ghost use Rattle.bsc_spool.specs.Queue.{IsQueue, IsNext};
 ghost use Rattle.bsc_spool.specs.declared.queue.Next.{Next};
 
 use bsc_block::laws::cut_into_blocks;
@@ -14,7 +15,8 @@ pub fn next_blocks()
     ensures some { (q : QueueValue) (n : Next) → IsQueue q → next_block q ≡ Some n → IsNext q n }
     ensures offered { (q : QueueValue) (r : List ℕ) → IsQueue q → length r ≤ q.format.full
         → IsQueue (with_offered q r) }
-    ensures known { (q : QueueValue) (k : ℕ) → IsQueue q → k ≤ length (waiting q) → IsQueue (with_known q k) }
+    ensures known { (q : QueueValue) (k : ℕ) → IsQueue q → k ≤ length (waiting q)
+        → IsQueue (with_known q k) }
 {
     cut_into_blocks();
 }

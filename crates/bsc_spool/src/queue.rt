@@ -1,8 +1,10 @@
 //! The sending end of a channel. A record stays in its queue after it was delivered, so that what
 //! was offered can be compared with what was spooled.
-ghost use Rattle.std.specs.Prelude.{◌≡◌, ◌≤◌, [], length, take, IfSome, IfErr, OnOk, OnErr};
+ghost use Rattle.std.specs.Prelude.{◌≡◌, ◌≤◌, [], length, take, nat_eq, not, IsTrue, ◌↔◌};
+ghost use Rattle.std.specs.Prelude.{IfSome, IfErr, OnOk, OnErr};
 ghost use Rattle.bsc_block.specs.Blocks.{block_text, blocks};
-ghost use Rattle.bsc_spool.specs.Queue.{waiting, next_block, queue_of, with_offered, with_known, IsQueue, IsNext};
+ghost use Rattle.bsc_spool.specs.Queue.{waiting, next_block, queue_of, with_offered, with_known};
+ghost use Rattle.bsc_spool.specs.Queue.{IsQueue, IsNext};
 
 use bsc_block::laws::cut_into_blocks;
 use bsc_block::{Format, Record, build, pack};
@@ -13,15 +15,23 @@ use std::marker::Model;
 /// What the next block is: how many records it takes, and the character that ends it.
 #[derive(Clone, Copy, Debug, PartialEq, Eq)]
 pub struct Next {
+    /// How many of the waiting records it takes: 1 to 7.
     pub count: usize,
+
+    /// ETX where these are all, else ETB.
     pub end: End,
 }
 
 /// The records that were offered, and how many of them are known to have been delivered.
 #[derive(Drop)]
 pub struct Queue<A: Allocator> {
+    /// How the records become blocks.
     format: Format,
+
+    /// The records that were offered, the delivered ones first.
     records: Vec<Record, A>,
+
+    /// How many of them are known to have been delivered.
     known: usize,
 }
 
@@ -75,6 +85,14 @@ impl<A: Allocator> Queue<A> {
         ensures queue { IsQueue self.now }
     {
         self.known
+    }
+
+    /// Whether records wait: more were offered than are known to have been delivered. (Own.)
+    pub fn has_waiting(&self) -> bool
+        ensures value { result ≡ not (nat_eq (length (waiting self.now)) 0) }
+        ensures some { IsTrue result ↔ (1 ≤ length (waiting self.now)) }
+    {
+        self.records.len() > self.known
     }
 
     /// The next block of the waiting records, which are those past the known ones: `Etx` where it

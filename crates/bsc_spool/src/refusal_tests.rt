@@ -216,3 +216,19 @@ fn room_that_is_there_takes_no_memory(rt: HostRuntime) -> Result<(), Fail> {
     assert_eq!(rt; alloc.requests(), 0);
     Ok(())
 }
+
+#[test]
+fn storing_takes_no_memory(rt: HostRuntime) -> Result<(), Fail> {
+    let queue = filled(&rt, 7)?;
+    let next = queue.next().ok_or("no record waits")?;
+    let text = queue.text(next.count, next.end);
+    let alloc = Refusing::new(rt.alloc());
+    let mut spool = Spool::new(&alloc);
+    assert!(rt; spool.make_room());
+    alloc.refuse_from(1);
+    spool.store(&unpack(&text));
+    assert_eq!(rt; alloc.requests(), 0);
+    assert!(rt; are_in_order(spool.records()));
+    assert_eq!(rt; spool.records().len(), 7);
+    Ok(())
+}

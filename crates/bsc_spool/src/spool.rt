@@ -1,6 +1,6 @@
 //! The receiving end of a channel. Room is made before a text is accepted, so that a text which was
 //! accepted is stored whole.
-ghost use Rattle.std.specs.Prelude.{◌≡◌, [], ◌++◌, true};
+ghost use Rattle.std.specs.Prelude.{◌≡◌, [], ◌++◌, true, false};
 ghost use Rattle.bsc_spool.specs.Spool.{room_asked};
 
 use bsc_block::{Block, Record};
@@ -8,11 +8,12 @@ use std::alloc::Allocator;
 use std::marker::Model;
 
 /// The most records of a text.
-const MOST: usize = 7;
+const RECORDS_OF_A_TEXT: usize = 7;
 
 /// The records that arrived.
 #[derive(Drop)]
 pub struct Spool<A: Allocator> {
+    /// The records that arrived, in order.
     records: Vec<Record, A>,
 
     /// How often room was refused, up to the greatest number. No call reads it: only contracts do.
@@ -25,13 +26,18 @@ impl<A: Allocator> Model for Spool<A> {
 
     ghost Value = { SpoolValue };
 
-    ghost view = { λ s. record { records = s.records.items; room = nat_le (vec_len s.records + 7) (vec_capacity s.records); delays = s.delays } };
+    ghost view = { λ s. record {
+      records = s.records.items;
+      room = nat_le (vec_len s.records + 7) (vec_capacity s.records);
+      delays = s.delays;
+    } };
 }
 
 impl<A: Allocator> Spool<A> {
-    /// An empty spool. It takes no memory.
+    /// An empty spool. It takes no memory, so it has no room yet.
     pub fn new(alloc: A) -> Self
         ensures records { result.records ≡ [] }
+        ensures room { result.room ≡ false }
         ensures delays { result.delays ≡ 0 }
     {
         Spool {
@@ -46,7 +52,7 @@ impl<A: Allocator> Spool<A> {
         ensures answer { self.new ≡ room_asked self.old result }
         ensures there { self.old.room ≡ true → result ≡ true }
     {
-        match self.records.try_reserve(MOST) {
+        match self.records.try_reserve(RECORDS_OF_A_TEXT) {
             Ok(()) => true,
             Err(_) => {
                 self.delays = self.delays.saturating_add(1);
@@ -59,7 +65,7 @@ impl<A: Allocator> Spool<A> {
     pub fn has_room(&self) -> bool
         ensures { result ≡ self.now.room }
     {
-        self.records.len() + MOST <= self.records.capacity()
+        self.records.len() + RECORDS_OF_A_TEXT <= self.records.capacity()
     }
 
     /// Appends the records of a text. There is room for seven; it takes no memory.

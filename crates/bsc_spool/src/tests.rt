@@ -35,7 +35,9 @@ const SEVEN: [u8; 26] = [
 fn five_full_records_go_in_two_blocks(rt: HostRuntime) -> Result<(), Fail> {
     let mut queue = Queue::new(rt.alloc(), Format::new(80, 400)?);
     assert_eq!(rt; queue.next(), None);
+    assert!(rt; !queue.has_waiting());
     offer_full(&mut queue, 5)?;
+    assert!(rt; queue.has_waiting());
     assert_eq!(rt;
         queue.next(),
         Some(Next {
@@ -65,6 +67,7 @@ fn five_full_records_go_in_two_blocks(rt: HostRuntime) -> Result<(), Fail> {
     assert_eq!(rt; queue.known(), 6);
     assert_eq!(rt; queue.offered().len(), 6);
     assert_eq!(rt; queue.next(), None);
+    assert!(rt; !queue.has_waiting());
     Ok(())
 }
 

@@ -1,5 +1,5 @@
 -- What the sender does keeps that both ends agree, and at most learns of what was spooled.
-use Rattle.std.proofs.Common.{◌≡◌, ◌⊎◌, inl, inr, ℕ, ◌+◌, ◌≤◌, Bool, true, false, List, [], length, take, Option, None, Some, refl, sym, ◌∙◌, ap, subst, arith, if◌then◌else◌}
+use Rattle.std.proofs.Common.{◌≡◌, ◌⊎◌, inl, inr, ℕ, ◌+◌, ◌≤◌, List, [], length, take, Option, None, Some, refl, sym, ◌∙◌, ap, subst, arith}
 use Rattle.std.proofs.lemmas.List.{length-take-le}
 use Rattle.bsc_frame.specs.declared.message.Message.{Message}
 use Rattle.bsc_frame.specs.declared.message.Message.TheVariants as m
@@ -11,21 +11,22 @@ use Rattle.bsc_spool.specs.declared.queue.Next.{Next}
 use Rattle.bsc_spool.specs.Queue.{QueueValue, with_known, IsQueue, IsNext, waiting, next_block}
 use Rattle.bsc_text.specs.declared.act.Act.{Act}
 use Rattle.bsc_text.specs.declared.act.Act.TheVariants as a
-use Rattle.bsc_text.specs.declared.parity.Parity.{Parity}
-use Rattle.bsc_text.specs.declared.parity.Parity.TheVariants.{Even, Odd}
+use Rattle.bsc_text.specs.declared.alternation.Alternation.{Alternation}
+use Rattle.bsc_text.specs.declared.alternation.Alternation.TheVariants.{Even, Odd}
 use Rattle.bsc_text.specs.declared.reply.Reply.{Reply}
 use Rattle.bsc_text.specs.declared.reply.Reply.TheVariants.{Ack0, Ack1, Nak, Wack, Rvi}
 use Rattle.bsc_text.specs.declared.phase.SentBlock.{SentBlock}
 use Rattle.bsc_text.specs.declared.phase.Phase.{Phase}
 use Rattle.bsc_text.specs.declared.phase.Phase.TheVariants.{Idle, Unanswered, Held, InDoubt}
 use Rattle.bsc_text.specs.Reply.{other, answer_of, message_of, reply_in, reply_heard}
-use Rattle.bsc_text.specs.Sender.{SenderValue, SenderStep, quiet, over, text_of, sent_next, begin_step, accepted, failed, delayed, unanswered_step, held_step, answered_step, reply_step, silent_in}
+use Rattle.bsc_text.specs.Sender.{SenderValue, SenderStep, unmoved, over, text_of, sent_next, begin_step, accepted, failed, delayed, unanswered_step, held_step, answered_step, reply_step, silent_in}
 use Rattle.bsc_text.specs.Ready.{AreWaiting}
 use Rattle.bsc_text.specs.Channel.{channel, IsSound}
 use Rattle.bsc_text.specs.Fair.{IsTextMessage, IsCallCutShort, IsFairlyHeard}
-use Rattle.bsc_text.specs.Bid.{IsFairTo, message_back, answered, unless_quiet}
+use Rattle.bsc_text.specs.Bid.{IsFairTo, reply_message, answered, unless_quiet}
 use Rattle.bsc_text.specs.OneBid.{MovesAtSender}
-use Rattle.bsc_text.specs.Agreement.{Flight, Still, Outward, Back, IsReplyBefore, IsReplyAfter, NotLanded, HasLanded, Agree, InBid, IsResting, Continues, back, sent_flight}
+use Rattle.bsc_text.specs.Agreement.{Flight, Still, Outward, Back, IsReplyBefore, IsReplyAfter, NotLanded, HasLanded, Agree, InBid, IsResting, Continues, reply_flight, sent_flight}
+use Rattle.bsc_text.proofs.Choice.{choose}
 use Rattle.bsc_text.proofs.ReadyLemmas.{counts_next, within_offered, is_queue_marked, still_waiting}
 use Rattle.bsc_text.proofs.Hearing.{fits, agree_still}
 
@@ -48,21 +49,16 @@ next_by law q h some (Some n) e = record { next = n; is = e; fit = law.some q n 
 pub has_next : NextLaw → (q : QueueValue) → IsQueue q → 1 ≤ length (waiting q) → HasNext q
 has_next law q h some = next_by law q h some (next_block q) refl
 
-pub choose : (P : SenderStep → Type 0) (v : Bool) (x y : SenderStep) → P x → P y
-    → P (if v then x else y)
-choose P true x y p r = p
-choose P false x y p r = r
-
 -- what a step of the sender leaves: the bid goes on or is over, and the channel moved as it may
-abbrev pub Leaves : QueueValue → Parity → Reply → List (List ℕ) → SenderStep → Type 0
-Leaves q parity last spooled t =
-    Continues t.sender.phase t.queue parity last spooled (sent_flight t.act) × MovesAtSender (channel q spooled)
+abbrev pub Leaves : QueueValue → Alternation → Reply → List (List ℕ) → SenderStep → Type 0
+Leaves q alternation last spooled t =
+    Continues t.sender.phase t.queue alternation last spooled (sent_flight t.act) × MovesAtSender (channel q spooled)
     (channel t.queue spooled)
 
 -- the same, at a queue that the step does not change
-abbrev pub LeavesQueue : QueueValue → Parity → Reply → List (List ℕ) → SenderStep → Type 0
-LeavesQueue q parity last spooled t =
-    Continues t.sender.phase t.queue parity last spooled (sent_flight t.act) × (t.queue ≡ q)
+abbrev pub LeavesQueue : QueueValue → Alternation → Reply → List (List ℕ) → SenderStep → Type 0
+LeavesQueue q alternation last spooled t =
+    Continues t.sender.phase t.queue alternation last spooled (sent_flight t.act) × (t.queue ≡ q)
 
 -- all is known, and the bid is over
 at_rest : (q : QueueValue) (spooled : List (List ℕ)) → IsQueue q
@@ -73,15 +69,16 @@ at_rest q spooled h e =
     (record { queue = h; counts = tt; sound = record { front = rw long e; known = omega arith; spooled = long } }, refl)
 
 -- the next block is sent
-next_keeps : NextLaw → (s : SenderValue) (q : QueueValue) (expected parity : Parity)
+next_keeps : NextLaw → (s : SenderValue) (q : QueueValue) (expected alternation : Alternation)
     (last : Reply) (spooled : List (List ℕ)) → IsQueue q → spooled ≡ take q.known q.offered
-    → 1 ≤ length (waiting q) → parity ≡ other expected → IsReplyBefore last expected →
-    LeavesQueue q parity last spooled (sent_next s q expected (next_block q))
-next_keeps law s q expected parity last spooled h front some counted reply =
+    → 1 ≤ length (waiting q) → alternation ≡ other expected → IsReplyBefore last expected →
+    LeavesQueue q alternation last spooled (sent_next s q expected (next_block q))
+next_keeps law s q expected alternation last spooled h front some counted reply =
     let n = has_next law q h some in
     rw n.is (
       record {
         queue = h;
+        block = (n.fit.some, n.fit.few);
         counts = counts_next q n.next n.fit;
         agree = inl
             (record { front = front; counted = counted; reply = reply; flight = refl });
@@ -98,14 +95,14 @@ learns q k spooled within e =
     inr (ap (λ n. channel (record { format = q.format; offered = q.offered; known = n }) spooled) (sym long))
 
 -- the queue stays
-pub at_same : (q : QueueValue) (parity : Parity) (last : Reply) (spooled : List (List ℕ))
-    (t : SenderStep) → LeavesQueue q parity last spooled t → Leaves q parity last spooled t
-at_same q parity last spooled t h = (h.0, inl (ap (λ (u : QueueValue). channel u spooled) h.1))
+pub at_same : (q : QueueValue) (alternation : Alternation) (last : Reply) (spooled : List (List ℕ))
+    (t : SenderStep) → LeavesQueue q alternation last spooled t → Leaves q alternation last spooled t
+at_same q alternation last spooled t h = (h.0, inl (ap (λ (u : QueueValue). channel u spooled) h.1))
 
-at_learnt : (q : QueueValue) (k : ℕ) (parity : Parity) (last : Reply) (spooled : List (List ℕ))
+at_learnt : (q : QueueValue) (k : ℕ) (alternation : Alternation) (last : Reply) (spooled : List (List ℕ))
     (t : SenderStep) → q.known + k ≤ length q.offered → spooled ≡ take (q.known + k) q.offered →
-    LeavesQueue (with_known q k) parity last spooled t → Leaves q parity last spooled t
-at_learnt q k parity last spooled t within front h = (
+    LeavesQueue (with_known q k) alternation last spooled t → Leaves q alternation last spooled t
+at_learnt q k alternation last spooled t within front h = (
   h.0,
   subst (λ (u : QueueValue). MovesAtSender (channel q spooled) (channel u spooled)) (sym h.1)
       (learns q k spooled within front),
@@ -113,25 +110,25 @@ at_learnt q k parity last spooled t within front h = (
 
 -- the expected acknowledgement came, at a queue that counts the block
 accepted_keeps : NextLaw → (s : SenderValue) (q : QueueValue) (e : End)
-    (expected parity : Parity) (last : Reply) (spooled : List (List ℕ)) → IsQueue q
+    (expected alternation : Alternation) (last : Reply) (spooled : List (List ℕ)) → IsQueue q
     → spooled ≡ take q.known q.offered → AreWaiting 0 e (length (waiting q))
-    → parity ≡ other (other expected) → IsReplyBefore last (other expected) →
-    LeavesQueue q parity last spooled (accepted s q e expected)
-accepted_keeps law s q Etx expected parity last spooled h front more counted reply = (at_rest q spooled h front, refl)
-accepted_keeps law s q Etb expected parity last spooled h front more counted reply =
-    next_keeps law (s) q (other expected) parity last spooled h front (omega arith) counted reply
+    → alternation ≡ other (other expected) → IsReplyBefore last (other expected) →
+    LeavesQueue q alternation last spooled (accepted s q e expected)
+accepted_keeps law s q Etx expected alternation last spooled h front more counted reply = (at_rest q spooled h front, refl)
+accepted_keeps law s q Etb expected alternation last spooled h front more counted reply =
+    next_keeps law (s) q (other expected) alternation last spooled h front (omega arith) counted reply
 
 -- WACK came
-delayed_keeps : (s : SenderValue) (q : QueueValue) (e : End) (expected parity : Parity)
+delayed_keeps : (s : SenderValue) (q : QueueValue) (e : End) (expected alternation : Alternation)
     (spooled : List (List ℕ)) → IsQueue q → spooled ≡ take q.known q.offered
-    → AreWaiting 0 e (length (waiting q)) → parity ≡ expected →
-    LeavesQueue q parity Wack spooled (delayed s q e expected)
-delayed_keeps s q e expected parity spooled h front more counted =
-    choose (LeavesQueue q parity Wack spooled) _ _ _
+    → AreWaiting 0 e (length (waiting q)) → alternation ≡ expected →
+    LeavesQueue q alternation Wack spooled (delayed s q e expected)
+delayed_keeps s q e expected alternation spooled h front more counted =
+    choose (LeavesQueue q alternation Wack spooled) _ _ _
     (at_rest q spooled h front, refl)
-    (record { queue = h; counts = more; agree = record { front = front; counted = counted; reply = tt; flight = tt } }, refl)
+    (record { queue = h; block = tt; counts = more; agree = record { front = front; counted = counted; reply = tt; flight = tt } }, refl)
 
-other_twice : (x y : Parity) → x ≡ y → x ≡ other (other y)
+other_twice : (x y : Alternation) → x ≡ y → x ≡ other (other y)
 other_twice x Odd e = e
 other_twice x Even e = e
 
@@ -142,74 +139,75 @@ record Marked (b : SentBlock) (q : QueueValue) (spooled : List (List ℕ)) : Typ
   pub queue : IsQueue (with_known q b.count)
   pub more : AreWaiting 0 b.end (length (waiting (with_known q b.count)))
 
-is_marked : (b : SentBlock) (q : QueueValue) (parity : Parity) (last : Reply) (spooled : List (List ℕ))
-    → InBid (Unanswered b) q parity last spooled (Back last)
-    → HasLanded b q parity last spooled (Back last) → Marked b q spooled
-is_marked b q parity last spooled i h =
+is_marked : (b : SentBlock) (q : QueueValue) (alternation : Alternation) (last : Reply) (spooled : List (List ℕ))
+    → InBid (Unanswered b) q alternation last spooled (Back last)
+    → HasLanded b q alternation last spooled (Back last) → Marked b q spooled
+is_marked b q alternation last spooled i h =
     let there : b.count ≤ length (waiting q) = fits b _ i.counts in
     record {
       within = within_offered q b.count i.queue there;
       front = h.front;
       queue = is_queue_marked q b.count i.queue there;
-      more = still_waiting q b.count b.end i.counts.2;
+      more = still_waiting q b.count b.end i.counts;
     }
 
-landed_accepted : NextLaw → (s : SenderValue) (b : SentBlock) (q : QueueValue) (parity : Parity)
-    (last : Reply) (spooled : List (List ℕ)) → Marked b q spooled → parity ≡ b.parity
-    → IsReplyBefore last (other b.parity)
-    → Leaves q parity last spooled (accepted s (with_known q b.count) b.end b.parity)
-landed_accepted law s b q parity last spooled m counted reply =
-    at_learnt q b.count parity last spooled (accepted s (with_known q b.count) b.end b.parity) m.within m.front
-    (accepted_keeps law s (with_known q b.count) b.end b.parity parity last spooled m.queue m.front m.more
-    (other_twice parity b.parity counted) reply)
+landed_accepted : NextLaw → (s : SenderValue) (b : SentBlock) (q : QueueValue) (alternation : Alternation)
+    (last : Reply) (spooled : List (List ℕ)) → Marked b q spooled → alternation ≡ b.alternation
+    → IsReplyBefore last (other b.alternation)
+    → Leaves q alternation last spooled (accepted s (with_known q b.count) b.end b.alternation)
+landed_accepted law s b q alternation last spooled m counted reply =
+    at_learnt q b.count alternation last spooled (accepted s (with_known q b.count) b.end b.alternation) m.within m.front
+    (accepted_keeps law s (with_known q b.count) b.end b.alternation alternation last spooled m.queue m.front m.more
+    (other_twice alternation b.alternation counted) reply)
 
-landed_delayed : (s : SenderValue) (b : SentBlock) (q : QueueValue) (parity : Parity)
-    (spooled : List (List ℕ)) → Marked b q spooled → parity ≡ b.parity
-    → Leaves q parity Wack spooled (delayed s (with_known q b.count) b.end b.parity)
-landed_delayed s b q parity spooled m counted =
-    at_learnt q b.count parity Wack spooled (delayed s (with_known q b.count) b.end b.parity) m.within m.front
-    (delayed_keeps s (with_known q b.count) b.end b.parity parity spooled m.queue m.front m.more counted)
+landed_delayed : (s : SenderValue) (b : SentBlock) (q : QueueValue) (alternation : Alternation)
+    (spooled : List (List ℕ)) → Marked b q spooled → alternation ≡ b.alternation
+    → Leaves q alternation Wack spooled (delayed s (with_known q b.count) b.end b.alternation)
+landed_delayed s b q alternation spooled m counted =
+    at_learnt q b.count alternation Wack spooled (delayed s (with_known q b.count) b.end b.alternation) m.within m.front
+    (delayed_keeps s (with_known q b.count) b.end b.alternation alternation spooled m.queue m.front m.more counted)
 
-landed_over : (s : SenderValue) (b : SentBlock) (q : QueueValue) (parity : Parity) (last : Reply)
+landed_over : (s : SenderValue) (b : SentBlock) (q : QueueValue) (alternation : Alternation) (last : Reply)
     (spooled : List (List ℕ)) → Marked b q spooled
-    → Leaves q parity last spooled (over s (with_known q b.count) Idle)
-landed_over s b q parity last spooled m =
-    at_learnt q b.count parity last spooled (over s (with_known q b.count) Idle) m.within m.front
+    → Leaves q alternation last spooled (over s (with_known q b.count) Idle)
+landed_over s b q alternation last spooled m =
+    at_learnt q b.count alternation last spooled (over s (with_known q b.count) Idle) m.within m.front
     (at_rest (with_known q b.count) spooled m.queue m.front, refl)
 
-landed_by : NextLaw → (s : SenderValue) (k : ℕ) (e : End) (expected : Parity) (q : QueueValue)
-    (parity : Parity) (last : Reply) (spooled : List (List ℕ)) →
-    let b : SentBlock = record { count = k; end = e; parity = expected } in
-    Marked b q spooled → parity ≡ expected → IsReplyAfter last expected
-    → Leaves q parity last spooled (unanswered_step s q b (answer_of expected last))
-landed_by law s k e Odd q parity Ack1 spooled m c r = landed_accepted law s _ q parity Ack1 spooled m c tt
-landed_by law s k e Even q parity Ack0 spooled m c r = landed_accepted law s _ q parity Ack0 spooled m c tt
-landed_by law s k e Odd q parity Wack spooled m c r = landed_delayed s _ q parity spooled m c
-landed_by law s k e Even q parity Wack spooled m c r = landed_delayed s _ q parity spooled m c
-landed_by law s k e Odd q parity Rvi spooled m c r = landed_over s _ q parity Rvi spooled m
-landed_by law s k e Even q parity Rvi spooled m c r = landed_over s _ q parity Rvi spooled m
-landed_by law s k e Odd q parity Ack0 spooled m c r = absurd r
-landed_by law s k e Odd q parity Nak spooled m c r = absurd r
-landed_by law s k e Even q parity Ack1 spooled m c r = absurd r
-landed_by law s k e Even q parity Nak spooled m c r = absurd r
+landed_by : NextLaw → (s : SenderValue) (k : ℕ) (e : End) (expected : Alternation) (q : QueueValue)
+    (alternation : Alternation) (last : Reply) (spooled : List (List ℕ)) →
+    let b : SentBlock = record { count = k; end = e; alternation = expected } in
+    Marked b q spooled → alternation ≡ expected → IsReplyAfter last expected
+    → Leaves q alternation last spooled (unanswered_step s q b (answer_of expected last))
+landed_by law s k e Odd q alternation Ack1 spooled m c r = landed_accepted law s _ q alternation Ack1 spooled m c tt
+landed_by law s k e Even q alternation Ack0 spooled m c r = landed_accepted law s _ q alternation Ack0 spooled m c tt
+landed_by law s k e Odd q alternation Wack spooled m c r = landed_delayed s _ q alternation spooled m c
+landed_by law s k e Even q alternation Wack spooled m c r = landed_delayed s _ q alternation spooled m c
+landed_by law s k e Odd q alternation Rvi spooled m c r = landed_over s _ q alternation Rvi spooled m
+landed_by law s k e Even q alternation Rvi spooled m c r = landed_over s _ q alternation Rvi spooled m
+landed_by law s k e Odd q alternation Ack0 spooled m c r = absurd r
+landed_by law s k e Odd q alternation Nak spooled m c r = absurd r
+landed_by law s k e Even q alternation Ack1 spooled m c r = absurd r
+landed_by law s k e Even q alternation Nak spooled m c r = absurd r
 
-landed_keeps : NextLaw → (s : SenderValue) (b : SentBlock) (q : QueueValue) (parity : Parity)
-    (last : Reply) (spooled : List (List ℕ)) → InBid (Unanswered b) q parity last spooled (Back last)
-    → HasLanded b q parity last spooled (Back last)
-    → Leaves q parity last spooled (unanswered_step s q b (answer_of b.parity last))
-landed_keeps law s b q parity last spooled i h =
-    landed_by law s b.count b.end b.parity q parity last spooled (is_marked b q parity last spooled i h) h.counted h.reply
+landed_keeps : NextLaw → (s : SenderValue) (b : SentBlock) (q : QueueValue) (alternation : Alternation)
+    (last : Reply) (spooled : List (List ℕ)) → InBid (Unanswered b) q alternation last spooled (Back last)
+    → HasLanded b q alternation last spooled (Back last)
+    → Leaves q alternation last spooled (unanswered_step s q b (answer_of b.alternation last))
+landed_keeps law s b q alternation last spooled i h =
+    landed_by law s b.count b.end b.alternation q alternation last spooled (is_marked b q alternation last spooled i h) h.counted h.reply
 
 -- a reply to a block that has not landed: it is sent again
-refused_keeps : (s : SenderValue) (b : SentBlock) (q : QueueValue) (parity : Parity)
+refused_keeps : (s : SenderValue) (b : SentBlock) (q : QueueValue) (alternation : Alternation)
     (last : Reply) (spooled : List (List ℕ)) → s.phase ≡ Unanswered b
-    → InBid (Unanswered b) q parity last spooled (Back last)
-    → NotLanded b q parity last spooled (Back last) →
-    Leaves q parity last spooled (failed s q Idle (a.Send (text_of q b)))
-refused_keeps s b q parity last spooled e i h =
-    choose (Leaves q parity last spooled) _ _ _ (at_rest q spooled i.queue h.front, inl refl) (
+    → InBid (Unanswered b) q alternation last spooled (Back last)
+    → NotLanded b q alternation last spooled (Back last) →
+    Leaves q alternation last spooled (failed s q Idle (a.Send (text_of q b)))
+refused_keeps s b q alternation last spooled e i h =
+    choose (Leaves q alternation last spooled) _ _ _ (at_rest q spooled i.queue h.front, inl refl) (
       rw e (record {
         queue = i.queue;
+        block = i.block;
         counts = i.counts;
         agree = inl
             (record { front = h.front; counted = h.counted; reply = h.reply; flight = refl });
@@ -217,73 +215,73 @@ refused_keeps s b q parity last spooled e i h =
       inl refl,
     )
 
-before_keeps : (s : SenderValue) (b : SentBlock) (q : QueueValue) (parity expected : Parity)
+before_keeps : (s : SenderValue) (b : SentBlock) (q : QueueValue) (alternation expected : Alternation)
     (last : Reply) (spooled : List (List ℕ)) → s.phase ≡ Unanswered b
     → IsReplyBefore last expected →
-    InBid (Unanswered b) q parity last spooled (Back last) → NotLanded b q parity last spooled (Back last) →
-    Leaves q parity last spooled (unanswered_step s q b (answer_of expected last))
-before_keeps s b q parity Odd Ack0 spooled e r i h = refused_keeps s b q parity Ack0 spooled e i h
-before_keeps s b q parity Even Ack1 spooled e r i h = refused_keeps s b q parity Ack1 spooled e i h
-before_keeps s b q parity Odd Nak spooled e r i h = refused_keeps s b q parity Nak spooled e i h
-before_keeps s b q parity Even Nak spooled e r i h = refused_keeps s b q parity Nak spooled e i h
-before_keeps s b q parity Odd Ack1 spooled e r i h = absurd r
-before_keeps s b q parity Odd Wack spooled e r i h = absurd r
-before_keeps s b q parity Odd Rvi spooled e r i h = absurd r
-before_keeps s b q parity Even Ack0 spooled e r i h = absurd r
-before_keeps s b q parity Even Wack spooled e r i h = absurd r
-before_keeps s b q parity Even Rvi spooled e r i h = absurd r
+    InBid (Unanswered b) q alternation last spooled (Back last) → NotLanded b q alternation last spooled (Back last) →
+    Leaves q alternation last spooled (unanswered_step s q b (answer_of expected last))
+before_keeps s b q alternation Odd Ack0 spooled e r i h = refused_keeps s b q alternation Ack0 spooled e i h
+before_keeps s b q alternation Even Ack1 spooled e r i h = refused_keeps s b q alternation Ack1 spooled e i h
+before_keeps s b q alternation Odd Nak spooled e r i h = refused_keeps s b q alternation Nak spooled e i h
+before_keeps s b q alternation Even Nak spooled e r i h = refused_keeps s b q alternation Nak spooled e i h
+before_keeps s b q alternation Odd Ack1 spooled e r i h = absurd r
+before_keeps s b q alternation Odd Wack spooled e r i h = absurd r
+before_keeps s b q alternation Odd Rvi spooled e r i h = absurd r
+before_keeps s b q alternation Even Ack0 spooled e r i h = absurd r
+before_keeps s b q alternation Even Wack spooled e r i h = absurd r
+before_keeps s b q alternation Even Rvi spooled e r i h = absurd r
 
 -- a reply while the sender is held
-held_keeps : NextLaw → (s : SenderValue) (e : End) (expected : Parity) (q : QueueValue)
-    (parity : Parity) (last : Reply) (spooled : List (List ℕ))
-    → InBid (Held e expected) q parity last spooled (Back last) →
-    Leaves q parity last spooled (held_step s q e expected (answer_of expected last))
-held_keeps law s e Odd q parity Ack1 spooled i =
-    at_same q parity Ack1 spooled (accepted s q e Odd)
-    (accepted_keeps law s q e Odd parity Ack1 spooled i.queue i.agree.front i.counts
-    (other_twice parity Odd i.agree.counted) tt)
-held_keeps law s e Even q parity Ack0 spooled i =
-    at_same q parity Ack0 spooled (accepted s q e Even)
-    (accepted_keeps law s q e Even parity Ack0 spooled i.queue i.agree.front i.counts
-    (other_twice parity Even i.agree.counted) tt)
-held_keeps law s e Odd q parity Wack spooled i =
-    at_same q parity Wack spooled (delayed s q e Odd)
-    (delayed_keeps s q e Odd parity spooled i.queue i.agree.front i.counts i.agree.counted)
-held_keeps law s e Even q parity Wack spooled i =
-    at_same q parity Wack spooled (delayed s q e Even)
-    (delayed_keeps s q e Even parity spooled i.queue i.agree.front i.counts i.agree.counted)
-held_keeps law s e Odd q parity Ack0 spooled i = absurd i.agree.reply
-held_keeps law s e Odd q parity Nak spooled i = absurd i.agree.reply
-held_keeps law s e Odd q parity Rvi spooled i = absurd i.agree.reply
-held_keeps law s e Even q parity Ack1 spooled i = absurd i.agree.reply
-held_keeps law s e Even q parity Nak spooled i = absurd i.agree.reply
-held_keeps law s e Even q parity Rvi spooled i = absurd i.agree.reply
+held_keeps : NextLaw → (s : SenderValue) (e : End) (expected : Alternation) (q : QueueValue)
+    (alternation : Alternation) (last : Reply) (spooled : List (List ℕ))
+    → InBid (Held e expected) q alternation last spooled (Back last) →
+    Leaves q alternation last spooled (held_step s q e expected (answer_of expected last))
+held_keeps law s e Odd q alternation Ack1 spooled i =
+    at_same q alternation Ack1 spooled (accepted s q e Odd)
+    (accepted_keeps law s q e Odd alternation Ack1 spooled i.queue i.agree.front i.counts
+    (other_twice alternation Odd i.agree.counted) tt)
+held_keeps law s e Even q alternation Ack0 spooled i =
+    at_same q alternation Ack0 spooled (accepted s q e Even)
+    (accepted_keeps law s q e Even alternation Ack0 spooled i.queue i.agree.front i.counts
+    (other_twice alternation Even i.agree.counted) tt)
+held_keeps law s e Odd q alternation Wack spooled i =
+    at_same q alternation Wack spooled (delayed s q e Odd)
+    (delayed_keeps s q e Odd alternation spooled i.queue i.agree.front i.counts i.agree.counted)
+held_keeps law s e Even q alternation Wack spooled i =
+    at_same q alternation Wack spooled (delayed s q e Even)
+    (delayed_keeps s q e Even alternation spooled i.queue i.agree.front i.counts i.agree.counted)
+held_keeps law s e Odd q alternation Ack0 spooled i = absurd i.agree.reply
+held_keeps law s e Odd q alternation Nak spooled i = absurd i.agree.reply
+held_keeps law s e Odd q alternation Rvi spooled i = absurd i.agree.reply
+held_keeps law s e Even q alternation Ack1 spooled i = absurd i.agree.reply
+held_keeps law s e Even q alternation Nak spooled i = absurd i.agree.reply
+held_keeps law s e Even q alternation Rvi spooled i = absurd i.agree.reply
 
 -- the reply that is on its way is the last one
-pub back_last : (phase : Phase) (q : QueueValue) (parity : Parity) (last r : Reply)
-    (spooled : List (List ℕ)) → Agree phase q parity last spooled (Back r) → r ≡ last
-back_last Idle q parity last r spooled h = absurd h
-back_last (InDoubt k) q parity last r spooled h = absurd h
-back_last (Held e x) q parity last r spooled h = h.flight
-back_last (Unanswered b) q parity last r spooled (inl h) = h.flight
-back_last (Unanswered b) q parity last r spooled (inr h) = h.flight
+pub back_last : (phase : Phase) (q : QueueValue) (alternation : Alternation) (last r : Reply)
+    (spooled : List (List ℕ)) → Agree phase q alternation last spooled (Back r) → r ≡ last
+back_last Idle q alternation last r spooled h = absurd h
+back_last (InDoubt k) q alternation last r spooled h = absurd h
+back_last (Held e x) q alternation last r spooled h = h.flight
+back_last (Unanswered b) q alternation last r spooled (inl h) = h.flight
+back_last (Unanswered b) q alternation last r spooled (inr h) = h.flight
 
 -- a reply comes
-answered_keeps : NextLaw → (s : SenderValue) (phase : Phase) (q : QueueValue) (parity : Parity)
+answered_keeps : NextLaw → (s : SenderValue) (phase : Phase) (q : QueueValue) (alternation : Alternation)
     (last : Reply) (spooled : List (List ℕ)) → s.phase ≡ phase
-    → InBid phase q parity last spooled (Back last) →
-    Leaves q parity last spooled (answered_step s q phase last)
-answered_keeps law s Idle q parity last spooled e i = absurd i.agree
-answered_keeps law s (InDoubt k) q parity last spooled e i = absurd i.agree
-answered_keeps law s (Held end x) q parity last spooled e i = held_keeps law s end x q parity last spooled i
-answered_keeps law s (Unanswered b) q parity last spooled e i =
-    elim i.agree [ inl h ↦ before_keeps s b q parity b.parity last spooled e h.reply i h | inr h ↦ landed_keeps law s b q parity last spooled i h ]
+    → InBid phase q alternation last spooled (Back last) →
+    Leaves q alternation last spooled (answered_step s q phase last)
+answered_keeps law s Idle q alternation last spooled e i = absurd i.agree
+answered_keeps law s (InDoubt k) q alternation last spooled e i = absurd i.agree
+answered_keeps law s (Held end x) q alternation last spooled e i = held_keeps law s end x q alternation last spooled i
+answered_keeps law s (Unanswered b) q alternation last spooled e i =
+    elim i.agree [ inl h ↦ before_keeps s b q alternation b.alternation last spooled e h.reply i h | inr h ↦ landed_keeps law s b q alternation last spooled i h ]
 
 -- a silence comes, and nothing is on its way
-in_doubt : (b : SentBlock) (q : QueueValue) (parity : Parity) (last : Reply)
-    (spooled : List (List ℕ)) → InBid (Unanswered b) q parity last spooled Still
+in_doubt : (b : SentBlock) (q : QueueValue) (alternation : Alternation) (last : Reply)
+    (spooled : List (List ℕ)) → InBid (Unanswered b) q alternation last spooled Still
     → IsResting (InDoubt b.count) q spooled × (Still ≡ Still)
-in_doubt b q parity last spooled i =
+in_doubt b q alternation last spooled i =
     let short : b.count ≤ length (waiting q) = fits b _ i.counts in
     let known : q.known ≤ length q.offered = i.queue.known in
     elim i.agree [
@@ -296,26 +294,26 @@ in_doubt b q parity last spooled i =
           (record { queue = i.queue; counts = short; sound = record { front = rw long h.front; known = omega arith; spooled = inr long } }, refl))
     ]
 
-enq_sent : (b : SentBlock) (q : QueueValue) (parity : Parity) (last : Reply)
-    (spooled : List (List ℕ)) → Agree (Unanswered b) q parity last spooled Still
-    → Agree (Unanswered b) q parity last spooled (Outward m.Enq)
-enq_sent b q parity last spooled (inl h) =
+enq_sent : (b : SentBlock) (q : QueueValue) (alternation : Alternation) (last : Reply)
+    (spooled : List (List ℕ)) → Agree (Unanswered b) q alternation last spooled Still
+    → Agree (Unanswered b) q alternation last spooled (Outward m.Enq)
+enq_sent b q alternation last spooled (inl h) =
     inl (record { front = h.front; counted = h.counted; reply = h.reply; flight = tt })
-enq_sent b q parity last spooled (inr h) =
+enq_sent b q alternation last spooled (inr h) =
     inr (record { front = h.front; counted = h.counted; reply = h.reply; flight = tt })
 
-silent_keeps : (s : SenderValue) (phase : Phase) (q : QueueValue) (parity : Parity)
+silent_keeps : (s : SenderValue) (phase : Phase) (q : QueueValue) (alternation : Alternation)
     (last : Reply) (spooled : List (List ℕ)) → s.phase ≡ phase
-    → InBid phase q parity last spooled Still →
-    LeavesQueue q parity last spooled (silent_in s q phase)
-silent_keeps s Idle q parity last spooled e i = absurd i.agree
-silent_keeps s (InDoubt k) q parity last spooled e i = absurd i.agree
-silent_keeps s (Held end x) q parity last spooled e i =
-    choose (LeavesQueue q parity last spooled) _ _ _ (at_rest q spooled i.queue i.agree.front, refl)
-    (rw e (record { queue = i.queue; counts = i.counts; agree = record { front = i.agree.front; counted = i.agree.counted; reply = i.agree.reply; flight = tt } }), refl)
-silent_keeps s (Unanswered b) q parity last spooled e i =
-    choose (LeavesQueue q parity last spooled) _ _ _ (in_doubt b q parity last spooled i, refl)
-    (rw e (record { queue = i.queue; counts = i.counts; agree = enq_sent b q parity last spooled i.agree }), refl)
+    → InBid phase q alternation last spooled Still →
+    LeavesQueue q alternation last spooled (silent_in s q phase)
+silent_keeps s Idle q alternation last spooled e i = absurd i.agree
+silent_keeps s (InDoubt k) q alternation last spooled e i = absurd i.agree
+silent_keeps s (Held end x) q alternation last spooled e i =
+    choose (LeavesQueue q alternation last spooled) _ _ _ (at_rest q spooled i.queue i.agree.front, refl)
+    (rw e (record { queue = i.queue; block = tt; counts = i.counts; agree = record { front = i.agree.front; counted = i.agree.counted; reply = i.agree.reply; flight = tt } }), refl)
+silent_keeps s (Unanswered b) q alternation last spooled e i =
+    choose (LeavesQueue q alternation last spooled) _ _ _ (in_doubt b q alternation last spooled i, refl)
+    (rw e (record { queue = i.queue; block = i.block; counts = i.counts; agree = enq_sent b q alternation last spooled i.agree }), refl)
 
 no_text : (r : Reply) → IsTextMessage (message_of r) → ⊥
 no_text Ack0 f = f
@@ -346,79 +344,79 @@ fair_reply r Failed f = absurd (no_text r f)
 fair_reply r (Whole v) (inl e) = inl (ap reply_in e ∙ reply_again r)
 fair_reply r (Whole v) (inr e) = absurd (no_call r v e)
 
-goes_on : (phase : Phase) (q : QueueValue) (parity : Parity) (last : Reply)
-    (spooled : List (List ℕ)) → InBid phase q parity last spooled Still
-    → Continues phase q parity last spooled Still
-goes_on Idle q parity last spooled i = absurd i.agree
-goes_on (InDoubt k) q parity last spooled i = absurd i.agree
-goes_on (Held e x) q parity last spooled i = i
-goes_on (Unanswered b) q parity last spooled i = i
+goes_on : (phase : Phase) (q : QueueValue) (alternation : Alternation) (last : Reply)
+    (spooled : List (List ℕ)) → InBid phase q alternation last spooled Still
+    → Continues phase q alternation last spooled Still
+goes_on Idle q alternation last spooled i = absurd i.agree
+goes_on (InDoubt k) q alternation last spooled i = absurd i.agree
+goes_on (Held e x) q alternation last spooled i = i
+goes_on (Unanswered b) q alternation last spooled i = i
 
-quiet_keeps : (s : SenderValue) (q : QueueValue) (parity : Parity) (last : Reply)
-    (spooled : List (List ℕ)) → InBid s.phase q parity last spooled Still
-    → Leaves q parity last spooled (quiet s q)
-quiet_keeps s q parity last spooled i = (goes_on s.phase q parity last spooled i, inl refl)
+quiet_keeps : (s : SenderValue) (q : QueueValue) (alternation : Alternation) (last : Reply)
+    (spooled : List (List ℕ)) → InBid s.phase q alternation last spooled Still
+    → Leaves q alternation last spooled (unmoved s q)
+quiet_keeps s q alternation last spooled i = (goes_on s.phase q alternation last spooled i, inl refl)
 
 -- what was on its way is lost
-pub still_on : (phase : Phase) (q : QueueValue) (parity : Parity) (last : Reply)
-    (spooled : List (List ℕ)) (f : Flight) → InBid phase q parity last spooled f
-    → InBid phase q parity last spooled Still
-still_on phase q parity last spooled f i =
-    record { queue = i.queue; counts = i.counts; agree = agree_still phase q parity last spooled f i.agree }
+pub still_on : (phase : Phase) (q : QueueValue) (alternation : Alternation) (last : Reply)
+    (spooled : List (List ℕ)) (f : Flight) → InBid phase q alternation last spooled f
+    → InBid phase q alternation last spooled Still
+still_on phase q alternation last spooled f i =
+    record { queue = i.queue; block = i.block; counts = i.counts; agree = agree_still phase q alternation last spooled f i.agree }
 
 -- the reply is heard, or not
 pub sender_keeps : NextLaw
-    → (s : SenderValue) (q : QueueValue) (parity : Parity) (last : Reply)
+    → (s : SenderValue) (q : QueueValue) (alternation : Alternation) (last : Reply)
     (spooled : List (List ℕ)) (r : Option Reply) (h : Option Heard)
-    → InBid s.phase q parity last spooled (back r) → IsFairTo (message_back r) h →
-    Leaves q parity last spooled (answered s q r h)
-sender_keeps law s q parity last spooled None None i f = quiet_keeps s q parity last spooled i
-sender_keeps law s q parity last spooled None (Some h) i f = absurd f
-sender_keeps law s q parity last spooled (Some r) None i f =
-    quiet_keeps s q parity last spooled (still_on s.phase q parity last spooled (Back r) i)
-sender_keeps law s q parity last spooled (Some r) (Some h) i f =
-    let same : r ≡ last = back_last s.phase q parity last r spooled i.agree in
-    let there : InBid s.phase q parity last spooled (Back last) =
-    subst (λ (x : Reply). InBid s.phase q parity last spooled (Back x)) same i in
+    → InBid s.phase q alternation last spooled (reply_flight r) → IsFairTo (reply_message r) h →
+    Leaves q alternation last spooled (answered s q r h)
+sender_keeps law s q alternation last spooled None None i f = quiet_keeps s q alternation last spooled i
+sender_keeps law s q alternation last spooled None (Some h) i f = absurd f
+sender_keeps law s q alternation last spooled (Some r) None i f =
+    quiet_keeps s q alternation last spooled (still_on s.phase q alternation last spooled (Back r) i)
+sender_keeps law s q alternation last spooled (Some r) (Some h) i f =
+    let same : r ≡ last = back_last s.phase q alternation last r spooled i.agree in
+    let there : InBid s.phase q alternation last spooled (Back last) =
+    subst (λ (x : Reply). InBid s.phase q alternation last spooled (Back x)) same i in
     elim (fair_reply r h f) [
-      | inl e ↦ subst (λ (o : Option Reply). Leaves q parity last spooled (reply_step s q o))
+      | inl e ↦ subst (λ (o : Option Reply). Leaves q alternation last spooled (reply_step s q o))
           (sym (e ∙ ap (λ (x : Reply). Some x) same))
-          (answered_keeps law s s.phase q parity last spooled refl there)
-      | inr e ↦ subst (λ (o : Option Reply). Leaves q parity last spooled (reply_step s q o)) (sym e)
-          (quiet_keeps s q parity last spooled (still_on s.phase q parity last spooled (Back last) there))
+          (answered_keeps law s s.phase q alternation last spooled refl there)
+      | inr e ↦ subst (λ (o : Option Reply). Leaves q alternation last spooled (reply_step s q o)) (sym e)
+          (quiet_keeps s q alternation last spooled (still_on s.phase q alternation last spooled (Back last) there))
     ]
 
 -- a bid with something on its way goes on
-pub busy : (phase : Phase) (q : QueueValue) (parity : Parity) (last : Reply)
-    (spooled : List (List ℕ)) (w : Message) → Continues phase q parity last spooled (Outward w)
-    → InBid phase q parity last spooled (Outward w)
-busy Idle q parity last spooled w h = absurd (cc h.1)
-busy (InDoubt k) q parity last spooled w h = absurd (cc h.1)
-busy (Held e x) q parity last spooled w h = h
-busy (Unanswered b) q parity last spooled w h = h
+pub busy : (phase : Phase) (q : QueueValue) (alternation : Alternation) (last : Reply)
+    (spooled : List (List ℕ)) (w : Message) → Continues phase q alternation last spooled (Outward w)
+    → InBid phase q alternation last spooled (Outward w)
+busy Idle q alternation last spooled w h = absurd (cc h.1)
+busy (InDoubt k) q alternation last spooled w h = absurd (cc h.1)
+busy (Held e x) q alternation last spooled w h = h
+busy (Unanswered b) q alternation last spooled w h = h
 
 -- a silence, whether a bid goes on or not
-pub silence_keeps : (s : SenderValue) (phase : Phase) (q : QueueValue) (parity : Parity)
+pub silence_keeps : (s : SenderValue) (phase : Phase) (q : QueueValue) (alternation : Alternation)
     (last : Reply) (spooled : List (List ℕ)) → s.phase ≡ phase
-    → Continues phase q parity last spooled Still →
-    LeavesQueue q parity last spooled (silent_in s q phase)
-silence_keeps s Idle q parity last spooled e h = (rw e h, refl)
-silence_keeps s (InDoubt k) q parity last spooled e h = (rw e h, refl)
-silence_keeps s (Held end x) q parity last spooled e h = silent_keeps s (Held end x) q parity last spooled e h
-silence_keeps s (Unanswered b) q parity last spooled e h = silent_keeps s (Unanswered b) q parity last spooled e h
+    → Continues phase q alternation last spooled Still →
+    LeavesQueue q alternation last spooled (silent_in s q phase)
+silence_keeps s Idle q alternation last spooled e h = (rw e h, refl)
+silence_keeps s (InDoubt k) q alternation last spooled e h = (rw e h, refl)
+silence_keeps s (Held end x) q alternation last spooled e h = silent_keeps s (Held end x) q alternation last spooled e h
+silence_keeps s (Unanswered b) q alternation last spooled e h = silent_keeps s (Unanswered b) q alternation last spooled e h
 
 -- where nothing was sent a silence comes
-pub settled_keeps : (q : QueueValue) (parity : Parity) (last : Reply) (spooled : List (List ℕ))
-    (t : SenderStep) (x : Act) → t.act ≡ x → Leaves q parity last spooled t
-    → Leaves q parity last spooled (unless_quiet t x)
-settled_keeps q parity last spooled t (a.Send b) e h = h
-settled_keeps q parity last spooled t a.Enq e h = h
-settled_keeps q parity last spooled t a.Over e h = h
-settled_keeps q parity last spooled t a.Quiet e h =
-    let on : Continues t.sender.phase t.queue parity last spooled Still =
-    subst (λ (x : Act). Continues t.sender.phase t.queue parity last spooled (sent_flight x)) e h.0 in
-    let k : LeavesQueue t.queue parity last spooled (silent_in t.sender t.queue t.sender.phase) =
-    silence_keeps t.sender t.sender.phase t.queue parity last spooled refl on in
+pub settled_keeps : (q : QueueValue) (alternation : Alternation) (last : Reply) (spooled : List (List ℕ))
+    (t : SenderStep) (x : Act) → t.act ≡ x → Leaves q alternation last spooled t
+    → Leaves q alternation last spooled (unless_quiet t x)
+settled_keeps q alternation last spooled t (a.Send b) e h = h
+settled_keeps q alternation last spooled t a.Enq e h = h
+settled_keeps q alternation last spooled t a.Over e h = h
+settled_keeps q alternation last spooled t a.Quiet e h =
+    let on : Continues t.sender.phase t.queue alternation last spooled Still =
+    subst (λ (x : Act). Continues t.sender.phase t.queue alternation last spooled (sent_flight x)) e h.0 in
+    let k : LeavesQueue t.queue alternation last spooled (silent_in t.sender t.queue t.sender.phase) =
+    silence_keeps t.sender t.sender.phase t.queue alternation last spooled refl on in
     (k.0, subst (λ (u : QueueValue). MovesAtSender (channel q spooled) (channel u spooled)) (sym k.1) h.1)
 
 -- a bid begins

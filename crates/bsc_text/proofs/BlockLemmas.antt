@@ -9,7 +9,7 @@ use Rattle.bsc_frame.specs.Texts.{TextValue}
 use Rattle.bsc_block.specs.Blocks.{records_in}
 use Rattle.bsc_spool.specs.Queue.{QueueValue, waiting}
 use Rattle.bsc_text.specs.declared.act.Act.{Act}
-use Rattle.bsc_text.specs.declared.parity.Parity.{Parity}
+use Rattle.bsc_text.specs.declared.alternation.Alternation.{Alternation}
 use Rattle.bsc_text.specs.declared.reply.Reply.{Reply}
 use Rattle.bsc_text.specs.declared.phase.SentBlock.{SentBlock}
 use Rattle.bsc_text.specs.declared.phase.Phase.{Phase}
@@ -18,7 +18,8 @@ use Rattle.bsc_text.specs.Sender.{SenderValue, ReleaseStep, text_of, is_in_doubt
 use Rattle.bsc_text.specs.Ready.{IsAtRest}
 use Rattle.bsc_text.specs.Channel.{channel, IsSpooled, IsSound}
 use Rattle.bsc_text.specs.Fair.{IsFair, IsFairlyHeard}
-use Rattle.bsc_text.specs.Bid.{Bid, message_for}
+use Rattle.bsc_text.specs.Act.{message_for}
+use Rattle.bsc_text.specs.Bid.{Bid}
 use Rattle.bsc_text.specs.OneBid.{CarriesBlock, SendsItsBlocks, HearsItsBlocks, EndsKnowing, ReleaseEndsDoubt}
 use Rattle.bsc_text.specs.EachStep.{IsEnded}
 use Rattle.bsc_text.specs.Agreement.{Outward, InBid}
@@ -32,13 +33,13 @@ record IsBlock (p : Phase) (q : QueueValue) (t : TextValue) : Type 0 where
   pub text : t ≡ text_of q block
   pub records : records_in t.units ≡ take block.count (waiting q)
 
-is_block : RecordsBack → (p : Phase) (q : QueueValue) (parity : Parity) (last : Reply)
+is_block : RecordsBack → (p : Phase) (q : QueueValue) (alternation : Alternation) (last : Reply)
     (spooled : List (List ℕ)) (t : TextValue)
-    → InBid p q parity last spooled (Outward (m.Text t)) → IsBlock p q t
-is_block law Idle q parity last spooled t i = absurd i.agree
-is_block law (InDoubt k) q parity last spooled t i = absurd i.agree
-is_block law (Held e x) q parity last spooled t i = absurd i.agree.flight
-is_block law (Unanswered b) q parity last spooled t i =
+    → InBid p q alternation last spooled (Outward (m.Text t)) → IsBlock p q t
+is_block law Idle q alternation last spooled t i = absurd i.agree
+is_block law (InDoubt k) q alternation last spooled t i = absurd i.agree
+is_block law (Held e x) q alternation last spooled t i = absurd i.agree.flight
+is_block law (Unanswered b) q alternation last spooled t i =
     elim i.agree [
       | inl h ↦ record {
         block = b;
@@ -51,11 +52,11 @@ is_block law (Unanswered b) q parity last spooled t i =
     ]
 
 carries : LawsBelow → (c : Bid) (t : TextValue)
-    → InBid c.sender.phase c.queue c.receiver.parity c.receiver.last c.spool.records (Outward (m.Text t))
+    → InBid c.sender.phase c.queue c.receiver.alternation c.receiver.last c.spool.records (Outward (m.Text t))
     → CarriesBlock c t
 carries law c t i =
     let b : IsBlock c.sender.phase c.queue t =
-    is_block law.records c.sender.phase c.queue c.receiver.parity c.receiver.last c.spool.records t i in
+    is_block law.records c.sender.phase c.queue c.receiver.alternation c.receiver.last c.spool.records t i in
     record { block = b.block; unanswered = b.unanswered; text = b.text; records = b.records }
 
 pub sends_its_blocks : LawsBelow → SendsItsBlocks
@@ -63,15 +64,15 @@ sends_its_blocks law b es c t h e = carries law c t (going c (m.Text t) (ap mess
 
 pub hears_its_blocks : LawsBelow → HearsItsBlocks
 hears_its_blocks law b es c turn t h fair e =
-    let i : InBid c.sender.phase c.queue c.receiver.parity c.receiver.last c.spool.records (Outward fair.sent) =
+    let i : InBid c.sender.phase c.queue c.receiver.alternation c.receiver.last c.spool.records (Outward fair.sent) =
     going c fair.sent fair.goes_on (reached_holds law b es c h) in
     let f : IsFairlyHeard fair.sent (Whole (m.Text t)) = subst (λ (o : Option Heard). IsFair fair.sent o) e fair.there in
     elim f [
       | inl same ↦ carries law c t
-          (subst (λ (w : Message). InBid c.sender.phase c.queue c.receiver.parity c.receiver.last c.spool.records
+          (subst (λ (w : Message). InBid c.sender.phase c.queue c.receiver.alternation c.receiver.last c.spool.records
           (Outward w)) (sym same) i)
       | inr short ↦ absurd (no_call fair.sent (m.Text t)
-          (senders c.sender.phase c.queue c.receiver.parity c.receiver.last c.spool.records fair.sent i.agree) short)
+          (senders c.sender.phase c.queue c.receiver.alternation c.receiver.last c.spool.records fair.sent i.agree) short)
     ]
 
 -- a sender at rest without doubt is idle, and all that was spooled is known

@@ -8,7 +8,7 @@ use Rattle.bsc_spool.specs.declared.queue.Next.{Next}
 use Rattle.bsc_spool.specs.Queue.{QueueValue, with_known, next_block}
 use Rattle.bsc_text.specs.declared.act.Act.{Act}
 use Rattle.bsc_text.specs.declared.act.Act.TheVariants as a
-use Rattle.bsc_text.specs.declared.parity.Parity.{Parity}
+use Rattle.bsc_text.specs.declared.alternation.Alternation.{Alternation}
 use Rattle.bsc_text.specs.declared.reply.Reply.{Reply}
 use Rattle.bsc_text.specs.declared.reply.Answer.{Answer}
 use Rattle.bsc_text.specs.declared.reply.Answer.TheVariants.{Accepted, Refused, Delayed, Interrupted}
@@ -20,7 +20,7 @@ use Rattle.bsc_text.specs.Sender.{SenderValue, SenderStep, sent_next, accepted, 
 use Rattle.bsc_text.specs.Bid.{answered, unless_quiet, receiver_in, sender_in}
 use Rattle.bsc_text.specs.OneBid.{GivesUpUnanswered, DoubtsAtSilence}
 use Rattle.bsc_text.specs.Agreement.{Flight, InBid}
-use Rattle.bsc_text.proofs.Answering.{choose}
+use Rattle.bsc_text.proofs.Choice.{choose}
 use Rattle.bsc_text.proofs.Turning.{LawsBelow, going, reached_holds}
 
 -- a reply that is acted on leaves no doubt, and one that is not leaves the sender as it is
@@ -31,31 +31,31 @@ IsCertainBy _ s t = is_in_doubt t.sender.phase ≡ false
 abbrev IsCertain : SenderValue → SenderStep → Type 0
 IsCertain s t = IsCertainBy t.act s t
 
-certain_next : (s : SenderValue) (q : QueueValue) (x : Parity) (n : Option Next)
+certain_next : (s : SenderValue) (q : QueueValue) (x : Alternation) (n : Option Next)
     → IsCertain s (sent_next s q x n)
 certain_next s q x None = refl
 certain_next s q x (Some n) = refl
 
-certain_accepted : (s : SenderValue) (q : QueueValue) (e : End) (x : Parity)
+certain_accepted : (s : SenderValue) (q : QueueValue) (e : End) (x : Alternation)
     → IsCertain s (accepted s q e x)
 certain_accepted s q Etx x = refl
 certain_accepted s q Etb x = certain_next s q (other x) (next_block q)
 
-certain_delayed : (s : SenderValue) (q : QueueValue) (e : End) (x : Parity)
+certain_delayed : (s : SenderValue) (q : QueueValue) (e : End) (x : Alternation)
     → IsCertain s (delayed s q e x)
-certain_delayed s q e x = choose (IsCertain s) (nat_lt s.setup.waits (s.waits + 1)) _ _ refl refl
+certain_delayed s q e x = choose (IsCertain s) (nat_lt s.setup.waits (s.wacks + 1)) _ _ refl refl
 
 certain_unanswered : (s : SenderValue) (q : QueueValue) (b : SentBlock) (x : Answer)
     → is_in_doubt s.phase ≡ false → IsCertain s (unanswered_step s q b x)
-certain_unanswered s q b Accepted d = certain_accepted s (with_known q b.count) b.end b.parity
-certain_unanswered s q b Refused d = choose (IsCertain s) (nat_lt s.setup.tries (s.tries + 1)) _ _ refl d
-certain_unanswered s q b Delayed d = certain_delayed s (with_known q b.count) b.end b.parity
+certain_unanswered s q b Accepted d = certain_accepted s (with_known q b.count) b.end b.alternation
+certain_unanswered s q b Refused d = choose (IsCertain s) (nat_lt s.setup.tries (s.failures + 1)) _ _ refl d
+certain_unanswered s q b Delayed d = certain_delayed s (with_known q b.count) b.end b.alternation
 certain_unanswered s q b Interrupted d = refl
 
-certain_held : (s : SenderValue) (q : QueueValue) (e : End) (y : Parity) (x : Answer)
+certain_held : (s : SenderValue) (q : QueueValue) (e : End) (y : Alternation) (x : Answer)
     → is_in_doubt s.phase ≡ false → IsCertain s (held_step s q e y x)
 certain_held s q e y Accepted d = certain_accepted s q e y
-certain_held s q e y Refused d = choose (IsCertain s) (nat_lt s.setup.tries (s.tries + 1)) _ _ refl d
+certain_held s q e y Refused d = choose (IsCertain s) (nat_lt s.setup.tries (s.failures + 1)) _ _ refl d
 certain_held s q e y Delayed d = certain_delayed s q e y
 certain_held s q e y Interrupted d = refl
 
@@ -63,7 +63,7 @@ certain_answered : (s : SenderValue) (q : QueueValue) (p : Phase) (r : Reply)
     → is_in_doubt s.phase ≡ false → IsCertain s (answered_step s q p r)
 certain_answered s q Idle r d = refl
 certain_answered s q (InDoubt k) r d = refl
-certain_answered s q (Unanswered b) r d = certain_unanswered s q b (answer_of b.parity r) d
+certain_answered s q (Unanswered b) r d = certain_unanswered s q b (answer_of b.alternation r) d
 certain_answered s q (Held e x) r d = certain_held s q e x (answer_of x r) d
 
 certain_reply : (s : SenderValue) (q : QueueValue) (r : Option Reply)
@@ -79,7 +79,7 @@ certain_heard s q (Some r) None d = refl
 certain_heard s q (Some r) (Some h) d = certain_reply s q (reply_heard h) d
 
 -- a bid that goes on is not in doubt
-certain_going : (p : Phase) (q : QueueValue) (x : Parity) (last : Reply)
+certain_going : (p : Phase) (q : QueueValue) (x : Alternation) (last : Reply)
     (spooled : List (List ℕ)) (f : Flight) → InBid p q x last spooled f → is_in_doubt p ≡ false
 certain_going Idle q x last spooled f i = refl
 certain_going (InDoubt k) q x last spooled f i = absurd i.agree
@@ -102,7 +102,7 @@ second_out false x y e d = absurd (cc e)
 record GivesUp (s : SenderValue) (p : Phase) : Type 0 where
   pub block : SentBlock
   pub unanswered : p ≡ Unanswered block
-  pub over : s.setup.tries < s.tries + 1
+  pub over : s.setup.tries < s.failures + 1
 
 below_by : (n k : ℕ) → nat_lt n k ≡ true → n < k
 below_by n k e = grind (arith, nat_tests)
@@ -115,13 +115,13 @@ silent_doubt : (s : SenderValue) (q : QueueValue) (p : Phase) → is_in_doubt s.
 silent_doubt s q Idle d c k = absurd (cc (d, k))
 silent_doubt s q (InDoubt n) d c k = absurd (cc (d, k))
 silent_doubt s q (Held e x) d c k =
-    let none = (first_of_two (nat_lt s.setup.tries (s.tries + 1)) _ _ d k).1 in absurd (cc none)
+    let none = (first_of_two (nat_lt s.setup.tries (s.failures + 1)) _ _ d k).1 in absurd (cc none)
 silent_doubt s q (Unanswered b) d c k =
     record {
       block = b;
       unanswered = refl;
-      over = below_by s.setup.tries (s.tries + 1)
-          (first_of_two (nat_lt s.setup.tries (s.tries + 1)) _ _ d k).0;
+      over = below_by s.setup.tries (s.failures + 1)
+          (first_of_two (nat_lt s.setup.tries (s.failures + 1)) _ _ d k).0;
     }
 
 -- doubt after a turn, by what the sender did on the reply
@@ -139,14 +139,14 @@ doubt_by s t a.Quiet e c d k = (
 
 -- and back
 gives_up : (s : SenderValue) (t : SenderStep) (x : Act) (b : SentBlock) → x ≡ a.Quiet
-    → IsCertainBy x s t → s.phase ≡ Unanswered b → s.setup.tries < s.tries + 1
+    → IsCertainBy x s t → s.phase ≡ Unanswered b → s.setup.tries < s.failures + 1
     → is_in_doubt (unless_quiet t x).sender.phase ≡ true
 gives_up s t (a.Send u) b e c p over = absurd (cc e)
 gives_up s t a.Enq b e c p over = absurd (cc e)
 gives_up s t a.Over b e c p over = absurd (cc e)
 gives_up s t a.Quiet b e c p over =
     let there : is_in_doubt (silent_in s t.queue (Unanswered b)).sender.phase ≡ true =
-    second_out (nat_lt s.setup.tries (s.tries + 1)) _ _ (test_by s.setup.tries (s.tries + 1) over) refl in
+    second_out (nat_lt s.setup.tries (s.failures + 1)) _ _ (test_by s.setup.tries (s.failures + 1) over) refl in
     let here : is_in_doubt (silent_in s t.queue s.phase).sender.phase ≡ true =
     subst (λ (y : Phase). is_in_doubt (silent_in s t.queue y).sender.phase ≡ true) (sym p) there in
     subst (λ (u : SenderValue). is_in_doubt (silent_in u t.queue u.phase).sender.phase ≡ true) (sym c) here
@@ -155,7 +155,7 @@ pub doubts_at_silence : LawsBelow → DoubtsAtSilence
 doubts_at_silence law b es c t h fair =
     let i = going c fair.sent fair.goes_on (reached_holds law b es c h) in
     let d : is_in_doubt c.sender.phase ≡ false =
-    certain_going c.sender.phase c.queue c.receiver.parity c.receiver.last c.spool.records _ i in
+    certain_going c.sender.phase c.queue c.receiver.alternation c.receiver.last c.spool.records _ i in
     let k : IsCertain c.sender (sender_in c t) = certain_heard c.sender c.queue (receiver_in c t).reply t.answer d in (
       d,
       (

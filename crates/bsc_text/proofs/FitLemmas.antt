@@ -7,7 +7,7 @@ use Rattle.bsc_spool.specs.declared.queue.Next.{Next}
 use Rattle.bsc_spool.specs.Queue.{QueueValue, with_known, next_block}
 use Rattle.bsc_text.specs.declared.act.Act.{Act}
 use Rattle.bsc_text.specs.declared.act.Act.TheVariants as a
-use Rattle.bsc_text.specs.declared.parity.Parity.{Parity}
+use Rattle.bsc_text.specs.declared.alternation.Alternation.{Alternation}
 use Rattle.bsc_text.specs.declared.reply.Reply.{Reply}
 use Rattle.bsc_text.specs.declared.reply.Answer.{Answer}
 use Rattle.bsc_text.specs.declared.reply.Answer.TheVariants.{Accepted, Refused, Delayed, Interrupted}
@@ -18,12 +18,12 @@ use Rattle.bsc_text.specs.Reply.{other, answer_of, reply_heard}
 use Rattle.bsc_text.specs.Sender.{SenderValue, SenderStep, text_of, sent_next, accepted, failed, delayed, unanswered_step, held_step, answered_step, reply_step, silent_in, silence_step, begin_step}
 use Rattle.bsc_text.specs.Ready.{IsGoing, IsAtRest, FitsAct}
 use Rattle.bsc_text.specs.Bid.{answered, unless_quiet}
-use Rattle.bsc_text.proofs.Answering.{choose}
+use Rattle.bsc_text.proofs.Choice.{choose}
 
 abbrev pub Fits : SenderValue → SenderStep → Type 0
 Fits s t = FitsAct t.act s.phase t.sender.phase
 
-fits_next : (s : SenderValue) (q : QueueValue) (x : Parity) (n : Option Next)
+fits_next : (s : SenderValue) (q : QueueValue) (x : Alternation) (n : Option Next)
     → Fits s (sent_next s q x n)
 fits_next s q x None = tt
 fits_next s q x (Some n) = tt
@@ -31,26 +31,26 @@ fits_next s q x (Some n) = tt
 pub fits_begin : (s : SenderValue) (q : QueueValue) → Fits s (begin_step s q)
 fits_begin s q = fits_next s q _ (next_block q)
 
-fits_accepted : (s : SenderValue) (q : QueueValue) (e : End) (x : Parity)
+fits_accepted : (s : SenderValue) (q : QueueValue) (e : End) (x : Alternation)
     → Fits s (accepted s q e x)
 fits_accepted s q Etx x = tt
 fits_accepted s q Etb x = fits_next s q (other x) (next_block q)
 
 fits_failed : (s : SenderValue) (q : QueueValue) (left : Phase) (act : Act) → IsAtRest left
     → FitsAct act s.phase s.phase → Fits s (failed s q left act)
-fits_failed s q left act h k = choose (Fits s) (nat_lt s.setup.tries (s.tries + 1)) _ _ h k
+fits_failed s q left act h k = choose (Fits s) (nat_lt s.setup.tries (s.failures + 1)) _ _ h k
 
-fits_delayed : (s : SenderValue) (q : QueueValue) (e : End) (x : Parity) → Fits s (delayed s q e x)
-fits_delayed s q e x = choose (Fits s) (nat_lt s.setup.waits (s.waits + 1)) _ _ tt tt
+fits_delayed : (s : SenderValue) (q : QueueValue) (e : End) (x : Alternation) → Fits s (delayed s q e x)
+fits_delayed s q e x = choose (Fits s) (nat_lt s.setup.waits (s.wacks + 1)) _ _ tt tt
 
 fits_unanswered : (s : SenderValue) (q : QueueValue) (b : SentBlock) (x : Answer)
     → IsGoing s.phase → Fits s (unanswered_step s q b x)
-fits_unanswered s q b Accepted h = fits_accepted s (with_known q b.count) b.end b.parity
+fits_unanswered s q b Accepted h = fits_accepted s (with_known q b.count) b.end b.alternation
 fits_unanswered s q b Refused h = fits_failed s q Idle (a.Send (text_of q b)) tt h
-fits_unanswered s q b Delayed h = fits_delayed s (with_known q b.count) b.end b.parity
+fits_unanswered s q b Delayed h = fits_delayed s (with_known q b.count) b.end b.alternation
 fits_unanswered s q b Interrupted h = tt
 
-fits_held : (s : SenderValue) (q : QueueValue) (e : End) (y : Parity) (x : Answer)
+fits_held : (s : SenderValue) (q : QueueValue) (e : End) (y : Alternation) (x : Answer)
     → IsGoing s.phase → Fits s (held_step s q e y x)
 fits_held s q e y Accepted h = fits_accepted s q e y
 fits_held s q e y Refused h = fits_failed s q Idle a.Enq tt h
@@ -61,7 +61,7 @@ fits_answered : (s : SenderValue) (q : QueueValue) (p : Phase) (r : Reply) → s
     → Fits s (answered_step s q p r)
 fits_answered s q Idle r e = refl
 fits_answered s q (InDoubt k) r e = refl
-fits_answered s q (Unanswered b) r e = fits_unanswered s q b (answer_of b.parity r) (subst IsGoing (sym e) tt)
+fits_answered s q (Unanswered b) r e = fits_unanswered s q b (answer_of b.alternation r) (subst IsGoing (sym e) tt)
 fits_answered s q (Held end x) r e = fits_held s q end x (answer_of x r) (subst IsGoing (sym e) tt)
 
 pub fits_reply : (s : SenderValue) (q : QueueValue) (r : Option Reply) → Fits s (reply_step s q r)

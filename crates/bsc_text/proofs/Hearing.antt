@@ -10,8 +10,8 @@ use Rattle.bsc_frame.specs.Texts.{TextValue}
 use Rattle.bsc_block.specs.Blocks.{unit_of, records_in}
 use Rattle.bsc_spool.specs.Queue.{QueueValue, IsQueue, waiting}
 use Rattle.bsc_spool.specs.Spool.{SpoolValue}
-use Rattle.bsc_text.specs.declared.parity.Parity.{Parity}
-use Rattle.bsc_text.specs.declared.parity.Parity.TheVariants.{Even, Odd}
+use Rattle.bsc_text.specs.declared.alternation.Alternation.{Alternation}
+use Rattle.bsc_text.specs.declared.alternation.Alternation.TheVariants.{Even, Odd}
 use Rattle.bsc_text.specs.declared.reply.Reply.{Reply}
 use Rattle.bsc_text.specs.declared.reply.Reply.TheVariants.{Ack0, Ack1, Nak, Wack, Rvi}
 use Rattle.bsc_text.specs.declared.phase.SentBlock.{SentBlock}
@@ -20,12 +20,12 @@ use Rattle.bsc_text.specs.declared.phase.Phase.TheVariants.{Idle, Unanswered, He
 use Rattle.bsc_text.specs.Reply.{other, ack}
 use Rattle.bsc_text.specs.Sender.{text_of}
 use Rattle.bsc_text.specs.Receiver.{ReceiverValue, ReceiverStep, Rooms, text_step, enq_step, heard_step}
-use Rattle.bsc_text.specs.Ready.{CountsOn}
+use Rattle.bsc_text.specs.Ready.{HasBlock, CountsOn}
 use Rattle.bsc_text.specs.Channel.{channel}
 use Rattle.bsc_text.specs.Fair.{IsTextMessage, IsCallCutShort, IsFairlyHeard, IsFair}
 use Rattle.bsc_text.specs.Bid.{received}
 use Rattle.bsc_text.specs.OneBid.{MovesAtReceiver}
-use Rattle.bsc_text.specs.Agreement.{Flight, Still, Outward, Back, IsReplyAfter, IsReplyHeld, IsFlightBefore, IsFlightAfter, NotLanded, HasLanded, IsHeld, Agree, InBid, back}
+use Rattle.bsc_text.specs.Agreement.{Flight, Still, Outward, Back, IsReplyAfter, IsReplyHeld, IsFlightBefore, IsFlightAfter, NotLanded, HasLanded, IsHeld, Agree, InBid, reply_flight}
 use Rattle.bsc_text.proofs.ReadyLemmas.{all_waiting}
 
 -- the units that are built for records hold these records
@@ -35,7 +35,7 @@ RecordsBack = (full : ℕ) (rs : List (List ℕ)) → 1 ≤ full → records_in 
 -- what hearing leaves: the ends agree with the reply on its way, and the channel moved as it may
 abbrev pub Keeps : Phase → QueueValue → List (List ℕ) → ReceiverStep → Type 0
 Keeps phase q spooled out =
-    Agree phase q out.receiver.parity out.receiver.last out.spool.records (back out.reply) × MovesAtReceiver phase
+    Agree phase q out.receiver.alternation out.receiver.last out.spool.records (reply_flight out.reply) × MovesAtReceiver phase
     (channel q spooled) (channel q out.spool.records)
 
 -- the records of a block that is sent
@@ -44,28 +44,28 @@ pub block_records : RecordsBack → (q : QueueValue) (b : SentBlock) → IsQueue
 block_records law q b h = law q.format.full (take b.count (waiting q)) h.format.full_from
 
 pub fits : (b : SentBlock) (n : ℕ) → CountsOn (Unanswered b) n → b.count ≤ n
-fits b n h = all_waiting b.count n b.end h.2
+fits b n h = all_waiting b.count n b.end h
 
-other_after : (x y : Parity) → x ≡ other y → IsReplyAfter (ack (other x)) y
+other_after : (x y : Alternation) → x ≡ other y → IsReplyAfter (ack (other x)) y
 other_after Odd Odd e = absurd (cc)
 other_after Odd Even e = tt
 other_after Even Odd e = tt
 other_after Even Even e = absurd (cc)
 
-other_other : (x y : Parity) → x ≡ other y → other x ≡ y
+other_other : (x y : Alternation) → x ≡ other y → other x ≡ y
 other_other Odd Odd e = absurd (cc)
 other_other Odd Even e = refl
 other_other Even Odd e = refl
 other_other Even Even e = absurd (cc)
 
 -- the block lands
-landed : RecordsBack → (b : SentBlock) (q : QueueValue) (parity : Parity) (last x : Reply)
-    (spooled : List (List ℕ)) (t : TextValue) → IsQueue q
+landed : RecordsBack → (b : SentBlock) (q : QueueValue) (alternation : Alternation) (last x : Reply)
+    (spooled : List (List ℕ)) (t : TextValue) → IsQueue q → HasBlock (Unanswered b)
     → CountsOn (Unanswered b) (length (waiting q))
-    → NotLanded b q parity last spooled (Outward (m.Text t)) → IsReplyAfter x b.parity →
-    (Agree (Unanswered b) q (other parity) x (spooled ++ records_in t.units) (Back x)) × MovesAtReceiver
+    → NotLanded b q alternation last spooled (Outward (m.Text t)) → IsReplyAfter x b.alternation →
+    (Agree (Unanswered b) q (other alternation) x (spooled ++ records_in t.units) (Back x)) × MovesAtReceiver
     (Unanswered b) (channel q spooled) (channel q (spooled ++ records_in t.units))
-landed law b q parity last x spooled t queue counts h a =
+landed law b q alternation last x spooled t queue block counts h a =
     let known : q.known ≤ length q.offered = queue.known in
     let fit : b.count ≤ length (waiting q) = fits b _ counts in
     let there : records_in t.units ≡ take b.count (drop q.known q.offered) =
@@ -73,13 +73,13 @@ landed law b q parity last x spooled t queue counts h a =
     let long : length spooled ≡ q.known = ap length h.front ∙ length-take-le q.known q.offered known in
     let all : spooled ++ records_in t.units ≡ take (q.known + b.count) q.offered =
     rw (h.front, there, take-add q.known b.count q.offered) in (
-      inr (record { front = all; counted = other_other parity b.parity h.counted; reply = a; flight = refl }),
+      inr (record { front = all; counted = other_other alternation b.alternation h.counted; reply = a; flight = refl }),
       inr (
         b,
         refl,
         record {
-          some = counts.0;
-          few = counts.1;
+          some = block.0;
+          few = block.1;
           all_known = long;
           there = omega
               (arith, length-drop q.known q.offered);
@@ -89,98 +89,98 @@ landed law b q parity last x spooled t queue counts h a =
     )
 
 -- a text is heard
-text_keeps : RecordsBack → (b : SentBlock) (q : QueueValue) (parity : Parity) (last : Reply)
+text_keeps : RecordsBack → (b : SentBlock) (q : QueueValue) (alternation : Alternation) (last : Reply)
     (s : SpoolValue) (t : TextValue) (urgent first after : Bool) → IsQueue q
-    → CountsOn (Unanswered b) (length (waiting q))
-    → NotLanded b q parity last s.records (Outward (m.Text t)) →
+    → HasBlock (Unanswered b) → CountsOn (Unanswered b) (length (waiting q))
+    → NotLanded b q alternation last s.records (Outward (m.Text t)) →
     Keeps (Unanswered b) q s.records
-    (text_step (record { parity = parity; last = last }) s t urgent (record { first = first; after = after }))
-text_keeps law b q parity last s t urgent false after queue counts h =
+    (text_step (record { alternation = alternation; last = last }) s t urgent (record { first = first; after = after }))
+text_keeps law b q alternation last s t urgent false after queue block counts h =
     (inl (record { front = h.front; counted = h.counted; reply = tt; flight = refl }), inl refl)
-text_keeps law b q parity last s t false true true queue counts h =
-    landed law b q parity last (ack (other parity)) s.records t queue counts h (other_after parity b.parity h.counted)
-text_keeps law b q parity last s t false true false queue counts h =
-    landed law b q parity last Wack s.records t queue counts h tt
-text_keeps law b q parity Rvi s t true true after queue counts h = absurd h.reply
-text_keeps law b q parity Wack s t true true after queue counts h = absurd h.reply
-text_keeps law b q parity Ack0 s t true true after queue counts h =
-    landed law b q parity Ack0 Rvi s.records t queue counts h tt
-text_keeps law b q parity Ack1 s t true true after queue counts h =
-    landed law b q parity Ack1 Rvi s.records t queue counts h tt
-text_keeps law b q parity Nak s t true true after queue counts h =
-    landed law b q parity Nak Rvi s.records t queue counts h tt
+text_keeps law b q alternation last s t false true true queue block counts h =
+    landed law b q alternation last (ack (other alternation)) s.records t queue block counts h (other_after alternation b.alternation h.counted)
+text_keeps law b q alternation last s t false true false queue block counts h =
+    landed law b q alternation last Wack s.records t queue block counts h tt
+text_keeps law b q alternation Rvi s t true true after queue block counts h = absurd h.reply
+text_keeps law b q alternation Wack s t true true after queue block counts h = absurd h.reply
+text_keeps law b q alternation Ack0 s t true true after queue block counts h =
+    landed law b q alternation Ack0 Rvi s.records t queue block counts h tt
+text_keeps law b q alternation Ack1 s t true true after queue block counts h =
+    landed law b q alternation Ack1 Rvi s.records t queue block counts h tt
+text_keeps law b q alternation Nak s t true true after queue block counts h =
+    landed law b q alternation Nak Rvi s.records t queue block counts h tt
 
 -- ENQ is heard before the block landed
-enq_before : (b : SentBlock) (q : QueueValue) (parity : Parity) (last : Reply) (s : SpoolValue)
-    (rooms : Rooms) → NotLanded b q parity last s.records (Outward m.Enq) →
-    Keeps (Unanswered b) q s.records (enq_step (record { parity = parity; last = last }) s rooms)
-enq_before b q parity Ack0 s rooms h =
+enq_before : (b : SentBlock) (q : QueueValue) (alternation : Alternation) (last : Reply) (s : SpoolValue)
+    (rooms : Rooms) → NotLanded b q alternation last s.records (Outward m.Enq) →
+    Keeps (Unanswered b) q s.records (enq_step (record { alternation = alternation; last = last }) s rooms)
+enq_before b q alternation Ack0 s rooms h =
     (inl (record { front = h.front; counted = h.counted; reply = h.reply; flight = refl }), inl refl)
-enq_before b q parity Ack1 s rooms h =
+enq_before b q alternation Ack1 s rooms h =
     (inl (record { front = h.front; counted = h.counted; reply = h.reply; flight = refl }), inl refl)
-enq_before b q parity Nak s rooms h =
+enq_before b q alternation Nak s rooms h =
     (inl (record { front = h.front; counted = h.counted; reply = h.reply; flight = refl }), inl refl)
-enq_before b q parity Wack s rooms h = absurd h.reply
-enq_before b q parity Rvi s rooms h = absurd h.reply
+enq_before b q alternation Wack s rooms h = absurd h.reply
+enq_before b q alternation Rvi s rooms h = absurd h.reply
 
-ack_after : (x y : Parity) → x ≡ y → IsReplyAfter (ack x) y
+ack_after : (x y : Alternation) → x ≡ y → IsReplyAfter (ack x) y
 ack_after Odd Odd e = tt
 ack_after Odd Even e = absurd (cc)
 ack_after Even Odd e = absurd (cc)
 ack_after Even Even e = tt
 
 -- and after it landed
-enq_after : (b : SentBlock) (q : QueueValue) (parity : Parity) (last : Reply) (s : SpoolValue)
-    (first after : Bool) → HasLanded b q parity last s.records (Outward m.Enq) →
+enq_after : (b : SentBlock) (q : QueueValue) (alternation : Alternation) (last : Reply) (s : SpoolValue)
+    (first after : Bool) → HasLanded b q alternation last s.records (Outward m.Enq) →
     Keeps (Unanswered b) q s.records
-    (enq_step (record { parity = parity; last = last }) s (record { first = first; after = after }))
-enq_after b q parity Ack0 s first after h =
+    (enq_step (record { alternation = alternation; last = last }) s (record { first = first; after = after }))
+enq_after b q alternation Ack0 s first after h =
     (inr (record { front = h.front; counted = h.counted; reply = h.reply; flight = refl }), inl refl)
-enq_after b q parity Ack1 s first after h =
+enq_after b q alternation Ack1 s first after h =
     (inr (record { front = h.front; counted = h.counted; reply = h.reply; flight = refl }), inl refl)
-enq_after b q parity Nak s first after h = absurd h.reply
-enq_after b q parity Rvi s first after h =
+enq_after b q alternation Nak s first after h = absurd h.reply
+enq_after b q alternation Rvi s first after h =
     (inr (record { front = h.front; counted = h.counted; reply = tt; flight = refl }), inl refl)
-enq_after b q parity Wack s true after h =
-    (inr (record { front = h.front; counted = h.counted; reply = ack_after parity b.parity h.counted; flight = refl }), inl refl)
-enq_after b q parity Wack s false after h =
+enq_after b q alternation Wack s true after h =
+    (inr (record { front = h.front; counted = h.counted; reply = ack_after alternation b.alternation h.counted; flight = refl }), inl refl)
+enq_after b q alternation Wack s false after h =
     (inr (record { front = h.front; counted = h.counted; reply = tt; flight = refl }), inl refl)
 
-ack_held : (x y : Parity) → x ≡ y → IsReplyHeld (ack x) y
+ack_held : (x y : Alternation) → x ≡ y → IsReplyHeld (ack x) y
 ack_held Odd Odd e = tt
 ack_held Odd Even e = absurd (cc)
 ack_held Even Odd e = absurd (cc)
 ack_held Even Even e = tt
 
 -- and while the sender is held
-enq_held : (end_phase : Phase) (expected : Parity) (q : QueueValue) (parity : Parity)
+enq_held : (end_phase : Phase) (expected : Alternation) (q : QueueValue) (alternation : Alternation)
     (last : Reply) (s : SpoolValue) (first after : Bool)
-    → IsHeld expected q parity last s.records (Outward m.Enq) →
-    let out = enq_step (record { parity = parity; last = last }) s (record { first = first; after = after }) in
-    IsHeld expected q out.receiver.parity out.receiver.last out.spool.records
-    (back out.reply) × MovesAtReceiver end_phase (channel q s.records) (channel q out.spool.records)
-enq_held p expected q parity Ack0 s first after h =
+    → IsHeld expected q alternation last s.records (Outward m.Enq) →
+    let out = enq_step (record { alternation = alternation; last = last }) s (record { first = first; after = after }) in
+    IsHeld expected q out.receiver.alternation out.receiver.last out.spool.records
+    (reply_flight out.reply) × MovesAtReceiver end_phase (channel q s.records) (channel q out.spool.records)
+enq_held p expected q alternation Ack0 s first after h =
     (record { front = h.front; counted = h.counted; reply = h.reply; flight = refl }, inl refl)
-enq_held p expected q parity Ack1 s first after h =
+enq_held p expected q alternation Ack1 s first after h =
     (record { front = h.front; counted = h.counted; reply = h.reply; flight = refl }, inl refl)
-enq_held p expected q parity Nak s first after h = absurd h.reply
-enq_held p expected q parity Rvi s first after h = absurd h.reply
-enq_held p expected q parity Wack s true after h =
-    (record { front = h.front; counted = h.counted; reply = ack_held parity expected h.counted; flight = refl }, inl refl)
-enq_held p expected q parity Wack s false after h =
+enq_held p expected q alternation Nak s first after h = absurd h.reply
+enq_held p expected q alternation Rvi s first after h = absurd h.reply
+enq_held p expected q alternation Wack s true after h =
+    (record { front = h.front; counted = h.counted; reply = ack_held alternation expected h.counted; flight = refl }, inl refl)
+enq_held p expected q alternation Wack s false after h =
     (record { front = h.front; counted = h.counted; reply = tt; flight = refl }, inl refl)
 
 -- what was on its way is lost
-pub agree_still : (phase : Phase) (q : QueueValue) (parity : Parity) (last : Reply)
-    (spooled : List (List ℕ)) (f : Flight) → Agree phase q parity last spooled f
-    → Agree phase q parity last spooled Still
-agree_still Idle q parity last spooled f h = absurd h
-agree_still (InDoubt k) q parity last spooled f h = absurd h
-agree_still (Held e x) q parity last spooled f h =
+pub agree_still : (phase : Phase) (q : QueueValue) (alternation : Alternation) (last : Reply)
+    (spooled : List (List ℕ)) (f : Flight) → Agree phase q alternation last spooled f
+    → Agree phase q alternation last spooled Still
+agree_still Idle q alternation last spooled f h = absurd h
+agree_still (InDoubt k) q alternation last spooled f h = absurd h
+agree_still (Held e x) q alternation last spooled f h =
     record { front = h.front; counted = h.counted; reply = h.reply; flight = tt }
-agree_still (Unanswered b) q parity last spooled f (inl h) =
+agree_still (Unanswered b) q alternation last spooled f (inl h) =
     inl (record { front = h.front; counted = h.counted; reply = h.reply; flight = tt })
-agree_still (Unanswered b) q parity last spooled f (inr h) =
+agree_still (Unanswered b) q alternation last spooled f (inr h) =
     inr (record { front = h.front; counted = h.counted; reply = h.reply; flight = tt })
 
 -- what a sender sends
@@ -201,14 +201,14 @@ flight_after last m.Enq h = tt
 flight_after last _ h = absurd h
 
 -- in a bid nothing but a text or ENQ goes out
-pub senders : (phase : Phase) (q : QueueValue) (parity : Parity) (last : Reply)
-    (spooled : List (List ℕ)) (w : Message) → Agree phase q parity last spooled (Outward w)
+pub senders : (phase : Phase) (q : QueueValue) (alternation : Alternation) (last : Reply)
+    (spooled : List (List ℕ)) (w : Message) → Agree phase q alternation last spooled (Outward w)
     → IsSenders w
-senders Idle q parity last spooled w h = absurd h
-senders (InDoubt k) q parity last spooled w h = absurd h
-senders (Held e x) q parity last spooled w h = flight_after last w h.flight
-senders (Unanswered b) q parity last spooled w (inl h) = flight_before q b last w h.flight
-senders (Unanswered b) q parity last spooled w (inr h) = flight_after last w h.flight
+senders Idle q alternation last spooled w h = absurd h
+senders (InDoubt k) q alternation last spooled w h = absurd h
+senders (Held e x) q alternation last spooled w h = flight_after last w h.flight
+senders (Unanswered b) q alternation last spooled w (inl h) = flight_before q b last w h.flight
+senders (Unanswered b) q alternation last spooled w (inr h) = flight_after last w h.flight
 
 -- of a text or ENQ no EOT is heard
 pub no_call : (w v : Message) → IsSenders w → IsCallCutShort w v → ⊥
@@ -218,65 +218,66 @@ no_call _ v s e = s
 
 -- a whole transmission is heard
 whole_keeps : RecordsBack
-    → (phase : Phase) (q : QueueValue) (parity : Parity) (last : Reply) (s : SpoolValue)
-    (w : Message) (urgent first after : Bool) → IsQueue q → CountsOn phase (length (waiting q))
-    → Agree phase q parity last s.records (Outward w) →
-    Keeps phase q s.records (heard_step (record { parity = parity; last = last }) s (Whole w) urgent
+    → (phase : Phase) (q : QueueValue) (alternation : Alternation) (last : Reply) (s : SpoolValue)
+    (w : Message) (urgent first after : Bool) → IsQueue q → HasBlock phase
+    → CountsOn phase (length (waiting q))
+    → Agree phase q alternation last s.records (Outward w) →
+    Keeps phase q s.records (heard_step (record { alternation = alternation; last = last }) s (Whole w) urgent
     (record { first = first; after = after }))
-whole_keeps law Idle q parity last s w urgent first after queue counts h = absurd h
-whole_keeps law (InDoubt k) q parity last s w urgent first after queue counts h = absurd h
-whole_keeps law (Unanswered b) q parity last s (m.Text t) urgent first after queue counts (inl h) =
-    text_keeps law b q parity last s t urgent first after queue counts h
-whole_keeps law (Unanswered b) q parity last s (m.Text t) urgent first after queue counts (inr h) = absurd h.flight
-whole_keeps law (Unanswered b) q parity last s m.Enq urgent first after queue counts (inl h) =
-    enq_before b q parity last s (record { first = first; after = after }) h
-whole_keeps law (Unanswered b) q parity last s m.Enq urgent first after queue counts (inr h) =
-    enq_after b q parity last s first after h
-whole_keeps law (Held e x) q parity last s m.Enq urgent first after queue counts h =
-    enq_held (Held e x) x q parity last s first after h
-whole_keeps law (Held e x) q parity last s (m.Text t) urgent first after queue counts h = absurd h.flight
-whole_keeps law (Unanswered b) q parity last s w urgent first after queue counts h =
-    absurd (senders (Unanswered b) q parity last s.records w h)
-whole_keeps law (Held e x) q parity last s w urgent first after queue counts h =
-    absurd (senders (Held e x) q parity last s.records w h)
+whole_keeps law Idle q alternation last s w urgent first after queue block counts h = absurd h
+whole_keeps law (InDoubt k) q alternation last s w urgent first after queue block counts h = absurd h
+whole_keeps law (Unanswered b) q alternation last s (m.Text t) urgent first after queue block counts (inl h) =
+    text_keeps law b q alternation last s t urgent first after queue block counts h
+whole_keeps law (Unanswered b) q alternation last s (m.Text t) urgent first after queue block counts (inr h) = absurd h.flight
+whole_keeps law (Unanswered b) q alternation last s m.Enq urgent first after queue block counts (inl h) =
+    enq_before b q alternation last s (record { first = first; after = after }) h
+whole_keeps law (Unanswered b) q alternation last s m.Enq urgent first after queue block counts (inr h) =
+    enq_after b q alternation last s first after h
+whole_keeps law (Held e x) q alternation last s m.Enq urgent first after queue block counts h =
+    enq_held (Held e x) x q alternation last s first after h
+whole_keeps law (Held e x) q alternation last s (m.Text t) urgent first after queue block counts h = absurd h.flight
+whole_keeps law (Unanswered b) q alternation last s w urgent first after queue block counts h =
+    absurd (senders (Unanswered b) q alternation last s.records w h)
+whole_keeps law (Held e x) q alternation last s w urgent first after queue block counts h =
+    absurd (senders (Held e x) q alternation last s.records w h)
 
 -- a spoiled text is heard
-spoiled_keeps : (phase : Phase) (q : QueueValue) (parity : Parity) (last : Reply)
+spoiled_keeps : (phase : Phase) (q : QueueValue) (alternation : Alternation) (last : Reply)
     (s : SpoolValue) (w : Message) → IsTextMessage w
-    → Agree phase q parity last s.records (Outward w) →
-    Agree phase q parity Nak s.records (Back Nak)
-spoiled_keeps Idle q parity last s w f h = absurd h
-spoiled_keeps (InDoubt k) q parity last s w f h = absurd h
-spoiled_keeps (Held e x) q parity last s (m.Text t) f h = absurd h.flight
-spoiled_keeps (Unanswered b) q parity last s (m.Text t) f (inl h) =
+    → Agree phase q alternation last s.records (Outward w) →
+    Agree phase q alternation Nak s.records (Back Nak)
+spoiled_keeps Idle q alternation last s w f h = absurd h
+spoiled_keeps (InDoubt k) q alternation last s w f h = absurd h
+spoiled_keeps (Held e x) q alternation last s (m.Text t) f h = absurd h.flight
+spoiled_keeps (Unanswered b) q alternation last s (m.Text t) f (inl h) =
     inl (record { front = h.front; counted = h.counted; reply = tt; flight = refl })
-spoiled_keeps (Unanswered b) q parity last s (m.Text t) f (inr h) = absurd h.flight
-spoiled_keeps (Held e x) q parity last s w f h = absurd f
-spoiled_keeps (Unanswered b) q parity last s w f h = absurd f
+spoiled_keeps (Unanswered b) q alternation last s (m.Text t) f (inr h) = absurd h.flight
+spoiled_keeps (Held e x) q alternation last s w f h = absurd f
+spoiled_keeps (Unanswered b) q alternation last s w f h = absurd f
 
 heard_keeps : RecordsBack
-    → (phase : Phase) (q : QueueValue) (parity : Parity) (last : Reply) (s : SpoolValue)
+    → (phase : Phase) (q : QueueValue) (alternation : Alternation) (last : Reply) (s : SpoolValue)
     (w : Message) (h : Heard) (urgent first after : Bool)
-    → InBid phase q parity last s.records (Outward w) → IsFairlyHeard w h →
-    Keeps phase q s.records (heard_step (record { parity = parity; last = last }) s h urgent
+    → InBid phase q alternation last s.records (Outward w) → IsFairlyHeard w h →
+    Keeps phase q s.records (heard_step (record { alternation = alternation; last = last }) s h urgent
     (record { first = first; after = after }))
-heard_keeps law phase q parity last s w Noise urgent first after b f =
-    (agree_still phase q parity last s.records (Outward w) b.agree, inl refl)
-heard_keeps law phase q parity last s w Failed urgent first after b f =
-    (spoiled_keeps phase q parity last s w f b.agree, inl refl)
-heard_keeps law phase q parity last s w (Whole v) urgent first after b (inl e) =
-    whole_keeps law phase q parity last s v urgent first after b.queue b.counts
-    (subst (λ (x : Message). Agree phase q parity last s.records (Outward x)) (sym e) b.agree)
-heard_keeps law phase q parity last s w (Whole v) urgent first after b (inr e) =
-    absurd (no_call w v (senders phase q parity last s.records w b.agree) e)
+heard_keeps law phase q alternation last s w Noise urgent first after b f =
+    (agree_still phase q alternation last s.records (Outward w) b.agree, inl refl)
+heard_keeps law phase q alternation last s w Failed urgent first after b f =
+    (spoiled_keeps phase q alternation last s w f b.agree, inl refl)
+heard_keeps law phase q alternation last s w (Whole v) urgent first after b (inl e) =
+    whole_keeps law phase q alternation last s v urgent first after b.queue b.block b.counts
+    (subst (λ (x : Message). Agree phase q alternation last s.records (Outward x)) (sym e) b.agree)
+heard_keeps law phase q alternation last s w (Whole v) urgent first after b (inr e) =
+    absurd (no_call w v (senders phase q alternation last s.records w b.agree) e)
 
 -- the sender's transmission is heard at the receiver, or not
 pub receiver_keeps : RecordsBack
     → (phase : Phase) (q : QueueValue) (r : ReceiverValue) (s : SpoolValue) (w : Message)
     (h : Option Heard) (urgent : Bool) (rooms : Rooms)
-    → InBid phase q r.parity r.last s.records (Outward w) → IsFair w h
+    → InBid phase q r.alternation r.last s.records (Outward w) → IsFair w h
     → Keeps phase q s.records (received r s h urgent rooms)
 receiver_keeps law phase q r s w None urgent rooms b f =
-    (agree_still phase q r.parity r.last s.records (Outward w) b.agree, inl refl)
+    (agree_still phase q r.alternation r.last s.records (Outward w) b.agree, inl refl)
 receiver_keeps law phase q r s w (Some h) urgent rooms b f =
-    heard_keeps law phase q r.parity r.last s w h urgent rooms.first rooms.after b f
+    heard_keeps law phase q r.alternation r.last s w h urgent rooms.first rooms.after b f

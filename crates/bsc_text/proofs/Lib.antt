@@ -1,8 +1,10 @@
 pub mod Answering
 pub mod BlockLemmas
+pub mod Choice
 pub mod DoubtLemmas
 pub mod FitLemmas
 pub mod Hearing
+pub mod KeepLemmas
 pub mod OfferLemmas
 pub mod ReadyLemmas
 pub mod SelectLemmas

@@ -6,13 +6,14 @@ use Rattle.bsc_frame.specs.declared.text.End.{End}
 use Rattle.bsc_frame.specs.declared.text.End.TheVariants.{Etb, Etx}
 use Rattle.bsc_block.specs.Blocks.{unit_of}
 use Rattle.bsc_spool.specs.Queue.{QueueValue, with_offered, IsQueue, waiting}
-use Rattle.bsc_text.specs.declared.parity.Parity.{Parity}
+use Rattle.bsc_spool.proofs.Offers.{is_queue_offered}
+use Rattle.bsc_text.specs.declared.alternation.Alternation.{Alternation}
 use Rattle.bsc_text.specs.declared.reply.Reply.{Reply}
 use Rattle.bsc_text.specs.declared.phase.SentBlock.{SentBlock}
 use Rattle.bsc_text.specs.declared.phase.Phase.{Phase}
 use Rattle.bsc_text.specs.declared.phase.Phase.TheVariants.{Idle, Unanswered, Held, InDoubt}
-use Rattle.bsc_text.specs.Sender.{text_of}
-use Rattle.bsc_text.specs.Ready.{AreWaiting, CountsOn}
+use Rattle.bsc_text.specs.Sender.{SenderValue, text_of}
+use Rattle.bsc_text.specs.Ready.{AreWaiting, CountsOn, IsReady}
 use Rattle.bsc_text.specs.Channel.{channel, IsSound}
 use Rattle.bsc_text.specs.Agreement.{Flight, Still, Outward, Back, IsFlightBefore, Agree, InBid, IsResting, Continues}
 use Rattle.bsc_text.proofs.ReadyLemmas.{within_offered}
@@ -40,13 +41,19 @@ are_waiting k n n' Etx l h = omega arith
 counts_more : (p : Phase) (n n' : ℕ) → n ≤ n' → CountsOn p n → CountsOn p n'
 counts_more Idle n n' l h = tt
 counts_more (InDoubt k) n n' l h = omega arith
-counts_more (Unanswered b) n n' l h = (h.0, h.1, are_waiting b.count n n' b.end l h.2)
+counts_more (Unanswered b) n n' l h = are_waiting b.count n n' b.end l h
 counts_more (Held e x) n n' l h = are_waiting 0 n n' e l h
 
 -- a sender and its queue after an offer
 pub counts_offered : (p : Phase) (q : QueueValue) (r : List ℕ) → CountsOn p (length (waiting q))
     → CountsOn p (length (waiting (with_offered q r)))
 counts_offered p q r h = counts_more p _ _ (more_waiting q r) h
+
+-- what the sender counts on stays
+pub ready_offered : (s : SenderValue) (q : QueueValue) (r : List ℕ) → IsReady s q
+    → length r ≤ q.format.full → IsReady s (with_offered q r)
+ready_offered s q r h short =
+    record { queue = is_queue_offered q r h.queue short; counts = counts_offered s.phase q r h.counts }
 
 -- the block that was sent stays the same
 text_offered : (b : SentBlock) (q : QueueValue) (r : List ℕ) → IsQueue q
@@ -73,16 +80,16 @@ front_offered : (q : QueueValue) (r : List ℕ) (k : ℕ) (spooled : List (List 
     → spooled ≡ take k (with_offered q r).offered
 front_offered q r k spooled h e = e ∙ sym (take-append-le k q.offered (r ∷ []) h)
 
-agree_offered : (p : Phase) (q : QueueValue) (r : List ℕ) (parity : Parity) (last : Reply)
+agree_offered : (p : Phase) (q : QueueValue) (r : List ℕ) (alternation : Alternation) (last : Reply)
     (spooled : List (List ℕ)) (f : Flight) → IsQueue q → CountsOn p (length (waiting q))
-    → Agree p q parity last spooled f → Agree p (with_offered q r) parity last spooled f
-agree_offered Idle q r parity last spooled f queue counts h = absurd h
-agree_offered (InDoubt k) q r parity last spooled f queue counts h = absurd h
-agree_offered (Held e x) q r parity last spooled f queue counts h =
+    → Agree p q alternation last spooled f → Agree p (with_offered q r) alternation last spooled f
+agree_offered Idle q r alternation last spooled f queue counts h = absurd h
+agree_offered (InDoubt k) q r alternation last spooled f queue counts h = absurd h
+agree_offered (Held e x) q r alternation last spooled f queue counts h =
     record { front = front_offered q r q.known spooled queue.known h.front; counted = h.counted; reply = h.reply; flight = h.flight }
-agree_offered (Unanswered b) q r parity last spooled f queue counts (inl h) =
+agree_offered (Unanswered b) q r alternation last spooled f queue counts (inl h) =
     inl (record { front = front_offered q r q.known spooled queue.known h.front; counted = h.counted; reply = h.reply; flight = flight_offered b q r last f (text_offered b q r queue (fits b _ counts)) h.flight })
-agree_offered (Unanswered b) q r parity last spooled f queue counts (inr h) =
+agree_offered (Unanswered b) q r alternation last spooled f queue counts (inr h) =
     inr (record {
       front = front_offered q r (q.known + b.count) spooled
           (within_offered q b.count queue
@@ -94,11 +101,16 @@ agree_offered (Unanswered b) q r parity last spooled f queue counts (inr h) =
 
 -- a bid that goes on
 pub bid_offered : OffersQueue
-    → (p : Phase) (q : QueueValue) (r : List ℕ) (parity : Parity) (last : Reply)
+    → (p : Phase) (q : QueueValue) (r : List ℕ) (alternation : Alternation) (last : Reply)
     (spooled : List (List ℕ)) (f : Flight) → length r ≤ q.format.full
-    → InBid p q parity last spooled f → InBid p (with_offered q r) parity last spooled f
-bid_offered law p q r parity last spooled f short i =
-    record { queue = law q r i.queue short; counts = counts_offered p q r i.counts; agree = agree_offered p q r parity last spooled f i.queue i.counts i.agree }
+    → InBid p q alternation last spooled f → InBid p (with_offered q r) alternation last spooled f
+bid_offered law p q r alternation last spooled f short i =
+    record {
+      queue = law q r i.queue short;
+      block = i.block;
+      counts = counts_offered p q r i.counts;
+      agree = agree_offered p q r alternation last spooled f i.queue i.counts i.agree;
+    }
 
 -- what begins a list is not longer
 pub not_longer : (xs ys : List (List ℕ)) → xs ≡ take (length xs) ys → length xs ≤ length ys
@@ -123,13 +135,13 @@ resting_offered law p q r spooled short i =
     record { queue = law q r i.queue short; counts = counts_offered p q r i.counts; sound = sound_offered p q r spooled i.sound }
 
 pub continues_offered : OffersQueue
-    → (p : Phase) (q : QueueValue) (r : List ℕ) (parity : Parity) (last : Reply)
+    → (p : Phase) (q : QueueValue) (r : List ℕ) (alternation : Alternation) (last : Reply)
     (spooled : List (List ℕ)) (f : Flight) → length r ≤ q.format.full
-    → Continues p q parity last spooled f → Continues p (with_offered q r) parity last spooled f
-continues_offered law Idle q r parity last spooled f short h = (resting_offered law Idle q r spooled short h.0, h.1)
-continues_offered law (InDoubt k) q r parity last spooled f short h =
+    → Continues p q alternation last spooled f → Continues p (with_offered q r) alternation last spooled f
+continues_offered law Idle q r alternation last spooled f short h = (resting_offered law Idle q r spooled short h.0, h.1)
+continues_offered law (InDoubt k) q r alternation last spooled f short h =
     (resting_offered law (InDoubt k) q r spooled short h.0, h.1)
-continues_offered law (Unanswered b) q r parity last spooled f short h =
-    bid_offered law (Unanswered b) q r parity last spooled f short h
-continues_offered law (Held e x) q r parity last spooled f short h =
-    bid_offered law (Held e x) q r parity last spooled f short h
+continues_offered law (Unanswered b) q r alternation last spooled f short h =
+    bid_offered law (Unanswered b) q r alternation last spooled f short h
+continues_offered law (Held e x) q r alternation last spooled f short h =
+    bid_offered law (Held e x) q r alternation last spooled f short h

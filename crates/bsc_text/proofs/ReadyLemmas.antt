@@ -5,8 +5,8 @@ use Rattle.bsc_frame.specs.declared.text.End.TheVariants.{Etb, Etx}
 use Rattle.bsc_spool.specs.declared.queue.Next.{Next}
 use Rattle.bsc_block.specs.Format.{FormatValue}
 use Rattle.bsc_spool.specs.Queue.{QueueValue, with_known, IsQueue, IsNext, waiting, next_after}
-use Rattle.bsc_text.specs.declared.parity.Parity.{Parity}
-use Rattle.bsc_text.specs.declared.parity.Parity.TheVariants.{Odd}
+use Rattle.bsc_text.specs.declared.alternation.Alternation.{Alternation}
+use Rattle.bsc_text.specs.declared.alternation.Alternation.TheVariants.{Odd}
 use Rattle.bsc_text.specs.Ready.{AreWaiting, IsGoing}
 use Rattle.bsc_text.specs.Sender.{SenderValue, SenderStep, sent_next, begin_step}
 
@@ -16,8 +16,8 @@ waiting_by k n Etx there more = there
 
 -- a block that is sent next is counted on
 pub counts_next : (q : QueueValue) (n : Next) → IsNext q n
-    → (1 ≤ n.count) × (n.count ≤ 7) × AreWaiting n.count n.end (length (waiting q))
-counts_next q n next = (next.some, next.few, waiting_by n.count (length (waiting q)) n.end next.there next.more)
+    → AreWaiting n.count n.end (length (waiting q))
+counts_next q n next = waiting_by n.count (length (waiting q)) n.end next.there next.more
 
 -- the records of a block are among those that wait
 pub all_waiting : (k n : ℕ) (e : End) → AreWaiting k e n → k ≤ n
@@ -44,7 +44,7 @@ pub still_waiting : (q : QueueValue) (k : ℕ) (e : End) → AreWaiting k e (len
 still_waiting q k Etb h = wait_more q k 1 h
 still_waiting q k Etx h = omega arith
 
-going_next : (s : SenderValue) (q : QueueValue) (x : Parity) (f : FormatValue)
+going_next : (s : SenderValue) (q : QueueValue) (x : Alternation) (f : FormatValue)
     (rs : List (List ℕ)) → 1 ≤ length rs → IsGoing (sent_next s q x (next_after f rs)).sender.phase
 going_next s q x f [] h = absurd (omega arith)
 going_next s q x f (r ∷ rs) h = tt

@@ -3,8 +3,8 @@ use Rattle.std.proofs.Common.{◌≡◌, ◌⊎◌, inl, inr, ℕ, ◌≤◌, Li
 use Rattle.bsc_frame.specs.declared.message.Message.{Message}
 use Rattle.bsc_frame.specs.declared.message.Message.TheVariants as m
 use Rattle.bsc_spool.specs.Queue.{QueueValue, queue_of, IsQueue}
-use Rattle.bsc_text.specs.declared.parity.Parity.{Parity}
-use Rattle.bsc_text.specs.declared.parity.Parity.TheVariants.{Even}
+use Rattle.bsc_text.specs.declared.alternation.Alternation.{Alternation}
+use Rattle.bsc_text.specs.declared.alternation.Alternation.TheVariants.{Even}
 use Rattle.bsc_text.specs.declared.reply.Reply.{Reply}
 use Rattle.bsc_text.specs.declared.reply.Reply.TheVariants.{Ack0}
 use Rattle.bsc_text.specs.declared.phase.Phase.{Phase}
@@ -13,7 +13,7 @@ use Rattle.bsc_text.specs.Sender.{SenderValue, SenderStep, ReleaseStep, begin_st
 use Rattle.bsc_text.specs.Fair.{IsTextMessage}
 use Rattle.bsc_text.specs.Bid.{answered}
 use Rattle.bsc_text.specs.Agreement.{IsResting}
-use Rattle.bsc_text.specs.EachStep.{SenderAgrees, ReleaseAgrees, HearingAgrees, AnsweringAgrees, SilenceAgrees, BeginAgrees, OfferAgrees, OfferKeepsRest, ReleaseKeepsRest, AgreementIsSound, LossAgrees, OutwardIsTextOrEnq, BackIsLast}
+use Rattle.bsc_text.specs.EachStep.{SenderAgrees, ReleaseAgrees, HearingAgrees, AnsweringAgrees, SilenceAgrees, BeginAgrees, OfferAgrees, OfferKeepsRest, ReleaseKeepsRest, AgreementIsSound, LossAgrees, OutwardIsTextOrEnq, ReplyIsLast}
 use Rattle.bsc_text.proofs.Hearing.{IsSenders, senders, receiver_keeps}
 use Rattle.bsc_text.proofs.Answering.{Leaves, at_same, still_on, back_last, sender_keeps, silence_keeps, begin_keeps}
 use Rattle.bsc_text.proofs.OfferLemmas.{not_longer, bid_offered, resting_offered}
@@ -21,25 +21,25 @@ use Rattle.bsc_text.proofs.FitLemmas.{Fits, fits_heard, fits_silence, fits_begin
 use Rattle.bsc_text.proofs.Turning.{LawsBelow, ended, sound_by}
 use Rattle.bsc_text.proofs.BlockLemmas.{released_by}
 
-agrees : (s : SenderValue) (q : QueueValue) (parity : Parity) (last : Reply)
-    (spooled : List (List ℕ)) (t : SenderStep) → Leaves q parity last spooled t → Fits s t
-    → SenderAgrees q parity last spooled t
-agrees s q parity last spooled t h k = record { continues = h.0; ended = ended s t k; moves = h.1 }
+agrees : (s : SenderValue) (q : QueueValue) (alternation : Alternation) (last : Reply)
+    (spooled : List (List ℕ)) (t : SenderStep) → Leaves q alternation last spooled t → Fits s t
+    → SenderAgrees q alternation last spooled t
+agrees s q alternation last spooled t h k = record { continues = h.0; ended = ended s t k; moves = h.1 }
 
 pub hearing_agrees : LawsBelow → HearingAgrees
 hearing_agrees law phase q r s sent heard urgent rooms i fair =
     let k = receiver_keeps law.records phase q r s sent heard urgent rooms i fair in
-    record { bid = record { queue = i.queue; counts = i.counts; agree = k.0 }; moves = k.1 }
+    record { bid = record { queue = i.queue; block = i.block; counts = i.counts; agree = k.0 }; moves = k.1 }
 
 pub answering_agrees : LawsBelow → AnsweringAgrees
-answering_agrees law s q parity last spooled reply heard i fair =
-    agrees s q parity last spooled (answered s q reply heard)
-    (sender_keeps law.next s q parity last spooled reply heard i fair) (fits_heard s q reply heard)
+answering_agrees law s q alternation last spooled reply heard i fair =
+    agrees s q alternation last spooled (answered s q reply heard)
+    (sender_keeps law.next s q alternation last spooled reply heard i fair) (fits_heard s q reply heard)
 
 pub silence_agrees : SilenceAgrees
-silence_agrees s q parity last spooled h =
-    agrees s q parity last spooled (silent_in s q s.phase)
-    (at_same q parity last spooled (silent_in s q s.phase) (silence_keeps s s.phase q parity last spooled refl h))
+silence_agrees s q alternation last spooled h =
+    agrees s q alternation last spooled (silent_in s q s.phase)
+    (at_same q alternation last spooled (silent_in s q s.phase) (silence_keeps s s.phase q alternation last spooled refl h))
     (fits_silence s q)
 
 pub begin_agrees : LawsBelow → BeginAgrees
@@ -49,7 +49,7 @@ begin_agrees law s q spooled h some =
     (fits_begin s q)
 
 pub offer_agrees : LawsBelow → OfferAgrees
-offer_agrees law phase q parity last spooled f r short i = bid_offered law.offers phase q r parity last spooled f short i
+offer_agrees law phase q alternation last spooled f r short i = bid_offered law.offers phase q r alternation last spooled f short i
 
 pub offer_keeps_rest : LawsBelow → OfferKeepsRest
 offer_keeps_rest law phase q spooled r short h = resting_offered law.offers phase q r spooled short h
@@ -76,10 +76,10 @@ pub release_keeps_rest : ReleaseKeepsRest
 release_keeps_rest s q k spooled e h = release_by s q k spooled s.phase e h (not_longer spooled q.offered h.sound.front)
 
 pub agreement_is_sound : AgreementIsSound
-agreement_is_sound phase q parity last spooled f h = sound_by phase q parity last spooled f h
+agreement_is_sound phase q alternation last spooled f h = sound_by phase q alternation last spooled f h
 
 pub loss_agrees : LossAgrees
-loss_agrees phase q parity last spooled f i = still_on phase q parity last spooled f i
+loss_agrees phase q alternation last spooled f i = still_on phase q alternation last spooled f i
 
 text_or_enq : (w : Message) → IsSenders w → IsTextMessage w ⊎ (w ≡ m.Enq)
 text_or_enq (m.Text t) h = inl tt
@@ -87,8 +87,8 @@ text_or_enq m.Enq h = inr refl
 text_or_enq _ h = absurd h
 
 pub outward_is_text_or_enq : OutwardIsTextOrEnq
-outward_is_text_or_enq phase q parity last spooled sent i =
-    text_or_enq sent (senders phase q parity last spooled sent i.agree)
+outward_is_text_or_enq phase q alternation last spooled sent i =
+    text_or_enq sent (senders phase q alternation last spooled sent i.agree)
 
-pub back_is_last : BackIsLast
-back_is_last phase q parity last reply spooled i = back_last phase q parity last reply spooled i.agree
+pub reply_is_last : ReplyIsLast
+reply_is_last phase q alternation last reply spooled i = back_last phase q alternation last reply spooled i.agree

@@ -10,7 +10,7 @@ use Rattle.bsc_spool.specs.declared.queue.Next.{Next}
 use Rattle.bsc_spool.specs.Queue.{QueueValue, with_known, IsQueue, waiting, next_block}
 use Rattle.bsc_text.specs.declared.act.Act.{Act}
 use Rattle.bsc_text.specs.declared.act.Act.TheVariants as a
-use Rattle.bsc_text.specs.declared.parity.Parity.{Parity}
+use Rattle.bsc_text.specs.declared.alternation.Alternation.{Alternation}
 use Rattle.bsc_text.specs.declared.reply.Reply.{Reply}
 use Rattle.bsc_text.specs.declared.reply.Answer.{Answer}
 use Rattle.bsc_text.specs.declared.reply.Answer.TheVariants.{Accepted, Refused, Delayed, Interrupted}
@@ -20,19 +20,20 @@ use Rattle.bsc_text.specs.declared.phase.Phase.TheVariants.{Idle, Unanswered, He
 use Rattle.bsc_text.specs.Setup.{SetupValue}
 use Rattle.bsc_text.specs.Reply.{other, answer_of, reply_heard}
 use Rattle.bsc_text.specs.Sender.{SenderValue, SenderStep, text_of, sent_next, begin_step, accepted, failed, delayed, unanswered_step, held_step, answered_step, reply_step, silent_in}
-use Rattle.bsc_text.specs.Bid.{Bid, Turn, Event, Exchange, Offering, message_for, answered, unless_quiet, receiver_in, sender_in, after_turn, after_event, IsFairTurn, AreEvents}
+use Rattle.bsc_text.specs.Act.{message_for}
+use Rattle.bsc_text.specs.Bid.{Bid, Turn, BidEvent, Exchange, Offering, answered, unless_quiet, receiver_in, sender_in, after_turn, after_event, IsFairTurn, AreEvents}
 use Rattle.bsc_text.specs.OneBid.{turn_count, is_begun, begun_in, most_turns, EndsSoon}
 use Rattle.bsc_text.proofs.Answering.{has_next}
 use Rattle.bsc_text.proofs.Turning.{LawsBelow}
 
 -- no counter is over its limit
 pub record IsWithin (s : SenderValue) : Type 0 where
-  pub tries : s.tries ≤ s.setup.tries
-  pub waits : s.waits ≤ s.setup.waits
+  pub failures : s.failures ≤ s.setup.tries
+  pub wacks : s.wacks ≤ s.setup.waits
 
 -- how far the counters are
 abbrev pub rank : SenderValue → ℕ
-rank s = s.waits * (s.setup.tries + 1) + s.tries
+rank s = s.wacks * (s.setup.tries + 1) + s.failures
 
 -- nearer to the limits
 pub record IsNearer (s u : SenderValue) : Type 0 where
@@ -41,8 +42,8 @@ pub record IsNearer (s u : SenderValue) : Type 0 where
 
 -- a block has just begun
 pub record HasBegun (u : SenderValue) : Type 0 where
-  pub tries : u.tries ≡ 0
-  pub waits : u.waits ≡ 0
+  pub failures : u.failures ≡ 0
+  pub wacks : u.wacks ≡ 0
 
 abbrev pub ComesBy : Act → SenderValue → SenderValue → Type 0
 ComesBy (a.Send t) s u = HasBegun u ⊎ IsNearer s u
@@ -58,12 +59,12 @@ test : (P : SenderStep → Type 0) (v : Bool) (x y : SenderStep) → (v ≡ true
 test P true x y p r = p refl
 test P false x y p r = r refl
 
-next_comes : (s : SenderValue) (q : QueueValue) (x : Parity) (n : Option Next)
+next_comes : (s : SenderValue) (q : QueueValue) (x : Alternation) (n : Option Next)
     → Comes s (sent_next s q x n)
 next_comes s q x None = (refl, tt)
-next_comes s q x (Some n) = (refl, inl (record { tries = refl; waits = refl }))
+next_comes s q x (Some n) = (refl, inl (record { failures = refl; wacks = refl }))
 
-accepted_comes : (s : SenderValue) (q : QueueValue) (e : End) (x : Parity)
+accepted_comes : (s : SenderValue) (q : QueueValue) (e : End) (x : Alternation)
     → Comes s (accepted s q e x)
 accepted_comes s q Etx x = (refl, tt)
 accepted_comes s q Etb x = next_comes s q (other x) (next_block q)
@@ -71,40 +72,40 @@ accepted_comes s q Etb x = next_comes s q (other x) (next_block q)
 more_waits : (w t k : ℕ) → t ≤ k → w * (k + 1) + t + 1 ≤ (w + 1) * (k + 1) + 0
 more_waits w t k h = omega arith
 
-delayed_comes : (s : SenderValue) (q : QueueValue) (e : End) (x : Parity) → IsWithin s
+delayed_comes : (s : SenderValue) (q : QueueValue) (e : End) (x : Alternation) → IsWithin s
     → Comes s (delayed s q e x)
 delayed_comes s q e x h =
-    test (Comes s) (nat_lt s.setup.waits (s.waits + 1)) _ _
+    test (Comes s) (nat_lt s.setup.waits (s.wacks + 1)) _ _
     (λ _. (refl, tt)) (λ n. (
       refl,
       record {
         within = record {
-          tries = omega arith;
-          waits = grind
+          failures = omega arith;
+          wacks = grind
               (arith, nat_tests);
         };
-        nearer = more_waits s.waits s.tries s.setup.tries h.tries;
+        nearer = more_waits s.wacks s.failures s.setup.tries h.failures;
       },
     ))
 
 failed_comes : (s : SenderValue) (q : QueueValue) (left : Phase) (act : Act) → IsWithin s
     → ((u : SenderValue) → IsNearer s u → ComesBy act s u) → Comes s (failed s q left act)
 failed_comes s q left act h f =
-    test (Comes s) (nat_lt s.setup.tries (s.tries + 1)) _ _
+    test (Comes s) (nat_lt s.setup.tries (s.failures + 1)) _ _
     (λ _. (refl, tt)) (λ n. (
       refl,
       f _
-          (record { within = record { tries = grind (arith, nat_tests); waits = h.waits }; nearer = omega arith }),
+          (record { within = record { failures = grind (arith, nat_tests); wacks = h.wacks }; nearer = omega arith }),
     ))
 
 unanswered_comes : (s : SenderValue) (q : QueueValue) (b : SentBlock) (x : Answer) → IsWithin s
     → Comes s (unanswered_step s q b x)
-unanswered_comes s q b Accepted h = accepted_comes s (with_known q b.count) b.end b.parity
+unanswered_comes s q b Accepted h = accepted_comes s (with_known q b.count) b.end b.alternation
 unanswered_comes s q b Refused h = failed_comes s q Idle (a.Send (text_of q b)) h (λ u n. inr n)
-unanswered_comes s q b Delayed h = delayed_comes s (with_known q b.count) b.end b.parity h
+unanswered_comes s q b Delayed h = delayed_comes s (with_known q b.count) b.end b.alternation h
 unanswered_comes s q b Interrupted h = (refl, tt)
 
-held_comes : (s : SenderValue) (q : QueueValue) (e : End) (y : Parity) (x : Answer) → IsWithin s
+held_comes : (s : SenderValue) (q : QueueValue) (e : End) (y : Alternation) (x : Answer) → IsWithin s
     → Comes s (held_step s q e y x)
 held_comes s q e y Accepted h = accepted_comes s q e y
 held_comes s q e y Refused h = failed_comes s q Idle a.Enq h (λ u n. n)
@@ -115,7 +116,7 @@ answered_comes : (s : SenderValue) (q : QueueValue) (p : Phase) (r : Reply) → 
     → Comes s (answered_step s q p r)
 answered_comes s q Idle r h = (refl, refl)
 answered_comes s q (InDoubt k) r h = (refl, refl)
-answered_comes s q (Unanswered b) r h = unanswered_comes s q b (answer_of b.parity r) h
+answered_comes s q (Unanswered b) r h = unanswered_comes s q b (answer_of b.alternation r) h
 answered_comes s q (Held e x) r h = held_comes s q e x (answer_of x r) h
 
 reply_comes : (s : SenderValue) (q : QueueValue) (r : Option Reply) → IsWithin s
@@ -158,7 +159,7 @@ bound : (w wl t tl : ℕ) → w ≤ wl → t ≤ tl → w * (tl + 1) + t + 1 ≤
 bound w wl t tl h k = let e : w * (tl + 1) ≤ wl * (tl + 1) = mul-le-mul_right (tl + 1) h in omega (arith, e)
 
 rank_below : (s : SenderValue) → IsWithin s → rank s + 1 ≤ most_turns s.setup
-rank_below s h = bound s.waits s.setup.waits s.tries s.setup.tries h.waits h.tries
+rank_below s h = bound s.wacks s.setup.waits s.failures s.setup.tries h.wacks h.failures
 
 sum_over : (n r m k : ℕ) → n ≡ 0 → r + 1 ≤ m → n + 1 + r ≤ k + m
 sum_over n r m k z h = omega arith
@@ -170,7 +171,7 @@ sum_begun : (n r b m : ℕ) → r + 1 ≤ m → n + 0 ≤ b * m + m → n + 1 + 
 sum_begun n r b m h k = omega arith
 
 -- once nothing is sent there are no more turns
-no_more : (b : Bid) (es : List Event) (c : Bid) → message_for b.act ≡ None → AreEvents b es c
+no_more : (b : Bid) (es : List BidEvent) (c : Bid) → message_for b.act ≡ None → AreEvents b es c
     → turn_count es ≡ 0
 no_more b [] c e k = refl
 no_more b (Exchange t ∷ es) c e k = absurd (over k.0)
@@ -180,14 +181,14 @@ no_more b (Exchange t ∷ es) c e k = absurd (over k.0)
 no_more b (Offering r ∷ es) c e k = no_more (after_event b (Offering r)) es c e k.1
 
 abbrev begun_by : Act → SenderValue → ℕ
-begun_by x u = if is_begun x u.tries then 1 else 0
+begun_by x u = if is_begun x u.failures then 1 else 0
 
 begun_one : (x : Act) (t : TextValue) (u : SenderValue) → x ≡ a.Send t → HasBegun u
     → begun_by x u ≡ 1
-begun_one x t u e j = rw (e, j.tries) refl
+begun_one x t u e j = rw (e, j.failures) refl
 
 -- a turn counts against the block that it begins, or the rank
-count_turn : (M : ℕ) (b : Bid) (t : Turn) (es : List Event) (c : Bid) (x : Act)
+count_turn : (M : ℕ) (b : Bid) (t : Turn) (es : List BidEvent) (c : Bid) (x : Act)
     → (after_turn b t).act ≡ x → ComesBy x b.sender (after_turn b t).sender
     → rank b.sender + 1 ≤ M → AreEvents (after_turn b t) es c →
     (IsWithin (after_turn b t).sender → turn_count es + rank (after_turn b t).sender ≤ begun_in
@@ -196,10 +197,10 @@ count_turn : (M : ℕ) (b : Bid) (t : Turn) (es : List Event) (c : Bid) (x : Act
 count_turn M b t es c (a.Send k) e (inl j) h events ih =
     let u : SenderValue = (after_turn b t).sender in
     let one : begun_by (after_turn b t).act u ≡ 1 = begun_one (after_turn b t).act k u e j in
-    let zero_rank : rank u ≡ 0 = rw (j.waits, j.tries) (omega arith) in
+    let zero_rank : rank u ≡ 0 = rw (j.wacks, j.failures) (omega arith) in
     let n : turn_count es + 0 ≤ begun_in (after_turn b t) es * M + M =
     subst (λ (r : ℕ). turn_count es + r ≤ begun_in (after_turn b t) es * M + M) zero_rank
-    (ih (record { tries = omega (arith, j.tries); waits = omega (arith, j.waits) })) in
+    (ih (record { failures = omega (arith, j.failures); wacks = omega (arith, j.wacks) })) in
     subst (λ (z : ℕ). turn_count es + 1 + rank b.sender ≤ (z + begun_in (after_turn b t) es) * M + M) (sym one)
     (sum_begun (turn_count es) (rank b.sender) (begun_in (after_turn b t) es) M h n)
 count_turn M b t es c (a.Send k) e (inr n) h events ih =
@@ -215,7 +216,7 @@ count_turn M b t es c a.Quiet e n h events ih =
     sum_over (turn_count es) (rank b.sender) M (begun_in b (Exchange t ∷ es) * M)
     (no_more (after_turn b t) es c (ap message_for e) events) h
 
-count : (setup : SetupValue) (b : Bid) (es : List Event) (c : Bid) → b.sender.setup ≡ setup
+count : (setup : SetupValue) (b : Bid) (es : List BidEvent) (c : Bid) → b.sender.setup ≡ setup
     → IsWithin b.sender → AreEvents b es c
     → turn_count es + rank b.sender ≤ begun_in b es * most_turns setup + most_turns setup
 count setup b [] c e h k =
@@ -234,7 +235,7 @@ count setup b (Offering r ∷ es) c e h k = count setup (after_event b (Offering
 begin_within : LawsBelow → (s : SenderValue) (q : QueueValue) → IsQueue q
     → 1 ≤ length (waiting q) → IsWithin (begin_step s q).sender
 begin_within law s q h some =
-    let n = has_next law.next q h some in rw n.is (record { tries = omega arith; waits = omega arith })
+    let n = has_next law.next q h some in rw n.is (record { failures = omega arith; wacks = omega arith })
 
 pub ends_soon : LawsBelow → EndsSoon
 ends_soon law b es c h =

@@ -6,8 +6,8 @@ use Rattle.bsc_frame.specs.declared.message.Message.TheVariants as m
 use Rattle.bsc_spool.specs.Queue.{QueueValue, IsQueue, waiting}
 use Rattle.bsc_text.specs.declared.act.Act.{Act}
 use Rattle.bsc_text.specs.declared.act.Act.TheVariants as a
-use Rattle.bsc_text.specs.declared.parity.Parity.{Parity}
-use Rattle.bsc_text.specs.declared.parity.Parity.TheVariants.{Even, Odd}
+use Rattle.bsc_text.specs.declared.alternation.Alternation.{Alternation}
+use Rattle.bsc_text.specs.declared.alternation.Alternation.TheVariants.{Even, Odd}
 use Rattle.bsc_text.specs.declared.reply.Reply.{Reply}
 use Rattle.bsc_text.specs.declared.reply.Reply.TheVariants.{Ack0, Ack1, Nak, Wack, Rvi}
 use Rattle.bsc_text.specs.declared.phase.SentBlock.{SentBlock}
@@ -15,7 +15,7 @@ use Rattle.bsc_text.specs.declared.phase.Phase.{Phase}
 use Rattle.bsc_text.specs.declared.phase.Phase.TheVariants.{Idle, Unanswered, Held, InDoubt}
 use Rattle.bsc_text.specs.Reply.{other}
 use Rattle.bsc_text.specs.Sender.{text_of}
-use Rattle.bsc_text.specs.Ready.{CountsOn}
+use Rattle.bsc_text.specs.Ready.{HasBlock, CountsOn}
 use Rattle.bsc_text.specs.Channel.{channel, IsSound}
 
 -- what is on its way: nothing, a transmission of the sender, or a reply to it
@@ -26,10 +26,10 @@ pub data Flight : Type 0 where
 
 -- The block has not landed: the receiver's last reply is the acknowledgement of the blocks before
 -- it, or NAK.
-abbrev pub IsReplyBefore : Reply → Parity → Type 0
+abbrev pub IsReplyBefore : Reply → Alternation → Type 0
 IsReplyBefore Ack0 Odd = Unit {0}
 IsReplyBefore Ack1 Even = Unit {0}
-IsReplyBefore Nak parity = Unit {0}
+IsReplyBefore Nak alternation = Unit {0}
 IsReplyBefore _ _ = ⊥
 
 -- on its way then: nothing, the block, ENQ, or the last reply
@@ -41,11 +41,11 @@ IsFlightBefore q b last (Outward _) = ⊥
 IsFlightBefore q b last (Back r) = r ≡ last
 
 -- It has landed: the last reply is its acknowledgement, WACK or RVI.
-abbrev pub IsReplyAfter : Reply → Parity → Type 0
+abbrev pub IsReplyAfter : Reply → Alternation → Type 0
 IsReplyAfter Ack1 Odd = Unit {0}
 IsReplyAfter Ack0 Even = Unit {0}
-IsReplyAfter Wack parity = Unit {0}
-IsReplyAfter Rvi parity = Unit {0}
+IsReplyAfter Wack alternation = Unit {0}
+IsReplyAfter Rvi alternation = Unit {0}
 IsReplyAfter _ _ = ⊥
 
 -- on its way then: nothing, ENQ, or the last reply
@@ -56,51 +56,53 @@ IsFlightAfter last (Outward _) = ⊥
 IsFlightAfter last (Back r) = r ≡ last
 
 -- The sender is held: the last reply is WACK or the acknowledgement.
-abbrev pub IsReplyHeld : Reply → Parity → Type 0
+abbrev pub IsReplyHeld : Reply → Alternation → Type 0
 IsReplyHeld Ack1 Odd = Unit {0}
 IsReplyHeld Ack0 Even = Unit {0}
-IsReplyHeld Wack parity = Unit {0}
+IsReplyHeld Wack alternation = Unit {0}
 IsReplyHeld _ _ = ⊥
 
 -- an unanswered block has not landed
-pub record NotLanded (b : SentBlock) (q : QueueValue) (parity : Parity) (last : Reply)
+pub record NotLanded (b : SentBlock) (q : QueueValue) (alternation : Alternation) (last : Reply)
     (spooled : List (List ℕ)) (f : Flight) : Type 0 where
   pub front : spooled ≡ take q.known q.offered
-  pub counted : parity ≡ other b.parity
-  pub reply : IsReplyBefore last b.parity
+  pub counted : alternation ≡ other b.alternation
+  pub reply : IsReplyBefore last b.alternation
   pub flight : IsFlightBefore q b last f
 
 -- an unanswered block has landed
-pub record HasLanded (b : SentBlock) (q : QueueValue) (parity : Parity) (last : Reply)
+pub record HasLanded (b : SentBlock) (q : QueueValue) (alternation : Alternation) (last : Reply)
     (spooled : List (List ℕ)) (f : Flight) : Type 0 where
   pub front : spooled ≡ take (q.known + b.count) q.offered
-  pub counted : parity ≡ b.parity
-  pub reply : IsReplyAfter last b.parity
+  pub counted : alternation ≡ b.alternation
+  pub reply : IsReplyAfter last b.alternation
   pub flight : IsFlightAfter last f
 
 -- the sender is held: all that landed is known
-pub record IsHeld (expected : Parity) (q : QueueValue) (parity : Parity) (last : Reply)
-    (spooled : List (List ℕ)) (f : Flight) : Type 0 where
+pub record IsHeld (expected : Alternation) (q : QueueValue) (alternation : Alternation)
+    (last : Reply) (spooled : List (List ℕ)) (f : Flight) : Type 0 where
   pub front : spooled ≡ take q.known q.offered
-  pub counted : parity ≡ expected
+  pub counted : alternation ≡ expected
   pub reply : IsReplyHeld last expected
   pub flight : IsFlightAfter last f
 
--- the sender's phase and queue agree with the receiver's parity and last reply, the spooled
+-- the sender's phase and queue agree with the receiver's alternation and last reply, the spooled
 -- records, and what is on its way
-abbrev pub Agree : Phase → QueueValue → Parity → Reply → List (List ℕ) → Flight → Type 0
-Agree Idle q parity last spooled f = ⊥
-Agree (InDoubt k) q parity last spooled f = ⊥
-Agree (Unanswered b) q parity last spooled f =
-    NotLanded b q parity last spooled f ⊎ HasLanded b q parity last spooled f
-Agree (Held end expected) q parity last spooled f = IsHeld expected q parity last spooled f
+abbrev pub Agree : Phase → QueueValue → Alternation → Reply → List (List ℕ) → Flight → Type 0
+Agree Idle q alternation last spooled f = ⊥
+Agree (InDoubt k) q alternation last spooled f = ⊥
+Agree (Unanswered b) q alternation last spooled f =
+    NotLanded b q alternation last spooled f ⊎ HasLanded b q alternation last spooled f
+Agree (Held end expected) q alternation last spooled f =
+    IsHeld expected q alternation last spooled f
 
 -- a bid goes on
-pub record InBid (phase : Phase) (q : QueueValue) (parity : Parity) (last : Reply)
+pub record InBid (phase : Phase) (q : QueueValue) (alternation : Alternation) (last : Reply)
     (spooled : List (List ℕ)) (f : Flight) : Type 0 where
   pub queue : IsQueue q
+  pub block : HasBlock phase
   pub counts : CountsOn phase (length (waiting q))
-  pub agree : Agree phase q parity last spooled f
+  pub agree : Agree phase q alternation last spooled f
 
 -- no bid goes on, and the channel is sound
 pub record IsResting (phase : Phase) (q : QueueValue) (spooled : List (List ℕ)) : Type 0 where
@@ -109,16 +111,18 @@ pub record IsResting (phase : Phase) (q : QueueValue) (spooled : List (List ℕ)
   pub sound : IsSound phase (channel q spooled)
 
 -- the bid goes on, or it is over
-abbrev pub Continues : Phase → QueueValue → Parity → Reply → List (List ℕ) → Flight → Type 0
-Continues Idle q parity last spooled f = IsResting Idle q spooled × (f ≡ Still)
-Continues (InDoubt k) q parity last spooled f = IsResting (InDoubt k) q spooled × (f ≡ Still)
-Continues (Unanswered b) q parity last spooled f = InBid (Unanswered b) q parity last spooled f
-Continues (Held end x) q parity last spooled f = InBid (Held end x) q parity last spooled f
+abbrev pub Continues : Phase → QueueValue → Alternation → Reply → List (List ℕ) → Flight → Type 0
+Continues Idle q alternation last spooled f = IsResting Idle q spooled × (f ≡ Still)
+Continues (InDoubt k) q alternation last spooled f = IsResting (InDoubt k) q spooled × (f ≡ Still)
+Continues (Unanswered b) q alternation last spooled f =
+    InBid (Unanswered b) q alternation last spooled f
+Continues (Held end x) q alternation last spooled f =
+    InBid (Held end x) q alternation last spooled f
 
 -- a reply is on its way
-abbrev pub back : Option Reply → Flight
-back None = Still
-back (Some r) = Back r
+abbrev pub reply_flight : Option Reply → Flight
+reply_flight None = Still
+reply_flight (Some r) = Back r
 
 -- what an act sends is on its way
 abbrev pub sent_flight : Act → Flight

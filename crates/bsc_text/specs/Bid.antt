@@ -1,7 +1,6 @@
 -- One bid: a sender and a receiver with one channel, turn by turn (own).
 use Rattle.std.specs.Prelude.{◌≡◌, ◌≤◌, ℕ, Bool, List, [], ◌∷◌, length, Option, None, Some}
 use Rattle.bsc_frame.specs.declared.message.Message.{Message}
-use Rattle.bsc_frame.specs.declared.message.Message.TheVariants as m
 use Rattle.bsc_frame.specs.declared.message.Heard.{Heard}
 use Rattle.bsc_spool.specs.Queue.{QueueValue, with_offered, IsQueue, waiting}
 use Rattle.bsc_spool.specs.Spool.{SpoolValue}
@@ -9,9 +8,11 @@ use Rattle.bsc_text.specs.declared.act.Act.{Act}
 use Rattle.bsc_text.specs.declared.act.Act.TheVariants as a
 use Rattle.bsc_text.specs.declared.reply.Reply.{Reply}
 use Rattle.bsc_text.specs.declared.phase.Phase.TheVariants.{Idle}
+use Rattle.bsc_text.specs.Act.{message_for}
 use Rattle.bsc_text.specs.Reply.{message_of, reply_heard}
-use Rattle.bsc_text.specs.Sender.{SenderValue, SenderStep, quiet, begin_step, reply_step, silence_step}
-use Rattle.bsc_text.specs.Receiver.{ReceiverValue, ReceiverStep, Rooms, begun, heard_step}
+use Rattle.bsc_text.specs.Sender.{SenderValue, SenderStep, unmoved, begin_step, reply_step}
+use Rattle.bsc_text.specs.Sender.{silence_step}
+use Rattle.bsc_text.specs.Receiver.{ReceiverValue, ReceiverStep, Rooms, new_receiver, heard_step}
 use Rattle.bsc_text.specs.Channel.{Channel, channel, IsSound}
 use Rattle.bsc_text.specs.Fair.{IsFair}
 use Rattle.std.specs.Prelude.{true}
@@ -36,13 +37,6 @@ pub record Turn : Type 0 where
   pub rooms : Rooms
   pub answer : Option Heard
 
--- what is sent for an act
-abbrev pub message_for : Act → Option Message
-message_for (a.Send t) = Some (m.Text t)
-message_for a.Enq = Some m.Enq
-message_for a.Over = None
-message_for a.Quiet = None
-
 -- the receiver hears the transmission, or nothing
 abbrev pub received : ReceiverValue → SpoolValue → Option Heard → Bool → Rooms → ReceiverStep
 received r s None urgent rooms = record { receiver = r; spool = s; reply = None }
@@ -51,8 +45,8 @@ received r s (Some h) urgent rooms = heard_step r s h urgent rooms
 -- the sender hears the reply, or nothing
 abbrev pub answered : SenderValue → QueueValue → Option Reply → Option Heard → SenderStep
 answered s q (Some r) (Some h) = reply_step s q (reply_heard h)
-answered s q (Some r) None = quiet s q
-answered s q None h = quiet s q
+answered s q (Some r) None = unmoved s q
+answered s q None h = unmoved s q
 
 -- where the sender then has sent nothing, a silence comes to it
 abbrev pub unless_quiet : SenderStep → Act → SenderStep
@@ -87,49 +81,49 @@ IsFairTo None None = Unit {0}
 IsFairTo None (Some h) = ⊥
 
 -- the message of the reply, if there is one
-abbrev pub message_back : Option Reply → Option Message
-message_back None = None
-message_back (Some r) = Some (message_of r)
+abbrev pub reply_message : Option Reply → Option Message
+reply_message None = None
+reply_message (Some r) = Some (message_of r)
 
 -- a turn is taken while the bid goes on, and every spoiled transmission of it fails its check
 pub record IsFairTurn (b : Bid) (t : Turn) : Type 0 where
   pub sent : Message
   pub goes_on : message_for b.act ≡ Some sent
   pub there : IsFair sent t.heard
-  pub back : IsFairTo (message_back (receiver_in b t).reply) t.answer
+  pub back : IsFairTo (reply_message (receiver_in b t).reply) t.answer
 
 -- between turns records may be offered
-pub data Event : Type 0 where
-  Exchange : (turn : Turn) → Event
-  Offering : (offered_record : List ℕ) → Event
+pub data BidEvent : Type 0 where
+  Exchange : (turn : Turn) → BidEvent
+  Offering : (offered_record : List ℕ) → BidEvent
 
 -- the two ends after an event
-abbrev pub after_event : Bid → Event → Bid
+abbrev pub after_event : Bid → BidEvent → Bid
 after_event b (Exchange t) = after_turn b t
 after_event b (Offering r) = record b { queue = with_offered b.queue r }
 
 -- a turn is fair, and an offered record is not longer than the full length
-abbrev pub MayCome : Bid → Event → Type 0
+abbrev pub MayCome : Bid → BidEvent → Type 0
 MayCome b (Exchange t) = IsFairTurn b t
 MayCome b (Offering r) = length r ≤ b.queue.format.full
 
 -- events, one after another
-abbrev pub AreEvents : Bid → List Event → Bid → Type 0
+abbrev pub AreEvents : Bid → List BidEvent → Bid → Type 0
 AreEvents b [] c = c ≡ b
 AreEvents b (e ∷ es) c = MayCome b e × AreEvents (after_event b e) es c
 
 -- A bid begins: the sender is idle and not in doubt, records wait, all that was spooled is known,
 -- and the receiver begins with ACK0.
-pub record IsBegun (b : Bid) : Type 0 where
+pub record IsNewBid (b : Bid) : Type 0 where
   pub sender : SenderValue
   pub idle : sender.phase ≡ Idle
   pub queue : IsQueue b.queue
   pub waits : 1 ≤ length (waiting b.queue)
   pub sound : IsSound Idle (channel_of b)
-  pub receiver : b.receiver ≡ begun true
+  pub receiver : b.receiver ≡ new_receiver true
   pub first : record { sender = b.sender; queue = b.queue; act = b.act } ≡ begin_step sender b.queue
 
 -- a bid as it stands after some events
-pub record Reaches (b : Bid) (es : List Event) (c : Bid) : Type 0 where
-  pub begun : IsBegun b
+pub record Reaches (b : Bid) (es : List BidEvent) (c : Bid) : Type 0 where
+  pub begun : IsNewBid b
   pub events : AreEvents b es c

@@ -43,7 +43,7 @@ Makes Learn old new = new ≡ record old { known = length old.spooled }
 -- how many records are spooled, by what the sending end knows and does
 abbrev pub IsSpooled : Phase → ℕ → ℕ → Type 0
 IsSpooled Idle known spooled = spooled ≡ known
-IsSpooled (Held end parity) known spooled = spooled ≡ known
+IsSpooled (Held end alternation) known spooled = spooled ≡ known
 IsSpooled (Unanswered b) known spooled = (spooled ≡ known) ⊎ (spooled ≡ known + b.count)
 IsSpooled (InDoubt k) known spooled = (spooled ≡ known) ⊎ (spooled ≡ known + k)
 

@@ -3,24 +3,28 @@ use Rattle.std.specs.Prelude.{◌≡◌, ◌⊎◌, ◌≤◌, ℕ, Bool, List, 
 use Rattle.bsc_frame.specs.declared.message.Message.{Message}
 use Rattle.bsc_frame.specs.declared.message.Message.TheVariants as m
 use Rattle.bsc_frame.specs.declared.message.Heard.{Heard}
+use Rattle.bsc_block.specs.Format.{FormatValue}
 use Rattle.bsc_spool.specs.Queue.{QueueValue, with_offered, waiting}
 use Rattle.bsc_spool.specs.Spool.{SpoolValue}
 use Rattle.bsc_text.specs.declared.act.Act.{Act}
 use Rattle.bsc_text.specs.declared.act.Act.TheVariants as a
-use Rattle.bsc_text.specs.declared.parity.Parity.{Parity}
-use Rattle.bsc_text.specs.declared.parity.Parity.TheVariants.{Even}
+use Rattle.bsc_text.specs.declared.alternation.Alternation.{Alternation}
+use Rattle.bsc_text.specs.declared.alternation.Alternation.TheVariants.{Even}
 use Rattle.bsc_text.specs.declared.reply.Reply.{Reply}
 use Rattle.bsc_text.specs.declared.reply.Reply.TheVariants.{Ack0}
 use Rattle.bsc_text.specs.declared.phase.Phase.{Phase}
 use Rattle.bsc_text.specs.declared.phase.Phase.TheVariants.{Idle, InDoubt}
-use Rattle.bsc_text.specs.Sender.{SenderValue, SenderStep, ReleaseStep, begin_step, reply_step, silence_step, release_step}
+use Rattle.bsc_text.specs.Setup.{SetupValue}
+use Rattle.bsc_text.specs.Sender.{SenderValue, SenderStep, ReleaseStep, begin_step, reply_step}
+use Rattle.bsc_text.specs.Sender.{silence_step, release_step}
 use Rattle.bsc_text.specs.Receiver.{ReceiverValue, ReceiverStep, Rooms}
 use Rattle.bsc_text.specs.Ready.{IsAtRest, FitsAct}
 use Rattle.bsc_text.specs.Channel.{channel, IsSound}
 use Rattle.bsc_text.specs.Fair.{IsTextMessage, IsFair}
-use Rattle.bsc_text.specs.Bid.{received, answered, IsFairTo, message_back}
+use Rattle.bsc_text.specs.Bid.{received, answered, IsFairTo, reply_message}
 use Rattle.bsc_text.specs.OneBid.{MovesAtReceiver, MovesAtSender}
-use Rattle.bsc_text.specs.Agreement.{Flight, Still, Outward, Back, InBid, IsResting, Continues, back, sent_flight}
+use Rattle.bsc_text.specs.Agreement.{Flight, Still, Outward, Back, InBid, IsResting, Continues}
+use Rattle.bsc_text.specs.Agreement.{reply_flight, sent_flight}
 
 -- an act that ends the bid leaves the sender at rest
 abbrev pub IsEnded : Act → Phase → Type 0
@@ -30,13 +34,14 @@ IsEnded _ phase = Unit {0}
 -- what a step of the receiver leaves: a bid with its reply on the way
 pub record ReceiverAgrees (phase : Phase) (q : QueueValue) (spooled : List (List ℕ))
     (r : ReceiverStep) : Type 0 where
-  pub bid : InBid phase q r.receiver.parity r.receiver.last r.spool.records (back r.reply)
+  pub bid : InBid phase q r.receiver.alternation r.receiver.last r.spool.records
+      (reply_flight r.reply)
   pub moves : MovesAtReceiver phase (channel q spooled) (channel q r.spool.records)
 
 -- what a step of the sender leaves: the bid goes on with what it sent on the way, or it is over
-pub record SenderAgrees (q : QueueValue) (parity : Parity) (last : Reply)
+pub record SenderAgrees (q : QueueValue) (alternation : Alternation) (last : Reply)
     (spooled : List (List ℕ)) (s : SenderStep) : Type 0 where
-  pub continues : Continues s.sender.phase s.queue parity last spooled (sent_flight s.act)
+  pub continues : Continues s.sender.phase s.queue alternation last spooled (sent_flight s.act)
   pub ended : IsEnded s.act s.sender.phase
   pub moves : MovesAtSender (channel q spooled) (channel s.queue spooled)
 
@@ -45,23 +50,24 @@ abbrev pub HearingAgrees : Type 0
 HearingAgrees =
     (phase : Phase) (q : QueueValue) (r : ReceiverValue) (s : SpoolValue) (sent : Message)
     (heard : Option Heard) (urgent : Bool) (rooms : Rooms) →
-    InBid phase q r.parity r.last s.records (Outward sent) → IsFair sent heard
+    InBid phase q r.alternation r.last s.records (Outward sent) → IsFair sent heard
     → ReceiverAgrees phase q s.records (received r s heard urgent rooms)
 
 -- the sender hears the reply, or nothing
 abbrev pub AnsweringAgrees : Type 0
 AnsweringAgrees =
-    (s : SenderValue) (q : QueueValue) (parity : Parity) (last : Reply) (spooled : List (List ℕ))
-    (reply : Option Reply) (heard : Option Heard) →
-    InBid s.phase q parity last spooled (back reply) → IsFairTo (message_back reply) heard
-    → SenderAgrees q parity last spooled (answered s q reply heard)
+    (s : SenderValue) (q : QueueValue) (alternation : Alternation) (last : Reply)
+    (spooled : List (List ℕ)) (reply : Option Reply) (heard : Option Heard)
+    → InBid s.phase q alternation last spooled (reply_flight reply)
+    → IsFairTo (reply_message reply) heard
+    → SenderAgrees q alternation last spooled (answered s q reply heard)
 
 -- a silence comes to the sender, with nothing on the way
 abbrev pub SilenceAgrees : Type 0
 SilenceAgrees =
-    (s : SenderValue) (q : QueueValue) (parity : Parity) (last : Reply) (spooled : List (List ℕ)) →
-    Continues s.phase q parity last spooled Still
-    → SenderAgrees q parity last spooled (silence_step s q)
+    (s : SenderValue) (q : QueueValue) (alternation : Alternation) (last : Reply)
+    (spooled : List (List ℕ)) → Continues s.phase q alternation last spooled Still
+    → SenderAgrees q alternation last spooled (silence_step s q)
 
 -- a bid begins, and the receiver begins with ACK0
 abbrev pub BeginAgrees : Type 0
@@ -72,10 +78,10 @@ BeginAgrees =
 -- a record is offered
 abbrev pub OfferAgrees : Type 0
 OfferAgrees =
-    (phase : Phase) (q : QueueValue) (parity : Parity) (last : Reply) (spooled : List (List ℕ))
-    (f : Flight) (r : List ℕ) →
-    length r ≤ q.format.full → InBid phase q parity last spooled f
-    → InBid phase (with_offered q r) parity last spooled f
+    (phase : Phase) (q : QueueValue) (alternation : Alternation) (last : Reply)
+    (spooled : List (List ℕ)) (f : Flight) (r : List ℕ) →
+    length r ≤ q.format.full → InBid phase q alternation last spooled f
+    → InBid phase (with_offered q r) alternation last spooled f
 
 -- a record is offered while no bid goes on
 abbrev pub OfferKeepsRest : Type 0
@@ -100,43 +106,67 @@ ReleaseKeepsRest =
 -- where the ends agree the channel is sound
 abbrev pub AgreementIsSound : Type 0
 AgreementIsSound =
-    (phase : Phase) (q : QueueValue) (parity : Parity) (last : Reply) (spooled : List (List ℕ))
-    (f : Flight) → Continues phase q parity last spooled f → IsSound phase (channel q spooled)
+    (phase : Phase) (q : QueueValue) (alternation : Alternation) (last : Reply)
+    (spooled : List (List ℕ)) (f : Flight) → Continues phase q alternation last spooled f
+    → IsSound phase (channel q spooled)
 
 -- what was on its way is lost
 abbrev pub LossAgrees : Type 0
 LossAgrees =
-    (phase : Phase) (q : QueueValue) (parity : Parity) (last : Reply) (spooled : List (List ℕ))
-    (f : Flight) → InBid phase q parity last spooled f → InBid phase q parity last spooled Still
+    (phase : Phase) (q : QueueValue) (alternation : Alternation) (last : Reply)
+    (spooled : List (List ℕ)) (f : Flight) → InBid phase q alternation last spooled f
+    → InBid phase q alternation last spooled Still
 
 -- a bid that goes on continues
 abbrev pub BidContinues : Type 0
 BidContinues =
-    (phase : Phase) (q : QueueValue) (parity : Parity) (last : Reply) (spooled : List (List ℕ))
-    (f : Flight) → InBid phase q parity last spooled f → Continues phase q parity last spooled f
+    (phase : Phase) (q : QueueValue) (alternation : Alternation) (last : Reply)
+    (spooled : List (List ℕ)) (f : Flight) → InBid phase q alternation last spooled f
+    → Continues phase q alternation last spooled f
 
 -- where something of the sender is on the way the bid goes on
 abbrev pub SendingGoesOn : Type 0
 SendingGoesOn =
-    (phase : Phase) (q : QueueValue) (parity : Parity) (last : Reply) (spooled : List (List ℕ))
-    (sent : Message) → Continues phase q parity last spooled (Outward sent)
-    → InBid phase q parity last spooled (Outward sent)
+    (phase : Phase) (q : QueueValue) (alternation : Alternation) (last : Reply)
+    (spooled : List (List ℕ)) (sent : Message) → Continues phase q alternation last spooled (Outward sent)
+    → InBid phase q alternation last spooled (Outward sent)
 
 -- what the sender has on the way is a text or ENQ
 abbrev pub OutwardIsTextOrEnq : Type 0
 OutwardIsTextOrEnq =
-    (phase : Phase) (q : QueueValue) (parity : Parity) (last : Reply) (spooled : List (List ℕ))
-    (sent : Message) → InBid phase q parity last spooled (Outward sent)
+    (phase : Phase) (q : QueueValue) (alternation : Alternation) (last : Reply)
+    (spooled : List (List ℕ)) (sent : Message) → InBid phase q alternation last spooled (Outward sent)
     → IsTextMessage sent ⊎ (sent ≡ m.Enq)
 
 -- a reply on the way is the receiver's last one
-abbrev pub BackIsLast : Type 0
-BackIsLast =
-    (phase : Phase) (q : QueueValue) (parity : Parity) (last reply : Reply)
-    (spooled : List (List ℕ)) → InBid phase q parity last spooled (Back reply) → reply ≡ last
+abbrev pub ReplyIsLast : Type 0
+ReplyIsLast =
+    (phase : Phase) (q : QueueValue) (alternation : Alternation) (last reply : Reply)
+    (spooled : List (List ℕ)) → InBid phase q alternation last spooled (Back reply) → reply ≡ last
 
 -- each step of a sender leaves the phase that its act says
 pub record ActsFit : Type 0 where
-  pub begin : (s : SenderValue) (q : QueueValue) → FitsAct (begin_step s q).act s.phase (begin_step s q).sender.phase
-  pub reply : (s : SenderValue) (q : QueueValue) (r : Option Reply) → FitsAct (reply_step s q r).act s.phase (reply_step s q r).sender.phase
-  pub silence : (s : SenderValue) (q : QueueValue) → FitsAct (silence_step s q).act s.phase (silence_step s q).sender.phase
+  pub begin : (s : SenderValue) (q : QueueValue)
+      → FitsAct (begin_step s q).act s.phase (begin_step s q).sender.phase
+  pub reply : (s : SenderValue) (q : QueueValue) (r : Option Reply)
+      → FitsAct (reply_step s q r).act s.phase (reply_step s q r).sender.phase
+  pub silence : (s : SenderValue) (q : QueueValue)
+      → FitsAct (silence_step s q).act s.phase (silence_step s q).sender.phase
+
+-- the settings, the format and the offered records of a step
+pub record KeepsOffered (setup : SetupValue) (format : FormatValue) (offered : List (List ℕ))
+    (t : SenderStep) : Type 0 where
+  pub setup_is : t.sender.setup ≡ setup
+  pub format_is : t.queue.format ≡ format
+  pub offered_is : t.queue.offered ≡ offered
+
+-- they are those of the sender and the queue before
+abbrev pub StepKeeps : SenderValue → QueueValue → SenderStep → Type 0
+StepKeeps s q t = KeepsOffered s.setup q.format q.offered t
+
+-- each step of a sender keeps the settings, the format and the offered records
+pub record StepsKeep : Type 0 where
+  pub begin : (s : SenderValue) (q : QueueValue) → StepKeeps s q (begin_step s q)
+  pub reply : (s : SenderValue) (q : QueueValue) (r : Option Reply)
+      → StepKeeps s q (reply_step s q r)
+  pub silence : (s : SenderValue) (q : QueueValue) → StepKeeps s q (silence_step s q)

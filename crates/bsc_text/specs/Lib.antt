@@ -1,3 +1,4 @@
+pub mod Act
 pub mod Setup
 pub mod Terminal
 pub mod Station

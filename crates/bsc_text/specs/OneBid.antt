@@ -1,5 +1,6 @@
 -- The law of one bid: what holds of a sender and a receiver over every list of fair turns (own).
-use Rattle.std.specs.Prelude.{◌≡◌, ◌⊎◌, ◌↔◌, ◌≤◌, ◌<◌, ◌+◌, ◌*◌, ℕ, Bool, true, false, nat_eq, List, [], ◌∷◌, length, take, Some, if◌then◌else◌}
+use Rattle.std.specs.Prelude.{◌≡◌, ◌⊎◌, ◌↔◌, ◌≤◌, ◌<◌, ◌+◌, ◌*◌, ℕ, Bool, true, false, nat_eq, List}
+use Rattle.std.specs.Prelude.{[], ◌∷◌, length, take, Some, if◌then◌else◌}
 use Rattle.bsc_frame.specs.declared.message.Message.{Message}
 use Rattle.bsc_frame.specs.declared.message.Message.TheVariants as m
 use Rattle.bsc_frame.specs.declared.message.Heard.TheVariants.{Whole}
@@ -16,7 +17,9 @@ use Rattle.bsc_text.specs.Sender.{text_of, is_in_doubt, released, release_step}
 use Rattle.bsc_text.specs.Ready.{IsReady}
 use Rattle.bsc_text.specs.Channel.{Channel, channel, Nothing, Offer, Land, Learn, Makes, IsSound}
 use Rattle.bsc_text.specs.Fair.{IsTextMessage}
-use Rattle.bsc_text.specs.Bid.{Bid, Turn, Event, Exchange, Offering, channel_of, message_for, receiver_in, sender_in, after_turn, after_event, IsFairTurn, Reaches}
+use Rattle.bsc_text.specs.Act.{message_for}
+use Rattle.bsc_text.specs.Bid.{Bid, Turn, BidEvent, Exchange, Offering, channel_of, receiver_in}
+use Rattle.bsc_text.specs.Bid.{sender_in, after_turn, after_event, IsFairTurn, Reaches}
 
 -- the sender sends only texts and ENQ
 abbrev pub SendsTextsAndEnq : Type 0
@@ -33,13 +36,13 @@ pub record CarriesBlock (b : Bid) (t : TextValue) : Type 0 where
 -- each text that is sent has exactly the records of its block
 abbrev pub SendsItsBlocks : Type 0
 SendsItsBlocks =
-    (b : Bid) (es : List Event) (c : Bid) (t : TextValue) → Reaches b es c
+    (b : Bid) (es : List BidEvent) (c : Bid) (t : TextValue) → Reaches b es c
     → c.act ≡ a.Send t → CarriesBlock c t
 
 -- and each text that is heard whole
 abbrev pub HearsItsBlocks : Type 0
 HearsItsBlocks =
-    (b : Bid) (es : List Event) (c : Bid) (turn : Turn) (t : TextValue) → Reaches b es c
+    (b : Bid) (es : List BidEvent) (c : Bid) (turn : Turn) (t : TextValue) → Reaches b es c
     → IsFairTurn c turn → turn.heard ≡ Some (Whole (m.Text t)) → CarriesBlock c t
 
 -- the unanswered block lands
@@ -69,33 +72,35 @@ pub record MovesInTurn (b : Bid) (t : Turn) : Type 0 where
 -- spooled.
 abbrev pub OnlyMoves : Type 0
 OnlyMoves =
-    (b : Bid) (es : List Event) (c : Bid) (t : Turn) → Reaches b es c → IsFairTurn c t
+    (b : Bid) (es : List BidEvent) (c : Bid) (t : Turn) → Reaches b es c → IsFairTurn c t
     → MovesInTurn c t
 
 -- an offer adds its record, and moves nothing else
 abbrev pub OffersMove : Type 0
 OffersMove =
-    (b : Bid) (r : List ℕ) → Makes (Offer r) (channel_of b) (channel_of (after_event b (Offering r)))
+    (b : Bid) (r : List ℕ)
+    → Makes (Offer r) (channel_of b) (channel_of (after_event b (Offering r)))
 
 -- at each moment the queue has what the sender counts on: the conditions of its calls are met
 abbrev pub StaysReady : Type 0
-StaysReady = (b : Bid) (es : List Event) (c : Bid) → Reaches b es c → IsReady c.sender c.queue
+StaysReady = (b : Bid) (es : List BidEvent) (c : Bid) → Reaches b es c → IsReady c.sender c.queue
 
 -- at each moment the channel is sound: before and after each event
 abbrev pub StaysSound : Type 0
 StaysSound =
-    (b : Bid) (es : List Event) (c : Bid) → Reaches b es c → IsSound c.sender.phase (channel_of c)
+    (b : Bid) (es : List BidEvent) (c : Bid) → Reaches b es c
+    → IsSound c.sender.phase (channel_of c)
 
 -- and within each turn
 abbrev pub SoundWithinTurns : Type 0
 SoundWithinTurns =
-    (b : Bid) (es : List Event) (c : Bid) (t : Turn) → Reaches b es c → IsFairTurn c t
+    (b : Bid) (es : List BidEvent) (c : Bid) (t : Turn) → Reaches b es c → IsFairTurn c t
     → IsSound c.sender.phase (channel_within c t)
 
 -- a bid that ended without doubt knows of all that was spooled
 abbrev pub EndsKnowing : Type 0
 EndsKnowing =
-    (b : Bid) (es : List Event) (c : Bid) → Reaches b es c → c.act ≡ a.Over
+    (b : Bid) (es : List BidEvent) (c : Bid) → Reaches b es c → c.act ≡ a.Over
     → is_in_doubt c.sender.phase ≡ false
     → (c.sender.phase ≡ Idle) × (c.queue.known ≡ length c.spool.records)
 
@@ -105,37 +110,38 @@ pub record GivesUpUnanswered (b : Bid) (t : Turn) : Type 0 where
   pub block : SentBlock
   pub unanswered : b.sender.phase ≡ Unanswered block
   pub silence : (sender_in b t).act ≡ a.Quiet
-  pub over : b.sender.setup.tries < b.sender.tries + 1
+  pub over : b.sender.setup.tries < b.sender.failures + 1
 
 -- no bid that goes on is in doubt; doubt begins exactly where the sender gives up so
 abbrev pub DoubtsAtSilence : Type 0
 DoubtsAtSilence =
-    (b : Bid) (es : List Event) (c : Bid) (t : Turn) → Reaches b es c → IsFairTurn c t →
+    (b : Bid) (es : List BidEvent) (c : Bid) (t : Turn) → Reaches b es c → IsFairTurn c t →
     (is_in_doubt c.sender.phase ≡ false) × ((is_in_doubt (after_turn c t).sender.phase ≡ true)
     ↔ GivesUpUnanswered c t)
 
 -- a release of the spooled count succeeds, makes it the known one, and ends the doubt
 abbrev pub ReleaseEndsDoubt : Type 0
 ReleaseEndsDoubt =
-    (b : Bid) (es : List Event) (c : Bid) → Reaches b es c → is_in_doubt c.sender.phase ≡ true
-    → release_step c.sender c.queue (length c.spool.records) ≡ released c.sender c.queue (length c.spool.records)
+    (b : Bid) (es : List BidEvent) (c : Bid) → Reaches b es c → is_in_doubt c.sender.phase ≡ true
+    → release_step c.sender c.queue (length c.spool.records)
+    ≡ released c.sender c.queue (length c.spool.records)
 
 -- the turns among the events
-abbrev pub turn_count : List Event → ℕ
+abbrev pub turn_count : List BidEvent → ℕ
 turn_count [] = 0
 turn_count (Exchange t ∷ es) = turn_count es + 1
 turn_count (Offering r ∷ es) = turn_count es
 
 -- a block was just begun: it is sent, and nothing has failed since
 abbrev pub is_begun : Act → ℕ → Bool
-is_begun (a.Send t) tries = nat_eq tries 0
-is_begun _ tries = false
+is_begun (a.Send t) failures = nat_eq failures 0
+is_begun _ failures = false
 
 -- the blocks that are begun in these events
-abbrev pub begun_in : Bid → List Event → ℕ
+abbrev pub begun_in : Bid → List BidEvent → ℕ
 begun_in b [] = 0
 begun_in b (Exchange t ∷ es) =
-    (if is_begun (after_turn b t).act (after_turn b t).sender.tries then 1 else 0)
+    (if is_begun (after_turn b t).act (after_turn b t).sender.failures then 1 else 0)
     + begun_in (after_turn b t) es
 begun_in b (Offering r ∷ es) = begun_in (after_event b (Offering r)) es
 
@@ -146,5 +152,5 @@ most_turns setup = (setup.tries + 1) * (setup.waits + 1)
 -- a bid in which this many blocks were begun, the first one included, takes at most this many turns
 abbrev pub EndsSoon : Type 0
 EndsSoon =
-    (b : Bid) (es : List Event) (c : Bid) → Reaches b es c
+    (b : Bid) (es : List BidEvent) (c : Bid) → Reaches b es c
     → turn_count es ≤ (1 + begun_in b es) * most_turns b.sender.setup

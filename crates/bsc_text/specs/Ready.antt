@@ -1,5 +1,5 @@
--- What a sender counts on in its queue (own). It is true of the queue of `begin`, whatever is
--- offered since.
+-- What a sender keeps, and what it counts on in its queue (own). It is true of the queue of
+-- `begin`, whatever is offered since.
 use Rattle.std.specs.Prelude.{◌≡◌, ℕ, ◌+◌, ◌≤◌, length}
 use Rattle.bsc_frame.specs.declared.text.End.{End}
 use Rattle.bsc_frame.specs.declared.text.End.TheVariants.{Etb, Etx}
@@ -20,34 +20,43 @@ AreWaiting k Etx n = k ≤ n
 abbrev pub CountsOn : Phase → ℕ → Type 0
 CountsOn Idle n = Unit {0}
 CountsOn (InDoubt k) n = k ≤ n
-CountsOn (Unanswered b) n = (1 ≤ b.count) × (b.count ≤ 7) × AreWaiting b.count b.end n
-CountsOn (Held end parity) n = AreWaiting 0 end n
+CountsOn (Unanswered b) n = AreWaiting b.count b.end n
+CountsOn (Held end alternation) n = AreWaiting 0 end n
 
 -- the queue has what the sender counts on
 pub record IsReady (s : SenderValue) (q : QueueValue) : Type 0 where
   pub queue : IsQueue q
   pub counts : CountsOn s.phase (length (waiting q))
 
+-- an unanswered block has 1 to 7 records
+abbrev pub HasBlock : Phase → Type 0
+HasBlock Idle = Unit {0}
+HasBlock (InDoubt k) = Unit {0}
+HasBlock (Unanswered b) = (1 ≤ b.count) × (b.count ≤ 7)
+HasBlock (Held end alternation) = Unit {0}
+
 -- while a bid goes on, no counter is over its limit
-abbrev pub AreWithin : SetupValue → ℕ → ℕ → Phase → Type 0
-AreWithin setup tries waits Idle = Unit {0}
-AreWithin setup tries waits (InDoubt k) = Unit {0}
-AreWithin setup tries waits (Unanswered b) = (tries ≤ setup.tries) × (waits ≤ setup.waits)
-AreWithin setup tries waits (Held end parity) = (tries ≤ setup.tries) × (waits ≤ setup.waits)
+abbrev pub AreWithinLimits : SetupValue → ℕ → ℕ → Phase → Type 0
+AreWithinLimits setup failures wacks Idle = Unit {0}
+AreWithinLimits setup failures wacks (InDoubt k) = Unit {0}
+AreWithinLimits setup failures wacks (Unanswered b) =
+    (failures ≤ setup.tries) × (wacks ≤ setup.waits)
+AreWithinLimits setup failures wacks (Held end alternation) =
+    (failures ≤ setup.tries) × (wacks ≤ setup.waits)
 
 -- a bid goes on
 abbrev pub IsGoing : Phase → Type 0
 IsGoing Idle = ⊥
 IsGoing (InDoubt k) = ⊥
 IsGoing (Unanswered b) = Unit {0}
-IsGoing (Held end parity) = Unit {0}
+IsGoing (Held end alternation) = Unit {0}
 
 -- no bid goes on
 abbrev pub IsAtRest : Phase → Type 0
 IsAtRest Idle = Unit {0}
 IsAtRest (InDoubt k) = Unit {0}
 IsAtRest (Unanswered b) = ⊥
-IsAtRest (Held end parity) = ⊥
+IsAtRest (Held end alternation) = ⊥
 
 -- the phase that an act leaves: a bid goes on where something is sent, none goes on where it is
 -- over, and nothing changes where the sender keeps quiet

@@ -1,21 +1,22 @@
 -- The receiver's table (GA27-3004: ACK0 and ACK1, NAK, ENQ, WACK and RVI; that RVI comes by a
 -- flag is own).
-use Rattle.std.specs.Prelude.{◌≡◌, ℕ, Bool, true, false, not, List, ◌++◌, Option, None, Some, if◌then◌else◌}
+use Rattle.std.specs.Prelude.{◌≡◌, ℕ, Bool, true, false, not, List, ◌++◌, Option, None, Some}
+use Rattle.std.specs.Prelude.{if◌then◌else◌}
 use Rattle.bsc_frame.specs.declared.message.Message.TheVariants as m
 use Rattle.bsc_frame.specs.declared.message.Heard.{Heard}
 use Rattle.bsc_frame.specs.declared.message.Heard.TheVariants.{Whole, Failed}
 use Rattle.bsc_frame.specs.Texts.{TextValue}
 use Rattle.bsc_block.specs.Blocks.{records_in}
 use Rattle.bsc_spool.specs.Spool.{SpoolValue, room_asked}
-use Rattle.bsc_text.specs.declared.parity.Parity.{Parity}
-use Rattle.bsc_text.specs.declared.parity.Parity.TheVariants.{Even}
+use Rattle.bsc_text.specs.declared.alternation.Alternation.{Alternation}
+use Rattle.bsc_text.specs.declared.alternation.Alternation.TheVariants.{Even}
 use Rattle.bsc_text.specs.declared.reply.Reply.{Reply}
 use Rattle.bsc_text.specs.declared.reply.Reply.TheVariants.{Ack0, Nak, Wack, Rvi}
 use Rattle.bsc_text.specs.Reply.{other, ack}
 
--- a receiver: the parity of the number of blocks taken in this bid, and the last reply
+-- a receiver: whether the number of blocks taken in this bid is even or odd, and the last reply
 pub record ReceiverValue : Type 0 where
-  pub parity : Parity
+  pub alternation : Alternation
   pub last : Reply
 
 -- what is left after a transmission was heard, and the reply to it
@@ -34,12 +35,8 @@ abbrev pub first_reply : Bool → Reply
 first_reply room = if room then Ack0 else Wack
 
 -- the receiver of a bid that begins
-abbrev pub begun : Bool → ReceiverValue
-begun room = record { parity = Even; last = first_reply room }
-
--- a spool after a try for room
-abbrev pub tried : SpoolValue → Bool → SpoolValue
-tried = room_asked
+abbrev pub new_receiver : Bool → ReceiverValue
+new_receiver room = record { alternation = Even; last = first_reply room }
 
 -- a spool after these records were stored, with room left or without
 abbrev pub stored : SpoolValue → List (List ℕ) → Bool → SpoolValue
@@ -66,20 +63,20 @@ sends_rvi None = false
 sends_rvi (Some r) = is_rvi r
 
 -- a reply, which is the last one from now on
-abbrev pub replied : Parity → SpoolValue → Reply → ReceiverStep
-replied parity s r =
-    record { receiver = record { parity = parity; last = r }; spool = s; reply = Some r }
+abbrev pub replied : Alternation → SpoolValue → Reply → ReceiverStep
+replied alternation s r =
+    record { receiver = record { alternation = alternation; last = r }; spool = s; reply = Some r }
 
 -- a text is taken: its acknowledgement, or WACK where no room is left for another one
-abbrev pub taken : ReceiverValue → SpoolValue → TextValue → Rooms → ReceiverStep
-taken r s t rooms =
-    replied (other r.parity) (tried (stored (tried s true)
+abbrev pub stored_text : ReceiverValue → SpoolValue → TextValue → Rooms → ReceiverStep
+stored_text r s t rooms =
+    replied (other r.alternation) (room_asked (stored (room_asked s true)
     (records_in t.units) rooms.after) rooms.after)
-    (if rooms.after then ack (other r.parity) else Wack)
+    (if rooms.after then ack (other r.alternation) else Wack)
 
 -- a text is taken, and RVI asks for the line
 abbrev pub taken_urgently : ReceiverValue → SpoolValue → TextValue → Rooms → ReceiverStep
-taken_urgently r s t rooms = replied (other r.parity) (stored (tried s true)
+taken_urgently r s t rooms = replied (other r.alternation) (stored (room_asked s true)
     (records_in t.units) rooms.after) Rvi
 
 -- A text: NAK where there is no room; else it is taken. RVI is the reply where the flag is up, but
@@ -88,22 +85,23 @@ abbrev pub text_step : ReceiverValue → SpoolValue → TextValue → Bool → R
 text_step r s t urgent rooms =
     if rooms.first
     then (if urgent
-    then (if is_rvi r.last then taken r s t rooms else taken_urgently r s t rooms)
-    else taken r s t rooms)
-    else replied r.parity (tried s false) Nak
+    then (if is_rvi r.last then stored_text r s t rooms else taken_urgently r s t rooms)
+    else stored_text r s t rooms)
+    else replied r.alternation (room_asked s false) Nak
 
 -- ENQ: the last reply again, and after WACK the acknowledgement once there is room
 abbrev pub enq_step : ReceiverValue → SpoolValue → Rooms → ReceiverStep
 enq_step r s rooms =
     if is_wack r.last
-    then replied r.parity (tried s rooms.first) (if rooms.first then ack r.parity else Wack)
-    else replied r.parity s r.last
+    then replied r.alternation (room_asked s rooms.first)
+    (if rooms.first then ack r.alternation else Wack)
+    else replied r.alternation s r.last
 
 -- a transmission is heard
 abbrev pub heard_step : ReceiverValue → SpoolValue → Heard → Bool → Rooms → ReceiverStep
 heard_step r s (Whole (m.Text t)) urgent rooms = text_step r s t urgent rooms
 heard_step r s (Whole m.Enq) urgent rooms = enq_step r s rooms
-heard_step r s Failed urgent rooms = replied r.parity s Nak
+heard_step r s Failed urgent rooms = replied r.alternation s Nak
 heard_step r s _ urgent rooms = record { receiver = r; spool = s; reply = None }
 
 -- What the tries found, read from the state that they left: a text was refused room exactly where

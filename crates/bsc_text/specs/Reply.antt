@@ -5,20 +5,21 @@ use Rattle.bsc_frame.specs.declared.message.Message.{Message}
 use Rattle.bsc_frame.specs.declared.message.Message.TheVariants as m
 use Rattle.bsc_frame.specs.declared.message.Heard.{Heard}
 use Rattle.bsc_frame.specs.declared.message.Heard.TheVariants.{Whole, Failed, Noise}
-use Rattle.bsc_text.specs.declared.parity.Parity.{Parity}
-use Rattle.bsc_text.specs.declared.parity.Parity.TheVariants.{Even, Odd}
+use Rattle.bsc_text.specs.declared.alternation.Alternation.{Alternation}
+use Rattle.bsc_text.specs.declared.alternation.Alternation.TheVariants.{Even, Odd}
 use Rattle.bsc_text.specs.declared.reply.Reply.{Reply}
 use Rattle.bsc_text.specs.declared.reply.Reply.TheVariants.{Ack0, Ack1, Nak, Wack, Rvi}
 use Rattle.bsc_text.specs.declared.reply.Answer.{Answer}
-use Rattle.bsc_text.specs.declared.reply.Answer.TheVariants.{Accepted, Refused, Delayed, Interrupted}
+use Rattle.bsc_text.specs.declared.reply.Answer.TheVariants.{Accepted, Refused, Delayed}
+use Rattle.bsc_text.specs.declared.reply.Answer.TheVariants.{Interrupted}
 
--- the parity after one more block
-abbrev pub other : Parity → Parity
+-- after one more block
+abbrev pub other : Alternation → Alternation
 other Even = Odd
 other Odd = Even
 
 -- the acknowledgement of this many blocks: ACK0 where their number is even, ACK1 where it is odd
-abbrev pub ack : Parity → Reply
+abbrev pub ack : Alternation → Reply
 ack Even = Ack0
 ack Odd = Ack1
 
@@ -46,8 +47,8 @@ reply_heard Failed = None
 reply_heard Noise = None
 
 -- What a reply is to a block: the acknowledgement that it expects, the other one or NAK, WACK, or
--- RVI. The parity is that of the number of blocks taken once the block is taken.
-abbrev pub answer_of : Parity → Reply → Answer
+-- RVI. The alternation is that of the number of blocks taken once the block is taken.
+abbrev pub answer_of : Alternation → Reply → Answer
 answer_of Odd Ack1 = Accepted
 answer_of Odd Ack0 = Refused
 answer_of Even Ack1 = Refused

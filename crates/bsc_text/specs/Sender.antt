@@ -1,7 +1,8 @@
 -- The sender's table (GA27-3004: acknowledgements, NAK, WACK, RVI and time-outs; limits, doubt and
 -- release are own). Every counter is raised first and compared afterwards. What no line lists
 -- changes nothing.
-use Rattle.std.specs.Prelude.{ℕ, ◌+◌, nat_lt, Bool, true, false, ◌==◌, ◌||◌, take, Option, None, Some, Result, Ok, Err, if◌then◌else◌}
+use Rattle.std.specs.Prelude.{ℕ, ◌+◌, nat_lt, Bool, true, false, ◌==◌, ◌||◌, take, Option, None}
+use Rattle.std.specs.Prelude.{Some, Result, Ok, Err, if◌then◌else◌}
 use Rattle.bsc_frame.specs.declared.text.End.{End}
 use Rattle.bsc_frame.specs.declared.text.End.TheVariants.{Etb, Etx}
 use Rattle.bsc_frame.specs.Texts.{TextValue}
@@ -10,14 +11,15 @@ use Rattle.bsc_spool.specs.declared.Next.{Next}
 use Rattle.bsc_spool.specs.Queue.{QueueValue, queue_of, with_known, waiting, next_block}
 use Rattle.bsc_text.specs.declared.act.Act.{Act}
 use Rattle.bsc_text.specs.declared.act.Act.TheVariants as a
-use Rattle.bsc_text.specs.declared.parity.Parity.{Parity}
-use Rattle.bsc_text.specs.declared.parity.Parity.TheVariants.{Odd}
+use Rattle.bsc_text.specs.declared.alternation.Alternation.{Alternation}
+use Rattle.bsc_text.specs.declared.alternation.Alternation.TheVariants.{Odd}
 use Rattle.bsc_text.specs.declared.phase.SentBlock.{SentBlock}
 use Rattle.bsc_text.specs.declared.phase.Phase.{Phase}
 use Rattle.bsc_text.specs.declared.phase.Phase.TheVariants.{Idle, Unanswered, Held, InDoubt}
 use Rattle.bsc_text.specs.declared.reply.Reply.{Reply}
 use Rattle.bsc_text.specs.declared.reply.Answer.{Answer}
-use Rattle.bsc_text.specs.declared.reply.Answer.TheVariants.{Accepted, Refused, Delayed, Interrupted}
+use Rattle.bsc_text.specs.declared.reply.Answer.TheVariants.{Accepted, Refused, Delayed}
+use Rattle.bsc_text.specs.declared.reply.Answer.TheVariants.{Interrupted}
 use Rattle.bsc_text.specs.declared.sender.ReleaseError.{ReleaseError}
 use Rattle.bsc_text.specs.declared.sender.ReleaseError.TheVariants.{NotInDoubt, CountMismatch}
 use Rattle.bsc_text.specs.Setup.{SetupValue}
@@ -28,8 +30,8 @@ use Rattle.bsc_text.specs.Reply.{other, answer_of}
 pub record SenderValue : Type 0 where
   pub setup : SetupValue
   pub phase : Phase
-  pub tries : ℕ
-  pub waits : ℕ
+  pub failures : ℕ
+  pub wacks : ℕ
 
 -- what a call of a sender leaves, and what the sender does
 pub record SenderStep : Type 0 where
@@ -43,11 +45,11 @@ with_phase s phase = record s { phase = phase }
 
 -- the sender with other counters
 abbrev pub with_counts : SenderValue → ℕ → ℕ → SenderValue
-with_counts s tries waits = record s { tries = tries; waits = waits }
+with_counts s failures wacks = record s { failures = failures; wacks = wacks }
 
 -- nothing changes, and nothing is sent
-abbrev pub quiet : SenderValue → QueueValue → SenderStep
-quiet s q = record { sender = s; queue = q; act = a.Quiet }
+abbrev pub unmoved : SenderValue → QueueValue → SenderStep
+unmoved s q = record { sender = s; queue = q; act = a.Quiet }
 
 -- the bid is over, and this phase is left
 abbrev pub over : SenderValue → QueueValue → Phase → SenderStep
@@ -59,10 +61,10 @@ text_of q b = block_text q.format (take b.count (waiting q)) b.end
 
 -- The next block is sent, with the counters at 0. (Where no record waits the bid is over; the
 -- conditions of the calls exclude it.)
-abbrev pub sent_next : SenderValue → QueueValue → Parity → Option Next → SenderStep
-sent_next s q parity None = over (with_counts s 0 0) q Idle
-sent_next s q parity (Some n) =
-    let b : SentBlock = record { count = n.count; end = n.end; parity = parity } in
+abbrev pub sent_next : SenderValue → QueueValue → Alternation → Option Next → SenderStep
+sent_next s q alternation None = over (with_counts s 0 0) q Idle
+sent_next s q alternation (Some n) =
+    let b : SentBlock = record { count = n.count; end = n.end; alternation = alternation } in
     let t : SenderValue = with_phase (with_counts s 0 0) (Unanswered b) in
     record { sender = t; queue = q; act = a.Send (text_of q b) }
 
@@ -72,56 +74,56 @@ begin_step s q = sent_next s q Odd (next_block q)
 
 -- the expected acknowledgement of a block with this end: after ETX the bid is over, after ETB the
 -- next block is sent, which expects the other acknowledgement
-abbrev pub accepted : SenderValue → QueueValue → End → Parity → SenderStep
-accepted s q Etx parity = over (with_counts s 0 0) q Idle
-accepted s q Etb parity = sent_next s q (other parity) (next_block q)
+abbrev pub accepted : SenderValue → QueueValue → End → Alternation → SenderStep
+accepted s q Etx alternation = over (with_counts s 0 0) q Idle
+accepted s q Etb alternation = sent_next s q (other alternation) (next_block q)
 
 -- one more failure: over the limit the bid ends and this phase is left, else the sender does this
 abbrev pub failed : SenderValue → QueueValue → Phase → Act → SenderStep
 failed s q left act =
-    let t : SenderValue = with_counts s (s.tries + 1) s.waits in
-    if nat_lt s.setup.tries (s.tries + 1) then over t q left
+    let t : SenderValue = with_counts s (s.failures + 1) s.wacks in
+    if nat_lt s.setup.tries (s.failures + 1) then over t q left
     else record { sender = t; queue = q; act = act }
 
 -- one more WACK: over the limit the bid ends, else the sender is held and asks again
-abbrev pub delayed : SenderValue → QueueValue → End → Parity → SenderStep
-delayed s q end parity =
-    let t : SenderValue = with_counts s 0 (s.waits + 1) in
-    if nat_lt s.setup.waits (s.waits + 1) then over t q Idle
-    else record { sender = with_phase t (Held end parity); queue = q; act = a.Enq }
+abbrev pub delayed : SenderValue → QueueValue → End → Alternation → SenderStep
+delayed s q end alternation =
+    let t : SenderValue = with_counts s 0 (s.wacks + 1) in
+    if nat_lt s.setup.waits (s.wacks + 1) then over t q Idle
+    else record { sender = with_phase t (Held end alternation); queue = q; act = a.Enq }
 
 -- a reply while a block is unanswered
 abbrev pub unanswered_step : SenderValue → QueueValue → SentBlock → Answer → SenderStep
-unanswered_step s q b Accepted = accepted s (with_known q b.count) b.end b.parity
+unanswered_step s q b Accepted = accepted s (with_known q b.count) b.end b.alternation
 unanswered_step s q b Refused = failed s q Idle (a.Send (text_of q b))
-unanswered_step s q b Delayed = delayed s (with_known q b.count) b.end b.parity
+unanswered_step s q b Delayed = delayed s (with_known q b.count) b.end b.alternation
 unanswered_step s q b Interrupted = over s (with_known q b.count) Idle
 
 -- a reply while the sender is held
-abbrev pub held_step : SenderValue → QueueValue → End → Parity → Answer → SenderStep
-held_step s q end parity Accepted = accepted s q end parity
-held_step s q end parity Refused = failed s q Idle a.Enq
-held_step s q end parity Delayed = delayed s q end parity
-held_step s q end parity Interrupted = over s q Idle
+abbrev pub held_step : SenderValue → QueueValue → End → Alternation → Answer → SenderStep
+held_step s q end alternation Accepted = accepted s q end alternation
+held_step s q end alternation Refused = failed s q Idle a.Enq
+held_step s q end alternation Delayed = delayed s q end alternation
+held_step s q end alternation Interrupted = over s q Idle
 
 -- a reply in this phase
 abbrev pub answered_step : SenderValue → QueueValue → Phase → Reply → SenderStep
-answered_step s q Idle r = quiet s q
-answered_step s q (InDoubt count) r = quiet s q
-answered_step s q (Unanswered b) r = unanswered_step s q b (answer_of b.parity r)
-answered_step s q (Held end parity) r = held_step s q end parity (answer_of parity r)
+answered_step s q Idle r = unmoved s q
+answered_step s q (InDoubt count) r = unmoved s q
+answered_step s q (Unanswered b) r = unanswered_step s q b (answer_of b.alternation r)
+answered_step s q (Held end alternation) r = held_step s q end alternation (answer_of alternation r)
 
 -- a transmission is heard, with this reply or with none in it
 abbrev pub reply_step : SenderValue → QueueValue → Option Reply → SenderStep
-reply_step s q None = quiet s q
+reply_step s q None = unmoved s q
 reply_step s q (Some r) = answered_step s q s.phase r
 
 -- a silence in this phase
 abbrev pub silent_in : SenderValue → QueueValue → Phase → SenderStep
 silent_in s q (Unanswered b) = failed s q (InDoubt b.count) a.Enq
-silent_in s q (Held end parity) = failed s q Idle a.Enq
-silent_in s q Idle = quiet s q
-silent_in s q (InDoubt count) = quiet s q
+silent_in s q (Held end alternation) = failed s q Idle a.Enq
+silent_in s q Idle = unmoved s q
+silent_in s q (InDoubt count) = unmoved s q
 
 -- a silence
 abbrev pub silence_step : SenderValue → QueueValue → SenderStep
@@ -130,7 +132,7 @@ silence_step s q = silent_in s q s.phase
 -- the phase once the bid is cut off
 abbrev pub cut_phase : Phase → Phase
 cut_phase (Unanswered b) = InDoubt b.count
-cut_phase (Held end parity) = Idle
+cut_phase (Held end alternation) = Idle
 cut_phase Idle = Idle
 cut_phase (InDoubt count) = InDoubt count
 

@@ -30,7 +30,9 @@ abbrev pub with_limits : Result FormatValue FormatError → ℕ → ℕ → Resu
 with_limits (Err e) tries waits = Err (setting_error e)
 with_limits (Ok format) tries waits =
     if is_within 1 15 tries
-    then (if is_within 1 255 waits then Ok (record { format = format; tries = tries; waits = waits }) else Err Waits)
+    then (if is_within 1 255 waits
+    then Ok (record { format = format; tries = tries; waits = waits })
+    else Err Waits)
     else Err Tries
 
 -- the settings of four numbers, or the first of them that is out of range

@@ -1,19 +1,10 @@
 -- What every station keeps (own).
 use Rattle.std.specs.Prelude.{◌≡◌, ℕ, Bool, true, false, List, [], Option, None, Some}
 use Rattle.bsc_frame.specs.declared.message.Message.{Message}
-use Rattle.bsc_frame.specs.declared.message.Heard.{Heard}
-use Rattle.bsc_frame.specs.declared.message.Heard.TheVariants.{Whole, Failed, Noise}
 use Rattle.bsc_frame.specs.Message.{IsMessage}
-use Rattle.bsc_frame.specs.Spells.{Spells, IsFailed, IsNoise}
 use Rattle.bsc_frame.specs.Wire.{wire}
 
 -- the octets are those of the one message to send, which is within its limits, or there are none
 abbrev pub IsSent : Option Message → Bool → List ℕ → Type 0
 IsSent None sent octets = (sent ≡ false) × (octets ≡ [])
 IsSent (Some m) sent octets = (sent ≡ true) × (octets ≡ wire m) × IsMessage m
-
--- what octets are heard as
-abbrev pub IsHeardAs : List ℕ → Heard → Type 0
-IsHeardAs octets (Whole m) = Spells octets m
-IsHeardAs octets Failed = IsFailed octets
-IsHeardAs octets Noise = IsNoise octets

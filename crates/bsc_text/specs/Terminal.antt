@@ -25,14 +25,14 @@ abbrev pub HasDistinctAddresses : TerminalValue → Type 0
 HasDistinctAddresses t = AllPairs (λ a b. a ≢ b) (own_addresses t)
 
 -- the selection addresses as they lie in a table of four, the polling address after them
-abbrev pub padded : List ℕ → List (List ℕ) → List (List ℕ)
-padded poll selects = selects ++ replicate (4 - length selects) poll
+abbrev pub address_table : List ℕ → List (List ℕ) → List (List ℕ)
+address_table poll selects = selects ++ replicate (4 - length selects) poll
 
 -- a table of which the first count places are the selection addresses
 pub record HoldsSelects (poll : List ℕ) (table : List (List ℕ)) (count : ℕ) : Type 0 where
   pub terminal : IsTerminal (record { poll = poll; selects = take count table })
   pub long : length (take count table) ≡ count
-  pub rest : padded poll (take count table) ≡ table
+  pub rest : address_table poll (take count table) ≡ table
 
 -- the terminal with these addresses, unless there are too few or too many to select it by
 abbrev pub terminal_of : List ℕ → List (List ℕ) → Result TerminalValue TerminalError

@@ -1,7 +1,14 @@
 //! Laws over the definitions: what holds of every bid, whatever is lost or spoiled.
 
-ghost use Rattle.bsc_text.specs.OneBid.{SendsTextsAndEnq, SendsItsBlocks, HearsItsBlocks, OnlyMoves, OffersMove, StaysReady, StaysSound, SoundWithinTurns, EndsKnowing, DoubtsAtSilence, ReleaseEndsDoubt, EndsSoon};
-ghost use Rattle.bsc_text.specs.EachStep.{HearingAgrees, AnsweringAgrees, SilenceAgrees, BeginAgrees, OfferAgrees, OfferKeepsRest, ReleaseKeepsRest, AgreementIsSound, LossAgrees, BidContinues, SendingGoesOn, OutwardIsTextOrEnq, BackIsLast, ActsFit};
+ghost use Rattle.bsc_text.specs.OneBid.{SendsTextsAndEnq, SendsItsBlocks, HearsItsBlocks};
+ghost use Rattle.bsc_text.specs.OneBid.{OnlyMoves, OffersMove, StaysReady, StaysSound};
+ghost use Rattle.bsc_text.specs.OneBid.{SoundWithinTurns, EndsKnowing, DoubtsAtSilence};
+ghost use Rattle.bsc_text.specs.OneBid.{ReleaseEndsDoubt, EndsSoon};
+ghost use Rattle.bsc_text.specs.EachStep.{HearingAgrees, AnsweringAgrees, SilenceAgrees};
+ghost use Rattle.bsc_text.specs.EachStep.{BeginAgrees, OfferAgrees, OfferKeepsRest};
+ghost use Rattle.bsc_text.specs.EachStep.{ReleaseKeepsRest, AgreementIsSound, LossAgrees};
+ghost use Rattle.bsc_text.specs.EachStep.{BidContinues, SendingGoesOn, OutwardIsTextOrEnq};
+ghost use Rattle.bsc_text.specs.EachStep.{ReplyIsLast, ActsFit, StepsKeep};
 
 use bsc_block::laws::records_back;
 use bsc_spool::laws::next_blocks;
@@ -45,7 +52,8 @@ pub fn one_bid()
 /// - a silence comes to the sender, a bid begins, or a record is offered;
 /// - what was on its way is lost;
 /// - a sender whose bid is over is at rest, one that keeps quiet stays in its phase, and while the
-///   ends agree the channel is sound.
+///   ends agree the channel is sound;
+/// - no step of a sender changes its settings, or the format and the offered records of its queue.
 pub fn each_step()
     ensures hearing { HearingAgrees }
     ensures answering { AnsweringAgrees }
@@ -59,8 +67,9 @@ pub fn each_step()
     ensures continues { BidContinues }
     ensures goes_on { SendingGoesOn }
     ensures outward { OutwardIsTextOrEnq }
-    ensures back { BackIsLast }
+    ensures last_reply { ReplyIsLast }
     ensures fits { ActsFit }
+    ensures keeps { StepsKeep }
 {
     records_back();
     next_blocks();

@@ -6,8 +6,8 @@
 #![tactic(auto)]
 
 mod act;
+mod alternation;
 pub mod laws;
-mod parity;
 mod phase;
 mod receiver;
 mod reply;

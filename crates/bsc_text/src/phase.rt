@@ -1,19 +1,19 @@
 //! How far a sender is with its bid.
 
-use crate::parity::Parity;
+use crate::alternation::Alternation;
 use bsc_frame::End;
 
 /// A block that was sent.
 #[derive(Clone, Copy, Debug, PartialEq, Eq)]
 pub struct SentBlock {
-    /// How many records it has.
+    /// How many records it has: 1 to 7.
     pub count: usize,
 
     /// The character that ends it.
     pub end: End,
 
-    /// The parity of the number of blocks taken in the bid once this one is taken.
-    pub parity: Parity,
+    /// Whether the number of blocks taken in the bid is even or odd once this one is taken.
+    pub alternation: Alternation,
 }
 
 /// How far a sender is with its bid.
@@ -25,8 +25,9 @@ pub enum Phase {
     /// A block was sent, and no reply to it was understood.
     Unanswered { block: SentBlock },
 
-    /// WACK was the reply to a block with this end; the acknowledgement of this parity is awaited.
-    Held { end: End, parity: Parity },
+    /// WACK was the reply to a block with this end. The acknowledgement is awaited: ACK0 or ACK1,
+    /// as the number of blocks taken is even or odd.
+    Held { end: End, alternation: Alternation },
 
     /// There is no bid. It is not known whether the next `count` records arrived.
     InDoubt { count: usize },

@@ -1,9 +1,9 @@
 //! The receiver of one bid.
 
 ghost use Rattle.std.specs.Prelude.{◌≡◌, Some, true};
-ghost use Rattle.bsc_text.specs.Receiver.{ReceiverValue, Receives, begun, first_reply};
+ghost use Rattle.bsc_text.specs.Receiver.{ReceiverValue, Receives, new_receiver, first_reply};
 
-use crate::parity::Parity;
+use crate::alternation::Alternation;
 use crate::reply::Reply;
 use bsc_block::unpack;
 use bsc_frame::{Heard, Message, Text};
@@ -14,7 +14,10 @@ use std::marker::Model;
 /// The receiver of one bid: it stores the records of the texts that it takes, and replies.
 #[derive(Drop)]
 pub struct Receiver {
-    parity: Parity,
+    /// Whether the number of blocks taken in this bid is even or odd.
+    alternation: Alternation,
+
+    /// The last reply, which ENQ asks for again.
     last: Reply,
 }
 
@@ -23,11 +26,11 @@ impl Model for Receiver {
 
     ghost Value = { ReceiverValue };
 
-    ghost view = { λ r. record { parity = r.parity; last = r.last } };
+    ghost view = { λ r. record { alternation = r.alternation; last = r.last } };
 }
 
 impl Default for Receiver {
-    ghost is_default = { λ r. r ≡ begun true };
+    ghost is_default = { λ r. r ≡ new_receiver true };
 
     fn default() -> Self {
         Receiver::new()
@@ -37,10 +40,10 @@ impl Default for Receiver {
 impl Receiver {
     /// A receiver as after a begin with room.
     pub fn new() -> Self
-        ensures { result ≡ begun true }
+        ensures { result ≡ new_receiver true }
     {
         Receiver {
-            parity: Parity::Even,
+            alternation: Alternation::Even,
             last: Reply::Ack0,
         }
     }
@@ -49,9 +52,9 @@ impl Receiver {
     /// block. (GA27-3004, replies to a selection.)
     pub fn begin(&mut self, room: bool) -> Reply
         ensures reply { result ≡ first_reply room }
-        ensures state { self.new ≡ begun room }
+        ensures state { self.new ≡ new_receiver room }
     {
-        self.parity = Parity::Even;
+        self.alternation = Alternation::Even;
         self.last = if room { Reply::Ack0 } else { Reply::Wack };
         self.last
     }
@@ -91,13 +94,13 @@ impl Receiver {
             return Reply::Nak;
         }
         spool.store(&unpack(text));
-        self.parity = self.parity.other();
+        self.alternation = self.alternation.other();
         if urgent && self.last != Reply::Rvi {
             self.last = Reply::Rvi;
             return Reply::Rvi;
         }
         let reply = if spool.make_room() {
-            self.parity.ack()
+            self.alternation.ack()
         } else {
             Reply::Wack
         };
@@ -111,7 +114,7 @@ impl Receiver {
             (record { receiver = self.new; spool = spool.new; reply = Some result }) }
     {
         if self.last == Reply::Wack && spool.make_room() {
-            self.last = self.parity.ack();
+            self.last = self.alternation.ack();
         }
         self.last
     }

@@ -3,7 +3,7 @@
 ghost use Rattle.std.specs.Prelude.{◌≡◌};
 ghost use Rattle.bsc_text.specs.Reply.{answer_of, message_of, reply_heard};
 
-use crate::parity::Parity;
+use crate::alternation::Alternation;
 use bsc_frame::{Heard, Message};
 
 /// The replies of a receiver (GA27-3004, ACK0, ACK1, NAK, WACK and RVI).
@@ -69,13 +69,13 @@ impl Reply {
         }
     }
 
-    /// What the reply is to a block that expects the acknowledgement of this parity.
-    pub(crate) fn answer(self, parity: Parity) -> Answer
-        ensures { result ≡ answer_of parity self }
+    /// What the reply is to a block; with the block the number of blocks taken is even or odd.
+    pub(crate) fn answer(self, alternation: Alternation) -> Answer
+        ensures { result ≡ answer_of alternation self }
     {
-        match (parity, self) {
-            (Parity::Odd, Reply::Ack1) | (Parity::Even, Reply::Ack0) => Answer::Accepted,
-            (Parity::Odd, Reply::Ack0) | (Parity::Even, Reply::Ack1) | (_, Reply::Nak) =>
+        match (alternation, self) {
+            (Alternation::Odd, Reply::Ack1) | (Alternation::Even, Reply::Ack0) => Answer::Accepted,
+            (Alternation::Odd, Reply::Ack0) | (Alternation::Even, Reply::Ack1) | (_, Reply::Nak) =>
                 Answer::Refused,
             (_, Reply::Wack) => Answer::Delayed,
             (_, Reply::Rvi) => Answer::Interrupted,

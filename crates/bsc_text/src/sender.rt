@@ -1,13 +1,16 @@
 //! The sender of one bid.
 
 ghost use Rattle.std.specs.Prelude.{◌≡◌, ◌+◌, ◌<◌, ◌≤◌, true, false, nat_lt, length, OnOk, OnErr};
+ghost use Rattle.std.specs.Prelude.{IsTrue};
 ghost use Rattle.bsc_spool.specs.Queue.{QueueValue, IsQueue, waiting, next_block};
 ghost use Rattle.bsc_text.specs.Ready.{AreWaiting, CountsOn, IsReady, IsGoing, IsAtRest, FitsAct};
 ghost use Rattle.bsc_text.specs.Reply.{reply_heard};
-ghost use Rattle.bsc_text.specs.Sender.{with_phase, with_counts, begin_step, sent_next, accepted, failed, delayed, unanswered_step, held_step, reply_step, silence_step, cut_phase, is_in_doubt, release_step};
+ghost use Rattle.bsc_text.specs.Sender.{with_phase, with_counts, begin_step, sent_next, accepted};
+ghost use Rattle.bsc_text.specs.Sender.{failed, delayed, unanswered_step, held_step, reply_step};
+ghost use Rattle.bsc_text.specs.Sender.{silence_step, cut_phase, is_in_doubt, release_step};
 
 use crate::act::Act;
-use crate::parity::Parity;
+use crate::alternation::Alternation;
 use crate::phase::{Phase, SentBlock};
 use crate::reply::{Answer, Reply};
 use crate::setup::Setup;
@@ -21,25 +24,34 @@ use thiserror::Error;
 /// queue which are known to have arrived.
 #[derive(Drop)]
 pub struct Sender {
+    /// The limits of its counters, and how records become blocks.
     setup: Setup,
+
+    /// How far it is with its bid. An unanswered block has 1 to 7 records.
     phase: Phase,
 
     /// The failures in a row.
-    tries: u8,
+    failures: u8,
 
     /// The WACKs since the last acknowledgement. At a limit of 255 the bid is over at 256.
-    waits: u16,
+    wacks: u16,
 }
 
 impl Model for Sender {
     ghost use Rattle.bsc_text.specs.Sender.{SenderValue};
-    ghost use Rattle.bsc_text.specs.Ready.{AreWithin};
+    ghost use Rattle.bsc_text.specs.Ready.{AreWithinLimits, HasBlock};
 
     ghost Value = { SenderValue };
 
-    ghost view = { λ s. record { setup = s.setup; phase = s.phase; tries = s.tries; waits = s.waits } };
+    ghost view = { λ s. record {
+      setup = s.setup;
+      phase = s.phase;
+      failures = s.failures;
+      wacks = s.wacks;
+    } };
 
-    ghost invariant = { λ s. AreWithin s.setup s.tries s.waits s.phase };
+    ghost invariant = { λ s. AreWithinLimits s.setup s.failures s.wacks s.phase
+        × HasBlock s.phase };
 }
 
 /// Why a doubt is not released.
@@ -57,13 +69,13 @@ pub enum ReleaseError {
 impl Sender {
     /// A sender without a bid and without a doubt.
     pub fn new(setup: Setup) -> Self
-        ensures { result ≡ record { setup = setup; phase = Phase.Idle; tries = 0; waits = 0 } }
+        ensures { result ≡ record { setup = setup; phase = Phase.Idle; failures = 0; wacks = 0 } }
     {
         Sender {
             setup,
             phase: Phase::Idle,
-            tries: 0,
-            waits: 0,
+            failures: 0,
+            wacks: 0,
         }
     }
 
@@ -78,14 +90,16 @@ impl Sender {
         ensures going { IsGoing self.new.phase }
         ensures ready { IsReady self.old queue.now → IsReady self.new queue.now }
     {
-        self.send_next(queue, Parity::Odd)
+        self.send_next(queue, Alternation::Odd)
     }
 
-    /// Hears a transmission. A reply is acted on; anything else changes nothing. Condition: in the
-    /// queue wait the records of the unanswered block, after ETB one more, and while held after
-    /// ETB at least one. (GA27-3004, ACK0, ACK1, NAK, WACK and RVI; the limits are own.)
+    /// Hears a transmission. A reply is acted on; anything else changes nothing. Condition: while
+    /// a bid goes on, in the queue wait the records of the unanswered block, after ETB one more,
+    /// and while held after ETB at least one. (GA27-3004, ACK0, ACK1, NAK, WACK and RVI; the limits
+    /// are own.)
     pub fn reply<A: Allocator>(&mut self, heard: &Heard, queue: &mut Queue<A>) -> Act
-        requires { CountsOn self.old.phase (length (waiting queue.old)) }
+        requires { IsGoing self.old.phase
+            → CountsOn self.old.phase (length (waiting queue.old)) }
         ensures row { record { sender = self.new; queue = queue.new; act = result }
             ≡ reply_step self.old queue.old (reply_heard heard.now) }
         ensures ready { IsReady self.old queue.old → IsReady self.new queue.new }
@@ -97,10 +111,10 @@ impl Sender {
         match self.phase {
             Phase::Idle | Phase::InDoubt { .. } => Act::Quiet,
             Phase::Unanswered { block } => {
-                self.answer_unanswered(queue, block, reply.answer(block.parity))
+                self.answer_unanswered(queue, block, reply.answer(block.alternation))
             }
-            Phase::Held { end, parity } => {
-                self.answer_held(queue, end, parity, reply.answer(parity))
+            Phase::Held { end, alternation } => {
+                self.answer_held(queue, end, alternation, reply.answer(alternation))
             }
         }
     }
@@ -144,13 +158,14 @@ impl Sender {
 
     /// Ends the doubt: the other end has `count` records. `NotInDoubt`, then `CountMismatch` where
     /// the count is neither that of the known records nor that with the doubtful block; both change
-    /// nothing. Condition: the records of the doubtful block wait in the queue. (Own.)
+    /// nothing. Condition: in doubt, the records of the doubtful block wait in the queue. (Own.)
     pub fn release<A: Allocator>(
         &mut self,
         count: usize,
         queue: &mut Queue<A>,
     ) -> Result<(), ReleaseError>
-        requires { CountsOn self.old.phase (length (waiting queue.old)) }
+        requires { IsTrue (is_in_doubt self.old.phase)
+            → CountsOn self.old.phase (length (waiting queue.old)) }
         ensures row { record { sender = self.new; queue = queue.new; answer = result }
             ≡ release_step self.old queue.old count }
         ensures ok { OnOk result (self.new ≡ with_phase self.old Phase.Idle) }
@@ -180,13 +195,13 @@ impl Sender {
 
     /// Sends the next block.
     #[tactic(auto, using(crate::proofs::ReadyLemmas::counts_next))]
-    fn send_next<A: Allocator>(&mut self, queue: &Queue<A>, parity: Parity) -> Act
+    fn send_next<A: Allocator>(&mut self, queue: &Queue<A>, alternation: Alternation) -> Act
         ensures row { record { sender = self.new; queue = queue.now; act = result }
-            ≡ sent_next self.old queue.now parity (next_block queue.now) }
+            ≡ sent_next self.old queue.now alternation (next_block queue.now) }
         ensures ready { IsQueue queue.now → IsReady self.new queue.now }
     {
-        self.tries = 0;
-        self.waits = 0;
+        self.failures = 0;
+        self.wacks = 0;
         let Some(next) = queue.next() else {
             self.phase = Phase::Idle;
             return Act::Over;
@@ -195,25 +210,25 @@ impl Sender {
             block: SentBlock {
                 count: next.count,
                 end: next.end,
-                parity,
+                alternation,
             },
         };
         Act::Send(queue.text(next.count, next.end))
     }
 
     /// The expected acknowledgement of a block with this end came.
-    fn accept<A: Allocator>(&mut self, queue: &Queue<A>, end: End, parity: Parity) -> Act
+    fn accept<A: Allocator>(&mut self, queue: &Queue<A>, end: End, alternation: Alternation) -> Act
         ensures row { record { sender = self.new; queue = queue.now; act = result }
-            ≡ accepted self.old queue.now end parity }
+            ≡ accepted self.old queue.now end alternation }
         ensures ready { IsQueue queue.now → IsReady self.new queue.now }
     {
         match end {
             End::Etx => {
-                self.tries = 0;
-                self.waits = 0;
+                self.failures = 0;
+                self.wacks = 0;
                 self.end()
             }
-            End::Etb => self.send_next(queue, parity.other()),
+            End::Etb => self.send_next(queue, alternation.other()),
         }
     }
 
@@ -222,15 +237,16 @@ impl Sender {
     fn fail(&mut self, left: Phase) -> bool
         requires going { IsGoing self.old.phase }
         requires left { IsAtRest left }
-        ensures over { result ≡ nat_lt self.old.setup.tries (self.old.tries + 1) }
+        ensures over { result ≡ nat_lt self.old.setup.tries (self.old.failures + 1) }
         ensures ends { result ≡ true
-            → self.new ≡ with_phase (with_counts self.old (self.old.tries + 1) self.old.waits) left }
+            → self.new
+            ≡ with_phase (with_counts self.old (self.old.failures + 1) self.old.wacks) left }
         ensures goes_on { result ≡ false
-            → self.new ≡ with_counts self.old (self.old.tries + 1) self.old.waits }
+            → self.new ≡ with_counts self.old (self.old.failures + 1) self.old.wacks }
     {
         let limit = self.setup.tries();
-        self.tries += 1;
-        if self.tries > limit {
+        self.failures += 1;
+        if self.failures > limit {
             self.phase = left;
             return true;
         }
@@ -253,26 +269,26 @@ impl Sender {
     }
 
     /// One more WACK, to a block with this end.
-    fn delay(&mut self, end: End, parity: Parity) -> Act
+    fn delay(&mut self, end: End, alternation: Alternation) -> Act
         requires { IsGoing self.old.phase }
         ensures row { (q : QueueValue)
             → record { sender = self.new; queue = q; act = result }
-            ≡ delayed self.old q end parity }
+            ≡ delayed self.old q end alternation }
         ensures ready { (q : QueueValue) → IsQueue q → AreWaiting 0 end (length (waiting q))
             → IsReady self.new q }
     {
-        self.tries = 0;
-        self.waits += 1;
-        if self.waits > u16::from(self.setup.waits()) {
+        self.failures = 0;
+        self.wacks += 1;
+        if self.wacks > u16::from(self.setup.waits()) {
             self.phase = Phase::Idle;
             return Act::Over;
         }
-        self.phase = Phase::Held { end, parity };
+        self.phase = Phase::Held { end, alternation };
         Act::Enq
     }
 
     /// A reply while a block is unanswered.
-    #[tactic(auto, using(crate::proofs::ReadyLemmas::is_queue_marked, crate::proofs::ReadyLemmas::still_waiting, crate::proofs::ReadyLemmas::all_waiting))]
+    #[tactic(auto, using(crate::proofs::ReadyLemmas::is_queue_marked, crate::proofs::ReadyLemmas::still_waiting, crate::proofs::ReadyLemmas::all_waiting,))]
     fn answer_unanswered<A: Allocator>(
         &mut self,
         queue: &mut Queue<A>,
@@ -288,9 +304,11 @@ impl Sender {
         match answer {
             Answer::Accepted => {
                 queue.mark(block.count);
-                self.accept(queue, block.end, block.parity)
+                self.accept(queue, block.end, block.alternation)
             }
             Answer::Refused => {
+                // A field is read, so that the range of the block's records is known here.
+                let _ = &self.phase;
                 if self.fail(Phase::Idle) {
                     Act::Over
                 } else {
@@ -299,7 +317,7 @@ impl Sender {
             }
             Answer::Delayed => {
                 queue.mark(block.count);
-                self.delay(block.end, block.parity)
+                self.delay(block.end, block.alternation)
             }
             Answer::Interrupted => {
                 queue.mark(block.count);
@@ -313,18 +331,18 @@ impl Sender {
         &mut self,
         queue: &Queue<A>,
         end: End,
-        parity: Parity,
+        alternation: Alternation,
         answer: Answer,
     ) -> Act
-        requires { self.old.phase ≡ Phase.Held end parity }
+        requires { self.old.phase ≡ Phase.Held end alternation }
         ensures row { record { sender = self.new; queue = queue.now; act = result }
-            ≡ held_step self.old queue.now end parity answer }
+            ≡ held_step self.old queue.now end alternation answer }
         ensures ready { IsReady self.old queue.now → IsReady self.new queue.now }
     {
         match answer {
-            Answer::Accepted => self.accept(queue, end, parity),
+            Answer::Accepted => self.accept(queue, end, alternation),
             Answer::Refused => self.ask_again(Phase::Idle),
-            Answer::Delayed => self.delay(end, parity),
+            Answer::Delayed => self.delay(end, alternation),
             Answer::Interrupted => self.end(),
         }
     }

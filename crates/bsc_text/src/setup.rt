@@ -10,8 +10,13 @@ use thiserror::Error;
 /// How records become blocks, and how much a station bears before it gives up.
 #[derive(Clone, Copy, Debug, PartialEq, Eq)]
 pub struct Setup {
+    /// How records become blocks.
     format: Format,
+
+    /// How many failures in a row are borne: 1 to 15.
     tries: u8,
+
+    /// How many WACKs since the last acknowledgement are borne: 1 to 255.
     waits: u8,
 }
 
@@ -22,7 +27,8 @@ impl Model for Setup {
 
     ghost view = { λ s. record { format = s.format; tries = s.tries; waits = s.waits } };
 
-    ghost invariant = { λ s. IsSetup (record { format = s.format; tries = s.tries; waits = s.waits }) };
+    ghost invariant = { λ s. IsSetup
+        (record { format = s.format; tries = s.tries; waits = s.waits }) };
 
     ghost inverse = { λ s. record { format = s.format; tries = s.tries; waits = s.waits } };
 }

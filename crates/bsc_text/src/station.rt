@@ -4,7 +4,8 @@ ghost use Rattle.std.specs.Prelude.{◌≡◌, Option, Bool, None};
 ghost use Rattle.bsc_frame.specs.declared.message.Message.{Message as MessageValue};
 ghost use Rattle.bsc_frame.specs.declared.message.Heard.{Heard as HeardValue};
 ghost use Rattle.bsc_frame.specs.declared.message.Heard.TheVariants.{Noise};
-ghost use Rattle.bsc_text.specs.Station.{IsSent, IsHeardAs};
+ghost use Rattle.bsc_frame.specs.Spells.{IsHeardAs};
+ghost use Rattle.bsc_text.specs.Station.{IsSent};
 
 use bsc_frame::{Heard, Message, Wire, decode, encode};
 
@@ -72,9 +73,9 @@ pub trait Station {
 pub fn transmit(message: Option<Message>, wire: &mut Wire) -> bool
     ensures { IsSent message result wire.new.items }
 {
-    match message {
+    match &message {
         Some(message) => {
-            encode(&message, wire);
+            encode(message, wire);
             true
         }
         None => {

@@ -13,14 +13,19 @@ const MAX_SELECTS: usize = 4;
 /// The address that a terminal is polled by, and the one to four addresses that it is selected by.
 #[derive(Clone, Copy, Debug, PartialEq, Eq)]
 pub struct Terminal {
+    /// The address that it is polled by.
     poll: Address,
+
+    /// The addresses that it is selected by, in the first places.
     selects: [Address; 4],
+
+    /// How many of them there are: 1 to 4.
     count: usize,
 }
 
 impl Model for Terminal {
     ghost use Rattle.std.specs.Prelude.{length, take};
-    ghost use Rattle.bsc_text.specs.Terminal.{TerminalValue, HoldsSelects, padded};
+    ghost use Rattle.bsc_text.specs.Terminal.{TerminalValue, HoldsSelects, address_table};
 
     ghost Value = { TerminalValue };
 
@@ -28,9 +33,14 @@ impl Model for Terminal {
 
     ghost invariant = { λ t. HoldsSelects t.poll t.selects t.count };
 
-    ghost inverse = { λ t. record { poll = t.poll; selects = padded t.poll t.selects; count = length t.selects } };
+    ghost inverse = { λ t. record {
+      poll = t.poll;
+      selects = address_table t.poll t.selects;
+      count = length t.selects;
+    } };
 
-    ghost inverse_ok = { λ t h. λ i. record { poll = t.poll; selects = h.rest i; count = h.long i } };
+    ghost inverse_ok = { λ t h. λ i.
+        record { poll = t.poll; selects = h.rest i; count = h.long i } };
 }
 
 /// Why addresses are not those of a terminal.

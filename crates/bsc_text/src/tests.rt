@@ -44,10 +44,9 @@ fn send_the_same(first: &Act, second: &Act) -> bool {
 
 /// What is heard of an act where nothing is spoiled; noise where nothing was sent.
 fn carried(act: Act) -> Heard {
-    match act {
-        Act::Send(text) => Heard::Whole(Message::Text(text)),
-        Act::Enq => Heard::Whole(Message::Enq),
-        Act::Over | Act::Quiet => Heard::Noise,
+    match act.message() {
+        Some(message) => Heard::Whole(message),
+        None => Heard::Noise,
     }
 }
 

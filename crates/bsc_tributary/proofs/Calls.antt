@@ -1,23 +1,21 @@
 -- What a terminal does at a call of its own: the steps of the code, put together, are the rows of the table.
-use Rattle.std.proofs.Common.{◌≡◌, ◌∙◌, ◌<◌, ℕ, sym, ap, subst, refl, Bool, true, false, List, [], ◌∷◌, length, nat_eq, slice_set, Option, None, Some, is_some, if◌then◌else◌, arith}
-use Rattle.std.proofs.lemmas.Bool.Decides.{nat_tests}
+use Rattle.std.proofs.Common.{◌≡◌, ◌∙◌, ◌<◌, ℕ, sym, ap, subst, refl, Bool, true, false, List, length, nat_eq, not, slice_set, Option, if◌then◌else◌, arith}
 use Rattle.std.proofs.lemmas.List.{get_or-set_same, length-set}
 use Rattle.bsc_frame.specs.declared.message.Message.{Message}
 use Rattle.bsc_frame.specs.declared.message.Message.TheVariants as m
-use Rattle.bsc_block.specs.Format.{FormatValue}
-use Rattle.bsc_spool.specs.Queue.{waiting, next_after, next_block}
+use Rattle.bsc_spool.specs.Queue.{waiting, next_block}
 use Rattle.bsc_spool.specs.Spool.{SpoolValue, room_asked}
-use Rattle.bsc_text.specs.declared.parity.Parity.TheVariants.{Odd}
+use Rattle.bsc_text.specs.declared.alternation.Alternation.TheVariants.{Odd}
 use Rattle.bsc_text.specs.declared.phase.Phase.{Phase}
 use Rattle.bsc_text.specs.declared.phase.Phase.TheVariants.{Idle, Unanswered, Held, InDoubt}
 use Rattle.bsc_text.specs.declared.reply.Reply.{Reply}
 use Rattle.bsc_text.specs.Ready.{IsReady, IsAtRest}
 use Rattle.bsc_text.specs.Reply.{message_of}
-use Rattle.bsc_text.specs.Receiver.{ReceiverValue, begun, first_reply}
+use Rattle.bsc_text.specs.Receiver.{ReceiverValue, new_receiver, first_reply}
 use Rattle.bsc_text.specs.Sender.{SenderStep, begin_step, is_in_doubt}
 use Rattle.bsc_tributary.specs.declared.mode.Mode.{Mode}
 use Rattle.bsc_tributary.specs.declared.mode.Mode.TheVariants.{Receiving}
-use Rattle.bsc_tributary.specs.Tributary.{TributaryValue, TributaryStep, spool_at, empty_spool, answer_step, without_line, mode_after, message_for, act_step, poll_step, selection_step}
+use Rattle.bsc_tributary.specs.Tributary.{TributaryValue, TributaryStep, spool_at, empty_spool, answer_step, without_line, mode_after, message_of_act, act_step, poll_step, selection_step}
 use Rattle.bsc_tributary.specs.Kept.{IsTributary}
 use Rattle.bsc_tributary.proofs.Acts.{FollowsFrom, follows-sent_next, IsAtRest-cut_phase}
 use Rattle.bsc_tributary.proofs.Stays.{stays-act_step, stays-flags}
@@ -33,17 +31,13 @@ poll_from-poll_step : (t old : TributaryValue) → t ≡ without_line old →
     poll_from (record t { urgent = false }) ≡ poll_step old
 poll_from-poll_step t old e = ap (λ (v : TributaryValue). poll_from (record v { urgent = false })) e
 
-none_waits : (f : FormatValue) (rs : List (List ℕ)) → next_after f rs ≡ None → nat_eq (length rs) 0 ≡ true
-none_waits f [] e = refl
-none_waits f (r ∷ rs) e = absurd (cc)
+is_true : (b : Bool) → not b ≡ false → b ≡ true
+is_true true e = refl
+is_true false e = absurd (cc)
 
-some_wait : (f : FormatValue) (rs : List (List ℕ)) → is_some (next_after f rs) ≡ true → nat_eq (length rs) 0 ≡ false
-some_wait f [] e = absurd (cc)
-some_wait f (r ∷ rs) e = grind (arith, nat_tests)
-
-none_of : {X : Type 0} (o : Option X) → is_some o ≡ false → o ≡ None
-none_of None e = refl
-none_of (Some x) e = absurd (cc)
+is_false : (b : Bool) → not b ≡ true → b ≡ false
+is_false true e = absurd (cc)
+is_false false e = refl
 
 -- EOT, in doubt
 pub poll_step-in_doubt : (t old : TributaryValue) → t ≡ without_line old → is_in_doubt t.sender.phase ≡ true →
@@ -55,24 +49,24 @@ poll_step-in_doubt t old e doubt =
 
 -- EOT, with nothing to send
 pub poll_step-empty : (t old : TributaryValue) → t ≡ without_line old → is_in_doubt t.sender.phase ≡ false →
-    is_some (next_block t.queue) ≡ false → answer_step (record t { urgent = false }) m.Eot ≡ poll_step old
+    not (nat_eq (length (waiting t.queue)) 0) ≡ false →
+    answer_step (record t { urgent = false }) m.Eot ≡ poll_step old
 poll_step-empty t old e sure none =
-    let empty : nat_eq (length (waiting t.queue)) 0 ≡ true = none_waits t.queue.format (waiting t.queue)
-    (none_of (next_block t.queue) none) in
+    let empty : nat_eq (length (waiting t.queue)) 0 ≡ true = is_true (nat_eq (length (waiting t.queue)) 0) none in
     let here : answer_step (record t { urgent = false }) m.Eot ≡ poll_from (record t { urgent = false }) = rw
     (sure, empty) refl in
     here ∙ poll_from-poll_step t old e
 
 -- the first block
 pub poll_step-begins : (t old : TributaryValue) (step : SenderStep) (mode : Mode) (sent : Option Message) →
-    t ≡ without_line old → is_in_doubt t.sender.phase ≡ false → is_some (next_block t.queue) ≡ true →
-    step ≡ begin_step t.sender t.queue → mode ≡ mode_after step.act t.mode → sent ≡ message_for step.act →
+    t ≡ without_line old → is_in_doubt t.sender.phase ≡ false → not (nat_eq (length (waiting t.queue)) 0) ≡ true →
+    step ≡ begin_step t.sender t.queue → mode ≡ mode_after step.act t.mode → sent ≡ message_of_act step.act →
     record { tributary = record t { urgent = false; mode = mode; sender = step.sender; queue = step.queue }; sent = sent } ≡ poll_step old
 poll_step-begins t old step mode sent e sure some row mode_is sent_is =
-    let waits : nat_eq (length (waiting t.queue)) 0 ≡ false = some_wait t.queue.format (waiting t.queue) some in
+    let wait : nat_eq (length (waiting t.queue)) 0 ≡ false = is_false (nat_eq (length (waiting t.queue)) 0) some in
     let u : TributaryValue = record t { urgent = false } in
     let done : record { tributary = record u { mode = mode; sender = step.sender; queue = step.queue }; sent = sent } ≡ act_step u step = rw (mode_is, sent_is) refl in
-    let here : act_step u (begin_step t.sender t.queue) ≡ poll_from u = rw (sure, waits) refl in
+    let here : act_step u (begin_step t.sender t.queue) ≡ poll_from u = rw (sure, wait) refl in
     done ∙ ap (act_step u) row ∙ here ∙ poll_from-poll_step t old e
 
 -- a terminal from which the line was taken, and which is not in doubt, is idle
@@ -80,7 +74,7 @@ at_rest_idle : (p : Phase) → IsAtRest p → is_in_doubt p ≡ false → p ≡ 
 at_rest_idle Idle rests sure = refl
 at_rest_idle (InDoubt k) rests sure = absurd (cc)
 at_rest_idle (Unanswered b) rests sure = absurd rests
-at_rest_idle (Held end parity) rests sure = absurd rests
+at_rest_idle (Held end alternation) rests sure = absurd rests
 
 pub without_line-idle : (t old : TributaryValue) → t ≡ without_line old → is_in_doubt t.sender.phase ≡ false →
     t.sender.phase ≡ Idle
@@ -103,7 +97,7 @@ selection_from d s room =
     then answer_step
     (record d {
       mode = Receiving s;
-      receiver = begun room;
+      receiver = new_receiver room;
       spools = slice_set d.spools s
           (room_asked (spool_at d.spools s) room);
     }) (message_of (first_reply room))
@@ -112,7 +106,7 @@ selection_from d s room =
 pub selection_step-ready : (t old : TributaryValue) (s : ℕ) (room : Bool) (receiver : ReceiverValue)
     (spools : List SpoolValue) (reply : Reply) (message : Message) → t ≡ without_line old → t.ready ≡ true →
     s < length t.spools →
-    spools ≡ slice_set t.spools s (room_asked (spool_at t.spools s) room) → receiver ≡ begun room →
+    spools ≡ slice_set t.spools s (room_asked (spool_at t.spools s) room) → receiver ≡ new_receiver room →
     reply ≡ first_reply room → message ≡ message_of reply →
     answer_step (record t { mode = Receiving s; receiver = receiver; spools = spools }) message ≡ selection_step old s
     (spool_at spools s).room

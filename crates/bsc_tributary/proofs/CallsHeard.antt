@@ -6,11 +6,11 @@ use Rattle.bsc_frame.specs.declared.message.Message.TheVariants as m
 use Rattle.bsc_frame.specs.declared.message.Heard.TheVariants.{Whole}
 use Rattle.bsc_spool.specs.declared.queue.Next.{Next}
 use Rattle.bsc_spool.specs.Queue.{QueueValue, waiting, next_block}
-use Rattle.bsc_text.specs.declared.parity.Parity.{Parity}
-use Rattle.bsc_text.specs.declared.parity.Parity.TheVariants.{Odd}
+use Rattle.bsc_text.specs.declared.alternation.Alternation.{Alternation}
+use Rattle.bsc_text.specs.declared.alternation.Alternation.TheVariants.{Odd}
 use Rattle.bsc_text.specs.Sender.{SenderValue, begin_step, sent_next, is_in_doubt}
 use Rattle.bsc_text.specs.Terminal.{TerminalValue}
-use Rattle.bsc_tributary.proofs.Choice.{choose}
+use Rattle.bsc_text.proofs.Choice.{choose}
 use Rattle.bsc_tributary.specs.declared.called.Called.{Called}
 use Rattle.bsc_tributary.specs.declared.called.Called.TheVariants.{Polling, Selection, Other}
 use Rattle.bsc_tributary.specs.declared.mode.Mode.{Mode}
@@ -21,11 +21,11 @@ use Rattle.bsc_tributary.proofs.Acts.{not_receiving}
 use Rattle.bsc_tributary.proofs.Addresses.{selection-is}
 
 -- after a poll the terminal is in control mode or sends
-pub begun_mode : (s : SenderValue) (q : QueueValue) (parity : Parity) (next : Option Next) →
-    (mode_after (sent_next s q parity next).act Control ≡ Control) ⊎ (mode_after
-    (sent_next s q parity next).act Control ≡ Sending)
-begun_mode s q parity None = inl refl
-begun_mode s q parity (Some n) = inr refl
+pub begun_mode : (s : SenderValue) (q : QueueValue) (alternation : Alternation) (next : Option Next) →
+    (mode_after (sent_next s q alternation next).act Control ≡ Control) ⊎ (mode_after
+    (sent_next s q alternation next).act Control ≡ Sending)
+begun_mode s q alternation None = inl refl
+begun_mode s q alternation (Some n) = inr refl
 
 pub mode-poll_step : (t : TributaryValue) → ((poll_step t).tributary.mode ≡ Control) ⊎ ((poll_step t).tributary.mode ≡
     Sending)

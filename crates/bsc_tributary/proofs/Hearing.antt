@@ -10,12 +10,12 @@ use Rattle.bsc_frame.specs.Texts.{TextValue}
 use Rattle.bsc_block.specs.Blocks.{records_in}
 use Rattle.bsc_spool.specs.Queue.{waiting, next_block}
 use Rattle.bsc_spool.specs.Spool.{SpoolValue, room_asked}
-use Rattle.bsc_text.specs.declared.parity.Parity.TheVariants.{Odd}
+use Rattle.bsc_text.specs.declared.alternation.Alternation.TheVariants.{Odd}
 use Rattle.bsc_text.specs.Reply.{reply_heard}
-use Rattle.bsc_text.specs.Receiver.{ReceiverValue, ReceiverStep, Rooms, heard_step, text_step, taken, taken_urgently, enq_step, is_rvi, is_wack}
+use Rattle.bsc_text.specs.Receiver.{ReceiverValue, ReceiverStep, Rooms, heard_step, text_step, stored_text, taken_urgently, enq_step, is_rvi, is_wack}
 use Rattle.bsc_text.specs.Ready.{IsReady}
 use Rattle.bsc_text.specs.Sender.{SenderValue, SenderStep, with_phase, cut_phase, begin_step, reply_step, silence_step, is_in_doubt}
-use Rattle.bsc_tributary.proofs.Choice.{choose}
+use Rattle.bsc_text.proofs.Choice.{choose}
 use Rattle.bsc_tributary.specs.declared.called.Called.{Called}
 use Rattle.bsc_tributary.specs.declared.called.Called.TheVariants.{Polling, Selection, Other}
 use Rattle.bsc_tributary.specs.declared.mode.Mode.{Mode}
@@ -156,7 +156,7 @@ text_grows : (r : ReceiverValue) (s : SpoolValue) (text : TextValue) (urgent : B
     Grows (Whole (m.Text text)) s (text_step r s text urgent rooms)
 text_grows r s text urgent rooms =
     let P : ReceiverStep → Type 0 = Grows (Whole (m.Text text)) s in
-    let stored : P (taken r s text rooms) = inr (record { text = text; heard = refl; becomes = refl }) in
+    let stored : P (stored_text r s text rooms) = inr (record { text = text; heard = refl; becomes = refl }) in
     let stored_urgently : P (taken_urgently r s text rooms) = inr
     (record { text = text; heard = refl; becomes = refl }) in
     choose P rooms.first _ _ (choose P urgent _ _

@@ -13,7 +13,7 @@ use Rattle.bsc_text.specs.Receiver.{ReceiverValue, ReceiverStep, Receives, Rooms
 use Rattle.bsc_text.specs.Sender.{SenderStep, reply_step, silence_step}
 use Rattle.bsc_tributary.specs.declared.mode.Mode.{Mode}
 use Rattle.bsc_tributary.specs.declared.mode.Mode.TheVariants.{Control, Receiving, Sending}
-use Rattle.bsc_tributary.specs.Tributary.{TributaryValue, spool_at, spool_in, rooms_after, mode_after, message_for, act_step, receive_step, mode_step, hear_step, silence_in, Hears, ActsOnSilence}
+use Rattle.bsc_tributary.specs.Tributary.{TributaryValue, spool_at, spool_in, rooms_after, mode_after, message_of_act, act_step, receive_step, mode_step, hear_step, silence_in, Hears, ActsOnSilence}
 use Rattle.bsc_tributary.specs.Kept.{IsTributary, SuitsMode, IsNoCall}
 use Rattle.bsc_tributary.proofs.Acts.{FollowsFrom, follows-reply_step, follows-silence_step, mode_after-Sending, not_receiving}
 use Rattle.bsc_tributary.proofs.Stays.{stays-act_step}
@@ -100,13 +100,13 @@ abbrev pub with_sender : TributaryValue → Mode → SenderStep → TributaryVal
 with_sender t mode step = record t { mode = mode; sender = step.sender; queue = step.queue }
 
 act_step_is : (t : TributaryValue) (mode : Mode) (step : SenderStep) (sent : Option Message) →
-    mode ≡ mode_after step.act t.mode → sent ≡ message_for step.act →
+    mode ≡ mode_after step.act t.mode → sent ≡ message_of_act step.act →
     record { tributary = with_sender t mode step; sent = sent } ≡ act_step t step
 act_step_is t mode step sent mode_is sent_is = rw (mode_is, sent_is) refl
 
 pub hears-sending : (t old : TributaryValue) (h : Heard) (mode : Mode) (step : SenderStep) (sent : Option Message) →
     IsNoCall h → t ≡ old → t.mode ≡ Sending → step ≡ reply_step t.sender t.queue (reply_heard h) →
-    mode ≡ mode_after step.act t.mode → sent ≡ message_for step.act → Hears old h (with_sender t mode step) sent
+    mode ≡ mode_after step.act t.mode → sent ≡ message_of_act step.act → Hears old h (with_sender t mode step) sent
 hears-sending t old h mode step sent plain view sending row mode_is sent_is =
     let new : TributaryValue = with_sender t mode step in
     let heard : Hears t h (with_sender t mode step) sent =
@@ -132,7 +132,7 @@ stays-replied t h mode step is sending row mode_is ready =
 -- a silence
 pub silent-sending : (t old : TributaryValue) (mode : Mode) (step : SenderStep) (sent : Option Message) → t ≡ old →
     t.mode ≡ Sending → step ≡ silence_step t.sender t.queue → mode ≡ mode_after step.act t.mode →
-    sent ≡ message_for step.act → ActsOnSilence old (with_sender t mode step) sent
+    sent ≡ message_of_act step.act → ActsOnSilence old (with_sender t mode step) sent
 silent-sending t old mode step sent view sending row mode_is sent_is =
     act_step_is t mode step sent mode_is sent_is ∙ ap (act_step t) row ∙ ap (silence_in t) (sym sending)
     ∙ ap (λ (v : TributaryValue). silence_in v v.mode) view

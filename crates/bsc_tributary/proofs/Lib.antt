@@ -2,7 +2,6 @@ pub mod Acts
 pub mod Addresses
 pub mod Calls
 pub mod CallsHeard
-pub mod Choice
 pub mod Hearing
 pub mod InMode
 pub mod Offering

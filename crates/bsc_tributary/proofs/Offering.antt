@@ -1,61 +1,24 @@
 -- The queue has what the sender counts on, whatever is offered, and after a release.
-use Rattle.std.proofs.Common.{◌≡◌, ◌∙◌, ◌⊎◌, inl, inr, ℕ, ◌+◌, ◌≤◌, ◌==◌, ◌||◌, sym, ap, subst, refl, List, [], ◌∷◌, ◌++◌, length, drop, Result, Ok, Err, arith}
-use Rattle.std.proofs.lemmas.List.{length-append, length-drop}
-use Rattle.std.specs.List.{AllByRecursion}
+use Rattle.std.proofs.Common.{◌≡◌, ◌∙◌, ◌⊎◌, inl, inr, ℕ, ◌+◌, ◌≤◌, ◌==◌, ◌||◌, sym, ap, subst, refl, List, [], ◌∷◌, ◌++◌, length, Result, Ok, Err}
 use Rattle.std.specs.Result.{OnOk, OnErr}
-use Rattle.bsc_frame.specs.declared.text.End.{End}
-use Rattle.bsc_frame.specs.declared.text.End.TheVariants.{Etb, Etx}
 use Rattle.bsc_block.specs.Format.{FormatValue}
-use Rattle.bsc_spool.specs.Queue.{QueueValue, waiting}
+use Rattle.bsc_spool.specs.Queue.{QueueValue}
 use Rattle.bsc_text.specs.declared.phase.Phase.{Phase}
 use Rattle.bsc_text.specs.declared.phase.Phase.TheVariants.{Idle, Unanswered, Held, InDoubt}
-use Rattle.bsc_text.specs.Ready.{IsReady, CountsOn, AreWaiting}
+use Rattle.bsc_text.specs.Ready.{IsReady}
 use Rattle.bsc_text.specs.Setup.{SetupValue}
 use Rattle.bsc_text.specs.Sender.{SenderValue, ReleaseStep, release_step, with_phase}
-use Rattle.bsc_tributary.proofs.Choice.{choose}
+use Rattle.bsc_text.proofs.Choice.{choose}
+use Rattle.bsc_text.proofs.OfferLemmas.{ready_offered}
 use Rattle.bsc_tributary.specs.declared.mode.Mode.{Mode}
 use Rattle.bsc_tributary.specs.declared.mode.Mode.TheVariants.{Control, Receiving, Sending}
 use Rattle.bsc_tributary.specs.Tributary.{TributaryValue, after_release}
 use Rattle.bsc_tributary.specs.Kept.{IsTributary, KeepsSetupAndMode, SuitsMode}
 
--- more records may wait than are counted on
-waiting_more : (k : ℕ) (end : End) (m n : ℕ) → m ≤ n → AreWaiting k end m → AreWaiting k end n
-waiting_more k Etb m n more are = omega arith
-waiting_more k Etx m n more are = omega arith
-
-counts_more : (p : Phase) (m n : ℕ) → m ≤ n → CountsOn p m → CountsOn p n
-counts_more Idle m n more counts = tt
-counts_more (InDoubt k) m n more counts = omega arith
-counts_more (Unanswered b) m n more counts = (counts.0, counts.1, waiting_more b.count b.end m n more counts.2)
-counts_more (Held end parity) m n more counts = waiting_more 0 end m n more counts
-
-all_more : (full : ℕ) (rs : List (List ℕ)) (r : List ℕ) → AllByRecursion (λ x. length x ≤ full) rs → length r ≤ full →
-    AllByRecursion (λ x. length x ≤ full) (rs ++ r ∷ [])
-all_more full [] r all short = (short, tt)
-all_more full (x ∷ xs) r all short = (all.0, all_more full xs r all.1 short)
-
--- an offer
-pub ready-offered : (s : SenderValue) (q : QueueValue) (r : List ℕ) → IsReady s q → length r ≤ q.format.full →
-    IsReady s (record q { offered = q.offered ++ r ∷ [] })
-ready-offered s q r ready short =
-    let longer : length (q.offered ++ r ∷ []) ≡ length q.offered + 1 = length-append q.offered (r ∷ []) in
-    let known : q.known ≤ length q.offered = ready.queue.known in
-    let more : length (drop q.known q.offered) ≤ length (drop q.known (q.offered ++ r ∷ [])) = omega
-    (arith, longer, length-drop q.known q.offered, length-drop q.known (q.offered ++ r ∷ [])) in
-    record {
-      queue = record {
-        format = ready.queue.format;
-        known = omega
-            (arith, longer);
-        short = all_more q.format.full q.offered r ready.queue.short short;
-      };
-      counts = counts_more s.phase (length (waiting q)) (length (drop q.known (q.offered ++ r ∷ []))) more ready.counts;
-    }
-
 pub stays-offered : (t : TributaryValue) (r : List ℕ) → IsTributary t → length r ≤ t.queue.format.full →
     IsTributary (record t { queue = record t.queue { offered = t.queue.offered ++ r ∷ [] } })
 stays-offered t r is short =
-    record { distinct = is.distinct; terminal = is.terminal; spools = is.spools; format = is.format; ready = ready-offered t.sender t.queue r is.ready short; bid = is.bid }
+    record { distinct = is.distinct; terminal = is.terminal; spools = is.spools; format = is.format; ready = ready_offered t.sender t.queue r is.ready short; bid = is.bid }
 
 -- a release leaves the settings and the format, and a phase that suits the mode
 record Releases (mode : Mode) (n : ℕ) (setup : SetupValue) (format : FormatValue) (step : ReleaseStep) : Type 0 where
@@ -76,7 +39,7 @@ releases-in mode n s q (InDoubt k) count suits =
     (record { suits = suits; setup_is = refl; format_is = refl })
 releases-in mode n s q Idle count suits = record { suits = suits; setup_is = refl; format_is = refl }
 releases-in mode n s q (Unanswered b) count suits = record { suits = suits; setup_is = refl; format_is = refl }
-releases-in mode n s q (Held end parity) count suits = record { suits = suits; setup_is = refl; format_is = refl }
+releases-in mode n s q (Held end alternation) count suits = record { suits = suits; setup_is = refl; format_is = refl }
 
 releases : (t : TributaryValue) (count : ℕ) (step : ReleaseStep) → IsTributary t →
     step ≡ release_step t.sender t.queue count →

@@ -1,8 +1,7 @@
 -- The table of spools, of which the first places are in use.
-use Rattle.std.proofs.Common.{◌≡◌, ◌∙◌, ℕ, ◌<◌, sym, ap, refl, List, [], ◌∷◌, length, take, get_or, slice_set, All, arith}
+use Rattle.std.proofs.Common.{◌≡◌, ◌∙◌, ℕ, ◌<◌, sym, ap, refl, List, length, take, get_or, slice_set, arith}
 use Rattle.std.proofs.Math.Seq.{take-set-lt}
 use Rattle.std.proofs.lemmas.List.{length-take, get_or-take, get_or-set_same}
-use Rattle.std.proofs.lemmas.List.Elements.{All-take, All-cons, All-nil}
 use Rattle.std.proofs.lemmas.Option.{slice_get_read, get_or_from_slice_get}
 use Rattle.bsc_spool.specs.Spool.{SpoolValue}
 use Rattle.bsc_tributary.specs.Tributary.{spool_at, empty_spool}
@@ -30,10 +29,3 @@ written n table s before after spools view within read =
       now = ap (λ (xs : List SpoolValue). spool_at xs s) rest
           ∙ get_or-set_same spools s after empty_spool within;
     }
-
--- four elements, of which the first n are taken
-pub All-take_four : (P : SpoolValue → Type 0) (n : ℕ) (a b c d : SpoolValue) → P a → P b → P c → P d →
-    All P (take n (a ∷ b ∷ c ∷ d ∷ []))
-All-take_four P n a b c d p q r s = All-take P n (a ∷ b ∷ c ∷ d ∷ [])
-    (All-cons P a (b ∷ c ∷ d ∷ []) p (All-cons P b (c ∷ d ∷ []) q
-    (All-cons P c (d ∷ []) r (All-cons P d [] s (All-nil P)))))

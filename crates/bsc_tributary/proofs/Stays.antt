@@ -47,7 +47,7 @@ stays-act_step t mode from step is e follows ready =
 -- a new one
 pub new_is : (terminal : TerminalValue) (setup : SetupValue) (sender : SenderValue) (receiver : ReceiverValue)
     (queue : QueueValue) (spools : List SpoolValue) → HasDistinctAddresses terminal → IsTerminal terminal → IsSetup setup →
-    sender ≡ record { setup = setup; phase = Idle; tries = 0; waits = 0 } →
+    sender ≡ record { setup = setup; phase = Idle; failures = 0; wacks = 0 } →
     queue ≡ record { format = setup.format; offered = []; known = 0 } → length spools ≡ length terminal.selects →
     IsTributary
     (record { terminal = terminal; mode = Control; ready = true; urgent = false; sender = sender; receiver = receiver; queue = queue; spools = spools })

@@ -11,7 +11,7 @@ use Rattle.bsc_spool.specs.Queue.{queue_of}
 use Rattle.bsc_spool.specs.Spool.{SpoolValue}
 use Rattle.bsc_text.specs.declared.phase.Phase.{Phase}
 use Rattle.bsc_text.specs.declared.phase.Phase.TheVariants.{Idle}
-use Rattle.bsc_text.specs.Receiver.{begun}
+use Rattle.bsc_text.specs.Receiver.{new_receiver}
 use Rattle.bsc_text.specs.Setup.{SetupValue}
 use Rattle.bsc_text.specs.Ready.{IsReady, IsGoing, IsAtRest}
 use Rattle.bsc_text.specs.Terminal.{TerminalValue, IsTerminal, HasDistinctAddresses}
@@ -46,8 +46,8 @@ pub record IsNewTerminal (setup : SetupValue) (terminal : TerminalValue) (t : Tr
   pub mode : t.mode ≡ Control
   pub ready : t.ready ≡ true
   pub calm : t.urgent ≡ false
-  pub sender : t.sender ≡ record { setup = setup; phase = Idle; tries = 0; waits = 0 }
-  pub receiver : t.receiver ≡ begun true
+  pub sender : t.sender ≡ record { setup = setup; phase = Idle; failures = 0; wacks = 0 }
+  pub receiver : t.receiver ≡ new_receiver true
   pub queue : t.queue ≡ queue_of setup.format [] 0
   pub spools : All (λ (s : SpoolValue). (s.records ≡ []) × (s.delays ≡ 0)) t.spools
   pub tributary : IsTributary t

@@ -11,9 +11,10 @@ use Rattle.bsc_spool.specs.Queue.{QueueValue, waiting}
 use Rattle.bsc_spool.specs.Spool.{SpoolValue, room_asked}
 use Rattle.bsc_text.specs.declared.act.Act.{Act}
 use Rattle.bsc_text.specs.declared.act.Act.TheVariants as a
+use Rattle.bsc_text.specs.Act.{message_for}
 use Rattle.bsc_text.specs.Terminal.{TerminalValue}
 use Rattle.bsc_text.specs.Reply.{message_of, reply_heard}
-use Rattle.bsc_text.specs.Receiver.{ReceiverValue, ReceiverStep, Rooms, begun, first_reply}
+use Rattle.bsc_text.specs.Receiver.{ReceiverValue, ReceiverStep, Rooms, new_receiver, first_reply}
 use Rattle.bsc_text.specs.Receiver.{heard_step, rooms_left, sends_rvi}
 use Rattle.bsc_text.specs.Sender.{SenderValue, SenderStep, with_phase, begin_step, reply_step}
 use Rattle.bsc_text.specs.Sender.{silence_step, cut_phase, is_in_doubt, release_step}
@@ -74,18 +75,17 @@ abbrev pub without_line : TributaryValue → TributaryValue
 without_line t =
     record t { mode = Control; sender = with_phase t.sender (cut_phase t.sender.phase) }
 
--- what the sender's act makes of the mode, and the message for it
+-- what the sender's act makes of the mode
 abbrev pub mode_after : Act → Mode → Mode
 mode_after (a.Send text) mode = Sending
 mode_after a.Enq mode = Sending
 mode_after a.Over mode = Control
 mode_after a.Quiet mode = mode
 
-abbrev pub message_for : Act → Option Message
-message_for (a.Send text) = Some (m.Text text)
-message_for a.Enq = Some m.Enq
-message_for a.Over = Some m.Eot
-message_for a.Quiet = None
+-- a bid that is over is ended by EOT
+abbrev pub message_of_act : Act → Option Message
+message_of_act a.Over = Some m.Eot
+message_of_act act = message_for act
 
 -- the sender acts
 abbrev pub act_step : TributaryValue → SenderStep → TributaryStep
@@ -96,7 +96,7 @@ act_step t step =
         sender = step.sender;
         queue = step.queue;
       };
-      sent = message_for step.act;
+      sent = message_of_act step.act;
     }
 
 -- the receiver replies, from the spool of this number; RVI clears the urgent flag
@@ -125,7 +125,8 @@ selection_step t s room =
     let d : TributaryValue = without_line t in
     let spools : List SpoolValue = slice_set t.spools s (room_asked (spool_at t.spools s) room) in
     if t.ready
-    then answer_step (record d { mode = Receiving s; receiver = begun room; spools = spools })
+    then answer_step
+    (record d { mode = Receiving s; receiver = new_receiver room; spools = spools })
     (message_of (first_reply room))
     else answer_step d m.Nak
 

@@ -8,7 +8,7 @@ ghost use Rattle.bsc_text.specs.Reply.{message_of};
 ghost use Rattle.bsc_text.specs.Terminal.{HasDistinctAddresses};
 ghost use Rattle.bsc_text.specs.Sender.{release_step, is_in_doubt};
 ghost use Rattle.bsc_tributary.specs.Tributary.{without_line, poll_step, selection_step};
-ghost use Rattle.bsc_tributary.specs.Tributary.{mode_after, message_for, after_release, holds};
+ghost use Rattle.bsc_tributary.specs.Tributary.{mode_after, message_of_act, after_release, holds};
 ghost use Rattle.bsc_tributary.specs.Tributary.{spool_at};
 ghost use Rattle.bsc_tributary.specs.Kept.{IsTributary, IsNewTerminal, KeepsSetupAndMode};
 ghost use Rattle.bsc_tributary.specs.Kept.{IsHearing, IsNoCall};
@@ -169,7 +169,7 @@ impl<A: Allocator> Tributary<A> {
     {
         self.drop_line();
         self.urgent = false;
-        if self.sender.in_doubt() || self.queue.next().is_none() {
+        if self.sender.in_doubt() || !self.queue.has_waiting() {
             return Some(Message::Eot);
         }
         let act = self.sender.begin(&self.queue);
@@ -338,24 +338,19 @@ fn message_of(reply: Option<Reply>) -> Option<Message>
     reply.map(Reply::message)
 }
 
-/// Does to the mode what follows from the sender's act, and gives the message for it.
+/// Does to the mode what follows from the sender's act, and gives the message for it: EOT where
+/// the bid is over.
 fn perform(act: Act, mode: &mut Mode) -> Option<Message>
     ensures mode { mode.new ≡ mode_after act mode.old }
-    ensures sent { result ≡ message_for act }
+    ensures sent { result ≡ message_of_act act }
 {
-    match act {
-        Act::Send(text) => {
-            *mode = Mode::Sending;
-            Some(Message::Text(text))
-        }
-        Act::Enq => {
-            *mode = Mode::Sending;
-            Some(Message::Enq)
-        }
+    match &act {
+        Act::Send(_) | Act::Enq => *mode = Mode::Sending,
         Act::Over => {
             *mode = Mode::Control;
-            Some(Message::Eot)
+            return Some(Message::Eot);
         }
-        Act::Quiet => None,
+        Act::Quiet => {}
     }
+    act.message()
 }

@@ -12,8 +12,13 @@ use std::test::Fail;
 
 #[derive(Drop)]
 pub struct Bidder<A: Allocator> {
+    /// The sender of the bids.
     sender: Sender,
+
+    /// The records that it sends.
     queue: Queue<A>,
+
+    /// Whether a bid goes on.
     going: bool,
 }
 
@@ -60,7 +65,7 @@ impl<A: Allocator> Bidder<A> {
 
     /// Begins a bid, where records wait and there is neither a bid nor a doubt.
     pub fn begin(&mut self) -> Result<Act, Fail> {
-        if self.going || self.sender.in_doubt() || self.queue.next().is_none() {
+        if self.going || self.sender.in_doubt() || !self.queue.has_waiting() {
             return Err("no bid can begin")?;
         }
         self.going = true;

@@ -10,6 +10,7 @@ use std::test::Fail;
 /// A station that answers nothing, and asks for the last reply at every silence.
 #[derive(Drop)]
 struct Asking {
+    /// How many silences it was told of.
     silences: u8,
 }
 

@@ -4,12 +4,12 @@ ghost use Rattle.std.specs.Prelude.{◌≡◌, length, unwrap_or};
 ghost use Rattle.bsc_frame.specs.declared.message.Heard.TheVariants.{Noise};
 ghost use Rattle.bsc_spool.specs.Queue.{waiting};
 ghost use Rattle.bsc_text.specs.Bid.{Bid, Turn, after_turn};
-ghost use Rattle.bsc_text.specs.Ready.{CountsOn, IsReady};
+ghost use Rattle.bsc_text.specs.Ready.{CountsOn, IsGoing, IsReady};
 ghost use Rattle.bsc_text.specs.Receiver.{Rooms, rooms_left};
 
 use crate::{Act, Receiver, Reply, Sender, Setup};
 use bsc_block::Record;
-use bsc_frame::{Heard, Message};
+use bsc_frame::Heard;
 use bsc_spool::{Queue, Spool};
 use std::alloc::Allocator;
 use std::test::Fail;
@@ -35,7 +35,7 @@ fn turn<A: Allocator>(
     spool: &mut Spool<A>,
     hearings: &Hearings,
 ) -> Act
-    requires { CountsOn sender.old.phase (length (waiting queue.old)) }
+    requires { IsGoing sender.old.phase → CountsOn sender.old.phase (length (waiting queue.old)) }
     ensures law { let heard = unwrap_or hearings.now.there Noise in
         let rooms : Rooms = rooms_left heard receiver.new.last spool.new in
         let t : Turn = record {
@@ -76,11 +76,7 @@ fn turn<A: Allocator>(
 
 /// What is heard of the transmission of an act that arrives whole.
 fn whole(act: Act) -> Option<Heard> {
-    match act {
-        Act::Send(text) => Some(Heard::Whole(Message::Text(text))),
-        Act::Enq => Some(Heard::Whole(Message::Enq)),
-        Act::Over | Act::Quiet => None,
-    }
+    act.message().map(Heard::Whole)
 }
 
 /// A turn in which this is heard of both transmissions, without the urgent flag.

@@ -1,5 +1,6 @@
-use Rattle.bsc_text.proofs.StepLemmas.{hearing_agrees, answering_agrees, silence_agrees, begin_agrees, offer_agrees, offer_keeps_rest, release_keeps_rest, agreement_is_sound, loss_agrees, outward_is_text_or_enq, back_is_last}
+use Rattle.bsc_text.proofs.StepLemmas.{hearing_agrees, answering_agrees, silence_agrees, begin_agrees, offer_agrees, offer_keeps_rest, release_keeps_rest, agreement_is_sound, loss_agrees, outward_is_text_or_enq, reply_is_last}
 use Rattle.bsc_text.proofs.FitLemmas.{fits_begin, fits_reply, fits_silence}
+use Rattle.bsc_text.proofs.KeepLemmas.{keeps_begin, keeps_reply, keeps_silence}
 use Rattle.bsc_text.proofs.Answering.{busy}
 use Rattle.bsc_text.proofs.Turning.{LawsBelow, bid_continues}
 use Rattle.bsc_text.proofs.laws.each_step.Goals as goal
@@ -48,8 +49,11 @@ returns-clause-goes_on c = busy
 pub returns-clause-outward : goal.returns-clause-outward
 returns-clause-outward c = outward_is_text_or_enq
 
-pub returns-clause-back : goal.returns-clause-back
-returns-clause-back c = back_is_last
+pub returns-clause-last_reply : goal.returns-clause-last_reply
+returns-clause-last_reply c = reply_is_last
 
 pub returns-clause-fits : goal.returns-clause-fits
 returns-clause-fits c = record { begin = fits_begin; reply = fits_reply; silence = fits_silence }
+
+pub returns-clause-keeps : goal.returns-clause-keeps
+returns-clause-keeps c = record { begin = keeps_begin; reply = keeps_reply; silence = keeps_silence }

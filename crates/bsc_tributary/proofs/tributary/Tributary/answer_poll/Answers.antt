@@ -1,17 +1,17 @@
-use Rattle.std.proofs.Common.{◌∙◌, sym, ap, false, is_some}
+use Rattle.std.proofs.Common.{◌∙◌, sym, false}
 use Rattle.bsc_tributary.proofs.Calls.{poll_step-in_doubt, poll_step-empty, poll_step-begins, without_line-idle, stays-begun}
 use Rattle.bsc_tributary.proofs.Stays.{stays-flags}
 use Rattle.bsc_tributary.proofs.tributary.Tributary.answer_poll.Goals as goal
-use Rattle.bsc_tributary.proofs.tributary.Tributary.answer_poll.Goals.{then-in_doubt-via-then-in_doubt, then-in_doubt-via-else-in_doubt+then-is_none}
+use Rattle.bsc_tributary.proofs.tributary.Tributary.answer_poll.Goals.{then-in_doubt-via-then-in_doubt, then-in_doubt-via-else-in_doubt+then-not-has_waiting}
 
 pub returns-then-in_doubt-clause-row : goal.returns-then-in_doubt-clause-row
 returns-then-in_doubt-clause-row g c =
     elim c.then-in_doubt.branch [
       | then-in_doubt-via-then-in_doubt w ↦ poll_step-in_doubt _ c.args.self.now
           (c.self.view_is ∙ c.drop_line.ensures.state) (sym c.in_doubt.ensures ∙ w.if-in_doubt.true)
-      | then-in_doubt-via-else-in_doubt+then-is_none w ↦ poll_step-empty _ c.args.self.now
+      | then-in_doubt-via-else-in_doubt+then-not-has_waiting w ↦ poll_step-empty _ c.args.self.now
           (c.self.view_is ∙ c.drop_line.ensures.state) (sym c.in_doubt.ensures ∙ w.if-in_doubt.false)
-          (ap is_some (sym w.next.ensures.value) ∙ w.if-is_none.ensures)
+          (sym w.has_waiting.ensures.value ∙ w.if-not-has_waiting.true)
     ]
 
 pub begin-act-requires-clause-idle : goal.begin-act-requires-clause-idle
@@ -24,8 +24,7 @@ invariant_of-self-2 g c = stays-begun _ _ c.perform.new.mode c.self.invariant c.
 pub returns-clause-row : goal.returns-clause-row
 returns-clause-row g c = poll_step-begins _ c.args.self.now _ c.perform.new.mode c.perform.result
     (c.self.view_is ∙ c.drop_line.ensures.state) (sym c.in_doubt.ensures ∙ c.if-in_doubt.false)
-    (ap is_some (sym c.next.ensures.value)
-    ∙ c.if-is_none.ensures) c.begin-act.ensures.row c.perform.ensures.mode c.perform.ensures.sent
+    (sym c.has_waiting.ensures.value ∙ c.if-not-has_waiting.false) c.begin-act.ensures.row c.perform.ensures.mode c.perform.ensures.sent
 
 pub returns-then-in_doubt-clause-tributary : goal.returns-then-in_doubt-clause-tributary
 returns-then-in_doubt-clause-tributary g c = stays-flags _ c.self.inside.ready false c.self.inside.receiver c.self.invariant
