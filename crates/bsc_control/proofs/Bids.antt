@@ -14,8 +14,8 @@ use Rattle.bsc_control.specs.CallOrder.{Call, After, Selection, Interruption, wa
 use Rattle.bsc_control.specs.Control.{ControlValue, HasEntries, peer_at, peer, current, terminal_of_entry}
 use Rattle.bsc_control.specs.Kept.{outbound_of, phase_of, HasSettings, Keeps, IsCalled}
 use Rattle.bsc_control.specs.Peer.{OutboundValue, PeerValue, no_outbound, no_peer, outbound_at, with_outbound, outbound_after, is_selectable}
-use Rattle.bsc_control.specs.Table.{performs, acted, calls_next}
-use Rattle.bsc_control.proofs.Calls.{IsCalm, Fares, HasShape, shape, entry_within, fares-calls_next, next_is_called}
+use Rattle.bsc_control.specs.Table.{perform_step, bid_step, next_call_step}
+use Rattle.bsc_control.proofs.Calls.{IsCalm, KeepsSpools, HasShape, shape, entry_within, keeps_spools-next_call_step, next_is_called}
 use Rattle.bsc_control.proofs.PeerLists.{same_at, same_map, holds_at}
 use Rattle.bsc_control.proofs.Replacing.{replaced, same_of, same_lengths, settings-replaced}
 use Rattle.bsc_control.proofs.SenderSteps.{LeavesPhase, StepKeeps}
@@ -84,8 +84,8 @@ calm-stepped c s o h keeps rests =
     }
 
 -- the sender goes on
-pub fares-goes_on : (c : ControlValue) (s : ℕ) (o : OutboundValue) → OthersRest c s → OutboundKeeps (outbound_of c (current c) s) o → IsGoing o.sender.phase → Fares c (record (stepped c s o) { task = Sending s })
-fares-goes_on c s o h keeps goes =
+pub keeps_spools-goes_on : (c : ControlValue) (s : ℕ) (o : OutboundValue) → OthersRest c s → OutboundKeeps (outbound_of c (current c) s) o → IsGoing o.sender.phase → KeepsSpools c (record (stepped c s o) { task = Sending s })
+keeps_spools-goes_on c s o h keeps goes =
     let within = current_within c h.entries in
     let kept : Keeps c (stepped c s o) = keeps-stepped c s o keeps in
     record {
@@ -111,8 +111,8 @@ fares-goes_on c s o h keeps goes =
       spools = same_spools c s o;
     }
 
-pub fares_after : (a b c : ControlValue) → Keeps a b → ((t : ℕ) → (peer_at b t).spool ≡ (peer_at a t).spool) → Fares b c → Fares a c
-fares_after a b c k spools f =
+pub keeps_spools_after : (a b c : ControlValue) → Keeps a b → ((t : ℕ) → (peer_at b t).spool ≡ (peer_at a t).spool) → KeepsSpools b c → KeepsSpools a c
+keeps_spools_after a b c k spools f =
     let l : Keeps b c = f.keeps in
     record {
       keeps =
@@ -129,21 +129,21 @@ fares_after a b c k spools f =
     }
 
 -- the sender acts, and after the bid the next call is made
-fares-performs : (c : ControlValue) (s : ℕ) (o : OutboundValue) (act : Act) (after : After) → OthersRest c s → OutboundKeeps (outbound_of c (current c) s) o → LeavesPhase act o.sender.phase
-    → (act ≡ a.Quiet → c.task ≡ Sending s) → Fares c (performs (stepped c s o) s act after).control
-fares-performs c s o (a.Send text) after h keeps phase quiet = fares-goes_on c s o h keeps phase
-fares-performs c s o a.Enq after h keeps phase quiet = fares-goes_on c s o h keeps phase
-fares-performs c s o a.Over after h keeps phase quiet =
-    fares_after c (stepped c s o) (performs (stepped c s o) s a.Over after).control (keeps-stepped c s o keeps) (same_spools c s o) (fares-calls_next (stepped c s o) after (calm-stepped c s o h keeps phase))
-fares-performs c s o a.Quiet after h keeps phase quiet =
-    subst (λ (task : Task). Fares c (record (stepped c s o) { task = task })) (sym (quiet refl)) (fares-goes_on c s o h keeps phase)
+keeps_spools-perform_step : (c : ControlValue) (s : ℕ) (o : OutboundValue) (act : Act) (after : After) → OthersRest c s → OutboundKeeps (outbound_of c (current c) s) o → LeavesPhase act o.sender.phase
+    → (act ≡ a.Quiet → c.task ≡ Sending s) → KeepsSpools c (perform_step (stepped c s o) s act after).control
+keeps_spools-perform_step c s o (a.Send text) after h keeps phase quiet = keeps_spools-goes_on c s o h keeps phase
+keeps_spools-perform_step c s o a.Enq after h keeps phase quiet = keeps_spools-goes_on c s o h keeps phase
+keeps_spools-perform_step c s o a.Over after h keeps phase quiet =
+    keeps_spools_after c (stepped c s o) (perform_step (stepped c s o) s a.Over after).control (keeps-stepped c s o keeps) (same_spools c s o) (keeps_spools-next_call_step (stepped c s o) after (calm-stepped c s o h keeps phase))
+keeps_spools-perform_step c s o a.Quiet after h keeps phase quiet =
+    subst (λ (task : Task). KeepsSpools c (record (stepped c s o) { task = task })) (sym (quiet refl)) (keeps_spools-goes_on c s o h keeps phase)
 
 pub outbound_keeps : (o : OutboundValue) (step : SenderStep) → StepKeeps o.sender o.queue step → OutboundKeeps o (outbound_after step)
 outbound_keeps o step k = record { setup = k.setup; format = k.format; offered = k.offered }
 
-pub fares-acted : (c : ControlValue) (s : ℕ) (step : SenderStep) (after : After) → OthersRest c s → StepKeeps (outbound_of c (current c) s).sender (outbound_of c (current c) s).queue step
-    → (step.act ≡ a.Quiet → c.task ≡ Sending s) → Fares c (acted c s step after).control
-fares-acted c s step after h keeps quiet = fares-performs c s (outbound_after step) step.act after h (outbound_keeps (outbound_of c (current c) s) step keeps) keeps.phase quiet
+pub keeps_spools-bid_step : (c : ControlValue) (s : ℕ) (step : SenderStep) (after : After) → OthersRest c s → StepKeeps (outbound_of c (current c) s).sender (outbound_of c (current c) s).queue step
+    → (step.act ≡ a.Quiet → c.task ≡ Sending s) → KeepsSpools c (bid_step c s step after).control
+keeps_spools-bid_step c s step after h keeps quiet = keeps_spools-perform_step c s (outbound_after step) step.act after h (outbound_keeps (outbound_of c (current c) s) step keeps) keeps.phase quiet
 
 shape-stepped : (c : ControlValue) (s : ℕ) (o : OutboundValue) → HasShape c → HasShape (stepped c s o)
 shape-stepped c s o h =
@@ -168,18 +168,18 @@ next-stepped c s o after (inl e) =
 next-stepped c s o after (inr e) = subst (λ (x : After). next_call (stepped c s o) x ≡ next_call c x) (sym e) refl
 
 -- a call after a bid is the next one
-calls-performs : (c : ControlValue) (s : ℕ) (o : OutboundValue) (act : Act) (after : After) (address : List ℕ) → OthersRest c s → OutboundKeeps (outbound_of c (current c) s) o → LeavesPhase act o.sender.phase
+calls-perform_step : (c : ControlValue) (s : ℕ) (o : OutboundValue) (act : Act) (after : After) (address : List ℕ) → OthersRest c s → OutboundKeeps (outbound_of c (current c) s) o → LeavesPhase act o.sender.phase
     → (after ≡ Selection s) ⊎ (after ≡ Interruption)
-    → (performs (stepped c s o) s act after).sent ≡ Some (m.Call address) → IsCalled (performs (stepped c s o) s act after).control (next_call c after) address
-calls-performs c s o (a.Send text) after address h keeps phase which sent = absurd (cc)
-calls-performs c s o a.Enq after address h keeps phase which sent = absurd (cc)
-calls-performs c s o a.Over after address h keeps phase which sent =
-    subst (λ (call : Call). IsCalled (calls_next (stepped c s o) after).control call address) (next-stepped c s o after which)
+    → (perform_step (stepped c s o) s act after).sent ≡ Some (m.Call address) → IsCalled (perform_step (stepped c s o) s act after).control (next_call c after) address
+calls-perform_step c s o (a.Send text) after address h keeps phase which sent = absurd (cc)
+calls-perform_step c s o a.Enq after address h keeps phase which sent = absurd (cc)
+calls-perform_step c s o a.Over after address h keeps phase which sent =
+    subst (λ (call : Call). IsCalled (next_call_step (stepped c s o) after).control call address) (next-stepped c s o after which)
     (next_is_called (stepped c s o) after address (shape-stepped c s o (shape c h.entries)) (calm-stepped c s o h keeps phase) sent)
-calls-performs c s o a.Quiet after address h keeps phase which sent = absurd (cc)
+calls-perform_step c s o a.Quiet after address h keeps phase which sent = absurd (cc)
 
-pub calls-acted : (c : ControlValue) (s : ℕ) (step : SenderStep) (after : After) (address : List ℕ) → OthersRest c s
+pub calls-bid_step : (c : ControlValue) (s : ℕ) (step : SenderStep) (after : After) (address : List ℕ) → OthersRest c s
     → StepKeeps (outbound_of c (current c) s).sender (outbound_of c (current c) s).queue step → (after ≡ Selection s) ⊎ (after ≡ Interruption)
-    → (acted c s step after).sent ≡ Some (m.Call address) → IsCalled (acted c s step after).control (next_call c after) address
-calls-acted c s step after address h keeps which sent =
-    calls-performs c s (outbound_after step) step.act after address h (outbound_keeps (outbound_of c (current c) s) step keeps) keeps.phase which sent
+    → (bid_step c s step after).sent ≡ Some (m.Call address) → IsCalled (bid_step c s step after).control (next_call c after) address
+calls-bid_step c s step after address h keeps which sent =
+    calls-perform_step c s (outbound_after step) step.act after address h (outbound_keeps (outbound_of c (current c) s) step keeps) keeps.phase which sent

@@ -10,7 +10,7 @@ use Rattle.bsc_spool.specs.Queue.{waiting}
 use Rattle.bsc_text.specs.declared.phase.Phase.{Phase}
 use Rattle.bsc_text.specs.declared.phase.Phase.TheVariants.{Idle, Unanswered, Held, InDoubt}
 use Rattle.bsc_text.specs.Ready.{IsAtRest}
-use Rattle.bsc_text.specs.Receiver.{begun}
+use Rattle.bsc_text.specs.Receiver.{new_receiver}
 use Rattle.bsc_text.specs.Sender.{is_in_doubt}
 use Rattle.bsc_text.specs.Terminal.{TerminalValue}
 use Rattle.bsc_control.specs.declared.task.Replied.TheVariants.{Nothing}
@@ -22,7 +22,7 @@ use Rattle.bsc_control.specs.CallOrder.{After, Start, Selection, Interruption, P
 use Rattle.bsc_control.specs.Control.{ControlValue, HasEntries, terminals, peer_at, current, terminal_of_entry, with_peer}
 use Rattle.bsc_control.specs.Kept.{IsSelected, outbound_of, phase_of, HasSettings, IsOrderly, Keeps, IsCalled}
 use Rattle.bsc_control.specs.Peer.{OutboundValue, PeerValue, no_outbound, no_peer, outbound_at, is_selectable}
-use Rattle.bsc_control.specs.Table.{polls, selects, select_address, calls_by, calls_next}
+use Rattle.bsc_control.specs.Table.{poll_call_step, selection_call_step, select_address, way_call_step, next_call_step}
 use Rattle.bsc_control.proofs.PeerLists.{same_at, same_map, value_at}
 
 -- no bid goes on
@@ -31,7 +31,7 @@ pub record IsCalm (c : ControlValue) : Type 0 where
   pub settings : (t s : ℕ) → s < length (peer_at c t).outbounds → HasSettings c (outbound_of c t s)
 
 -- what is kept by a step that does not change the spools
-pub record Fares (old new : ControlValue) : Type 0 where
+pub record KeepsSpools (old new : ControlValue) : Type 0 where
   pub keeps : Keeps old new
   pub orderly : IsOrderly new
   pub spools : (t : ℕ) → (peer_at new t).spool ≡ (peer_at old t).spool
@@ -39,7 +39,7 @@ pub record Fares (old new : ControlValue) : Type 0 where
 -- one terminal's part is replaced by one with the same addresses and outbounds, and the station's place, task
 -- and counters change
 abbrev pub moved : ControlValue → ℕ → PeerValue → ℕ → Task → ℕ → ℕ → ControlValue
-moved c t p place task tries waits = record (with_peer c t p) { place = place; task = task; tries = tries; waits = waits }
+moved c t p place task failures wacks = record (with_peer c t p) { place = place; task = task; failures = failures; wacks = wacks }
 
 pub record IsSamePeer (c : ControlValue) (t : ℕ) (p : PeerValue) : Type 0 where
   pub terminal : p.terminal ≡ (peer_at c t).terminal
@@ -48,8 +48,8 @@ pub record IsSamePeer (c : ControlValue) (t : ℕ) (p : PeerValue) : Type 0 wher
 pub same_outbounds : (c : ControlValue) (t : ℕ) (p : PeerValue) → IsSamePeer c t p → (j : ℕ) → (get_or (set c.peers t p) j no_peer).outbounds ≡ (peer_at c j).outbounds
 same_outbounds c t p same j = same_at (λ (x : PeerValue). x.outbounds) c.peers t j p no_peer same.outbounds
 
-pub keeps-moved : (c : ControlValue) (t : ℕ) (p : PeerValue) (place : ℕ) (task : Task) (tries waits : ℕ) → IsSamePeer c t p → Keeps c (moved c t p place task tries waits)
-keeps-moved c t p place task tries waits same =
+pub keeps-moved : (c : ControlValue) (t : ℕ) (p : PeerValue) (place : ℕ) (task : Task) (failures wacks : ℕ) → IsSamePeer c t p → Keeps c (moved c t p place task failures wacks)
+keeps-moved c t p place task failures wacks same =
     record {
       setup = refl;
       poll_list = refl;
@@ -62,10 +62,10 @@ keeps-moved c t p place task tries waits same =
 pub rests-moved : (c : ControlValue) (t : ℕ) (p : PeerValue) → IsSamePeer c t p → (j s : ℕ) → IsAtRest (phase_of c j s) → IsAtRest (get_or (get_or (set c.peers t p) j no_peer).outbounds s no_outbound).sender.phase
 rests-moved c t p same j s h = subst (λ (os : List OutboundValue). IsAtRest (get_or os s no_outbound).sender.phase) (sym (same_outbounds c t p same j)) h
 
-pub settings-moved : (c : ControlValue) (t : ℕ) (p : PeerValue) (place : ℕ) (task : Task) (tries waits : ℕ) → IsSamePeer c t p
+pub settings-moved : (c : ControlValue) (t : ℕ) (p : PeerValue) (place : ℕ) (task : Task) (failures wacks : ℕ) → IsSamePeer c t p
     → ((j s : ℕ) → s < length (peer_at c j).outbounds → HasSettings c (outbound_of c j s))
-    → (j s : ℕ) → s < length (peer_at (moved c t p place task tries waits) j).outbounds → HasSettings (moved c t p place task tries waits) (outbound_of (moved c t p place task tries waits) j s)
-settings-moved c t p place task tries waits same h j s there =
+    → (j s : ℕ) → s < length (peer_at (moved c t p place task failures wacks) j).outbounds → HasSettings (moved c t p place task failures wacks) (outbound_of (moved c t p place task failures wacks) j s)
+settings-moved c t p place task failures wacks same h j s there =
     let e = same_outbounds c t p same j in
     let k : HasSettings c (outbound_of c j s) = h j s (subst (λ (os : List OutboundValue). s < length os) e there) in
     record {
@@ -74,18 +74,18 @@ settings-moved c t p place task tries waits same h j s there =
     }
 
 -- a polling address is called
-pub fares-polls : (c : ControlValue) (place tries : ℕ) → IsCalm c → Fares c (polls c place tries).control
-fares-polls c place tries calm =
+pub keeps_spools-poll_call_step : (c : ControlValue) (place failures : ℕ) → IsCalm c → KeepsSpools c (poll_call_step c place failures).control
+keeps_spools-poll_call_step c place failures calm =
     let t : ℕ = terminal_of_entry c place in
-    let p : PeerValue = record (peer_at c t) { receiver = begun true } in
+    let p : PeerValue = record (peer_at c t) { receiver = new_receiver true } in
     let same : IsSamePeer c t p = record { terminal = refl; outbounds = refl } in
     record {
-      keeps = keeps-moved c t p place (Polling Nothing) tries 0 same;
+      keeps = keeps-moved c t p place (Polling Nothing) failures 0 same;
       orderly =
           record {
             suits = value_at (λ (x : PeerValue). x.receiver) c.peers t p no_peer refl;
             rests = λ j s unused. rests-moved c t p same j s (calm.rests j s);
-            settings = settings-moved c t p place (Polling Nothing) tries 0 same calm.settings;
+            settings = settings-moved c t p place (Polling Nothing) failures 0 same calm.settings;
           };
       spools = λ j. same_at (λ (x : PeerValue). x.spool) c.peers t j p no_peer refl;
     }
@@ -100,8 +100,8 @@ selected_in p q s e h =
     }
 
 -- a selection address is called for which records wait
-pub fares-selects : (c : ControlValue) (place s : ℕ) → IsCalm c → IsSelected (peer_at c (terminal_of_entry c place)) s → Fares c (selects c place s).control
-fares-selects c place s calm selected =
+pub keeps_spools-selection_call_step : (c : ControlValue) (place s : ℕ) → IsCalm c → IsSelected (peer_at c (terminal_of_entry c place)) s → KeepsSpools c (selection_call_step c place s).control
+keeps_spools-selection_call_step c place s calm selected =
     let t : ℕ = terminal_of_entry c place in
     let p : PeerValue = record (peer_at c t) { urgent = false } in
     let same : IsSamePeer c t p = record { terminal = refl; outbounds = refl } in
@@ -125,7 +125,7 @@ idle_selectable : (o : OutboundValue) (phase : Phase) → IsAtRest phase → (if
 idle_selectable o Idle rests h = (refl, some_wait (length (waiting o.queue)) h)
 idle_selectable o (InDoubt count) rests h = absurd (cc)
 idle_selectable o (Unanswered b) rests h = absurd rests
-idle_selectable o (Held end parity) rests h = absurd rests
+idle_selectable o (Held end alternation) rests h = absurd rests
 
 selected_place : (p : PeerValue) (from i : ℕ) → ((s : ℕ) → IsAtRest (outbound_at p s).sender.phase) → position is_selectable (drop from p.outbounds) ≡ Some i → IsSelected p (from + i)
 selected_place p from i rests h =
@@ -143,9 +143,9 @@ selected_way p from s (Some i) rests e h =
     subst (λ (k : ℕ). IsSelected p k) at (selected_place p from i rests e)
 
 -- a call by a way that is the polling address or an address for which records wait
-fares-calls_by : (c : ControlValue) (place : ℕ) (way : Way) → IsCalm c → ((s : ℕ) → way ≡ ToTerminal s → IsSelected (peer_at c (terminal_of_entry c place)) s) → Fares c (calls_by c place way).control
-fares-calls_by c place FromTerminal calm selected = fares-polls c place 0 calm
-fares-calls_by c place (ToTerminal s) calm selected = fares-selects c place s calm (selected s refl)
+keeps_spools-way_call_step : (c : ControlValue) (place : ℕ) (way : Way) → IsCalm c → ((s : ℕ) → way ≡ ToTerminal s → IsSelected (peer_at c (terminal_of_entry c place)) s) → KeepsSpools c (way_call_step c place way).control
+keeps_spools-way_call_step c place FromTerminal calm selected = keeps_spools-poll_call_step c place 0 calm
+keeps_spools-way_call_step c place (ToTerminal s) calm selected = keeps_spools-selection_call_step c place s calm (selected s refl)
 
 selected-from : (c : ControlValue) (t from : ℕ) → IsCalm c → (s : ℕ) → way_from (peer_at c t) from ≡ ToTerminal s → IsSelected (peer_at c t) s
 selected-from c t from calm s h = selected_way (peer_at c t) from s (position is_selectable (drop from (peer_at c t).outbounds)) (calm.rests t) refl h
@@ -158,8 +158,8 @@ next-selected c Interruption calm s h = absurd (cc)
 next-selected c (Poll true) calm s h = selected-from c (current c) 0 calm s h
 next-selected c (Poll false) calm s h = selected-from c (terminal_of_entry c (next_place c)) 0 calm s h
 
-pub fares-calls_next : (c : ControlValue) (after : After) → IsCalm c → Fares c (calls_next c after).control
-fares-calls_next c after calm = fares-calls_by c (next_call c after).place (next_call c after).way calm (next-selected c after calm)
+pub keeps_spools-next_call_step : (c : ControlValue) (after : After) → IsCalm c → KeepsSpools c (next_call_step c after).control
+keeps_spools-next_call_step c after calm = keeps_spools-way_call_step c (next_call c after).place (next_call c after).way calm (next-selected c after calm)
 
 within_if : (b : Bool) (place n : ℕ) → place < n → nat_eq (place + 1) n ≡ b → (if b then 0 else place + 1) < n
 within_if true place n within e = omega arith
@@ -199,10 +199,10 @@ shape c h = record { place = h.place; within = λ place within. entry_within c p
 -- a call calls the address that it names
 pub calls_it : (c : ControlValue) (place : ℕ) (way : Way) (address : List ℕ) → HasShape c → place < length c.poll_list
     → ((s : ℕ) → way ≡ ToTerminal s → IsSelected (peer_at c (terminal_of_entry c place)) s)
-    → (calls_by c place way).sent ≡ Some (m.Call address) → IsCalled (calls_by c place way).control (record { place = place; way = way }) address
+    → (way_call_step c place way).sent ≡ Some (m.Call address) → IsCalled (way_call_step c place way).control (record { place = place; way = way }) address
 calls_it c place FromTerminal address shaped within selected sent =
     let t : ℕ = terminal_of_entry c place in
-    let p : PeerValue = record (peer_at c t) { receiver = begun true } in
+    let p : PeerValue = record (peer_at c t) { receiver = new_receiver true } in
     record {
       place = refl;
       called =
@@ -212,8 +212,8 @@ calls_it c place FromTerminal address shaped within selected sent =
             its_own = cc;
           };
       task = refl;
-      tries = refl;
-      waits = refl;
+      failures = refl;
+      wacks = refl;
     }
 calls_it c place (ToTerminal s) address shaped within selected sent =
     let t : ℕ = terminal_of_entry c place in
@@ -230,11 +230,11 @@ calls_it c place (ToTerminal s) address shaped within selected sent =
             its_own = cc;
           };
       task = refl;
-      tries = refl;
-      waits = refl;
+      failures = refl;
+      wacks = refl;
     }
 
 -- the next call calls the address that it names
-pub next_is_called : (c : ControlValue) (after : After) (address : List ℕ) → HasShape c → IsCalm c → (calls_next c after).sent ≡ Some (m.Call address) → IsCalled (calls_next c after).control (next_call c after) address
+pub next_is_called : (c : ControlValue) (after : After) (address : List ℕ) → HasShape c → IsCalm c → (next_call_step c after).sent ≡ Some (m.Call address) → IsCalled (next_call_step c after).control (next_call c after) address
 next_is_called c after address shaped calm sent =
     calls_it c (next_call c after).place (next_call c after).way address shaped (next_call_within c after shaped.place) (next-selected c after calm) sent

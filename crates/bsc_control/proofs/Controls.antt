@@ -1,5 +1,5 @@
 -- A control station stays one.
-use Rattle.std.proofs.Common.{◌≡◌, ℕ, ◌+◌, ◌≤◌, ◌<◌, ◌==◌, ◌||◌, Bool, true, false, List, [], ◌∷◌, ◌++◌, length, drop, Option, refl, sym, ◌∙◌, ap, subst, arith, length-drop, length-append, if◌then◌else◌}
+use Rattle.std.proofs.Common.{◌≡◌, ℕ, ◌+◌, ◌≤◌, ◌<◌, ◌==◌, ◌||◌, true, List, [], ◌∷◌, ◌++◌, length, drop, Option, refl, sym, subst, arith, length-drop, length-append}
 use Rattle.std.proofs.lemmas.List.{length-set}
 use Rattle.bsc_frame.specs.declared.message.Message.{Message}
 use Rattle.bsc_frame.specs.declared.message.Heard.{Heard}
@@ -16,12 +16,14 @@ use Rattle.bsc_control.specs.Addresses.{AreDistinct}
 use Rattle.bsc_control.specs.Control.{ControlValue, HasEntries, terminals, peer_at, with_peer}
 use Rattle.bsc_control.specs.Kept.{IsOrderly, IsControl, Keeps, AfterHearing, AfterSilence, outbound_of}
 use Rattle.bsc_control.specs.Noise.{noise_changes_nothing}
-use Rattle.bsc_control.specs.Peer.{OutboundValue, PeerValue, no_peer, with_outbound, offered, offered_to, released}
+use Rattle.bsc_control.specs.Peer.{OutboundValue, PeerValue, IsOutbound, IsPeer, no_peer, with_outbound, offered, outbound_released}
 use Rattle.bsc_control.specs.Table.{Hears, ActsOnSilence}
 use Rattle.bsc_control.specs.Ways.{IsSelection, select_of}
+use Rattle.bsc_control.proofs.Entries.{peer-with_outbound, entries-with_peer}
 use Rattle.bsc_control.proofs.PeerLists.{same_map}
 use Rattle.bsc_control.proofs.Replacing.{replaced, Follows, orderly-replaced, orderly-flags}
-use Rattle.bsc_control.proofs.Steps.{HearsWell, SilentWell, hears_well, silent_well}
+use Rattle.bsc_text.proofs.Choice.{choose}
+use Rattle.bsc_control.proofs.Steps.{HearingKeeps, SilenceKeeps, hearing_keeps, silence_keeps}
 
 -- the settings, the poll list and the addresses stay
 pub record KeepsSetup (old new : ControlValue) : Type 0 where
@@ -46,7 +48,7 @@ setup_kept old new k = record { poll_list = k.poll_list; terminals = k.terminals
 -- what a control station is once it has heard a transmission
 pub after_hearing_is : (old : ControlValue) (h : Heard) (new : ControlValue) (sent : Option Message) → IsControl old → HasEntries new → Hears old h new sent → AfterHearing old h new sent
 after_hearing_is old h new sent is entries heard =
-    let well : HearsWell old h (record { control = new; sent = sent }) = hears_well old h new sent is.entries is.orderly heard in
+    let well : HearingKeeps old h (record { control = new; sent = sent }) = hearing_keeps old h new sent is.entries is.orderly heard in
     record {
       control = still_control old new is (setup_kept old new well.keeps) entries well.orderly;
       keeps = well.keeps;
@@ -58,7 +60,7 @@ after_hearing_is old h new sent is entries heard =
 -- and after a silence
 pub after_silence_is : (old new : ControlValue) (sent : Option Message) → IsControl old → HasEntries new → ActsOnSilence old new sent → AfterSilence old new sent
 after_silence_is old new sent is entries row =
-    let well : SilentWell old (record { control = new; sent = sent }) = silent_well old new sent is.entries is.orderly row in
+    let well : SilenceKeeps old (record { control = new; sent = sent }) = silence_keeps old new sent is.entries is.orderly row in
     record {
       control = still_control old new is (setup_kept old new well.keeps) entries well.orderly;
       keeps = well.keeps;
@@ -70,12 +72,6 @@ pub keeps_setup-with_peer : (c : ControlValue) (t : ℕ) (p : PeerValue) → p.t
 keeps_setup-with_peer c t p same =
     record { poll_list = refl; terminals = same_map (λ (x : PeerValue). x.terminal) c.peers t p no_peer same; peers = length-set c.peers t p }
 
--- the urgent flag of a terminal is set
-pub control-set_urgent : (c : ControlValue) (t : ℕ) → IsControl c → HasEntries (with_peer c t (record (peer_at c t) { urgent = true })) → IsControl (with_peer c t (record (peer_at c t) { urgent = true }))
-control-set_urgent c t h entries =
-    let p : PeerValue = record (peer_at c t) { urgent = true } in
-    still_control c (with_peer c t p) h (keeps_setup-with_peer c t p refl) entries (orderly-flags c t p refl refl h.orderly)
-
 -- an outbound is replaced by one that follows it
 control-replaced : (c : ControlValue) (t s : ℕ) (o : OutboundValue) → IsControl c → t < length c.peers → s < length (peer_at c t).outbounds → o.sender.setup ≡ (outbound_of c t s).sender.setup → o.queue.format ≡ (outbound_of c t s).queue.format
     → Follows (outbound_of c t s) o → HasEntries (replaced c t s o) → IsControl (replaced c t s o)
@@ -85,34 +81,39 @@ control-replaced c t s o h within there setup format follows entries =
 more_wait : (q : QueueValue) (r : List ℕ) → 1 ≤ length (waiting q) → 1 ≤ length (drop q.known (q.offered ++ r ∷ []))
 more_wait q r h = omega (arith, h, length-drop q.known q.offered, length-drop q.known (q.offered ++ r ∷ []), length-append q.offered (r ∷ []))
 
--- a record is offered
-pub control-offered : (c : ControlValue) (t s : ℕ) (r : List ℕ) → IsControl c → t < length c.peers → s < length (peer_at c t).outbounds → HasEntries (with_peer c t (offered_to (peer_at c t) s r)) → IsControl (with_peer c t (offered_to (peer_at c t) s r))
-control-offered c t s r h within there entries =
-    let o : OutboundValue = outbound_of c t s in
-    control-replaced c t s (offered o r) h within there refl refl (record { rests = λ x. x; goes = λ x. x; idle = λ x. x; some = λ e x. more_wait o.queue r x }) entries
-
--- a release changes only an outbound in doubt
-pub record IsRelease (o x : OutboundValue) : Type 0 where
+-- the settings and the format stay, and the task finds what it found
+pub record KeepsOutbound (o x : OutboundValue) : Type 0 where
   pub setup : x.sender.setup ≡ o.sender.setup
   pub format : x.queue.format ≡ o.queue.format
   pub follows : Follows o x
 
+unchanged : (o : OutboundValue) → KeepsOutbound o o
+unchanged o = record { setup = refl; format = refl; follows = record { rests = λ x. x; goes = λ x. x; idle = λ x. x; some = λ e x. x } }
+
+-- a record is offered
+keeps_outbound-offered : (o : OutboundValue) (r : List ℕ) → KeepsOutbound o (offered o r)
+keeps_outbound-offered o r =
+    record {
+      setup = refl;
+      format = refl;
+      follows = record { rests = λ x. x; goes = λ x. x; idle = λ x. x; some = λ e x. more_wait o.queue r x };
+    }
+
+pub keeps_outbound-offer : {E : Type 0} (answer : Result (Unit {0}) E) (o x : OutboundValue) (r : List ℕ) → OnOk answer (x ≡ offered o r) → OnErr answer (x ≡ o) → KeepsOutbound o x
+keeps_outbound-offer (Ok u) o x r ok err = subst (KeepsOutbound o) (sym ok) (keeps_outbound-offered o r)
+keeps_outbound-offer (Err e) o x r ok err = subst (KeepsOutbound o) (sym err) (unchanged o)
+
+-- a release changes only an outbound in doubt
 abbrev pub after_release : ReleaseStep → OutboundValue
 after_release step = record { sender = step.sender; queue = step.queue }
 
-release_if : (o : OutboundValue) (b : Bool) (x y : ReleaseStep) → IsRelease o (after_release x) → IsRelease o (after_release y) → IsRelease o (after_release (if b then x else y))
-release_if o true x y p q = p
-release_if o false x y p q = q
-
-unreleased : (o : OutboundValue) → IsRelease o o
-unreleased o = record { setup = refl; format = refl; follows = record { rests = λ x. x; goes = λ x. x; idle = λ x. x; some = λ e x. x } }
-
-release-in : (o : OutboundValue) (phase : Phase) (count : ℕ) → o.sender.phase ≡ phase → IsRelease o (after_release (release_in o.sender o.queue phase count))
-release-in o Idle count e = unreleased o
-release-in o (Unanswered b) count e = unreleased o
-release-in o (Held end parity) count e = unreleased o
+release-in : (o : OutboundValue) (phase : Phase) (count : ℕ) → o.sender.phase ≡ phase → KeepsOutbound o (after_release (release_in o.sender o.queue phase count))
+release-in o Idle count e = unchanged o
+release-in o (Unanswered b) count e = unchanged o
+release-in o (Held end alternation) count e = unchanged o
 release-in o (InDoubt k) count e =
-    release_if o ((count == o.queue.known) || (count == (o.queue.known + k))) _ _
+    choose (λ (x : ReleaseStep). KeepsOutbound o (after_release x))
+    ((count == o.queue.known) || (count == (o.queue.known + k))) _ _
     (record {
       setup = refl;
       format = refl;
@@ -124,44 +125,33 @@ release-in o (InDoubt k) count e =
             some = λ idle x. absurd (cc);
           };
     })
-    (unreleased o)
+    (unchanged o)
 
--- a doubt is released
-pub control-released : (c : ControlValue) (t s count : ℕ) → IsControl c → t < length c.peers → s < length (peer_at c t).outbounds
-    → HasEntries (with_peer c t (with_outbound (peer_at c t) s (released (outbound_of c t s) count))) → IsControl (with_peer c t (with_outbound (peer_at c t) s (released (outbound_of c t s) count)))
-control-released c t s count h within there entries =
-    let o : OutboundValue = outbound_of c t s in
-    let release : IsRelease o (released o count) = release-in o o.sender.phase count refl in
-    control-replaced c t s (released o count) h within there release.setup release.format release.follows entries
+pub keeps_outbound-release : (o x : OutboundValue) (count : ℕ) → x ≡ outbound_released o count → KeepsOutbound o x
+keeps_outbound-release o x count e = subst (KeepsOutbound o) (sym e) (release-in o o.sender.phase count refl)
 
--- what a call that answers a result leaves: still a control station, with the same addresses
+-- what a call on one terminal leaves: still a control station, with the same addresses
 pub record StaysControl (old new : ControlValue) : Type 0 where
   pub control : IsControl new
   pub same : terminals new ≡ terminals old
 
-pub stays-offer : {E : Type 0} (r : Result (Unit {0}) E) (c new : ControlValue) (t s : ℕ) (x : List ℕ) → IsControl c → t < length c.peers → s < length (peer_at c t).outbounds
-    → OnOk r (new ≡ with_peer c t (offered_to (peer_at c t) s x)) → OnErr r (new ≡ c) → HasEntries new → StaysControl c new
-stays-offer (Ok u) c new t s x h within there ok err entries =
-    let p : PeerValue = offered_to (peer_at c t) s x in
-    record {
-      control = subst IsControl (sym ok) (control-offered c t s x h within there (subst HasEntries ok entries));
-      same = ap terminals ok ∙ (keeps_setup-with_peer c t p refl).terminals;
-    }
-stays-offer (Err e) c new t s x h within there ok err entries = record { control = subst IsControl (sym err) h; same = ap terminals err }
+-- the urgent flag of a terminal is set
+pub stays-set_urgent : (c : ControlValue) (t : ℕ) → IsControl c → t < length c.peers → StaysControl c (with_peer c t (record (peer_at c t) { urgent = true }))
+stays-set_urgent c t h within =
+    let p : PeerValue = record (peer_at c t) { urgent = true } in
+    let was : IsPeer (peer_at c t) = h.entries.peers t no_peer within in
+    let keeps : KeepsSetup c (with_peer c t p) = keeps_setup-with_peer c t p refl in
+    let entries : HasEntries (with_peer c t p) = entries-with_peer c t p (record { terminal = was.terminal; outbounds = was.outbounds; ready = was.ready }) h.entries in
+    record { control = still_control c (with_peer c t p) h keeps entries (orderly-flags c t p refl refl h.orderly); same = keeps.terminals }
 
-pub stays-set_urgent : (c new : ControlValue) (t : ℕ) → IsControl c → new ≡ with_peer c t (record (peer_at c t) { urgent = true }) → HasEntries new → StaysControl c new
-stays-set_urgent c new t h e entries =
+-- what is sent to a selection address is replaced
+pub stays-replaced : (c : ControlValue) (t s : ℕ) (x : OutboundValue) → IsControl c → t < length c.peers → s < length (peer_at c t).outbounds → IsOutbound x → KeepsOutbound (outbound_of c t s) x → StaysControl c (replaced c t s x)
+stays-replaced c t s x h within there ready keeps =
+    let p : PeerValue = with_outbound (peer_at c t) s x in
+    let entries : HasEntries (replaced c t s x) = entries-with_peer c t p (peer-with_outbound (peer_at c t) s x ready (h.entries.peers t no_peer within)) h.entries in
     record {
-      control = subst IsControl (sym e) (control-set_urgent c t h (subst HasEntries e entries));
-      same = ap terminals e ∙ (keeps_setup-with_peer c t (record (peer_at c t) { urgent = true }) refl).terminals;
-    }
-
-pub stays-release : (c new : ControlValue) (t s count : ℕ) → IsControl c → t < length c.peers → s < length (peer_at c t).outbounds
-    → new ≡ with_peer c t (with_outbound (peer_at c t) s (released (outbound_of c t s) count)) → HasEntries new → StaysControl c new
-stays-release c new t s count h within there e entries =
-    record {
-      control = subst IsControl (sym e) (control-released c t s count h within there (subst HasEntries e entries));
-      same = ap terminals e ∙ (keeps_setup-with_peer c t (with_outbound (peer_at c t) s (released (outbound_of c t s) count)) refl).terminals;
+      control = control-replaced c t s x h within there keeps.setup keeps.format keeps.follows entries;
+      same = (keeps_setup-with_peer c t p refl).terminals;
     }
 
 pub selection_there : (way : Way) (n : ℕ) → IsSelection way n → select_of way < n

@@ -1,11 +1,13 @@
 pub mod Calls
 pub mod PeerLists
+pub mod Entries
 pub mod ReceiverSteps
 pub mod SenderSteps
 pub mod Bids
 pub mod Steps
 pub mod Replacing
 pub mod Controls
+pub mod Reached
 pub mod EachTerminal
 pub mod Owners
 pub mod Repeats

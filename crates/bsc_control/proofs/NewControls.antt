@@ -10,7 +10,7 @@ use Rattle.bsc_control.specs.Addresses.{AreDistinct}
 use Rattle.bsc_control.specs.Control.{ControlValue, HasEntries, peer, peer_at}
 use Rattle.bsc_control.specs.Kept.{SuitsTask, HasSettings, IsControl, IsNewControl}
 use Rattle.bsc_control.specs.Peer.{OutboundValue, PeerValue, IsNewPeer, no_outbound, no_peer, outbound_at, new_outbound}
-use Rattle.bsc_control.specs.Refusals.{IsNumber, AreRight}
+use Rattle.bsc_control.specs.Refusals.{IsTerminalCount, AreEntries}
 
 -- what holds of all elements and of the default holds at each place
 holds_or : {X : Type 0} (P : X → Type 0) (xs : List X) (d : X) → All P xs → P d → (k : ℕ) → P (get_or xs k d)
@@ -47,7 +47,7 @@ rests_at (o ∷ os) (suc s) h = rests_at os s (λ within. h (omega (arith, withi
 short_list : (n : ℕ) → (255 < n → 255 < 255) → n ≤ 255
 short_list n h = grind (arith, h)
 
-pub new_control : (setup : SetupValue) (ts : List TerminalValue) (list : List ℕ) (c : ControlValue) → IsNumber (length ts) → AreDistinct ts → AreRight (length ts) list → HasEntries c → IsNewControl setup ts list c → IsControl c
+pub new_control : (setup : SetupValue) (ts : List TerminalValue) (list : List ℕ) (c : ControlValue) → IsTerminalCount (length ts) → AreDistinct ts → AreEntries (length ts) list → HasEntries c → IsNewControl setup ts list c → IsControl c
 new_control setup ts list c number distinct right entries new =
     let lengths : length c.peers ≡ length ts = sym (length-map c.peers (λ (p : PeerValue). p.terminal)) ∙ ap length new.terminals_given in
     let short : 255 < length list → 255 < 255 = λ long. (right 255 long).0 in

@@ -121,12 +121,12 @@ owner_iff xs k way a = (
 )
 
 -- the numbered addresses are the addresses, in their order
-pub keys-selects : (t s : ℕ) (xs : List (List ℕ)) → keys_of (numbered_selects t s xs) ≡ xs
-keys-selects t s [] = refl
-keys-selects t s (x ∷ xs) = ap (λ ys. x ∷ ys) (keys-selects t (s + 1) xs)
+pub keys-selection_call_step : (t s : ℕ) (xs : List (List ℕ)) → keys_of (numbered_selects t s xs) ≡ xs
+keys-selection_call_step t s [] = refl
+keys-selection_call_step t s (x ∷ xs) = ap (λ ys. x ∷ ys) (keys-selection_call_step t (s + 1) xs)
 
 pub keys-owned : (t : ℕ) (x : TerminalValue) → keys_of (owned t x) ≡ own_addresses x
-keys-owned t x = ap (λ ys. x.poll ∷ ys) (keys-selects t 0 x.selects)
+keys-owned t x = ap (λ ys. x.poll ∷ ys) (keys-selection_call_step t 0 x.selects)
 
 pub keys-numbered : (t : ℕ) (xs : List TerminalValue) → keys_of (numbered t xs) ≡ addresses xs
 keys-numbered t [] = refl

@@ -1,12 +1,13 @@
 -- How the records of a spool grow when its receiver hears something.
-use Rattle.std.proofs.Common.{◌≡◌, ◌⊎◌, inl, inr, ℕ, Bool, true, false, List, ◌++◌, None, if◌then◌else◌, refl}
+use Rattle.std.proofs.Common.{◌≡◌, ◌⊎◌, inl, inr, ℕ, Bool, List, ◌++◌, None, refl}
 use Rattle.bsc_frame.specs.declared.message.Message.TheVariants as m
 use Rattle.bsc_frame.specs.declared.message.Heard.{Heard}
 use Rattle.bsc_frame.specs.declared.message.Heard.TheVariants.{Whole, Failed, Noise}
 use Rattle.bsc_frame.specs.Texts.{TextValue}
 use Rattle.bsc_block.specs.Blocks.{records_in}
 use Rattle.bsc_spool.specs.Spool.{SpoolValue}
-use Rattle.bsc_text.specs.Receiver.{ReceiverValue, ReceiverStep, Rooms, is_rvi, is_wack, taken, taken_urgently, text_step, enq_step, heard_step}
+use Rattle.bsc_text.specs.Receiver.{ReceiverValue, ReceiverStep, Rooms, is_rvi, is_wack, stored_text, taken_urgently, text_step, enq_step, heard_step}
+use Rattle.bsc_text.proofs.Choice.{choose}
 
 -- the records are the old ones, or a whole text was heard and they are the old ones and all of its
 pub record TakesText (h : Heard) (old new : List (List ℕ)) : Type 0 where
@@ -17,21 +18,17 @@ pub record TakesText (h : Heard) (old new : List (List ℕ)) : Type 0 where
 abbrev pub Grows : Heard → SpoolValue → ReceiverStep → Type 0
 Grows h s step = (step.spool.records ≡ s.records) ⊎ TakesText h s.records step.spool.records
 
-grows_if : (h : Heard) (s : SpoolValue) (b : Bool) (x y : ReceiverStep) → Grows h s x → Grows h s y → Grows h s (if b then x else y)
-grows_if h s true x y p q = p
-grows_if h s false x y p q = q
-
 grows-text : (r : ReceiverValue) (s : SpoolValue) (t : TextValue) (urgent : Bool) (rooms : Rooms) → Grows (Whole (m.Text t)) s (text_step r s t urgent rooms)
 grows-text r s t urgent rooms =
     let P = λ (x : ReceiverStep). Grows (Whole (m.Text t)) s x in
-    let plain : P (taken r s t rooms) = inr (record { text = t; heard = refl; becomes = refl }) in
+    let plain : P (stored_text r s t rooms) = inr (record { text = t; heard = refl; becomes = refl }) in
     let urgently : P (taken_urgently r s t rooms) = inr (record { text = t; heard = refl; becomes = refl }) in
-    grows_if (Whole (m.Text t)) s rooms.first _ _
-    (grows_if (Whole (m.Text t)) s urgent _ _ (grows_if (Whole (m.Text t)) s (is_rvi r.last) _ _ plain urgently) plain)
+    choose P rooms.first _ _
+    (choose P urgent _ _ (choose P (is_rvi r.last) _ _ plain urgently) plain)
     (inl refl)
 
 grows-enq : (r : ReceiverValue) (s : SpoolValue) (rooms : Rooms) → Grows (Whole m.Enq) s (enq_step r s rooms)
-grows-enq r s rooms = grows_if (Whole m.Enq) s (is_wack r.last) _ _ (inl refl) (inl refl)
+grows-enq r s rooms = choose (Grows (Whole m.Enq) s) (is_wack r.last) _ _ (inl refl) (inl refl)
 
 pub grows-heard_step : (r : ReceiverValue) (s : SpoolValue) (h : Heard) (urgent : Bool) (rooms : Rooms) → Grows h s (heard_step r s h urgent rooms)
 grows-heard_step r s (Whole (m.Text t)) urgent rooms = grows-text r s t urgent rooms
@@ -50,16 +47,12 @@ grows-heard_step r s (Whole m.Rvi) urgent rooms = inl refl
 abbrev pub StaysSilent : ReceiverValue → ReceiverStep → Type 0
 StaysSilent r step = step.reply ≡ None → step.receiver ≡ r
 
-silent_if : (r : ReceiverValue) (b : Bool) (x y : ReceiverStep) → StaysSilent r x → StaysSilent r y → StaysSilent r (if b then x else y)
-silent_if r true x y p q = p
-silent_if r false x y p q = q
-
 pub silent-heard_step : (r : ReceiverValue) (s : SpoolValue) (h : Heard) (urgent : Bool) (rooms : Rooms) → StaysSilent r (heard_step r s h urgent rooms)
 silent-heard_step r s (Whole (m.Text t)) urgent rooms =
-    silent_if r rooms.first _ _
-    (silent_if r urgent _ _ (silent_if r (is_rvi r.last) _ _ (λ e. absurd (cc)) (λ e. absurd (cc))) (λ e. absurd (cc)))
+    choose (StaysSilent r) rooms.first _ _
+    (choose (StaysSilent r) urgent _ _ (choose (StaysSilent r) (is_rvi r.last) _ _ (λ e. absurd (cc)) (λ e. absurd (cc))) (λ e. absurd (cc)))
     (λ e. absurd (cc))
-silent-heard_step r s (Whole m.Enq) urgent rooms = silent_if r (is_wack r.last) _ _ (λ e. absurd (cc)) (λ e. absurd (cc))
+silent-heard_step r s (Whole m.Enq) urgent rooms = choose (StaysSilent r) (is_wack r.last) _ _ (λ e. absurd (cc)) (λ e. absurd (cc))
 silent-heard_step r s Noise urgent rooms = λ e. refl
 silent-heard_step r s Failed urgent rooms = λ e. absurd (cc)
 silent-heard_step r s (Whole m.Eot) urgent rooms = λ e. refl

@@ -11,7 +11,7 @@ use Rattle.std.specs.Map.{keys_of}
 use lib.Pointwise.{pointwise}
 use Rattle.bsc_control.specs.declared.refusal.SetupError.{SetupError}
 use Rattle.bsc_control.specs.declared.refusal.SetupError.TheVariants.{NoTerminal, TooMany, SameAddress, EmptyPollList, PollList, Memory}
-use Rattle.bsc_control.specs.Refusals.{IsFirstRepeat, IsClash}
+use Rattle.bsc_control.specs.Refusals.{IsFirstRepeat, RefusesAddresses}
 use Rattle.bsc_control.proofs.Owners.{Owner}
 
 -- keys that differ by comparison differ
@@ -42,22 +42,22 @@ repeat-more xs ys i j h =
     }
 
 -- so does a clash
-pub clash-more : (old more rest : List (List ℕ)) (e : SetupError) → IsClash old more e → IsClash old (more ++ rest) e
-clash-more old more rest Memory h = tt
-clash-more old more rest (SameAddress i j) h = subst (λ xs. IsFirstRepeat xs i j) (append_assoc old more rest) (repeat-more (old ++ more) rest i j h)
-clash-more old more rest NoTerminal h = absurd h
-clash-more old more rest TooMany h = absurd h
-clash-more old more rest EmptyPollList h = absurd h
-clash-more old more rest (PollList place) h = absurd h
+pub refuses-more : (old more rest : List (List ℕ)) (e : SetupError) → RefusesAddresses old more e → RefusesAddresses old (more ++ rest) e
+refuses-more old more rest Memory h = tt
+refuses-more old more rest (SameAddress i j) h = subst (λ xs. IsFirstRepeat xs i j) (append_assoc old more rest) (repeat-more (old ++ more) rest i j h)
+refuses-more old more rest NoTerminal h = absurd h
+refuses-more old more rest TooMany h = absurd h
+refuses-more old more rest EmptyPollList h = absurd h
+refuses-more old more rest (PollList place) h = absurd h
 
 -- what came in between may be told of as new
-pub clash-earlier : (old first more : List (List ℕ)) (e : SetupError) → IsClash (old ++ first) more e → IsClash old (first ++ more) e
-clash-earlier old first more Memory h = tt
-clash-earlier old first more (SameAddress i j) h = subst (λ xs. IsFirstRepeat xs i j) (append_assoc old first more) h
-clash-earlier old first more NoTerminal h = absurd h
-clash-earlier old first more TooMany h = absurd h
-clash-earlier old first more EmptyPollList h = absurd h
-clash-earlier old first more (PollList place) h = absurd h
+pub refuses-earlier : (old first more : List (List ℕ)) (e : SetupError) → RefusesAddresses (old ++ first) more e → RefusesAddresses old (first ++ more) e
+refuses-earlier old first more Memory h = tt
+refuses-earlier old first more (SameAddress i j) h = subst (λ xs. IsFirstRepeat xs i j) (append_assoc old first more) h
+refuses-earlier old first more NoTerminal h = absurd h
+refuses-earlier old first more TooMany h = absurd h
+refuses-earlier old first more EmptyPollList h = absurd h
+refuses-earlier old first more (PollList place) h = absurd h
 
 -- an address that is found among keys that differ is the first repeat
 pub first_repeat : (es : List Owner) (a : List ℕ) (i n : ℕ) → position (pointwise ◌==◌ a) (keys_of es) ≡ Some i → n ≡ length es → IsDistinct (pointwise ◌==◌) (keys_of es) → IsFirstRepeat (keys_of es ++ a ∷ []) i n

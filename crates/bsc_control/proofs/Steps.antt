@@ -7,7 +7,7 @@ use Rattle.bsc_frame.specs.declared.message.Heard.TheVariants.{Whole, Failed, No
 use Rattle.bsc_text.specs.declared.act.Act.TheVariants as a
 use Rattle.bsc_text.specs.declared.reply.Reply.{Reply}
 use Rattle.bsc_text.specs.declared.reply.Reply.TheVariants.{Ack0, Ack1, Nak, Wack, Rvi}
-use Rattle.bsc_text.specs.Receiver.{ReceiverStep, Rooms, begun, heard_step, sends_rvi}
+use Rattle.bsc_text.specs.Receiver.{ReceiverStep, Rooms, new_receiver, heard_step, sends_rvi}
 use Rattle.bsc_text.specs.Reply.{message_of, reply_heard}
 use Rattle.bsc_text.specs.Sender.{SenderStep, begin_step, reply_step, silence_step}
 use Rattle.bsc_control.specs.declared.task.Replied.{Replied}
@@ -21,22 +21,23 @@ use Rattle.bsc_control.specs.CallOrder.{After, Start, Selection, Interruption, P
 use Rattle.bsc_control.specs.Control.{ControlValue, ControlStep, HasEntries, terminals, peer_at, peer, current, quiet, sends}
 use Rattle.bsc_control.specs.Kept.{SuitsTask, IsSelected, IsInBid, outbound_of, IsOrderly, Keeps, IsCalled, IsRepeated, GrowsByText, after_hearing, after_silence, way_of}
 use Rattle.bsc_control.specs.Peer.{PeerValue, no_peer}
-use Rattle.bsc_control.specs.Table.{polls, calls_next, acted, after_bid, selecting_step, receives, replied_after, has_rvi, polling_step, task_step, repeated, silence_in, rooms_after, Hears, ActsOnSilence, select_address}
-use Rattle.bsc_control.proofs.Bids.{OthersRest, fares-acted, calls-acted}
-use Rattle.bsc_control.proofs.Calls.{IsCalm, Fares, IsSamePeer, shape, entry_within, keeps-moved, rests-moved, settings-moved, fares-polls, fares-calls_next, next_is_called, terminal_there, selects_there}
+use Rattle.bsc_control.specs.Table.{poll_call_step, next_call_step, bid_step, after_bid, selecting_step, receiving_step, replied_after, has_rvi, polling_step, task_step, repeated, silence_in, rooms_after, Hears, ActsOnSilence, select_address}
+use Rattle.bsc_control.proofs.Bids.{OthersRest, keeps_spools-bid_step, calls-bid_step}
+use Rattle.bsc_control.proofs.Calls.{IsCalm, KeepsSpools, IsSamePeer, shape, entry_within, keeps-moved, rests-moved, settings-moved, keeps_spools-poll_call_step, keeps_spools-next_call_step, next_is_called, terminal_there, selects_there}
 use Rattle.bsc_control.proofs.PeerLists.{same_map, value_at, holds_at}
 use Rattle.bsc_control.proofs.ReceiverSteps.{TakesText, Grows, grows-heard_step, silent-heard_step}
+use Rattle.bsc_text.proofs.Choice.{choose}
 use Rattle.bsc_control.proofs.SenderSteps.{StepKeeps, keeps-begin_step, no_quiet-begin_step, keeps-reply_step, keeps-silence_step}
 
 -- what a transmission that is heard leaves
-pub record HearsWell (old : ControlValue) (h : Heard) (step : ControlStep) : Type 0 where
+pub record HearingKeeps (old : ControlValue) (h : Heard) (step : ControlStep) : Type 0 where
   pub keeps : Keeps old step.control
   pub orderly : IsOrderly step.control
   pub spools : (t : ℕ) → GrowsByText old h t (peer_at old t).spool.records (peer_at step.control t).spool.records
   pub calls : (address : List ℕ) → step.sent ≡ Some (m.Call address) → IsCalled step.control (next_call old (after_hearing old.task h)) address
 
 -- what a silence leaves
-pub record SilentWell (old : ControlValue) (step : ControlStep) : Type 0 where
+pub record SilenceKeeps (old : ControlValue) (step : ControlStep) : Type 0 where
   pub keeps : Keeps old step.control
   pub orderly : IsOrderly step.control
   pub spools : (t : ℕ) → (peer_at step.control t).spool ≡ (peer_at old t).spool
@@ -62,58 +63,50 @@ others_rest c s entries h e there =
 all_rest : (c : ControlValue) (s : ℕ) → HasEntries c → IsCalm c → s < length (peer c).outbounds → OthersRest c s
 all_rest c s entries calm there = record { entries = entries; there = there; rests = λ t k other. calm.rests t k; settings = calm.settings }
 
-hears_if : (old : ControlValue) (h : Heard) (b : Bool) (x y : ControlStep) → HearsWell old h x → HearsWell old h y → HearsWell old h (if b then x else y)
-hears_if old h true x y p q = p
-hears_if old h false x y p q = q
-
-silent_if : (old : ControlValue) (b : Bool) (x y : ControlStep) → SilentWell old x → SilentWell old y → SilentWell old (if b then x else y)
-silent_if old true x y p q = p
-silent_if old false x y p q = q
-
-hears-quiet : (c : ControlValue) (h : Heard) → IsOrderly c → HearsWell c h (quiet c)
+hears-quiet : (c : ControlValue) (h : Heard) → IsOrderly c → HearingKeeps c h (quiet c)
 hears-quiet c h o = record { keeps = keeps_same c; orderly = o; spools = λ t. inl refl; calls = λ address sent. absurd (cc) }
 
 -- the next call is made
-hears-next : (c : ControlValue) (h : Heard) (after : After) → HasEntries c → IsCalm c → after_hearing c.task h ≡ after → HearsWell c h (calls_next c after)
+hears-next : (c : ControlValue) (h : Heard) (after : After) → HasEntries c → IsCalm c → after_hearing c.task h ≡ after → HearingKeeps c h (next_call_step c after)
 hears-next c h after entries calm e =
-    let f : Fares c (calls_next c after).control = fares-calls_next c after calm in
+    let f : KeepsSpools c (next_call_step c after).control = keeps_spools-next_call_step c after calm in
     record {
       keeps = f.keeps;
       orderly = f.orderly;
       spools = λ t. inl (ap (λ x. x.records) (f.spools t));
-      calls = λ address sent. subst (λ (x : After). IsCalled (calls_next c after).control (next_call c x) address) (sym e) (next_is_called c after address (shape c entries) calm sent);
+      calls = λ address sent. subst (λ (x : After). IsCalled (next_call_step c after).control (next_call c x) address) (sym e) (next_is_called c after address (shape c entries) calm sent);
     }
 
-silent-next : (c : ControlValue) (after : After) → HasEntries c → IsCalm c → after_silence c.task ≡ after → SilentWell c (calls_next c after)
+silent-next : (c : ControlValue) (after : After) → HasEntries c → IsCalm c → after_silence c.task ≡ after → SilenceKeeps c (next_call_step c after)
 silent-next c after entries calm e =
-    let f : Fares c (calls_next c after).control = fares-calls_next c after calm in
+    let f : KeepsSpools c (next_call_step c after).control = keeps_spools-next_call_step c after calm in
     record {
       keeps = f.keeps;
       orderly = f.orderly;
       spools = f.spools;
-      calls = λ address sent. inl (subst (λ (x : After). IsCalled (calls_next c after).control (next_call c x) address) (sym e) (next_is_called c after address (shape c entries) calm sent));
+      calls = λ address sent. inl (subst (λ (x : After). IsCalled (next_call_step c after).control (next_call c x) address) (sym e) (next_is_called c after address (shape c entries) calm sent));
     }
 
 -- what the sender does
-hears-acted : (c : ControlValue) (h : Heard) (s : ℕ) (step : SenderStep) (after : After) → OthersRest c s → StepKeeps (outbound_of c (current c) s).sender (outbound_of c (current c) s).queue step
-    → (step.act ≡ a.Quiet → c.task ≡ Sending s) → (after ≡ Selection s) ⊎ (after ≡ Interruption) → after_hearing c.task h ≡ after → HearsWell c h (acted c s step after)
-hears-acted c h s step after others keeps quiet which e =
-    let f : Fares c (acted c s step after).control = fares-acted c s step after others keeps quiet in
+hears-bid_step : (c : ControlValue) (h : Heard) (s : ℕ) (step : SenderStep) (after : After) → OthersRest c s → StepKeeps (outbound_of c (current c) s).sender (outbound_of c (current c) s).queue step
+    → (step.act ≡ a.Quiet → c.task ≡ Sending s) → (after ≡ Selection s) ⊎ (after ≡ Interruption) → after_hearing c.task h ≡ after → HearingKeeps c h (bid_step c s step after)
+hears-bid_step c h s step after others keeps quiet which e =
+    let f : KeepsSpools c (bid_step c s step after).control = keeps_spools-bid_step c s step after others keeps quiet in
     record {
       keeps = f.keeps;
       orderly = f.orderly;
       spools = λ t. inl (ap (λ x. x.records) (f.spools t));
-      calls = λ address sent. subst (λ (x : After). IsCalled (acted c s step after).control (next_call c x) address) (sym e) (calls-acted c s step after address others keeps which sent);
+      calls = λ address sent. subst (λ (x : After). IsCalled (bid_step c s step after).control (next_call c x) address) (sym e) (calls-bid_step c s step after address others keeps which sent);
     }
 
 -- a selection is answered
-hears-selecting : (c : ControlValue) (h : Heard) (s : ℕ) (r : Option Reply) → HasEntries c → IsOrderly c → IsCalm c → IsSelected (peer c) s → after_hearing c.task h ≡ Selection s → HearsWell c h (selecting_step c s r)
+hears-selecting : (c : ControlValue) (h : Heard) (s : ℕ) (r : Option Reply) → HasEntries c → IsOrderly c → IsCalm c → IsSelected (peer c) s → after_hearing c.task h ≡ Selection s → HearingKeeps c h (selecting_step c s r)
 hears-selecting c h s (Some Ack0) entries o calm selected e =
     let k = outbound_of c (current c) s in
-    hears-acted c h s (begin_step k.sender k.queue) (Selection s) (all_rest c s entries calm selected.there) (keeps-begin_step k.sender k.queue) (λ q. absurd (no_quiet-begin_step k.sender k.queue q)) (inl refl) e
+    hears-bid_step c h s (begin_step k.sender k.queue) (Selection s) (all_rest c s entries calm selected.there) (keeps-begin_step k.sender k.queue) (λ q. absurd (no_quiet-begin_step k.sender k.queue q)) (inl refl) e
 hears-selecting c h s (Some Nak) entries o calm selected e = hears-next c h (Selection s) entries calm e
 hears-selecting c h s (Some Wack) entries o calm selected e =
-    hears_if c h (nat_lt c.setup.waits (c.waits + 1)) (calls_next c (Selection s)) (sends (record c { task = Selecting s true; tries = 0; waits = c.waits + 1 }) m.Enq)
+    choose (HearingKeeps c h) (nat_lt c.setup.waits (c.wacks + 1)) (next_call_step c (Selection s)) (sends (record c { task = Selecting s true; failures = 0; wacks = c.wacks + 1 }) m.Enq)
     (hears-next c h (Selection s) entries calm e)
     (record {
       keeps = record { setup = refl; poll_list = refl; terminals = refl; peers = refl; outbounds = λ t. refl; offered = λ t k. refl };
@@ -146,7 +139,7 @@ no_call (Some Rvi) address e = cc
 suits_after : (c : ControlValue) (p : PeerValue) (replied : Replied) (r : Option Reply) → (r ≡ None → p.receiver ≡ (peer c).receiver) → SuitsTask (Polling replied) (peer c)
     → SuitsTask (Polling (replied_after replied r)) (get_or (set c.peers (current c) p) (current c) no_peer)
 suits_after c p Nothing None same suits =
-    let is : p.receiver ≡ begun true = same refl ∙ suits in
+    let is : p.receiver ≡ new_receiver true = same refl ∙ suits in
     value_at (λ (x : PeerValue). x.receiver) c.peers (current c) p no_peer (sym is) ∙ is
 suits_after c p WithoutRvi None same suits = tt
 suits_after c p WithRvi None same suits = tt
@@ -171,20 +164,20 @@ stores c h replied old new e (inl same) = inl same
 stores c h replied old new e (inr x) = inr (record { text = x.text; heard = x.heard; replied = replied; polling = e; polled = refl; becomes = x.becomes })
 
 -- the receiver replies
-hears-receives : (c : ControlValue) (h : Heard) (replied : Replied) (step : ReceiverStep) → HasEntries c → IsOrderly c → IsCalm c → c.task ≡ Polling replied → SuitsTask (Polling replied) (peer c)
-    → Grows h (peer c).spool step → (step.reply ≡ None → step.receiver ≡ (peer c).receiver) → HearsWell c h (receives c replied step)
-hears-receives c h replied step entries o calm e suits grows silent =
+hears-receiving_step : (c : ControlValue) (h : Heard) (replied : Replied) (step : ReceiverStep) → HasEntries c → IsOrderly c → IsCalm c → c.task ≡ Polling replied → SuitsTask (Polling replied) (peer c)
+    → Grows h (peer c).spool step → (step.reply ≡ None → step.receiver ≡ (peer c).receiver) → HearingKeeps c h (receiving_step c replied step)
+hears-receiving_step c h replied step entries o calm e suits grows silent =
     let t : ℕ = current c in
     let p : PeerValue = record (peer c) { receiver = step.receiver; spool = step.spool; urgent = if sends_rvi step.reply then false else (peer c).urgent } in
     let same : IsSamePeer c t p = record { terminal = refl; outbounds = refl } in
     let task : Task = Polling (replied_after replied step.reply) in
     record {
-      keeps = keeps-moved c t p c.place task c.tries c.waits same;
+      keeps = keeps-moved c t p c.place task c.failures c.wacks same;
       orderly =
           record {
             suits = suits_after c p replied step.reply silent suits;
             rests = λ j k unused. rests-moved c t p same j k (calm.rests j k);
-            settings = settings-moved c t p c.place task c.tries c.waits same calm.settings;
+            settings = settings-moved c t p c.place task c.failures c.wacks same calm.settings;
           };
       spools =
           holds_at (λ (j : ℕ) (x : PeerValue). GrowsByText c h j (peer_at c j).spool.records x.spool.records) c.peers t p no_peer
@@ -195,15 +188,15 @@ hears-receives c h replied step entries o calm e suits grows silent =
     }
 
 hears-heard : (c : ControlValue) (h : Heard) (replied : Replied) (rooms : Rooms) → HasEntries c → IsOrderly c → IsCalm c → c.task ≡ Polling replied → SuitsTask (Polling replied) (peer c)
-    → HearsWell c h (receives c replied (heard_step (peer c).receiver (peer c).spool h (peer c).urgent rooms))
+    → HearingKeeps c h (receiving_step c replied (heard_step (peer c).receiver (peer c).spool h (peer c).urgent rooms))
 hears-heard c h replied rooms entries o calm e suits =
-    hears-receives c h replied (heard_step (peer c).receiver (peer c).spool h (peer c).urgent rooms) entries o calm e suits
+    hears-receiving_step c h replied (heard_step (peer c).receiver (peer c).spool h (peer c).urgent rooms) entries o calm e suits
     (grows-heard_step (peer c).receiver (peer c).spool h (peer c).urgent rooms)
     (silent-heard_step (peer c).receiver (peer c).spool h (peer c).urgent rooms)
 
 -- a poll is answered
 hears-polling : (c : ControlValue) (h : Heard) (replied : Replied) (rooms : Rooms) → HasEntries c → IsOrderly c → IsCalm c → c.task ≡ Polling replied → SuitsTask (Polling replied) (peer c)
-    → HearsWell c h (polling_step c replied h rooms)
+    → HearingKeeps c h (polling_step c replied h rooms)
 hears-polling c (Whole m.Eot) replied rooms entries o calm e suits = hears-next c (Whole m.Eot) (Poll (has_rvi replied)) entries calm (ap (λ (task : Task). after_hearing task (Whole m.Eot)) e)
 hears-polling c Noise replied rooms entries o calm e suits = hears-heard c Noise replied rooms entries o calm e suits
 hears-polling c Failed replied rooms entries o calm e suits = hears-heard c Failed replied rooms entries o calm e suits
@@ -216,7 +209,7 @@ hears-polling c (Whole m.Wack) replied rooms entries o calm e suits = hears-hear
 hears-polling c (Whole m.Rvi) replied rooms entries o calm e suits = hears-heard c (Whole m.Rvi) replied rooms entries o calm e suits
 hears-polling c (Whole (m.Text x)) replied rooms entries o calm e suits = hears-heard c (Whole (m.Text x)) replied rooms entries o calm e suits
 
-hears-task : (c : ControlValue) (task : Task) (h : Heard) (rooms : Rooms) → HasEntries c → IsOrderly c → c.task ≡ task → HearsWell c h (task_step c task h rooms)
+hears-task : (c : ControlValue) (task : Task) (h : Heard) (rooms : Rooms) → HasEntries c → IsOrderly c → c.task ≡ task → HearingKeeps c h (task_step c task h rooms)
 hears-task c AtRest h rooms entries o e = hears-quiet c h o
 hears-task c (Selecting s enquired) h rooms entries o e =
     let selected : IsSelected (peer c) s = subst (λ (task : Task). SuitsTask task (peer c)) e o.suits in
@@ -224,18 +217,18 @@ hears-task c (Selecting s enquired) h rooms entries o e =
 hears-task c (Sending s) h rooms entries o e =
     let bid : IsInBid (peer c) s = subst (λ (task : Task). SuitsTask task (peer c)) e o.suits in
     let k = outbound_of c (current c) s in
-    hears-acted c h s (reply_step k.sender k.queue (reply_heard h)) (after_bid s (reply_heard h)) (others_rest c s entries o e bid.there) (keeps-reply_step k.sender k.queue (reply_heard h) bid.going) (λ q. e)
+    hears-bid_step c h s (reply_step k.sender k.queue (reply_heard h)) (after_bid s (reply_heard h)) (others_rest c s entries o e bid.there) (keeps-reply_step k.sender k.queue (reply_heard h) bid.going) (λ q. e)
     (which_after_bid s (reply_heard h)) (ap (λ (task : Task). after_hearing task h) e)
 hears-task c (Polling replied) h rooms entries o e =
     hears-polling c h replied rooms entries o (calm_while c o (λ k used. absurd (cc))) e (subst (λ (task : Task). SuitsTask task (peer c)) e o.suits)
 
 -- what a control station is once it has heard a transmission
-pub hears_well : (old : ControlValue) (h : Heard) (new : ControlValue) (sent : Option Message) → HasEntries old → IsOrderly old → Hears old h new sent → HearsWell old h (record { control = new; sent = sent })
-hears_well old h new sent entries o heard = subst (HearsWell old h) (sym heard.row) (hears-task old old.task h (rooms_after old h new) entries o refl)
+pub hearing_keeps : (old : ControlValue) (h : Heard) (new : ControlValue) (sent : Option Message) → HasEntries old → IsOrderly old → Hears old h new sent → HearingKeeps old h (record { control = new; sent = sent })
+hearing_keeps old h new sent entries o heard = subst (HearingKeeps old h) (sym heard.row) (hears-task old old.task h (rooms_after old h new) entries o refl)
 
 -- a selection is called again, or ENQ is sent again
 repeats : (c : ControlValue) (s : ℕ) (enquired : Bool) (address : List ℕ) → HasEntries c → c.task ≡ Selecting s enquired → IsSelected (peer c) s → repeated c s enquired ≡ m.Call address
-    → IsRepeated c (record c { tries = c.tries + 1 }) address
+    → IsRepeated c (record c { failures = c.failures + 1 }) address
 repeats c s true address entries e selected sent = absurd (cc)
 repeats c s false address entries e selected sent =
     let within = entry_within c c.place entries entries.place in
@@ -243,12 +236,12 @@ repeats c s false address entries e selected sent =
     let own : slice_get (peer c).terminal.selects s ≡ Some (select_address (peer c).terminal s) = selects_there (peer c).terminal s select in
     let called : IsAddressOf (terminals c) (current c) (ToTerminal s) address =
     record { terminal = (peer c).terminal; there = terminal_there c (current c) within; its_own = cc } in
-    record { place = refl; task = refl; called = subst (λ (task : Task). IsAddressOf (terminals c) (current c) (way_of task) address) (sym e) called; tries = refl }
+    record { place = refl; task = refl; called = subst (λ (task : Task). IsAddressOf (terminals c) (current c) (way_of task) address) (sym e) called; failures = refl }
 
-repeats_poll : (c : ControlValue) (address : List ℕ) → HasEntries c → c.task ≡ Polling Nothing → (polls c c.place (c.tries + 1)).sent ≡ Some (m.Call address) → IsRepeated c (polls c c.place (c.tries + 1)).control address
+repeats_poll : (c : ControlValue) (address : List ℕ) → HasEntries c → c.task ≡ Polling Nothing → (poll_call_step c c.place (c.failures + 1)).sent ≡ Some (m.Call address) → IsRepeated c (poll_call_step c c.place (c.failures + 1)).control address
 repeats_poll c address entries e sent =
     let t : ℕ = current c in
-    let p : PeerValue = record (peer c) { receiver = begun true } in
+    let p : PeerValue = record (peer c) { receiver = new_receiver true } in
     record {
       place = refl;
       task = sym e;
@@ -258,12 +251,12 @@ repeats_poll c address entries e sent =
             there = rw (same_map (λ (x : PeerValue). x.terminal) c.peers t p no_peer refl) (terminal_there c t (entry_within c c.place entries entries.place));
             its_own = cc;
           };
-      tries = refl;
+      failures = refl;
     }
 
-silent-selecting : (c : ControlValue) (s : ℕ) (enquired : Bool) → HasEntries c → IsOrderly c → IsCalm c → c.task ≡ Selecting s enquired → IsSelected (peer c) s → SilentWell c (silence_in c (Selecting s enquired))
+silent-selecting : (c : ControlValue) (s : ℕ) (enquired : Bool) → HasEntries c → IsOrderly c → IsCalm c → c.task ≡ Selecting s enquired → IsSelected (peer c) s → SilenceKeeps c (silence_in c (Selecting s enquired))
 silent-selecting c s enquired entries o calm e selected =
-    silent_if c (nat_lt c.setup.tries (c.tries + 1)) (calls_next c (Selection s)) (sends (record c { tries = c.tries + 1 }) (repeated c s enquired))
+    choose (SilenceKeeps c) (nat_lt c.setup.tries (c.failures + 1)) (next_call_step c (Selection s)) (sends (record c { failures = c.failures + 1 }) (repeated c s enquired))
     (silent-next c (Selection s) entries calm (ap after_silence e))
     (record {
       keeps = record { setup = refl; poll_list = refl; terminals = refl; peers = refl; outbounds = λ t. refl; offered = λ t k. refl };
@@ -272,7 +265,7 @@ silent-selecting c s enquired entries o calm e selected =
       calls = λ address sent. inr (repeats c s enquired address entries e selected cc);
     })
 
-silent-task : (c : ControlValue) (task : Task) → HasEntries c → IsOrderly c → c.task ≡ task → SilentWell c (silence_in c task)
+silent-task : (c : ControlValue) (task : Task) → HasEntries c → IsOrderly c → c.task ≡ task → SilenceKeeps c (silence_in c task)
 silent-task c AtRest entries o e = silent-next c Start entries (calm_while c o (λ k used. absurd (cc))) (ap after_silence e)
 silent-task c (Selecting s enquired) entries o e =
     silent-selecting c s enquired entries o (calm_while c o (λ k used. absurd (cc))) e (subst (λ (task : Task). SuitsTask task (peer c)) e o.suits)
@@ -282,23 +275,23 @@ silent-task c (Sending s) entries o e =
     let others = others_rest c s entries o e bid.there in
     let step = silence_step k.sender k.queue in
     let keeps = keeps-silence_step k.sender k.queue bid.going in
-    let f : Fares c (acted c s step (Selection s)).control = fares-acted c s step (Selection s) others keeps (λ q. e) in
+    let f : KeepsSpools c (bid_step c s step (Selection s)).control = keeps_spools-bid_step c s step (Selection s) others keeps (λ q. e) in
     record {
       keeps = f.keeps;
       orderly = f.orderly;
       spools = f.spools;
       calls = λ address sent.
-          inl (subst (λ (x : After). IsCalled (acted c s step (Selection s)).control (next_call c x) address) (sym (ap after_silence e)) (calls-acted c s step (Selection s) address others keeps (inl refl) sent));
+          inl (subst (λ (x : After). IsCalled (bid_step c s step (Selection s)).control (next_call c x) address) (sym (ap after_silence e)) (calls-bid_step c s step (Selection s) address others keeps (inl refl) sent));
     }
 silent-task c (Polling Nothing) entries o e =
     let calm = calm_while c o (λ k used. absurd (cc)) in
-    let f : Fares c (polls c c.place (c.tries + 1)).control = fares-polls c c.place (c.tries + 1) calm in
-    silent_if c (nat_lt c.setup.tries (c.tries + 1)) (calls_next c (Poll false)) (polls c c.place (c.tries + 1))
+    let f : KeepsSpools c (poll_call_step c c.place (c.failures + 1)).control = keeps_spools-poll_call_step c c.place (c.failures + 1) calm in
+    choose (SilenceKeeps c) (nat_lt c.setup.tries (c.failures + 1)) (next_call_step c (Poll false)) (poll_call_step c c.place (c.failures + 1))
     (silent-next c (Poll false) entries calm (ap after_silence e))
     (record { keeps = f.keeps; orderly = f.orderly; spools = f.spools; calls = λ address sent. inr (repeats_poll c address entries e sent) })
 silent-task c (Polling WithoutRvi) entries o e = silent-next c (Poll false) entries (calm_while c o (λ k used. absurd (cc))) (ap after_silence e)
 silent-task c (Polling WithRvi) entries o e = silent-next c (Poll true) entries (calm_while c o (λ k used. absurd (cc))) (ap after_silence e)
 
 -- what a control station is after a silence
-pub silent_well : (old new : ControlValue) (sent : Option Message) → HasEntries old → IsOrderly old → ActsOnSilence old new sent → SilentWell old (record { control = new; sent = sent })
-silent_well old new sent entries o row = subst (SilentWell old) (sym row) (silent-task old old.task entries o refl)
+pub silence_keeps : (old new : ControlValue) (sent : Option Message) → HasEntries old → IsOrderly old → ActsOnSilence old new sent → SilenceKeeps old (record { control = new; sent = sent })
+silence_keeps old new sent entries o row = subst (SilenceKeeps old) (sym row) (silent-task old old.task entries o refl)

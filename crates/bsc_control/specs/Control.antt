@@ -15,8 +15,8 @@ pub record ControlValue : Type 0 where
   pub poll_list : List ℕ
   pub place : ℕ
   pub task : Task
-  pub tries : ℕ
-  pub waits : ℕ
+  pub failures : ℕ
+  pub wacks : ℕ
   pub peers : List PeerValue
 
 -- what is left of the control station, and the message that it sends

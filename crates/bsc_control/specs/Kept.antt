@@ -11,7 +11,7 @@ use Rattle.bsc_spool.specs.Queue.{waiting}
 use Rattle.bsc_text.specs.declared.phase.Phase.{Phase}
 use Rattle.bsc_text.specs.declared.phase.Phase.TheVariants.{Idle}
 use Rattle.bsc_text.specs.Ready.{IsGoing, IsAtRest}
-use Rattle.bsc_text.specs.Receiver.{begun}
+use Rattle.bsc_text.specs.Receiver.{new_receiver}
 use Rattle.bsc_text.specs.Reply.{reply_heard}
 use Rattle.bsc_text.specs.Setup.{SetupValue}
 use Rattle.bsc_text.specs.Terminal.{TerminalValue}
@@ -44,7 +44,7 @@ abbrev pub SuitsTask : Task → PeerValue → Type 0
 SuitsTask AtRest p = Unit {0}
 SuitsTask (Selecting s enquired) p = IsSelected p s
 SuitsTask (Sending s) p = IsInBid p s
-SuitsTask (Polling Nothing) p = p.receiver ≡ begun true
+SuitsTask (Polling Nothing) p = p.receiver ≡ new_receiver true
 SuitsTask (Polling WithoutRvi) p = Unit {0}
 SuitsTask (Polling WithRvi) p = Unit {0}
 
@@ -89,8 +89,8 @@ pub record IsNewControl (setup : SetupValue) (ts : List TerminalValue) (poll_lis
   pub terminals_given : terminals c ≡ ts
   pub place : c.place ≡ 0
   pub task : c.task ≡ AtRest
-  pub tries : c.tries ≡ 0
-  pub waits : c.waits ≡ 0
+  pub failures : c.failures ≡ 0
+  pub wacks : c.wacks ≡ 0
   pub peers : All (λ (p : PeerValue). IsNewPeer setup p.terminal p) c.peers
 
 -- what stays: the settings, the poll list, the addresses, and the records that were offered
@@ -113,8 +113,8 @@ pub record IsCalled (c : ControlValue) (call : Call) (address : List ℕ) : Type
   pub place : c.place ≡ call.place
   pub called : IsAddressOf (terminals c) (current c) call.way address
   pub task : IsTaskOf call.way c.task
-  pub tries : c.tries ≡ 0
-  pub waits : c.waits ≡ 0
+  pub failures : c.failures ≡ 0
+  pub wacks : c.wacks ≡ 0
 
 -- what the call is made after, when this is heard during this task
 abbrev pub after_hearing : Task → Heard → After
@@ -156,7 +156,7 @@ pub record IsRepeated (old new : ControlValue) (address : List ℕ) : Type 0 whe
   pub place : new.place ≡ old.place
   pub task : new.task ≡ old.task
   pub called : IsAddressOf (terminals new) (current new) (way_of new.task) address
-  pub tries : new.tries ≡ old.tries + 1
+  pub failures : new.failures ≡ old.failures + 1
 
 -- what a control station is once it has heard a transmission: each call that it makes is the next
 -- one

@@ -7,7 +7,7 @@ use Rattle.bsc_spool.specs.Spool.{SpoolValue}
 use Rattle.bsc_text.specs.declared.phase.Phase.TheVariants.{Idle}
 use Rattle.bsc_text.specs.declared.reply.Reply.{Reply}
 use Rattle.bsc_text.specs.Ready.{IsReady}
-use Rattle.bsc_text.specs.Receiver.{ReceiverValue, Receives, begun, sends_rvi}
+use Rattle.bsc_text.specs.Receiver.{ReceiverValue, Receives, new_receiver, sends_rvi}
 use Rattle.bsc_text.specs.Sender.{SenderValue, SenderStep, is_in_doubt, release_step}
 use Rattle.bsc_text.specs.Setup.{SetupValue}
 use Rattle.bsc_text.specs.Terminal.{TerminalValue, IsTerminal}
@@ -34,8 +34,8 @@ no_outbound =
       sender = record {
         setup = record { format = record { full = 0; block_chars = 0 }; tries = 0; waits = 0 };
         phase = Idle;
-        tries = 0;
-        waits = 0;
+        failures = 0;
+        wacks = 0;
       };
       queue = record { format = record { full = 0; block_chars = 0 }; offered = []; known = 0 };
     }
@@ -45,7 +45,7 @@ no_peer =
     record {
       terminal = record { poll = []; selects = [] };
       urgent = false;
-      receiver = begun true;
+      receiver = new_receiver true;
       spool = record { records = []; room = false; delays = 0 };
       outbounds = [];
     }
@@ -61,8 +61,8 @@ with_outbound p s o = record p { outbounds = slice_set p.outbounds s o }
 abbrev pub outbound_after : SenderStep → OutboundValue
 outbound_after step = record { sender = step.sender; queue = step.queue }
 
-abbrev pub released : OutboundValue → ℕ → OutboundValue
-released o count =
+abbrev pub outbound_released : OutboundValue → ℕ → OutboundValue
+outbound_released o count =
     record {
       sender = (release_step o.sender o.queue count).sender;
       queue = (release_step o.sender o.queue count).queue;
@@ -72,7 +72,7 @@ released o count =
 abbrev pub new_outbound : SetupValue → OutboundValue
 new_outbound setup =
     record {
-      sender = record { setup = setup; phase = Idle; tries = 0; waits = 0 };
+      sender = record { setup = setup; phase = Idle; failures = 0; wacks = 0 };
       queue = record { format = setup.format; offered = []; known = 0 };
     }
 
@@ -80,7 +80,7 @@ new_outbound setup =
 pub record IsNewPeer (setup : SetupValue) (terminal : TerminalValue) (p : PeerValue) : Type 0 where
   pub terminal_given : p.terminal ≡ terminal
   pub calm : p.urgent ≡ false
-  pub receiver : p.receiver ≡ begun true
+  pub receiver : p.receiver ≡ new_receiver true
   pub nothing_spooled : p.spool.records ≡ []
   pub no_delays : p.spool.delays ≡ 0
   pub outbounds : p.outbounds ≡ replicate (length terminal.selects) (new_outbound setup)

@@ -17,46 +17,46 @@ pub record IsFirstRepeat (xs : List (List ℕ)) (i j : ℕ) : Type 0 where
   pub first : AllPairs (λ a b. a ≢ b) (take j xs)
 
 -- there was no memory, or, after the old addresses, which differ, one of more came before
-abbrev pub IsClash : List (List ℕ) → List (List ℕ) → SetupError → Type 0
-IsClash old more Memory = Unit {0}
-IsClash old more (SameAddress i j) = IsFirstRepeat (old ++ more) i j
-IsClash old more _ = ⊥
+abbrev pub RefusesAddresses : List (List ℕ) → List (List ℕ) → SetupError → Type 0
+RefusesAddresses old more Memory = Unit {0}
+RefusesAddresses old more (SameAddress i j) = IsFirstRepeat (old ++ more) i j
+RefusesAddresses old more _ = ⊥
 
 -- an entry of a poll list of this many terminals is right only at places below 255
-abbrev pub IsRight : ℕ → List ℕ → ℕ → Type 0
-IsRight count poll_list place = (place < 255) × (slice_index poll_list place < count)
+abbrev pub IsEntry : ℕ → List ℕ → ℕ → Type 0
+IsEntry count poll_list place = (place < 255) × (slice_index poll_list place < count)
 
 -- each entry of a poll list is right
-abbrev pub AreRight : ℕ → List ℕ → Type 0
-AreRight count poll_list = (k : ℕ) → k < length poll_list → IsRight count poll_list k
+abbrev pub AreEntries : ℕ → List ℕ → Type 0
+AreEntries count poll_list = (k : ℕ) → k < length poll_list → IsEntry count poll_list k
 
 -- 1 to 64 terminals
-pub record IsNumber (count : ℕ) : Type 0 where
+pub record IsTerminalCount (count : ℕ) : Type 0 where
   pub some : 1 ≤ count
   pub few : count ≤ 64
 
 -- the least place of the poll list that is 255 or more, or whose entry is no terminal
 pub record IsFirstWrong (count : ℕ) (poll_list : List ℕ) (place : ℕ) : Type 0 where
   pub within : place < length poll_list
-  pub wrong : IsRight count poll_list place → ⊥
-  pub first : (k : ℕ) → k < place → IsRight count poll_list k
+  pub wrong : IsEntry count poll_list place → ⊥
+  pub first : (k : ℕ) → k < place → IsEntry count poll_list k
 
 -- what each refusal says; those before it, but for out of memory, do not hold
 abbrev pub IsRefused : List TerminalValue → List ℕ → SetupError → Type 0
 IsRefused terminals poll_list NoTerminal = length terminals ≡ 0
 IsRefused terminals poll_list TooMany = 64 < length terminals
 IsRefused terminals poll_list (SameAddress i j) =
-    IsNumber (length terminals) × IsFirstRepeat (addresses terminals) i j
+    IsTerminalCount (length terminals) × IsFirstRepeat (addresses terminals) i j
 IsRefused terminals poll_list EmptyPollList =
-    IsNumber (length terminals) × AreDistinct terminals × (length poll_list ≡ 0)
+    IsTerminalCount (length terminals) × AreDistinct terminals × (length poll_list ≡ 0)
 IsRefused terminals poll_list (PollList place) =
-    IsNumber (length terminals) × AreDistinct terminals
+    IsTerminalCount (length terminals) × AreDistinct terminals
     × IsFirstWrong (length terminals) poll_list place
-IsRefused terminals poll_list Memory = IsNumber (length terminals)
+IsRefused terminals poll_list Memory = IsTerminalCount (length terminals)
 
 -- there is nothing to refuse
 pub record IsAccepted (terminals : List TerminalValue) (poll_list : List ℕ) : Type 0 where
-  pub number : IsNumber (length terminals)
+  pub number : IsTerminalCount (length terminals)
   pub distinct : AreDistinct terminals
   pub some : 1 ≤ length poll_list
-  pub right : AreRight (length terminals) poll_list
+  pub right : AreEntries (length terminals) poll_list

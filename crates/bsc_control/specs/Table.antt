@@ -11,9 +11,11 @@ use Rattle.bsc_text.specs.declared.act.Act.{Act}
 use Rattle.bsc_text.specs.declared.act.Act.TheVariants as a
 use Rattle.bsc_text.specs.declared.reply.Reply.{Reply}
 use Rattle.bsc_text.specs.declared.reply.Reply.TheVariants.{Ack0, Nak, Wack, Rvi}
+use Rattle.bsc_text.specs.Act.{message_for}
 use Rattle.bsc_text.specs.Terminal.{TerminalValue}
 use Rattle.bsc_text.specs.Reply.{message_of, reply_heard}
-use Rattle.bsc_text.specs.Receiver.{ReceiverStep, Rooms, begun, heard_step, rooms_left, sends_rvi}
+use Rattle.bsc_text.specs.Receiver.{ReceiverStep, Rooms, new_receiver, heard_step, rooms_left}
+use Rattle.bsc_text.specs.Receiver.{sends_rvi}
 use Rattle.bsc_text.specs.Sender.{SenderStep, begin_step, reply_step, silence_step}
 use Rattle.bsc_control.specs.declared.task.Replied.{Replied}
 use Rattle.bsc_control.specs.declared.task.Replied.TheVariants.{Nothing, WithoutRvi, WithRvi}
@@ -43,51 +45,51 @@ has_rvi WithRvi = true
 has_rvi _ = false
 
 -- the polling address of an entry is called, after this many failures: the receiver begins
-abbrev pub polls : ControlValue → ℕ → ℕ → ControlStep
-polls c place tries =
+abbrev pub poll_call_step : ControlValue → ℕ → ℕ → ControlStep
+poll_call_step c place failures =
     let t : ℕ = terminal_of_entry c place in
     let p : PeerValue = peer_at c t in
-    sends (record (with_peer c t (record p { receiver = begun true })) {
+    sends (record (with_peer c t (record p { receiver = new_receiver true })) {
       place = place;
       task = Polling Nothing;
-      tries = tries;
-      waits = 0;
+      failures = failures;
+      wacks = 0;
     }) (m.Call p.terminal.poll)
 
 -- a selection address of an entry is called: the urgent flag is cleared
-abbrev pub selects : ControlValue → ℕ → ℕ → ControlStep
-selects c place s =
+abbrev pub selection_call_step : ControlValue → ℕ → ℕ → ControlStep
+selection_call_step c place s =
     let t : ℕ = terminal_of_entry c place in
     let p : PeerValue = peer_at c t in
     sends (record (with_peer c t (record p { urgent = false })) {
       place = place;
       task = Selecting s false;
-      tries = 0;
-      waits = 0;
+      failures = 0;
+      wacks = 0;
     }) (m.Call (select_address p.terminal s))
 
-abbrev pub calls_by : ControlValue → ℕ → Way → ControlStep
-calls_by c place FromTerminal = polls c place 0
-calls_by c place (ToTerminal s) = selects c place s
+abbrev pub way_call_step : ControlValue → ℕ → Way → ControlStep
+way_call_step c place FromTerminal = poll_call_step c place 0
+way_call_step c place (ToTerminal s) = selection_call_step c place s
 
 -- a call, with its own tries and waits
-abbrev pub calls : ControlValue → Call → ControlStep
-calls c call = calls_by c call.place call.way
+abbrev pub make_call_step : ControlValue → Call → ControlStep
+make_call_step c call = way_call_step c call.place call.way
 
 -- the next call is made
-abbrev pub calls_next : ControlValue → After → ControlStep
-calls_next c after = calls c (next_call c after)
+abbrev pub next_call_step : ControlValue → After → ControlStep
+next_call_step c after = make_call_step c (next_call c after)
 
 -- the sender acts; after the bid the next call is made
-abbrev pub performs : ControlValue → ℕ → Act → After → ControlStep
-performs c s (a.Send text) after = sends (record c { task = Sending s }) (m.Text text)
-performs c s a.Enq after = sends (record c { task = Sending s }) m.Enq
-performs c s a.Over after = calls_next c after
-performs c s a.Quiet after = quiet c
+abbrev pub perform_step : ControlValue → ℕ → Act → After → ControlStep
+perform_step c s a.Over after = next_call_step c after
+perform_step c s a.Quiet after = quiet c
+perform_step c s act after =
+    record { control = record c { task = Sending s }; sent = message_for act }
 
-abbrev pub acted : ControlValue → ℕ → SenderStep → After → ControlStep
-acted c s step after =
-    performs (with_current c (with_outbound (peer c) s (outbound_after step))) s step.act after
+abbrev pub bid_step : ControlValue → ℕ → SenderStep → After → ControlStep
+bid_step c s step after =
+    perform_step (with_current c (with_outbound (peer c) s (outbound_after step))) s step.act after
 
 -- what a bid that ends now is over by: RVI, or all else
 abbrev pub after_bid : ℕ → Option Reply → After
@@ -97,17 +99,17 @@ after_bid s _ = Selection s
 -- a selection is answered
 abbrev pub selecting_step : ControlValue → ℕ → Option Reply → ControlStep
 selecting_step c s (Some Ack0) =
-    acted c s (begin_step (outbound_at (peer c) s).sender (outbound_at (peer c) s).queue)
+    bid_step c s (begin_step (outbound_at (peer c) s).sender (outbound_at (peer c) s).queue)
     (Selection s)
-selecting_step c s (Some Nak) = calls_next c (Selection s)
+selecting_step c s (Some Nak) = next_call_step c (Selection s)
 selecting_step c s (Some Wack) =
-    if nat_lt c.setup.waits (c.waits + 1) then calls_next c (Selection s)
-    else sends (record c { task = Selecting s true; tries = 0; waits = c.waits + 1 }) m.Enq
+    if nat_lt c.setup.waits (c.wacks + 1) then next_call_step c (Selection s)
+    else sends (record c { task = Selecting s true; failures = 0; wacks = c.wacks + 1 }) m.Enq
 selecting_step c s _ = quiet c
 
 -- the receiver replies; RVI clears the urgent flag
-abbrev pub receives : ControlValue → Replied → ReceiverStep → ControlStep
-receives c replied step =
+abbrev pub receiving_step : ControlValue → Replied → ReceiverStep → ControlStep
+receiving_step c replied step =
     let p : PeerValue = peer c in
     record {
       control =
@@ -123,16 +125,16 @@ receives c replied step =
 
 -- a poll is answered
 abbrev pub polling_step : ControlValue → Replied → Heard → Rooms → ControlStep
-polling_step c replied (Whole m.Eot) rooms = calls_next c (Poll (has_rvi replied))
+polling_step c replied (Whole m.Eot) rooms = next_call_step c (Poll (has_rvi replied))
 polling_step c replied h rooms =
-    receives c replied (heard_step (peer c).receiver (peer c).spool h (peer c).urgent rooms)
+    receiving_step c replied (heard_step (peer c).receiver (peer c).spool h (peer c).urgent rooms)
 
 -- the table: what is heard
 abbrev pub task_step : ControlValue → Task → Heard → Rooms → ControlStep
 task_step c AtRest h rooms = quiet c
 task_step c (Selecting s enquired) h rooms = selecting_step c s (reply_heard h)
 task_step c (Sending s) h rooms =
-    acted c s
+    bid_step c s
     (reply_step (outbound_at (peer c) s).sender (outbound_at (peer c) s).queue (reply_heard h))
     (after_bid s (reply_heard h))
 task_step c (Polling replied) h rooms = polling_step c replied h rooms
@@ -147,18 +149,18 @@ repeated c s false = m.Call (select_address (peer c).terminal s)
 
 -- the table: a silence during this task
 abbrev pub silence_in : ControlValue → Task → ControlStep
-silence_in c AtRest = calls_next c Start
+silence_in c AtRest = next_call_step c Start
 silence_in c (Selecting s enquired) =
-    if nat_lt c.setup.tries (c.tries + 1) then calls_next c (Selection s)
-    else sends (record c { tries = c.tries + 1 }) (repeated c s enquired)
+    if nat_lt c.setup.tries (c.failures + 1) then next_call_step c (Selection s)
+    else sends (record c { failures = c.failures + 1 }) (repeated c s enquired)
 silence_in c (Sending s) =
-    acted c s (silence_step (outbound_at (peer c) s).sender (outbound_at (peer c) s).queue)
+    bid_step c s (silence_step (outbound_at (peer c) s).sender (outbound_at (peer c) s).queue)
     (Selection s)
 silence_in c (Polling Nothing) =
-    if nat_lt c.setup.tries (c.tries + 1) then calls_next c (Poll false)
-    else polls c c.place (c.tries + 1)
-silence_in c (Polling WithoutRvi) = calls_next c (Poll false)
-silence_in c (Polling WithRvi) = calls_next c (Poll true)
+    if nat_lt c.setup.tries (c.failures + 1) then next_call_step c (Poll false)
+    else poll_call_step c c.place (c.failures + 1)
+silence_in c (Polling WithoutRvi) = next_call_step c (Poll false)
+silence_in c (Polling WithRvi) = next_call_step c (Poll true)
 
 abbrev pub silent_step : ControlValue → ControlStep
 silent_step c = silence_in c c.task

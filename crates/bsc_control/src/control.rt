@@ -8,7 +8,7 @@ ghost use Rattle.bsc_control.specs.Addresses.{IsAddressOf};
 ghost use Rattle.bsc_control.specs.Control.{ControlValue, terminals, peer_at, with_peer};
 ghost use Rattle.bsc_control.specs.Kept.{IsControl, IsNewControl, outbound_of};
 ghost use Rattle.bsc_control.specs.Refusals.{IsAccepted, IsRefused};
-ghost use Rattle.bsc_control.specs.Peer.{with_outbound, released, offered_to};
+ghost use Rattle.bsc_control.specs.Peer.{with_outbound, outbound_released, offered_to};
 ghost use Rattle.bsc_control.specs.Ways.{IsSelection, select_of};
 
 use crate::directory::Directory;
@@ -93,7 +93,7 @@ impl<A: Allocator> Control<A> {
         ensures value { result ≡ self.now.setup }
         ensures control { IsControl self.now }
     {
-        self.procedure.setup()
+        self.procedure.setup
     }
 
     /// The poll list: the number of a terminal for each entry.
@@ -101,7 +101,7 @@ impl<A: Allocator> Control<A> {
         ensures value { result.now ≡ self.now.poll_list }
         ensures control { IsControl self.now }
     {
-        self.procedure.poll_list()
+        self.procedure.poll_list.as_slice()
     }
 
     /// How many terminals the line has: 1 to 64.
@@ -109,7 +109,7 @@ impl<A: Allocator> Control<A> {
         ensures value { result ≡ length self.now.peers }
         ensures control { IsControl self.now }
     {
-        self.procedure.terminals()
+        self.procedure.peers.len()
     }
 
     /// How many selection addresses a terminal has: 1 to 4. Condition: there is such a terminal.
@@ -118,7 +118,8 @@ impl<A: Allocator> Control<A> {
         ensures value { result ≡ length (peer_at self.now terminal).outbounds }
         ensures control { IsControl self.now }
     {
-        self.procedure.addresses(terminal)
+        let peer = &self.procedure.peers[terminal];
+        peer.outbounds.len()
     }
 
     /// The terminal and the way whose address this is: a polling address is a way from its
@@ -145,7 +146,10 @@ impl<A: Allocator> Control<A> {
         ensures given_back { IfErr result (λ r. r ≡ «record») }
         ensures control { IsControl self.new }
     {
-        self.procedure.offer(terminal, select, record)
+        let procedure = &mut self.procedure;
+        let peer = &mut procedure.peers[terminal];
+        let outbound = &mut peer.outbounds[select];
+        outbound.offer(record)
     }
 
     /// Asks a terminal for the line: the next text of it that is taken is answered by RVI, unless
@@ -157,7 +161,9 @@ impl<A: Allocator> Control<A> {
             ≡ with_peer self.old terminal (record (peer_at self.old terminal) { urgent = true }) }
         ensures control { IsControl self.new }
     {
-        self.procedure.set_urgent(terminal);
+        let procedure = &mut self.procedure;
+        let peer = &mut procedure.peers[terminal];
+        peer.urgent = true;
     }
 
     /// Whether it is not known if the last block for this address arrived. Condition: the way is to
@@ -169,7 +175,9 @@ impl<A: Allocator> Control<A> {
             ≡ is_in_doubt (outbound_of self.now terminal (select_of way)).sender.phase }
         ensures control { IsControl self.now }
     {
-        self.procedure.in_doubt(terminal, way.select())
+        let peer = &self.procedure.peers[terminal];
+        let outbound = &peer.outbounds[way.select()];
+        outbound.sender.in_doubt()
     }
 
     /// Ends the doubt: the other end has `count` records. `NotInDoubt`, then `CountMismatch` where
@@ -180,13 +188,16 @@ impl<A: Allocator> Control<A> {
         requires way { IsSelection way (length (peer_at self.old terminal).outbounds) }
         ensures state { self.new
             ≡ with_peer self.old terminal (with_outbound (peer_at self.old terminal) (select_of way)
-            (released (outbound_of self.old terminal (select_of way)) count)) }
+            (outbound_released (outbound_of self.old terminal (select_of way)) count)) }
         ensures answer { result
             ≡ (release_step (outbound_of self.old terminal (select_of way)).sender
             (outbound_of self.old terminal (select_of way)).queue count).answer }
         ensures control { IsControl self.new }
     {
-        self.procedure.release(terminal, way.select(), count)
+        let procedure = &mut self.procedure;
+        let peer = &mut procedure.peers[terminal];
+        let outbound = &mut peer.outbounds[way.select()];
+        outbound.release(count)
     }
 
     /// The records for a selection address of a terminal, and how many of them are known to have
@@ -197,7 +208,9 @@ impl<A: Allocator> Control<A> {
         ensures value { result.now ≡ (outbound_of self.now terminal select).queue }
         ensures control { IsControl self.now }
     {
-        self.procedure.queue(terminal, select)
+        let peer = &self.procedure.peers[terminal];
+        let outbound = &peer.outbounds[select];
+        &outbound.queue
     }
 
     /// The records that arrived from a terminal. Condition: there is such a terminal.
@@ -206,7 +219,8 @@ impl<A: Allocator> Control<A> {
         ensures value { result.now ≡ (peer_at self.now terminal).spool }
         ensures control { IsControl self.now }
     {
-        self.procedure.spool(terminal)
+        let peer = &self.procedure.peers[terminal];
+        &peer.spool
     }
 }
 

@@ -5,7 +5,7 @@ ghost use Rattle.std.specs.List.{Contains};
 ghost use Rattle.bsc_control.specs.declared.way.Way.{Way as WayValue};
 ghost use Rattle.bsc_control.specs.Addresses.{AreDistinct, numbered, owned, addresses};
 ghost use Rattle.bsc_text.specs.Terminal.{own_addresses};
-ghost use Rattle.bsc_control.specs.Refusals.{IsClash};
+ghost use Rattle.bsc_control.specs.Refusals.{RefusesAddresses};
 ghost use Rattle.std.specs.Map.{keys_of};
 
 use crate::refusal::SetupError;
@@ -46,7 +46,7 @@ impl<A: Allocator> Directory<A> {
         A: Copy,
         ensures entries { IfOk result (λ d. d ≡ numbered 0 terminals.now) }
         ensures distinct { OnOk result (AreDistinct terminals.now) }
-        ensures refused { IfErr result (λ e. IsClash [] (addresses terminals.now) e) }
+        ensures refused { IfErr result (λ e. RefusesAddresses [] (addresses terminals.now) e) }
     {
         let mut directory = Directory {
             owners: IndexMap::new(alloc),
@@ -71,7 +71,7 @@ impl<A: Allocator> Directory<A> {
     fn enter_all(&mut self, number: usize, terminal: &Terminal) -> Result<(), SetupError>
         ensures entries { OnOk result (self.new ≡ self.old ++ owned number terminal.now) }
         ensures refused { IfErr result
-            (λ e. IsClash (keys_of self.old) (own_addresses terminal.now) e) }
+            (λ e. RefusesAddresses (keys_of self.old) (own_addresses terminal.now) e) }
     {
         self.enter(terminal.poll(), number, Way::FromTerminal)?;
         for select in 0..terminal.selects() {
@@ -83,7 +83,7 @@ impl<A: Allocator> Directory<A> {
     /// Enters an address.
     fn enter(&mut self, address: Address, terminal: usize, way: Way) -> Result<(), SetupError>
         ensures entries { OnOk result (self.new ≡ self.old ++ (address, (terminal, way)) ∷ []) }
-        ensures refused { IfErr result (λ e. IsClash (keys_of self.old) (address ∷ []) e) }
+        ensures refused { IfErr result (λ e. RefusesAddresses (keys_of self.old) (address ∷ []) e) }
     {
         if let Some(first) = self.owners.get_index_of(&address) {
             return Err(SetupError::SameAddress(first, self.owners.len()));

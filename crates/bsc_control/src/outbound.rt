@@ -4,10 +4,9 @@ ghost use Rattle.std.specs.Prelude.{◌≡◌, ◌≤◌, ◌++◌, [], ◌∷�
 ghost use Rattle.bsc_spool.specs.Queue.{waiting};
 ghost use Rattle.bsc_text.specs.declared.phase.Phase.TheVariants.{Idle};
 ghost use Rattle.bsc_text.specs.Reply.{reply_heard};
-ghost use Rattle.bsc_text.specs.Sender.{begin_step, reply_step, silence_step, is_in_doubt};
-ghost use Rattle.bsc_text.specs.Sender.{release_step};
+ghost use Rattle.bsc_text.specs.Sender.{begin_step, reply_step, silence_step, release_step};
 ghost use Rattle.bsc_control.specs.Peer.{OutboundValue, IsOutbound, outbound_after, new_outbound};
-ghost use Rattle.bsc_control.specs.Peer.{released, is_selectable};
+ghost use Rattle.bsc_control.specs.Peer.{outbound_released, is_selectable};
 
 use bsc_block::Record;
 use bsc_frame::Heard;
@@ -20,10 +19,10 @@ use std::marker::Model;
 #[derive(Drop)]
 pub(crate) struct Outbound<A: Allocator> {
     /// The sending end of the bids to the address.
-    sender: Sender,
+    pub(crate) sender: Sender,
 
     /// The records that were offered for the address.
-    queue: Queue<A>,
+    pub(crate) queue: Queue<A>,
 }
 
 impl<A: Allocator> Model for Outbound<A> {
@@ -53,7 +52,7 @@ impl<A: Allocator> Outbound<A> {
     pub(crate) fn is_selectable(&self) -> bool
         ensures { result ≡ is_selectable self.now }
     {
-        !self.sender.in_doubt() && self.queue.next().is_some()
+        !self.sender.in_doubt() && self.queue.has_waiting()
     }
 
     /// Begins a bid.
@@ -103,26 +102,12 @@ impl<A: Allocator> Outbound<A> {
         self.queue.offer(record)
     }
 
-    /// Whether it is not known if a block arrived.
-    pub(crate) fn in_doubt(&self) -> bool
-        ensures { result ≡ is_in_doubt self.now.sender.phase }
-    {
-        self.sender.in_doubt()
-    }
-
     /// Ends the doubt: the other end has `count` records.
     pub(crate) fn release(&mut self, count: usize) -> Result<(), ReleaseError>
-        ensures state { self.new ≡ released self.old count }
+        ensures state { self.new ≡ outbound_released self.old count }
         ensures answer { result ≡ (release_step self.old.sender self.old.queue count).answer }
         ensures outbound { IsOutbound self.new }
     {
         self.sender.release(count, &mut self.queue)
-    }
-
-    /// The records, and how many of them are known to have arrived.
-    pub(crate) fn queue(&self) -> &Queue<A>
-        ensures { result.now ≡ self.now.queue }
-    {
-        &self.queue
     }
 }

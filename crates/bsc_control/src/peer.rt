@@ -1,25 +1,14 @@
 //! What the control station keeps for one terminal.
 
-ghost use Rattle.std.specs.Prelude.{◌≡◌, ◌≤◌, ◌<◌, true, false, Some, length, OnOk, OnErr, IfOk};
-ghost use Rattle.std.specs.Prelude.{IfErr, position};
-ghost use Rattle.bsc_spool.specs.Queue.{waiting};
-ghost use Rattle.bsc_text.specs.declared.phase.Phase.TheVariants.{Idle};
-ghost use Rattle.bsc_text.specs.Receiver.{begun};
-ghost use Rattle.bsc_text.specs.Reply.{reply_heard};
-ghost use Rattle.bsc_text.specs.Sender.{begin_step, reply_step, silence_step, is_in_doubt};
-ghost use Rattle.bsc_text.specs.Sender.{release_step};
+ghost use Rattle.std.specs.Prelude.{◌≡◌, ◌≤◌, false, Some, length, IfOk, position};
 ghost use Rattle.bsc_control.specs.CallOrder.{way_from};
-ghost use Rattle.bsc_control.specs.Peer.{PeerValue, IsPeer, PeerReceives, outbound_at};
-ghost use Rattle.bsc_control.specs.Peer.{with_outbound, outbound_after, IsNewPeer, is_selectable};
-ghost use Rattle.bsc_control.specs.Peer.{offered_to, released};
-ghost use Rattle.bsc_control.specs.Table.{select_address};
+ghost use Rattle.bsc_control.specs.Peer.{PeerValue, IsPeer, PeerReceives, IsNewPeer, is_selectable};
 
 use crate::outbound::Outbound;
 use crate::way::Way;
-use bsc_block::Record;
-use bsc_frame::{Address, Heard};
-use bsc_spool::{Queue, Spool};
-use bsc_text::{Act, Receiver, ReleaseError, Reply, Setup, Terminal};
+use bsc_frame::Heard;
+use bsc_spool::Spool;
+use bsc_text::{Receiver, Reply, Setup, Terminal};
 use std::alloc::{AllocError, Allocator};
 use std::marker::Model;
 
@@ -28,19 +17,19 @@ use std::marker::Model;
 #[derive(Drop)]
 pub(crate) struct Peer<A: Allocator> {
     /// Its polling address and its selection addresses.
-    terminal: Terminal,
+    pub(crate) terminal: Terminal,
 
     /// Whether the next text that is taken from it is answered by RVI.
-    urgent: bool,
+    pub(crate) urgent: bool,
 
     /// The receiving end of its bids.
-    receiver: Receiver,
+    pub(crate) receiver: Receiver,
 
     /// The records that arrived from it.
-    spool: Spool<A>,
+    pub(crate) spool: Spool<A>,
 
     /// What is sent to each of its selection addresses, in their order.
-    outbounds: Vec<Outbound<A>, A>,
+    pub(crate) outbounds: Vec<Outbound<A>, A>,
 }
 
 impl<A: Allocator> Model for Peer<A> {
@@ -86,28 +75,6 @@ impl<A: Allocator> Peer<A> {
         })
     }
 
-    /// The terminal's addresses.
-    pub(crate) fn terminal(&self) -> Terminal
-        ensures { result ≡ self.now.terminal }
-    {
-        self.terminal
-    }
-
-    /// How many selection addresses it has.
-    pub(crate) fn addresses(&self) -> usize
-        ensures { result ≡ length self.now.outbounds }
-    {
-        self.outbounds.len()
-    }
-
-    /// The selection address of this number.
-    pub(crate) fn select_address(&self, select: usize) -> Address
-        requires { select < length self.now.outbounds }
-        ensures { result ≡ select_address self.now.terminal select }
-    {
-        self.terminal.select(select)
-    }
-
     /// The first selection address from this number on for which records wait without doubt, else
     /// the polling address.
     pub(crate) fn way_from(&self, from: usize) -> Way
@@ -120,22 +87,6 @@ impl<A: Allocator> Peer<A> {
         }
     }
 
-    /// The receiver begins, with room.
-    pub(crate) fn begin_receiving(&mut self)
-        ensures state { self.new ≡ record self.old { receiver = begun true } }
-        ensures peer { IsPeer self.new }
-    {
-        self.receiver.begin(true);
-    }
-
-    /// Sets the urgent flag, or clears it.
-    pub(crate) fn set_urgent(&mut self, urgent: bool)
-        ensures state { self.new ≡ record self.old { urgent = urgent } }
-        ensures peer { IsPeer self.new }
-    {
-        self.urgent = urgent;
-    }
-
     /// The receiver hears a transmission.
     pub(crate) fn receive(&mut self, heard: &Heard) -> Option<Reply>
         ensures receives { PeerReceives self.old heard.now self.new result }
@@ -146,106 +97,6 @@ impl<A: Allocator> Peer<A> {
             self.urgent = false;
         }
         reply
-    }
-
-    /// Begins a bid to a selection address.
-    pub(crate) fn begin(&mut self, select: usize) -> Act
-        requires there { select < length self.old.outbounds }
-        requires idle { (outbound_at self.old select).sender.phase ≡ Idle }
-        requires some { 1 ≤ length (waiting (outbound_at self.old select).queue) }
-        ensures state { self.new
-            ≡ with_outbound self.old select (outbound_after (begin_step
-            (outbound_at self.old select).sender (outbound_at self.old select).queue)) }
-        ensures act { result
-            ≡ (begin_step (outbound_at self.old select).sender
-            (outbound_at self.old select).queue).act }
-        ensures peer { IsPeer self.new }
-    {
-        let outbound = &mut self.outbounds[select];
-        outbound.begin()
-    }
-
-    /// Hears a transmission during a bid to a selection address.
-    pub(crate) fn reply(&mut self, select: usize, heard: &Heard) -> Act
-        requires { select < length self.old.outbounds }
-        ensures state { self.new
-            ≡ with_outbound self.old select (outbound_after (reply_step
-            (outbound_at self.old select).sender (outbound_at self.old select).queue
-            (reply_heard heard.now))) }
-        ensures act { result
-            ≡ (reply_step (outbound_at self.old select).sender
-            (outbound_at self.old select).queue (reply_heard heard.now)).act }
-        ensures peer { IsPeer self.new }
-    {
-        let outbound = &mut self.outbounds[select];
-        outbound.reply(heard)
-    }
-
-    /// Nothing was heard during a bid to a selection address.
-    pub(crate) fn silence(&mut self, select: usize) -> Act
-        requires { select < length self.old.outbounds }
-        ensures state { self.new
-            ≡ with_outbound self.old select (outbound_after (silence_step
-            (outbound_at self.old select).sender (outbound_at self.old select).queue)) }
-        ensures act { result
-            ≡ (silence_step (outbound_at self.old select).sender
-            (outbound_at self.old select).queue).act }
-        ensures peer { IsPeer self.new }
-    {
-        let outbound = &mut self.outbounds[select];
-        outbound.silence()
-    }
-
-    /// Adds a record for a selection address. It comes back where there is no memory for it.
-    pub(crate) fn offer(&mut self, select: usize, record: Record) -> Result<(), Record>
-        requires there { select < length self.old.outbounds }
-        requires short { length «record» ≤ (outbound_at self.old select).queue.format.full }
-        ensures ok { OnOk result (self.new ≡ offered_to self.old select «record») }
-        ensures err { OnErr result (self.new ≡ self.old) }
-        ensures given_back { IfErr result (λ r. r ≡ «record») }
-        ensures peer { IsPeer self.new }
-    {
-        let outbound = &mut self.outbounds[select];
-        outbound.offer(record)
-    }
-
-    /// Whether it is not known if the last block for a selection address arrived.
-    pub(crate) fn in_doubt(&self, select: usize) -> bool
-        requires { select < length self.now.outbounds }
-        ensures { result ≡ is_in_doubt (outbound_at self.now select).sender.phase }
-    {
-        let outbound = &self.outbounds[select];
-        outbound.in_doubt()
-    }
-
-    /// Ends the doubt about a selection address.
-    pub(crate) fn release(&mut self, select: usize, count: usize) -> Result<(), ReleaseError>
-        requires { select < length self.old.outbounds }
-        ensures state { self.new
-            ≡ with_outbound self.old select (released (outbound_at self.old select) count) }
-        ensures answer { result
-            ≡ (release_step (outbound_at self.old select).sender
-            (outbound_at self.old select).queue count).answer }
-        ensures peer { IsPeer self.new }
-    {
-        let outbound = &mut self.outbounds[select];
-        outbound.release(count)
-    }
-
-    /// The records for a selection address.
-    pub(crate) fn queue(&self, select: usize) -> &Queue<A>
-        requires { select < length self.now.outbounds }
-        ensures { result.now ≡ (outbound_at self.now select).queue }
-    {
-        let outbound = &self.outbounds[select];
-        outbound.queue()
-    }
-
-    /// The records that arrived.
-    pub(crate) fn spool(&self) -> &Spool<A>
-        ensures { result.now ≡ self.now.spool }
-    {
-        &self.spool
     }
 }
 

@@ -1,7 +1,7 @@
 //! Why a control station is not made.
 
 ghost use Rattle.std.specs.Prelude.{◌≡◌, None, IfSome};
-ghost use Rattle.bsc_control.specs.Refusals.{AreRight, IsFirstWrong};
+ghost use Rattle.bsc_control.specs.Refusals.{AreEntries, IsFirstWrong};
 
 use std::alloc::{AllocError, AllocFailed};
 use thiserror::Error;
@@ -63,7 +63,7 @@ const MAX_ENTRIES: usize = 255;
 /// The least place of the poll list that is 255 or more, or whose entry is none of this many
 /// terminals.
 pub(crate) fn wrong_entry(poll_list: &[u8], terminals: usize) -> Option<usize>
-    ensures right { result ≡ None → AreRight terminals poll_list.now }
+    ensures right { result ≡ None → AreEntries terminals poll_list.now }
     ensures wrong { IfSome result (IsFirstWrong terminals poll_list.now) }
 {
     for (place, entry) in poll_list.iter().enumerate() {

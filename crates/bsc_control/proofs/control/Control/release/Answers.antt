@@ -1,16 +1,30 @@
-use Rattle.std.proofs.Common.{sym, ◌∙◌, ap}
+use Rattle.std.proofs.Common.{◌<◌, length, sym, ◌∙◌, ap}
 use Rattle.bsc_control.specs.Addresses.{numbered}
-use Rattle.bsc_control.proofs.Controls.{StaysControl, stays-release, selection_there}
-use Rattle.bsc_control.proofs.control.Control.release.Given as given
+use Rattle.bsc_control.specs.Control.{peer_at}
+use Rattle.bsc_control.proofs.Controls.{keeps_outbound-release, selection_there}
+use Rattle.bsc_control.proofs.Entries.{peer-with_outbound, entries-with_peer}
+use Rattle.bsc_control.proofs.Reached.{peer_reached, outbound_reached, stays-reached}
 use Rattle.bsc_control.proofs.control.Control.release.Goals as goal
 
-stays : (g : given.Over) (c : goal.After-release g) → StaysControl c.self.inside.procedure c.release.new.self
-stays g c =
-    stays-release c.self.inside.procedure c.release.new.self c.args.terminal c.select.result c.args.count c.self.invariant.0
-    (rw c.self.view_is c.requires.terminal) (rw (c.select.ensures, c.self.view_is) (selection_there c.args.way _ c.requires.way)) c.release.ensures.state c.release.ensures.entries
+pub invariant_of-procedure : goal.invariant_of-procedure
+invariant_of-procedure g c =
+    let peer =
+    peer-with_outbound _ c.select.result c.release.new.self c.release.ensures.outbound c.peer.invariant in
+    entries-with_peer _ c.args.terminal _ peer c.procedure.invariant
 
 pub invariant_of-self : goal.invariant_of-self
-invariant_of-self g c = ((stays g c).control, c.self.invariant.1 ∙ ap (numbered 0) (sym (stays g c).same))
+invariant_of-self g c =
+    let within : c.args.terminal < length c.self.inside.procedure.peers =
+    rw c.self.view_is c.requires.terminal in
+    let there : c.select.result < length (peer_at c.self.inside.procedure c.args.terminal).outbounds =
+    rw (c.select.ensures, c.self.view_is) (selection_there c.args.way _ c.requires.way) in
+    let peer = peer_reached c.procedure.view_is within c.peer.view_is c.index_mut-peer.ensures.value in
+    let reached = outbound_reached peer there c.index_mut-outbound.ensures.value in
+    let keeps =
+    keeps_outbound-release c.index_mut-outbound.result.now c.release.new.self c.args.count
+    c.release.ensures.state in
+    let stays = stays-reached c.self.invariant.0 reached c.release.ensures.outbound keeps in
+    (stays.control, c.self.invariant.1 ∙ ap (numbered 0) (sym stays.same))
 
 pub returns-clause-control : goal.returns-clause-control
-returns-clause-control g c = (stays g c).control
+returns-clause-control g c = (invariant_of-self g c).0

@@ -1,14 +1,15 @@
-use Rattle.std.proofs.Common.{sym, ◌∙◌, ap}
+use Rattle.std.proofs.Common.{◌<◌, length, sym, ◌∙◌, ap}
 use Rattle.bsc_control.specs.Addresses.{numbered}
-use Rattle.bsc_control.proofs.Controls.{StaysControl, stays-set_urgent}
-use Rattle.bsc_control.proofs.control.Control.set_urgent.Given as given
+use Rattle.bsc_control.proofs.Reached.{peer_reached, stays-flag}
 use Rattle.bsc_control.proofs.control.Control.set_urgent.Goals as goal
 
-stays : (g : given.Over) (c : goal.After-set_urgent g) → StaysControl c.self.inside.procedure c.set_urgent.new.self
-stays g c = stays-set_urgent c.self.inside.procedure c.set_urgent.new.self c.args.terminal c.self.invariant.0 c.set_urgent.ensures.state c.set_urgent.ensures.entries
-
 pub invariant_of-self : goal.invariant_of-self
-invariant_of-self g c = ((stays g c).control, c.self.invariant.1 ∙ ap (numbered 0) (sym (stays g c).same))
+invariant_of-self g c =
+    let within : c.args.terminal < length c.self.inside.procedure.peers =
+    rw c.self.view_is c.requires in
+    let peer = peer_reached c.procedure.view_is within c.peer.view_is c.index_mut-peer.ensures.value in
+    let stays = stays-flag c.self.invariant.0 peer in
+    (stays.control, c.self.invariant.1 ∙ ap (numbered 0) (sym stays.same))
 
 pub returns-clause-control : goal.returns-clause-control
-returns-clause-control g c = (stays g c).control
+returns-clause-control g c = (invariant_of-self g c).0

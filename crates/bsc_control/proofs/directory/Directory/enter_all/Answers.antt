@@ -9,9 +9,9 @@ use Rattle.bsc_text.specs.Terminal.{TerminalValue, own_addresses}
 use Rattle.bsc_control.specs.declared.refusal.SetupError.{SetupError}
 use Rattle.bsc_control.specs.declared.way.Way.TheVariants.{FromTerminal, ToTerminal}
 use Rattle.bsc_control.specs.Addresses.{numbered_selects}
-use Rattle.bsc_control.specs.Refusals.{IsClash}
-use Rattle.bsc_control.proofs.Owners.{Owner, selects-push, keys-selects}
-use Rattle.bsc_control.proofs.Repeats.{clash-more, clash-earlier}
+use Rattle.bsc_control.specs.Refusals.{RefusesAddresses}
+use Rattle.bsc_control.proofs.Owners.{Owner, selects-push, keys-selection_call_step}
+use Rattle.bsc_control.proofs.Repeats.{refuses-more, refuses-earlier}
 use Rattle.bsc_control.proofs.directory.Directory.enter_all.Goals as goal
 
 -- the selection addresses up to one more
@@ -36,30 +36,30 @@ entered-more t poll xs s x old h =
     append_assoc old front ((x, (t, ToTerminal s)) ∷ []) ∙ ap (λ zs. old ++ zs) entries
 
 -- a clash at a selection address is one of the terminal's addresses
-clash-select : (t : ℕ) (terminal : TerminalValue) (s : ℕ) (x : List ℕ) (old now : List Owner) (e : SetupError) → slice_get terminal.selects s ≡ Some x
-    → now ≡ old ++ (terminal.poll, (t, FromTerminal)) ∷ numbered_selects t 0 (take s terminal.selects) → IsClash (keys_of now) (x ∷ []) e → IsClash (keys_of old) (own_addresses terminal) e
-clash-select t terminal s x old now e there is h =
+refuses-select : (t : ℕ) (terminal : TerminalValue) (s : ℕ) (x : List ℕ) (old now : List Owner) (e : SetupError) → slice_get terminal.selects s ≡ Some x
+    → now ≡ old ++ (terminal.poll, (t, FromTerminal)) ∷ numbered_selects t 0 (take s terminal.selects) → RefusesAddresses (keys_of now) (x ∷ []) e → RefusesAddresses (keys_of old) (own_addresses terminal) e
+refuses-select t terminal s x old now e there is h =
     let xs : List (List ℕ) = terminal.selects in
     let keys : keys_of now ≡ keys_of old ++ terminal.poll ∷ take s xs =
-    ap keys_of is ∙ map-append (λ (z : Owner). z.0) old ((terminal.poll, (t, FromTerminal)) ∷ numbered_selects t 0 (take s xs)) ∙ ap (λ ys. keys_of old ++ terminal.poll ∷ ys) (keys-selects t 0 (take s xs)) in
-    let early : IsClash (keys_of old) ((terminal.poll ∷ take s xs) ++ x ∷ []) e = clash-earlier (keys_of old) (terminal.poll ∷ take s xs) (x ∷ []) e (subst (λ ks. IsClash ks (x ∷ []) e) keys h) in
+    ap keys_of is ∙ map-append (λ (z : Owner). z.0) old ((terminal.poll, (t, FromTerminal)) ∷ numbered_selects t 0 (take s xs)) ∙ ap (λ ys. keys_of old ++ terminal.poll ∷ ys) (keys-selection_call_step t 0 (take s xs)) in
+    let early : RefusesAddresses (keys_of old) ((terminal.poll ∷ take s xs) ++ x ∷ []) e = refuses-earlier (keys_of old) (terminal.poll ∷ take s xs) (x ∷ []) e (subst (λ ks. RefusesAddresses ks (x ∷ []) e) keys h) in
     let upto : terminal.poll ∷ (take s xs ++ x ∷ []) ≡ terminal.poll ∷ take (s + 1) xs = ap (λ ys. terminal.poll ∷ ys) (sym (take_more xs s x there)) in
     let whole : (terminal.poll ∷ take (s + 1) xs) ++ drop (s + 1) xs ≡ own_addresses terminal = ap (λ ys. terminal.poll ∷ ys) (take-append-drop (s + 1) xs) in
-    subst (λ ys. IsClash (keys_of old) ys e) whole
-    (clash-more (keys_of old) (terminal.poll ∷ take (s + 1) xs) (drop (s + 1) xs) e (subst (λ ys. IsClash (keys_of old) ys e) upto early))
+    subst (λ ys. RefusesAddresses (keys_of old) ys e) whole
+    (refuses-more (keys_of old) (terminal.poll ∷ take (s + 1) xs) (drop (s + 1) xs) e (subst (λ ys. RefusesAddresses (keys_of old) ys e) upto early))
 
 pub returns-in_err-enter-clause-refused : goal.returns-in_err-enter-clause-refused
 returns-in_err-enter-clause-refused g c =
     let p = err_from_is_err_and c.from_residual.result c.from_residual.ensures.1 in
     rw (p.1, p.2)
-    (clash-more (keys_of c.args.self.now) (c.args.terminal.now.poll ∷ []) c.args.terminal.now.selects c.in_err-enter.field-0.0
-    (subst (λ a. IsClash (keys_of c.args.self.now) (a ∷ []) c.in_err-enter.field-0.0) c.poll.ensures c.in_err-enter.ensures.refused))
+    (refuses-more (keys_of c.args.self.now) (c.args.terminal.now.poll ∷ []) c.args.terminal.now.selects c.in_err-enter.field-0.0
+    (subst (λ a. RefusesAddresses (keys_of c.args.self.now) (a ∷ []) c.in_err-enter.field-0.0) c.poll.ensures c.in_err-enter.ensures.refused))
 
 pub returns-in_err-enter-2-clause-refused : goal.returns-in_err-enter-2-clause-refused
 returns-in_err-enter-2-clause-refused g c =
     let p = err_from_is_err_and c.from_residual-in_err-enter-2.result c.from_residual-in_err-enter-2.ensures.1 in
     rw (p.1, p.2)
-    (clash-select c.args.number c.args.terminal.now c.loop-select.select c.select.result c.args.self.now c.loop-select.self c.in_err-enter-2.field-0.0 c.select.ensures c.loop-select.invariant
+    (refuses-select c.args.number c.args.terminal.now c.loop-select.select c.select.result c.args.self.now c.loop-select.self c.in_err-enter-2.field-0.0 c.select.ensures c.loop-select.invariant
     c.in_err-enter-2.ensures.refused)
 
 pub loop-select-preserved : goal.loop-select-preserved

@@ -7,9 +7,9 @@ use Rattle.std.specs.Map.{keys_of}
 use Rattle.bsc_text.specs.Terminal.{TerminalValue, own_addresses}
 use Rattle.bsc_control.specs.declared.refusal.SetupError.{SetupError}
 use Rattle.bsc_control.specs.Addresses.{addresses, owned, numbered}
-use Rattle.bsc_control.specs.Refusals.{IsClash}
+use Rattle.bsc_control.specs.Refusals.{RefusesAddresses}
 use Rattle.bsc_control.proofs.Owners.{Owner, numbered-push, keys-numbered}
-use Rattle.bsc_control.proofs.Repeats.{clash-more, clash-earlier, all_differ}
+use Rattle.bsc_control.proofs.Repeats.{refuses-more, refuses-earlier, all_differ}
 use Rattle.bsc_control.proofs.directory.Directory.new.Goals as goal
 
 -- the terminals up to one more
@@ -28,24 +28,24 @@ addresses-append [] ys = refl
 addresses-append (x ∷ xs) ys = ap (λ zs. own_addresses x ++ zs) (addresses-append xs ys) ∙ sym (append_assoc (own_addresses x) (addresses xs) (addresses ys))
 
 -- a clash at a terminal is one of the addresses
-clash-terminal : (ts : List TerminalValue) (n : ℕ) (x : TerminalValue) (e : SetupError) → n < length ts → x ≡ get_or ts n x → IsClash (keys_of (numbered 0 (take n ts))) (own_addresses x) e → IsClash [] (addresses ts) e
-clash-terminal ts n x e within is h =
-    let early : IsClash [] (addresses (take n ts) ++ own_addresses x) e =
-    clash-earlier [] (addresses (take n ts)) (own_addresses x) e (subst (λ ks. IsClash ks (own_addresses x) e) (keys-numbered 0 (take n ts)) h) in
+refuses-terminal : (ts : List TerminalValue) (n : ℕ) (x : TerminalValue) (e : SetupError) → n < length ts → x ≡ get_or ts n x → RefusesAddresses (keys_of (numbered 0 (take n ts))) (own_addresses x) e → RefusesAddresses [] (addresses ts) e
+refuses-terminal ts n x e within is h =
+    let early : RefusesAddresses [] (addresses (take n ts) ++ own_addresses x) e =
+    refuses-earlier [] (addresses (take n ts)) (own_addresses x) e (subst (λ ks. RefusesAddresses ks (own_addresses x) e) (keys-numbered 0 (take n ts)) h) in
     let one : addresses (x ∷ []) ≡ own_addresses x = append-nil (own_addresses x) in
     let upto : addresses (take n ts) ++ own_addresses x ≡ addresses (take (n + 1) ts) =
     ap (λ zs. addresses (take n ts) ++ zs) (sym one) ∙ sym (addresses-append (take n ts) (x ∷ [])) ∙ ap addresses (sym (take_more ts n x within is)) in
     let whole : addresses (take (n + 1) ts) ++ addresses (drop (n + 1) ts) ≡ addresses ts =
     sym (addresses-append (take (n + 1) ts) (drop (n + 1) ts)) ∙ ap addresses (take-append-drop (n + 1) ts) in
-    subst (λ ys. IsClash [] ys e) whole
-    (clash-more [] (addresses (take (n + 1) ts)) (addresses (drop (n + 1) ts)) e (subst (λ ys. IsClash [] ys e) upto early))
+    subst (λ ys. RefusesAddresses [] ys e) whole
+    (refuses-more [] (addresses (take (n + 1) ts)) (addresses (drop (n + 1) ts)) e (subst (λ ys. RefusesAddresses [] ys e) upto early))
 
 pub returns-in_err-enter_all-clause-refused : goal.returns-in_err-enter_all-clause-refused
 returns-in_err-enter_all-clause-refused g c =
     let p = err_from_is_err_and c.from_residual.result c.from_residual.ensures.1 in
     rw (p.1, p.2)
-    (clash-terminal c.args.terminals.now c.loop-number.number c.index-terminals-number.result c.in_err-enter_all.field-0.0 c.loop-number-test.true c.index-terminals-number.is
-    (subst (λ (es : List Owner). IsClash (keys_of es) (own_addresses c.index-terminals-number.result) c.in_err-enter_all.field-0.0) c.loop-number.invariant c.in_err-enter_all.ensures.refused))
+    (refuses-terminal c.args.terminals.now c.loop-number.number c.index-terminals-number.result c.in_err-enter_all.field-0.0 c.loop-number-test.true c.index-terminals-number.is
+    (subst (λ (es : List Owner). RefusesAddresses (keys_of es) (own_addresses c.index-terminals-number.result) c.in_err-enter_all.field-0.0) c.loop-number.invariant c.in_err-enter_all.ensures.refused))
 
 pub loop-number-preserved : goal.loop-number-preserved
 loop-number-preserved g c =

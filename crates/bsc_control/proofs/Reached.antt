@@ -1,0 +1,91 @@
+-- What is reached through the peers of a control station, and what is left where it is replaced.
+use Rattle.std.proofs.Common.{◌≡◌, ℕ, ◌<◌, true, length, sym, ◌∙◌, ap, subst}
+use Rattle.std.proofs.lemmas.List.{set-get_or, get_or_read}
+use Rattle.std.specs.Prelude.{slice_index_or, Result, Ok, Err}
+use Rattle.std.specs.Result.{OnErr}
+use Rattle.bsc_control.specs.Control.{ControlValue, peer_at, with_peer}
+use Rattle.bsc_control.specs.Kept.{IsControl, outbound_of}
+use Rattle.bsc_control.specs.Peer.{OutboundValue, PeerValue, IsOutbound, no_outbound, no_peer}
+use Rattle.bsc_control.specs.Peer.{outbound_at, with_outbound}
+use Rattle.bsc_control.proofs.Controls.{KeepsOutbound, StaysControl, stays-set_urgent, stays-replaced}
+use Rattle.bsc_control.proofs.Replacing.{replaced}
+
+-- the station c has the fields d, and what it keeps for this terminal has the fields p
+pub record IsPeerReached (c d : ControlValue) (t : ℕ) (p : PeerValue) : Type 0 where
+  pub station : d ≡ c
+  pub within : t < length c.peers
+  pub peer : p ≡ peer_at c t
+
+pub peer_reached : {c d : ControlValue} {t : ℕ} {p q : PeerValue} → d ≡ c → t < length c.peers
+    → p ≡ q → q ≡ slice_index_or d.peers t q → IsPeerReached c d t p
+peer_reached {c} {d} {t} {p} {q} station within fields read =
+    let there : t < length d.peers =
+    subst (λ (x : ControlValue). t < length x.peers) (sym station) within in
+    record {
+      station = station;
+      within = within;
+      peer =
+          fields ∙ get_or_read d.peers t q there read no_peer
+          ∙ ap (λ (x : ControlValue). peer_at x t) station;
+    }
+
+-- and what is sent to this selection address is o
+pub record IsReached (c d : ControlValue) (t s : ℕ) (p : PeerValue) (o : OutboundValue) : Type 0 where
+  pub reached : IsPeerReached c d t p
+  pub there : s < length (peer_at c t).outbounds
+  pub outbound : o ≡ outbound_of c t s
+
+pub outbound_reached : {c d : ControlValue} {t s : ℕ} {p : PeerValue} {o : OutboundValue}
+    → IsPeerReached c d t p → s < length (peer_at c t).outbounds
+    → o ≡ slice_index_or p.outbounds s o → IsReached c d t s p o
+outbound_reached {c} {d} {t} {s} {p} {o} reached there read =
+    let within : s < length p.outbounds =
+    subst (λ (x : PeerValue). s < length x.outbounds) (sym reached.peer) there in
+    record {
+      reached = reached;
+      there = there;
+      outbound =
+          get_or_read p.outbounds s o within read no_outbound
+          ∙ ap (λ (x : PeerValue). outbound_at x s) reached.peer;
+    }
+
+replaced_is : (c d : ControlValue) (t s : ℕ) (p : PeerValue) (x : OutboundValue)
+    → IsPeerReached c d t p → with_peer d t (with_outbound p s x) ≡ replaced c t s x
+replaced_is c d t s p x h =
+    ap (λ (y : PeerValue). with_peer d t (with_outbound y s x)) h.peer
+    ∙ ap (λ (y : ControlValue). with_peer y t (with_outbound (peer_at c t) s x)) h.station
+
+-- the urgent flag is set
+pub stays-flag : {c d : ControlValue} {t : ℕ} {p : PeerValue} → IsControl c
+    → IsPeerReached c d t p → StaysControl c (with_peer d t (record p { urgent = true }))
+stays-flag {c} {d} {t} {p} h reached =
+    let was : PeerValue = peer_at c t in
+    let same : with_peer d t (record p { urgent = true }) ≡ with_peer c t (record was { urgent = true }) =
+    ap (λ (y : PeerValue). with_peer d t (record y { urgent = true })) reached.peer
+    ∙ ap (λ (y : ControlValue). with_peer y t (record was { urgent = true })) reached.station in
+    subst (StaysControl c) (sym same) (stays-set_urgent c t h reached.within)
+
+-- what is sent to the address is replaced
+pub stays-reached : {c d : ControlValue} {t s : ℕ} {p : PeerValue} {o x : OutboundValue}
+    → IsControl c → IsReached c d t s p o → IsOutbound x → KeepsOutbound o x
+    → StaysControl c (with_peer d t (with_outbound p s x))
+stays-reached {c} {d} {t} {s} {p} {o} {x} h reached ready keeps =
+    let kept : KeepsOutbound (outbound_of c t s) x =
+    subst (λ (y : OutboundValue). KeepsOutbound y x) reached.outbound keeps in
+    subst (StaysControl c) (sym (replaced_is c d t s p x reached.reached))
+    (stays-replaced c t s x h reached.reached.within reached.there ready kept)
+
+-- by what is there: nothing changes
+same_replaced : (c : ControlValue) (t s : ℕ) → replaced c t s (outbound_of c t s) ≡ c
+same_replaced c t s =
+    ap (λ os. with_peer c t (record (peer_at c t) { outbounds = os }))
+    (set-get_or (peer_at c t).outbounds s no_outbound)
+    ∙ ap (λ ps. record c { peers = ps }) (set-get_or c.peers t no_peer)
+
+pub unchanged-reached : {E : Type 0} {c d : ControlValue} {t s : ℕ} {p : PeerValue} {o : OutboundValue}
+    (answer : Result (Unit {0}) E) (x : OutboundValue) → IsReached c d t s p o
+    → OnErr answer (x ≡ o) → OnErr answer (with_peer d t (with_outbound p s x) ≡ c)
+unchanged-reached (Ok u) x reached err = err
+unchanged-reached {E} {c} {d} {t} {s} {p} {o} (Err e) x reached err =
+    replaced_is c d t s p x reached.reached ∙ ap (replaced c t s) (err ∙ reached.outbound)
+    ∙ same_replaced c t s

@@ -1,0 +1,107 @@
+//! The calls of the control station, in their order.
+
+ghost use Rattle.std.specs.Prelude.{◌≡◌, ◌≤◌, ◌<◌, length, slice_index};
+ghost use Rattle.bsc_control.specs.CallOrder.{Start, Selection, Poll, way_from};
+ghost use Rattle.bsc_control.specs.Control.{HasEntries, peer, peer_at};
+ghost use Rattle.bsc_control.specs.Table.{poll_call_step, selection_call_step, way_call_step, next_call_step};
+
+use crate::procedure::Procedure;
+use crate::task::{Replied, Task};
+use crate::way::Way;
+use bsc_frame::Message;
+use std::alloc::Allocator;
+
+impl<A: Allocator> Procedure<A> {
+    /// Calls the polling address of an entry, after this many failures.
+    pub(crate) fn poll(&mut self, place: usize, failures: u8) -> Option<Message>
+        requires { place < length self.old.poll_list }
+        ensures row { record { control = self.new; sent = result }
+            ≡ poll_call_step self.old place failures }
+        ensures entries { HasEntries self.new }
+    {
+        let terminal = self.terminal_of(place);
+        self.place = place;
+        self.task = Task::Polling {
+            replied: Replied::Nothing,
+        };
+        self.failures = failures;
+        self.wacks = 0;
+        let peer = &mut self.peers[terminal];
+        peer.receiver.begin(true);
+        Some(Message::Call(peer.terminal.poll()))
+    }
+
+    /// Calls a selection address of an entry.
+    fn select(&mut self, place: usize, select: usize) -> Option<Message>
+        requires place { place < length self.old.poll_list }
+        requires select { select
+            < length (peer_at self.old (slice_index self.old.poll_list place)).outbounds }
+        ensures row { record { control = self.new; sent = result }
+            ≡ selection_call_step self.old place select }
+        ensures entries { HasEntries self.new }
+    {
+        let terminal = self.terminal_of(place);
+        self.place = place;
+        self.task = Task::Selecting {
+            select,
+            enquired: false,
+        };
+        self.failures = 0;
+        self.wacks = 0;
+        let peer = &mut self.peers[terminal];
+        peer.urgent = false;
+        Some(Message::Call(peer.terminal.select(select)))
+    }
+
+    /// Makes the first call of an entry from this selection address on.
+    fn call_from(&mut self, place: usize, from: usize) -> Option<Message>
+        requires place { place < length self.old.poll_list }
+        requires from { from
+            ≤ length (peer_at self.old (slice_index self.old.poll_list place)).outbounds }
+        ensures row { record { control = self.new; sent = result }
+            ≡ way_call_step self.old place
+            (way_from (peer_at self.old (slice_index self.old.poll_list place)) from) }
+        ensures entries { HasEntries self.new }
+    {
+        let terminal = self.terminal_of(place);
+        let peer = &self.peers[terminal];
+        match peer.way_from(from) {
+            Way::FromTerminal => self.poll(place, 0),
+            Way::ToTerminal(select) => self.select(place, select),
+        }
+    }
+
+    /// Makes the first call, that of the present entry.
+    pub(crate) fn call_first(&mut self) -> Option<Message>
+        ensures row { record { control = self.new; sent = result } ≡ next_call_step self.old Start }
+        ensures entries { HasEntries self.new }
+    {
+        self.call_from(self.place, 0)
+    }
+
+    /// Makes the call after a selection, or after the bid that it led to.
+    pub(crate) fn call_after_selection(&mut self, select: usize) -> Option<Message>
+        requires { select < length (peer self.old).outbounds }
+        ensures row { record { control = self.new; sent = result }
+            ≡ next_call_step self.old (Selection select) }
+        ensures entries { HasEntries self.new }
+    {
+        self.call_from(self.place, select + 1)
+    }
+
+    /// Makes the call after a poll.
+    pub(crate) fn call_after_poll(&mut self, rvi: bool) -> Option<Message>
+        ensures row { record { control = self.new; sent = result }
+            ≡ next_call_step self.old (Poll rvi) }
+        ensures entries { HasEntries self.new }
+    {
+        let place = if rvi {
+            self.place
+        } else if self.place + 1 == self.poll_list.len() {
+            0
+        } else {
+            self.place + 1
+        };
+        self.call_from(place, 0)
+    }
+}

@@ -1,0 +1,57 @@
+//! What is heard, and what a silence does, while the polling address is called.
+
+ghost use Rattle.std.specs.Prelude.{◌≡◌, true};
+ghost use Rattle.bsc_control.specs.Control.{HasEntries, peer};
+ghost use Rattle.bsc_control.specs.Table.{polling_step, silence_in, rooms_after, Hears, IsReceived};
+
+use crate::procedure::Procedure;
+use crate::task::{Replied, Task};
+use bsc_frame::{Heard, Message};
+use bsc_text::Reply;
+use std::alloc::Allocator;
+
+impl<A: Allocator> Procedure<A> {
+    /// Something is heard after a poll.
+    pub(crate) fn hear_polling(&mut self, replied: Replied, heard: &Heard) -> Option<Message>
+        requires { self.old.task ≡ Task.Polling replied }
+        ensures row { Hears self.old heard.now self.new result }
+        ensures entries { HasEntries self.new }
+    {
+        match heard {
+            Heard::Whole(Message::Eot) => self.call_after_poll(replied.has_rvi()),
+            _ => self.receive(replied, heard),
+        }
+    }
+
+    /// Something but EOT is heard after a poll.
+    fn receive(&mut self, replied: Replied, heard: &Heard) -> Option<Message>
+        requires { IsReceived (Task.Polling replied) heard.now }
+        ensures row { record { control = self.new; sent = result }
+            ≡ polling_step self.old replied heard.now (rooms_after self.old heard.now self.new) }
+        ensures entries { HasEntries self.new }
+        ensures room { (peer self.old).spool.room ≡ true
+            → (rooms_after self.old heard.now self.new).first ≡ true }
+    {
+        let terminal = self.current();
+        let peer = &mut self.peers[terminal];
+        let reply = peer.receive(heard);
+        self.task = Task::Polling {
+            replied: replied.after(reply),
+        };
+        reply.map(Reply::message)
+    }
+
+    /// A silence after a poll.
+    pub(crate) fn fail_poll(&mut self, replied: Replied) -> Option<Message>
+        ensures row { record { control = self.new; sent = result }
+            ≡ silence_in self.old (Task.Polling replied) }
+        ensures entries { HasEntries self.new }
+    {
+        match replied {
+            Replied::Nothing if self.failures < self.setup.tries() => {
+                self.poll(self.place, self.failures + 1)
+            }
+            _ => self.call_after_poll(replied.has_rvi()),
+        }
+    }
+}

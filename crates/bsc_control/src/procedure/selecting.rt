@@ -1,0 +1,70 @@
+//! What is heard, and what a silence does, while a selection address is called.
+
+ghost use Rattle.std.specs.Prelude.{◌≡◌, ◌<◌, length, Some};
+ghost use Rattle.bsc_text.specs.Reply.{reply_heard};
+ghost use Rattle.bsc_control.specs.Control.{HasEntries, peer};
+ghost use Rattle.bsc_control.specs.Kept.{IsSelected};
+ghost use Rattle.bsc_control.specs.Table.{selecting_step, silence_in};
+
+use crate::procedure::Procedure;
+use crate::task::Task;
+use bsc_frame::{Heard, Message};
+use bsc_text::Reply;
+use std::alloc::Allocator;
+
+impl<A: Allocator> Procedure<A> {
+    /// Something is heard after a selection.
+    pub(crate) fn hear_selecting(&mut self, select: usize, heard: &Heard) -> Option<Message>
+        requires { IsSelected (peer self.old) select }
+        ensures row { record { control = self.new; sent = result }
+            ≡ selecting_step self.old select (reply_heard heard.now) }
+        ensures entries { HasEntries self.new }
+    {
+        // A field is read, so that the invariant is known here.
+        let _ = &self.task;
+        match Reply::heard(heard) {
+            Some(Reply::Ack0) => self.begin_bid(select),
+            Some(Reply::Nak) => self.call_after_selection(select),
+            Some(Reply::Wack) => self.enquire(select),
+            _ => None,
+        }
+    }
+
+    /// The selected terminal has no room yet.
+    fn enquire(&mut self, select: usize) -> Option<Message>
+        requires { select < length (peer self.old).outbounds }
+        ensures row { record { control = self.new; sent = result }
+            ≡ selecting_step self.old select (Some Reply.Wack) }
+        ensures entries { HasEntries self.new }
+    {
+        if self.wacks >= self.setup.waits() {
+            return self.call_after_selection(select);
+        }
+        self.task = Task::Selecting {
+            select,
+            enquired: true,
+        };
+        self.failures = 0;
+        self.wacks += 1;
+        Some(Message::Enq)
+    }
+
+    /// A selection is not answered.
+    pub(crate) fn fail_selection(&mut self, select: usize, enquired: bool) -> Option<Message>
+        requires { select < length (peer self.old).outbounds }
+        ensures row { record { control = self.new; sent = result }
+            ≡ silence_in self.old (Task.Selecting select enquired) }
+        ensures entries { HasEntries self.new }
+    {
+        if self.failures >= self.setup.tries() {
+            return self.call_after_selection(select);
+        }
+        self.failures += 1;
+        if enquired {
+            return Some(Message::Enq);
+        }
+        let terminal = self.current();
+        let peer = &self.peers[terminal];
+        Some(Message::Call(peer.terminal.select(select)))
+    }
+}
