@@ -1,5 +1,6 @@
 -- All records of a line beside those that its watch saw one after the other (own).
-use Rattle.std.specs.Prelude.{◌≡◌, ◌≢◌, ◌*◌, ◌/◌, ◌%◌, ◌^◌, ℕ, Bool, IsTrue, List, [], ◌∷◌, length, take, bit_xor}
+use Rattle.std.specs.Prelude.{◌≡◌, ◌≢◌, ◌*◌, ◌/◌, ◌%◌, ◌^◌, ℕ, Bool, IsTrue, List, [], ◌∷◌, length}
+use Rattle.std.specs.Prelude.{take, bit_xor}
 use Rattle.std.specs.List.{Contains}
 use Rattle.bsc_line_model.specs.Line.{LineValue, IsChannel, channel_of}
 use Rattle.bsc_hostile.specs.declared.broken.Broken.{Broken}

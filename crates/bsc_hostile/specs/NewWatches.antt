@@ -1,5 +1,6 @@
 -- What a watch of a new line knows (own).
-use Rattle.std.specs.Prelude.{◌≡◌, ◌++◌, ℕ, zero, suc, true, false, List, [], ◌∷◌, length, slice_index_or, None}
+use Rattle.std.specs.Prelude.{◌≡◌, ◌++◌, ℕ, zero, suc, true, false, List, [], ◌∷◌, length}
+use Rattle.std.specs.Prelude.{slice_index_or, None}
 use Rattle.bsc_text.specs.Terminal.{TerminalValue}
 use Rattle.bsc_text.specs.Setup.{SetupValue}
 use Rattle.bsc_control.specs.declared.way.Way.{Way}

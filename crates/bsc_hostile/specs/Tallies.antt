@@ -1,5 +1,6 @@
 -- How what is seen on a line is counted (own).
-use Rattle.std.specs.Prelude.{◌≡◌, ◌+◌, ◌-◌, ◌^◌, ℕ, nat_lt, nat_eq, not, ◌&&◌, if◌then◌else◌, Result, Ok, Err, min}
+use Rattle.std.specs.Prelude.{◌≡◌, ◌+◌, ◌-◌, ◌^◌, ℕ, nat_lt, nat_eq, not, ◌&&◌, if◌then◌else◌}
+use Rattle.std.specs.Prelude.{Result, Ok, Err, min}
 use Rattle.bsc_line_model.specs.declared.error.LineError.{LineError}
 use Rattle.bsc_line_model.specs.declared.error.LineError.TheVariants.{Memory, CountMismatch}
 use Rattle.bsc_hostile.specs.declared.tally.Tally.{Tally}

@@ -1,7 +1,8 @@
 //! What was seen on a line, in numbers.
 
 ghost use Rattle.std.specs.Prelude.{◌≡◌};
-ghost use Rattle.bsc_hostile.specs.Tallies.{one_more, answered, refused_by, done_by, moved_by, sent_as, sum_of};
+ghost use Rattle.bsc_hostile.specs.Tallies.{one_more, answered, refused_by, done_by, moved_by};
+ghost use Rattle.bsc_hostile.specs.Tallies.{sent_as, sum_of};
 
 use crate::channel::View;
 use crate::heard::Kind;

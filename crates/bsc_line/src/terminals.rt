@@ -1,12 +1,14 @@
 //! All terminals of a line at once.
 
-ghost use Rattle.std.specs.Prelude.{◌≡◌, ◌<◌, ◌≤◌, length, IfSome, IfOk, IfErr, OnOk, OnErr, [], ◌∷◌, ◌++◌};
+ghost use Rattle.std.specs.Prelude.{◌≡◌, ◌<◌, ◌≤◌, length, IfSome, IfOk, IfErr, OnOk, OnErr, []};
+ghost use Rattle.std.specs.Prelude.{◌∷◌, ◌++◌};
 ghost use Rattle.bsc_spool.specs.Queue.{with_offered};
 ghost use Rattle.bsc_tributary.specs.Tributary.{holds};
 ghost use Rattle.bsc_tributary.specs.Kept.{IsHearing, KeepsSetupAndMode};
 ghost use Rattle.bsc_line_model.specs.Hearing.{heard_at};
 ghost use Rattle.bsc_line_model.specs.Transmission.{sent_by};
-ghost use Rattle.bsc_line_model.specs.Terminals.{EachHears, EachKeeps, answer, first_answer, or_first, line_owner};
+ghost use Rattle.bsc_line_model.specs.Terminals.{EachHears, EachKeeps, answer, first_answer};
+ghost use Rattle.bsc_line_model.specs.Terminals.{or_first, line_owner};
 ghost use Rattle.bsc_line_model.specs.Kept.{AreNewTerminals, AreEachDistinct};
 ghost use Rattle.bsc_line.specs.Hearings.{hearing_of};
 

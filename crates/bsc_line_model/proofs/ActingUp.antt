@@ -11,7 +11,7 @@ use Rattle.bsc_text.specs.Agreement.{Still, Outward, Continues, sent_flight}
 use Rattle.bsc_text.specs.EachStep.{IsEnded}
 use Rattle.bsc_tributary.specs.declared.mode.Mode.{Mode}
 use Rattle.bsc_tributary.specs.declared.mode.Mode.TheVariants.{Control, Sending}
-use Rattle.bsc_tributary.specs.Tributary.{TributaryValue, mode_after, message_for}
+use Rattle.bsc_tributary.specs.Tributary.{TributaryValue, mode_after, message_of_act}
 use Rattle.bsc_control.specs.declared.task.Replied.{Replied}
 use Rattle.bsc_control.specs.Peer.{PeerValue}
 use Rattle.bsc_line_model.specs.declared.transmission.Speaker.TheVariants as sp
@@ -31,7 +31,7 @@ HasActedUp p e u out = (IsQuiet p u × IsEndedUp out u.mode) ⊎ IsInBidUp (sent
 -- what a step of its sender leaves
 pub record StepsUp (p : PeerValue) (x : TributaryValue) (step : SenderStep) : Type 0 where
   pub down : (k : ℕ) → k < length p.outbounds → RestsDown p x k
-  pub continues : Continues step.sender.phase step.queue p.receiver.parity p.receiver.last p.spool.records (sent_flight step.act)
+  pub continues : Continues step.sender.phase step.queue p.receiver.alternation p.receiver.last p.spool.records (sent_flight step.act)
   pub ended : IsEnded step.act step.sender.phase
 
 -- a sender that kept quiet was in a bid while the terminal sends, else at rest
@@ -39,15 +39,15 @@ abbrev pub KeptQuiet : Mode → Phase → Type 0
 KeptQuiet mode phase = ((mode ≡ Sending) × IsGoing phase) ⊎ ((mode ≢ Sending) × IsAtRest phase)
 
 pub acts_up : (laws : BidLaws) (p : PeerValue) (e : ℕ) (x : TributaryValue) (step : SenderStep) (act : Act) → step.act ≡ act → StepsUp p x step → (act ≡ a.Quiet → KeptQuiet x.mode step.sender.phase) →
-    HasActedUp p e (record x { mode = mode_after act x.mode; sender = step.sender; queue = step.queue }) (message_for act)
+    HasActedUp p e (record x { mode = mode_after act x.mode; sender = step.sender; queue = step.queue }) (message_of_act act)
 acts_up laws p e x step (a.Send text) is h kept =
     inr (record {
       mode = refl;
       down = h.down;
       flight = Outward (m.Text text);
       flies = (refl, refl);
-      bid = laws.goes_on step.sender.phase step.queue p.receiver.parity p.receiver.last p.spool.records (m.Text text)
-          (subst (λ (z : Act). Continues step.sender.phase step.queue p.receiver.parity p.receiver.last p.spool.records (sent_flight z)) is h.continues);
+      bid = laws.goes_on step.sender.phase step.queue p.receiver.alternation p.receiver.last p.spool.records (m.Text text)
+          (subst (λ (z : Act). Continues step.sender.phase step.queue p.receiver.alternation p.receiver.last p.spool.records (sent_flight z)) is h.continues);
     })
 acts_up laws p e x step a.Enq is h kept =
     inr (record {
@@ -55,8 +55,8 @@ acts_up laws p e x step a.Enq is h kept =
       down = h.down;
       flight = Outward m.Enq;
       flies = (refl, refl);
-      bid = laws.goes_on step.sender.phase step.queue p.receiver.parity p.receiver.last p.spool.records m.Enq
-          (subst (λ (z : Act). Continues step.sender.phase step.queue p.receiver.parity p.receiver.last p.spool.records (sent_flight z)) is h.continues);
+      bid = laws.goes_on step.sender.phase step.queue p.receiver.alternation p.receiver.last p.spool.records m.Enq
+          (subst (λ (z : Act). Continues step.sender.phase step.queue p.receiver.alternation p.receiver.last p.spool.records (sent_flight z)) is h.continues);
     })
 acts_up laws p e x step a.Over is h kept =
     let at_rest : IsAtRest step.sender.phase = subst (λ (z : Act). IsEnded z step.sender.phase) is h.ended in
@@ -72,8 +72,8 @@ acts_up laws p e x step a.Quiet is h kept =
             down = h.down;
             flight = Still;
             flies = refl;
-            bid = stays step.sender.phase step.queue p.receiver.parity p.receiver.last p.spool.records Still k.1
-                (subst (λ (z : Act). Continues step.sender.phase step.queue p.receiver.parity p.receiver.last p.spool.records (sent_flight z)) is h.continues);
+            bid = stays step.sender.phase step.queue p.receiver.alternation p.receiver.last p.spool.records Still k.1
+                (subst (λ (z : Act). Continues step.sender.phase step.queue p.receiver.alternation p.receiver.last p.spool.records (sent_flight z)) is h.continues);
           })
       | inr k ↦
           inl (

@@ -71,8 +71,8 @@ hears_down names laws c old before after w hears new stations tuned together fai
         let b : IsInBidDown (Some (record { speaker = sp.Control; message = w })) (peer c) (current c) s (terminal_in old (current c)) = k.bid in
         let x : TributaryValue = terminal_in old (current c) in
         let o : OutboundValue = outbound_at (peer c) s in
-        let bid : IsBidMessage w = laws.outward o.sender.phase o.queue x.receiver.parity x.receiver.last (spool_at x.spools s).records w
-        (subst (λ (f : Flight). InBid o.sender.phase o.queue x.receiver.parity x.receiver.last (spool_at x.spools s).records f) b.flies b.bid) in
+        let bid : IsBidMessage w = laws.outward o.sender.phase o.queue x.receiver.alternation x.receiver.last (spool_at x.spools s).records w
+        (subst (λ (f : Flight). InBid o.sender.phase o.queue x.receiver.alternation x.receiver.last (spool_at x.spools s).records f) b.flies b.bid) in
         sends_down laws c old before s w hears new there stations tuned k (each_fairly w (length old) hears (bid_no_call w bid) fair) each keeps
     by_task (Polling replied) is k =
         elim k.present [

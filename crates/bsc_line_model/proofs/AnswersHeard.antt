@@ -7,8 +7,8 @@ use Rattle.bsc_frame.specs.declared.message.Heard.TheVariants.{Whole, Failed, No
 use Rattle.bsc_spool.specs.declared.Next.{Next}
 use Rattle.bsc_spool.specs.Queue.{QueueValue, next_block}
 use Rattle.bsc_text.specs.declared.act.Act.TheVariants as a
-use Rattle.bsc_text.specs.declared.parity.Parity.{Parity}
-use Rattle.bsc_text.specs.declared.parity.Parity.TheVariants.{Even, Odd}
+use Rattle.bsc_text.specs.declared.alternation.Alternation.{Alternation}
+use Rattle.bsc_text.specs.declared.alternation.Alternation.TheVariants.{Even, Odd}
 use Rattle.bsc_text.specs.declared.reply.Reply.{Reply}
 use Rattle.bsc_text.specs.declared.reply.Reply.TheVariants.{Ack0}
 use Rattle.bsc_text.specs.declared.phase.Phase.{Phase}
@@ -17,7 +17,7 @@ use Rattle.bsc_text.specs.Reply.{message_of, reply_in, reply_heard}
 use Rattle.bsc_text.specs.Receiver.{ReceiverStep, Rooms, heard_step, sends_rvi}
 use Rattle.bsc_text.specs.Sender.{SenderValue, SenderStep, sent_next, begin_step}
 use Rattle.bsc_text.specs.Fair.{IsFairlyHeard}
-use Rattle.bsc_text.specs.Agreement.{Flight, Still, Outward, InBid, IsResting, Continues, back, sent_flight}
+use Rattle.bsc_text.specs.Agreement.{Flight, Still, Outward, InBid, IsResting, Continues, reply_flight, sent_flight}
 use Rattle.bsc_text.specs.EachStep.{SenderAgrees, ReceiverAgrees}
 use Rattle.bsc_tributary.specs.Tributary.{TributaryValue, spool_at}
 use Rattle.bsc_tributary.specs.Kept.{IsNoCall}
@@ -28,7 +28,7 @@ use Rattle.bsc_control.specs.Peer.{PeerValue, OutboundValue, no_peer, outbound_a
 use Rattle.bsc_control.specs.Control.{ControlValue, ControlStep, peer, current, with_current, quiet}
 use Rattle.bsc_control.specs.CallOrder.{After, Selection, Poll, next_call}
 use Rattle.bsc_control.specs.Kept.{IsSelected, SuitsTask, AfterHearing}
-use Rattle.bsc_control.specs.Table.{Hears, calls_next, acted, selecting_step, polling_step, task_step, receives, has_rvi, replied_after, rooms_after}
+use Rattle.bsc_control.specs.Table.{Hears, next_call_step, bid_step, selecting_step, polling_step, task_step, receiving_step, has_rvi, replied_after, rooms_after}
 use Rattle.bsc_line_model.specs.declared.transmission.Speaker.TheVariants as sp
 use Rattle.bsc_line_model.specs.declared.transmission.Transmission.{Transmission}
 use Rattle.bsc_line_model.specs.Transmission.{sent_by}
@@ -59,7 +59,7 @@ lost_sending laws c ts pending s h =
         down = b.down;
         flight = Still;
         flies = refl;
-        bid = laws.loss o.sender.phase o.queue x.receiver.parity x.receiver.last (spool_at x.spools s).records b.flight b.bid;
+        bid = laws.loss o.sender.phase o.queue x.receiver.alternation x.receiver.last (spool_at x.spools s).records b.flight b.bid;
       };
     }
 
@@ -76,7 +76,7 @@ lost_polling laws c ts pending replied h =
               down = b.down;
               flight = Still;
               flies = refl;
-              bid = laws.loss x.sender.phase x.queue (peer c).receiver.parity (peer c).receiver.last (peer c).spool.records b.flight b.bid;
+              bid = laws.loss x.sender.phase x.queue (peer c).receiver.alternation (peer c).receiver.last (peer c).spool.records b.flight b.bid;
             }))
       ];
     }
@@ -88,18 +88,18 @@ lost laws (Sending s) c ts pending h = lost_sending laws c ts pending s h
 lost laws (Polling replied) c ts pending h = lost_polling laws c ts pending replied h
 
 -- the next call is made where all are quiet
-pub next_made : (c : ControlValue) (ts : List TributaryValue) (after : After) → AreStations c ts → AllQuiet c ts → InTask (calls_next c after).control.task (sent_by sp.Control (calls_next c after).sent) (calls_next c after).control ts
+pub next_made : (c : ControlValue) (ts : List TributaryValue) (after : After) → AreStations c ts → AllQuiet c ts → InTask (next_call_step c after).control.task (sent_by sp.Control (next_call_step c after).sent) (next_call_step c after).control ts
 next_made c ts after stations all =
     called_next c ts (next_call c after).place (next_call c after).way (next_there c after (places c stations.control.entries)) stations.count all
 
 -- a sender that begins does not keep quiet
-begins_loudly : (s : SenderValue) (q : QueueValue) (parity : Parity) (n : Option Next) → (sent_next s q parity n).act ≡ a.Quiet → ⊥
-begins_loudly s q parity None e = cc
-begins_loudly s q parity (Some n) e = cc
+begins_loudly : (s : SenderValue) (q : QueueValue) (alternation : Alternation) (n : Option Next) → (sent_next s q alternation n).act ≡ a.Quiet → ⊥
+begins_loudly s q alternation None e = cc
+begins_loudly s q alternation (Some n) e = cc
 
 -- the selected terminal is ready: a bid begins
 pub begins_down : (laws : BidLaws) (c : ControlValue) (ts : List TributaryValue) (s : ℕ) (enquired : Bool) → AreStations c ts → c.task ≡ Selecting s enquired → AllQuiet c ts → IsFresh (terminal_in ts (current c)) s → (terminal_in ts (current c)).receiver.last ≡ Ack0 →
-    let new : ControlStep = acted c s (begin_step (outbound_at (peer c) s).sender (outbound_at (peer c) s).queue) (Selection s) in
+    let new : ControlStep = bid_step c s (begin_step (outbound_at (peer c) s).sender (outbound_at (peer c) s).queue) (Selection s) in
     InTask new.control.task (sent_by sp.Control new.sent) new.control ts
 begins_down laws c ts s enquired stations task all fresh last =
     let e : ℕ = current c in
@@ -120,8 +120,8 @@ begins_down laws c ts s enquired stations task all fresh last =
       mode = fresh.mode;
       up = this.up;
       down = λ k less differ. this.down k less;
-      continues = subst (λ (r : Reply). Continues step.sender.phase step.queue x.receiver.parity r spooled (sent_flight step.act)) (sym last)
-          (subst (λ (p : Parity). Continues step.sender.phase step.queue p Ack0 spooled (sent_flight step.act)) (sym fresh.even) agrees.continues);
+      continues = subst (λ (r : Reply). Continues step.sender.phase step.queue x.receiver.alternation r spooled (sent_flight step.act)) (sym last)
+          (subst (λ (p : Alternation). Continues step.sender.phase step.queue p Ack0 spooled (sent_flight step.act)) (sym fresh.even) agrees.continues);
       ended = agrees.ended;
     } in
     performed laws c ts s step (Selection s) step.act refl has (λ is. absurd (begins_loudly o.sender o.queue Odd (next_block o.queue) is)) stations.count
@@ -129,7 +129,7 @@ begins_down laws c ts s enquired stations task all fresh last =
 
 -- it is asked to wait: ENQ, or after too many the next call
 asks_again : (c : ControlValue) (ts : List TributaryValue) (s : ℕ) (over : Bool) → AreStations c ts → AllQuiet c ts → IsFresh (terminal_in ts (current c)) s →
-    let new : ControlStep = if over then calls_next c (Selection s) else record { control = record c { task = Selecting s true; tries = 0; waits = c.waits + 1 }; sent = Some m.Enq } in
+    let new : ControlStep = if over then next_call_step c (Selection s) else record { control = record c { task = Selecting s true; failures = 0; wacks = c.wacks + 1 }; sent = Some m.Enq } in
     InTask new.control.task (sent_by sp.Control new.sent) new.control ts
 asks_again c ts s true stations all fresh = next_made c ts (Selection s) stations all
 asks_again c ts s false stations all fresh = record { quiet = all; with_pending = refl; fresh = fresh }
@@ -139,7 +139,7 @@ pub selecting_answered : (laws : BidLaws) (c : ControlValue) (ts : List Tributar
     InTask (selecting_step c s (reply_in w)).control.task (sent_by sp.Control (selecting_step c s (reply_in w)).sent) (selecting_step c s (reply_in w)).control ts
 selecting_answered laws c ts s t m.Ack0 enquired stations task h = begins_down laws c ts s enquired stations task h.quiet h.with_pending.1.0 h.with_pending.1.1
 selecting_answered laws c ts s t m.Nak enquired stations task h = next_made c ts (Selection s) stations h.quiet
-selecting_answered laws c ts s t m.Wack enquired stations task h = asks_again c ts s (nat_lt c.setup.waits (c.waits + 1)) stations h.quiet h.with_pending.1.0
+selecting_answered laws c ts s t m.Wack enquired stations task h = asks_again c ts s (nat_lt c.setup.waits (c.wacks + 1)) stations h.quiet h.with_pending.1.0
 selecting_answered laws c ts s t m.Eot enquired stations task h = absurd h.with_pending.1
 selecting_answered laws c ts s t m.Enq enquired stations task h = absurd h.with_pending.1
 selecting_answered laws c ts s t m.Ack1 enquired stations task h = absurd h.with_pending.1
@@ -148,7 +148,7 @@ selecting_answered laws c ts s t (m.Text z) enquired stations task h = absurd h.
 selecting_answered laws c ts s t (m.Call z) enquired stations task h = absurd h.with_pending.1
 
 -- in a poll what is no EOT goes to the receiver
-polling_by : (c : ControlValue) (replied : Replied) (h : Heard) (rooms : Rooms) → IsNoCall h → polling_step c replied h rooms ≡ receives c replied (heard_step (peer c).receiver (peer c).spool h (peer c).urgent rooms)
+polling_by : (c : ControlValue) (replied : Replied) (h : Heard) (rooms : Rooms) → IsNoCall h → polling_step c replied h rooms ≡ receiving_step c replied (heard_step (peer c).receiver (peer c).spool h (peer c).urgent rooms)
 polling_by c replied Failed rooms k = refl
 polling_by c replied Noise rooms k = refl
 polling_by c replied (Whole m.Eot) rooms k = absurd k
@@ -161,7 +161,7 @@ polling_by c replied (Whole m.Nak) rooms k = refl
 polling_by c replied (Whole m.Wack) rooms k = refl
 polling_by c replied (Whole m.Rvi) rooms k = refl
 
-reply_flies_up : (e : ℕ) (reply : Option Reply) → FliesUp (sent_by sp.Control (option_map message_of reply)) e (back reply)
+reply_flies_up : (e : ℕ) (reply : Option Reply) → FliesUp (sent_by sp.Control (option_map message_of reply)) e (reply_flight reply)
 reply_flies_up e None = refl
 reply_flies_up e (Some r) = (r, refl, refl)
 
@@ -175,14 +175,14 @@ polling_received laws c ts t w h rooms replied stations others b fair =
     let x : TributaryValue = terminal_in ts e in
     let step : ReceiverStep = heard_step p.receiver p.spool h p.urgent rooms in
     let q : PeerValue = record p { receiver = step.receiver; spool = step.spool; urgent = if sends_rvi step.reply then false else p.urgent } in
-    let flying : InBid x.sender.phase x.queue p.receiver.parity p.receiver.last p.spool.records (Outward w) =
-    subst (λ (f : Flight). InBid x.sender.phase x.queue p.receiver.parity p.receiver.last p.spool.records f) b.flies.1 b.bid in
-    let bid : IsBidMessage w = laws.outward x.sender.phase x.queue p.receiver.parity p.receiver.last p.spool.records w flying in
+    let flying : InBid x.sender.phase x.queue p.receiver.alternation p.receiver.last p.spool.records (Outward w) =
+    subst (λ (f : Flight). InBid x.sender.phase x.queue p.receiver.alternation p.receiver.last p.spool.records f) b.flies.1 b.bid in
+    let bid : IsBidMessage w = laws.outward x.sender.phase x.queue p.receiver.alternation p.receiver.last p.spool.records w flying in
     let agrees : ReceiverAgrees x.sender.phase x.queue p.spool.records step = laws.hearing x.sender.phase x.queue p.receiver p.spool w (Some h) p.urgent rooms flying fair in
     let there : current c < length c.peers = current_there c (places c stations.control.entries) in
     let peer_is : peer (with_current c q) ≡ q = get_or-set_same c.peers e q no_peer there in
-    let made : IsInBidUp (sent_by sp.Control (option_map message_of step.reply)) q e x = record { mode = b.mode; down = b.down; flight = back step.reply; flies = reply_flies_up e step.reply; bid = agrees.bid } in
-    let polls : IsPolling (sent_by sp.Control (receives c replied step).sent) (receives c replied step).control ts (replied_after replied step.reply) = record {
+    let made : IsInBidUp (sent_by sp.Control (option_map message_of step.reply)) q e x = record { mode = b.mode; down = b.down; flight = reply_flight step.reply; flies = reply_flies_up e step.reply; bid = agrees.bid } in
+    let polls : IsPolling (sent_by sp.Control (receiving_step c replied step).sent) (receiving_step c replied step).control ts (replied_after replied step.reply) = record {
       others = λ k less differ. subst (λ (z : PeerValue). IsQuiet z (terminal_in ts k)) (sym (get_or-set_other c.peers e k q no_peer differ)) (others k less differ);
       present = inr (subst (λ (z : PeerValue). IsInBidUp (sent_by sp.Control (option_map message_of step.reply)) z e x) (sym peer_is) made);
     } in

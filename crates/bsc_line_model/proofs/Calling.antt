@@ -1,7 +1,7 @@
 -- Where no bid goes on, the next call of the control station begins a selection or a poll.
 use Rattle.std.proofs.Common.{◌≡◌, ◌≢◌, inl, inr, ℕ, ◌<◌, true, false, List, length, refl, sym, ap, subst, get_or-set_other, get_or-set_same}
 use Rattle.bsc_frame.specs.declared.message.Message.TheVariants as m
-use Rattle.bsc_text.specs.Receiver.{begun}
+use Rattle.bsc_text.specs.Receiver.{new_receiver}
 use Rattle.bsc_tributary.specs.Tributary.{TributaryValue}
 use Rattle.bsc_control.specs.declared.way.Way.{Way}
 use Rattle.bsc_control.specs.declared.way.Way.TheVariants.{FromTerminal, ToTerminal}
@@ -9,7 +9,7 @@ use Rattle.bsc_control.specs.declared.task.Replied.TheVariants.{Nothing}
 use Rattle.bsc_control.specs.Peer.{PeerValue, no_peer}
 use Rattle.bsc_control.specs.Control.{ControlValue, peer_at, terminal_of_entry, with_peer}
 use Rattle.bsc_control.specs.CallOrder.{Call}
-use Rattle.bsc_control.specs.Table.{polls, selects, calls, select_address}
+use Rattle.bsc_control.specs.Table.{poll_call_step, selection_call_step, make_call_step, select_address}
 use Rattle.bsc_line_model.specs.declared.transmission.Speaker.TheVariants as sp
 use Rattle.bsc_line_model.specs.Transmission.{sent_by}
 use Rattle.bsc_line_model.specs.Line.{terminal_in}
@@ -37,19 +37,19 @@ all_quiet c ts e p there quiet here t less =
     ]
 
 -- the receiver begins, and the urgent flag falls: neither is seen by the channels
-begins : (p : PeerValue) (x : TributaryValue) → IsQuiet p x → IsQuiet (record p { receiver = begun true }) x
+begins : (p : PeerValue) (x : TributaryValue) → IsQuiet p x → IsQuiet (record p { receiver = new_receiver true }) x
 begins p x q = record { mode = q.mode; up = q.up; down = q.down }
 
 calms : (p : PeerValue) (x : TributaryValue) → IsQuiet p x → IsQuiet (record p { urgent = false }) x
 calms p x q = record { mode = q.mode; up = q.up; down = q.down }
 
 -- the polling address of an entry is called
-pub polled_next : (c : ControlValue) (ts : List TributaryValue) (place tries : ℕ) → terminal_of_entry c place < length c.peers → length c.peers ≡ length ts → AllQuiet c ts →
-    IsPolling (sent_by sp.Control (polls c place tries).sent) (polls c place tries).control ts Nothing
-polled_next c ts place tries there count quiet =
+pub polled_next : (c : ControlValue) (ts : List TributaryValue) (place failures : ℕ) → terminal_of_entry c place < length c.peers → length c.peers ≡ length ts → AllQuiet c ts →
+    IsPolling (sent_by sp.Control (poll_call_step c place failures).sent) (poll_call_step c place failures).control ts Nothing
+polled_next c ts place failures there count quiet =
     let e : ℕ = terminal_of_entry c place in
     let p : PeerValue = peer_at c e in
-    let d : PeerValue = record p { receiver = begun true } in
+    let d : PeerValue = record p { receiver = new_receiver true } in
     let here : e < length ts = subst (λ (n : ℕ). e < n) count there in
     record {
       others = others_quiet c ts e d quiet;
@@ -61,7 +61,7 @@ polled_next c ts place tries there count quiet =
 
 -- a selection address of an entry is called
 pub selected_next : (c : ControlValue) (ts : List TributaryValue) (place s : ℕ) → terminal_of_entry c place < length c.peers → length c.peers ≡ length ts → AllQuiet c ts →
-    IsSelecting (sent_by sp.Control (selects c place s).sent) (selects c place s).control ts s false
+    IsSelecting (sent_by sp.Control (selection_call_step c place s).sent) (selection_call_step c place s).control ts s false
 selected_next c ts place s there count quiet =
     let e : ℕ = terminal_of_entry c place in
     let p : PeerValue = peer_at c e in
@@ -75,6 +75,6 @@ selected_next c ts place s there count quiet =
 -- any call
 pub called_next : (c : ControlValue) (ts : List TributaryValue) (place : ℕ) (way : Way) → terminal_of_entry c place < length c.peers → length c.peers ≡ length ts → AllQuiet c ts →
     let call : Call = record { place = place; way = way } in
-    InTask (calls c call).control.task (sent_by sp.Control (calls c call).sent) (calls c call).control ts
+    InTask (make_call_step c call).control.task (sent_by sp.Control (make_call_step c call).sent) (make_call_step c call).control ts
 called_next c ts place FromTerminal there count quiet = polled_next c ts place 0 there count quiet
 called_next c ts place (ToTerminal s) there count quiet = selected_next c ts place s there count quiet

@@ -13,9 +13,9 @@ use Rattle.bsc_text.specs.declared.act.Act.TheVariants as a
 use Rattle.bsc_text.specs.declared.phase.Phase.{Phase}
 use Rattle.bsc_text.specs.declared.phase.Phase.TheVariants.{Idle, Unanswered, Held, InDoubt}
 use Rattle.bsc_text.specs.Ready.{IsAtRest, FitsAct}
-use Rattle.bsc_text.specs.Receiver.{ReceiverValue, begun, first_reply}
+use Rattle.bsc_text.specs.Receiver.{ReceiverValue, new_receiver, first_reply}
 use Rattle.bsc_text.specs.Reply.{message_of}
-use Rattle.bsc_text.specs.declared.parity.Parity.TheVariants.{Even}
+use Rattle.bsc_text.specs.declared.alternation.Alternation.TheVariants.{Even}
 use Rattle.bsc_text.specs.declared.reply.Reply.TheVariants.{Ack0}
 use Rattle.bsc_text.specs.declared.act.Act.{Act}
 use Rattle.bsc_text.specs.Sender.{SenderStep, begin_step, cut_phase, is_in_doubt}
@@ -233,13 +233,13 @@ selection_answer x s room ready =
     let d : TributaryValue = without_line x in
     let spools : List SpoolValue = slice_set x.spools s (room_asked (spool_at x.spools s) room) in
     if ready
-    then answer_step (record d { mode = Receiving s; receiver = begun room; spools = spools })
+    then answer_step (record d { mode = Receiving s; receiver = new_receiver room; spools = spools })
     (message_of (first_reply room))
     else answer_step d m.Nak
 
 -- a terminal that receives now, and rests
 receives_now : (p : PeerValue) (x : TributaryValue) (s : ℕ) (room : Bool) → IsTributary x → IsQuiet p x → s < length x.spools →
-    IsQuiet p (record (without_line x) { mode = Receiving s; receiver = begun room; spools = slice_set x.spools s (room_asked (spool_at x.spools s) room) })
+    IsQuiet p (record (without_line x) { mode = Receiving s; receiver = new_receiver room; spools = slice_set x.spools s (room_asked (spool_at x.spools s) room) })
 receives_now p x s room is q there =
     record {
       mode = λ sends. cc;
@@ -311,7 +311,7 @@ rests_quiet : (act : Act) (old new : Phase) → FitsAct act old new → act ≡ 
 rests_quiet act old new fits is rest = subst IsAtRest (sym (subst (λ (z : Act). FitsAct z old new) is fits)) rest
 
 -- the polled terminal begins a bid
-begins_bid : (laws : BidLaws) (p : PeerValue) (e : ℕ) (d : TributaryValue) → p.receiver ≡ begun true → IsQuiet p d → d.mode ≡ Control → d.sender.phase ≡ Idle → 1 ≤ length (waiting d.queue) →
+begins_bid : (laws : BidLaws) (p : PeerValue) (e : ℕ) (d : TributaryValue) → p.receiver ≡ new_receiver true → IsQuiet p d → d.mode ≡ Control → d.sender.phase ≡ Idle → 1 ≤ length (waiting d.queue) →
     let step : SenderStep = begin_step d.sender d.queue in
     HasActedUp p e (act_step d step).tributary (act_step d step).sent
 begins_bid laws p e d new q mode idle some =
@@ -321,12 +321,12 @@ begins_bid laws p e d new q mode idle some =
     acts_up laws p e d step step.act refl
     (record {
       down = q.down;
-      continues = subst (λ (r : ReceiverValue). Continues step.sender.phase step.queue r.parity r.last p.spool.records (sent_flight step.act)) (sym new) agrees.continues;
+      continues = subst (λ (r : ReceiverValue). Continues step.sender.phase step.queue r.alternation r.last p.spool.records (sent_flight step.act)) (sym new) agrees.continues;
       ended = agrees.ended;
     })
     (λ is. inr (q.mode, rests_quiet step.act d.sender.phase step.sender.phase (laws.fits.begin d.sender d.queue) is (subst IsAtRest (sym idle) tt)))
 
-polled_terminal : (laws : BidLaws) (p : PeerValue) (e : ℕ) (x : TributaryValue) (doubt empty : Bool) → p.receiver ≡ begun true → IsTributary x → IsQuiet p x → is_in_doubt (cut_phase x.sender.phase) ≡ doubt → nat_eq (length (waiting x.queue)) 0 ≡ empty →
+polled_terminal : (laws : BidLaws) (p : PeerValue) (e : ℕ) (x : TributaryValue) (doubt empty : Bool) → p.receiver ≡ new_receiver true → IsTributary x → IsQuiet p x → is_in_doubt (cut_phase x.sender.phase) ≡ doubt → nat_eq (length (waiting x.queue)) 0 ≡ empty →
     HasActedUp p e (poll_answer x doubt empty).tributary (poll_answer x doubt empty).sent
 polled_terminal laws p e x true empty new is q d n = let w : IsQuiet p (without_line x) = without_quiet p x is q in inl (record { mode = w.mode; up = w.up; down = w.down }, inr (refl, refl))
 polled_terminal laws p e x false true new is q d n = let w : IsQuiet p (without_line x) = without_quiet p x is q in inl (record { mode = w.mode; up = w.up; down = w.down }, inr (refl, refl))
@@ -348,7 +348,7 @@ polling_heard names laws c old hears new addressed there stations task quiet all
     let u : TributaryValue = terminal_in new e in
     let out : Option Message = answer_of old hears new e in
     let is : IsTributary x = (stations.members e there).tributary in
-    let fresh : p.receiver ≡ begun true = subst (λ (t : Task). SuitsTask t p) task stations.control.orderly.suits in
+    let fresh : p.receiver ≡ new_receiver true = subst (λ (t : Task). SuitsTask t p) task stations.control.orderly.suits in
     let same : x.terminal ≡ p.terminal = (stations.members e there).addresses in
     let poll : p.terminal.poll ≡ x.terminal.poll = ap (λ (y : TerminalValue). y.poll) (sym same) in
     let its_own : IsAddressOf (terminals c) e FromTerminal p.terminal.poll = record { terminal = x.terminal; there = terminal_there c old e stations there; its_own = ap (λ (z : List ℕ). Some z) (sym poll) } in

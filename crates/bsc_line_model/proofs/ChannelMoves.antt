@@ -10,7 +10,7 @@ use Rattle.bsc_text.specs.Channel.{Channel, channel, Move, Offer, Learn, Makes}
 use Rattle.bsc_tributary.specs.Tributary.{TributaryValue, spool_at, after_release}
 use Rattle.bsc_control.specs.declared.way.Way.{Way}
 use Rattle.bsc_control.specs.declared.way.Way.TheVariants.{FromTerminal, ToTerminal}
-use Rattle.bsc_control.specs.Peer.{PeerValue, OutboundValue, no_peer, no_outbound, outbound_at, with_outbound, offered, offered_to, released as released_to}
+use Rattle.bsc_control.specs.Peer.{PeerValue, OutboundValue, no_peer, no_outbound, outbound_at, with_outbound, offered, offered_to, outbound_released}
 use Rattle.bsc_control.specs.Control.{peer_at, with_peer}
 use Rattle.bsc_line_model.specs.Line.{LineValue, no_terminal, terminal_at, terminal_count, with_terminal, with_control, channel_of}
 use Rattle.bsc_line_model.specs.Offers.{told}
@@ -148,9 +148,9 @@ release_from_moves l t done there e =
 pub release_to_moves : (l : LineValue) (t s : ℕ) (done : Unit {0}) → t < length l.control.peers → s < length (peer_at l.control t).outbounds →
     let o : OutboundValue = outbound_at (peer_at l.control t) s in
     let n : ℕ = length (spool_at (terminal_at l t).spools s).records in
-    Ok done ≡ told (release_in o.sender o.queue o.sender.phase n).answer → MovesOne t (ToTerminal s) Learn l (with_kept l t (with_outbound (peer_at l.control t) s (released_to o n)))
+    Ok done ≡ told (release_in o.sender o.queue o.sender.phase n).answer → MovesOne t (ToTerminal s) Learn l (with_kept l t (with_outbound (peer_at l.control t) s (outbound_released o n)))
 release_to_moves l t s done there select e =
     let o : OutboundValue = outbound_at (peer_at l.control t) s in
     let n : ℕ = length (spool_at (terminal_at l t).spools s).records in
-    outbound_moves l t s (released_to o n) Learn there select
+    outbound_moves l t s (outbound_released o n) Learn there select
     (ap (λ (q : QueueValue). channel q (spool_at (terminal_at l t).spools s).records) (released_knows o.sender o.queue n o.sender.phase done e))

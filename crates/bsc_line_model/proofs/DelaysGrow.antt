@@ -13,8 +13,9 @@ use Rattle.bsc_text.specs.declared.act.Act.TheVariants as a
 use Rattle.bsc_text.specs.declared.reply.Reply.{Reply}
 use Rattle.bsc_text.specs.declared.reply.Reply.TheVariants.{Ack0, Ack1, Nak, Wack, Rvi}
 use Rattle.bsc_text.specs.Reply.{reply_heard}
-use Rattle.bsc_text.specs.Receiver.{ReceiverValue, ReceiverStep, Rooms, heard_step, text_step, taken, taken_urgently, replied, tried, is_rvi, is_wack, begun}
+use Rattle.bsc_text.specs.Receiver.{ReceiverValue, ReceiverStep, Rooms, heard_step, text_step, stored_text, taken_urgently, replied, is_rvi, is_wack, new_receiver}
 use Rattle.bsc_text.specs.Sender.{SenderStep, begin_step, reply_step, is_in_doubt}
+use Rattle.bsc_text.proofs.Choice.{choose}
 use Rattle.bsc_tributary.specs.declared.called.Called.{Called}
 use Rattle.bsc_tributary.specs.declared.called.Called.TheVariants.{Polling, Selection, Other}
 use Rattle.bsc_tributary.specs.declared.mode.Mode.{Mode}
@@ -29,7 +30,7 @@ use Rattle.bsc_control.specs.declared.way.Way.TheVariants.{FromTerminal, ToTermi
 use Rattle.bsc_control.specs.Peer.{PeerValue, OutboundValue, no_peer, outbound_at, with_outbound, outbound_after}
 use Rattle.bsc_control.specs.Control.{ControlValue, ControlStep, peer_at, peer, current, terminal_of_entry, with_peer, with_current, sends}
 use Rattle.bsc_control.specs.CallOrder.{After, Selection, Poll, next_call}
-use Rattle.bsc_control.specs.Table.{Hears as ControlHears, task_step, selecting_step, polling_step, receives, acted, performs, calls_next, calls_by, after_bid, has_rvi, rooms_after as rooms_up}
+use Rattle.bsc_control.specs.Table.{Hears as ControlHears, task_step, selecting_step, polling_step, receiving_step, bid_step, perform_step, next_call_step, way_call_step, after_bid, has_rvi, rooms_after as rooms_up}
 use Rattle.bsc_line_model.proofs.Stations.{same_or_not}
 
 -- a count that is within 64 bits does not fall, and stays within them
@@ -58,23 +59,19 @@ asked_grows s false = one_more s.delays
 abbrev ReceiverGrows : ℕ → ReceiverStep → Type 0
 ReceiverGrows d out = Grows d out.spool.delays
 
-receiver_if : (d : ℕ) (b : Bool) (x y : ReceiverStep) → ReceiverGrows d x → ReceiverGrows d y → ReceiverGrows d (if b then x else y)
-receiver_if d true x y p q = p
-receiver_if d false x y p q = q
-
-taken_grows : (r : ReceiverValue) (s : SpoolValue) (t : TextValue) (rooms : Rooms) → ReceiverGrows s.delays (taken r s t rooms)
+taken_grows : (r : ReceiverValue) (s : SpoolValue) (t : TextValue) (rooms : Rooms) → ReceiverGrows s.delays (stored_text r s t rooms)
 taken_grows r s t rooms = asked_grows s rooms.after
 
 text_grows : (r : ReceiverValue) (s : SpoolValue) (t : TextValue) (urgent : Bool) (rooms : Rooms) → ReceiverGrows s.delays (text_step r s t urgent rooms)
 text_grows r s t urgent rooms =
-    let plain : ReceiverStep = taken r s t rooms in
+    let plain : ReceiverStep = stored_text r s t rooms in
     let urgently : ReceiverStep = taken_urgently r s t rooms in
-    let refused : ReceiverStep = replied r.parity (tried s false) Nak in
-    receiver_if s.delays rooms.first (if urgent then (if is_rvi r.last then plain else urgently) else plain) refused
-    (receiver_if s.delays urgent (if is_rvi r.last then plain else urgently) plain (receiver_if s.delays (is_rvi r.last) plain urgently (taken_grows r s t rooms) (grows_same s.delays)) (taken_grows r s t rooms))
+    let refused : ReceiverStep = replied r.alternation (room_asked s false) Nak in
+    choose (ReceiverGrows s.delays) rooms.first (if urgent then (if is_rvi r.last then plain else urgently) else plain) refused
+    (choose (ReceiverGrows s.delays) urgent (if is_rvi r.last then plain else urgently) plain (choose (ReceiverGrows s.delays) (is_rvi r.last) plain urgently (taken_grows r s t rooms) (grows_same s.delays)) (taken_grows r s t rooms))
     (asked_grows s false)
 
-enq_grows : (r : ReceiverValue) (s : SpoolValue) (rooms : Rooms) (wack : Bool) (said : Reply) → ReceiverGrows s.delays (if wack then replied r.parity (tried s rooms.first) said else replied r.parity s r.last)
+enq_grows : (r : ReceiverValue) (s : SpoolValue) (rooms : Rooms) (wack : Bool) (said : Reply) → ReceiverGrows s.delays (if wack then replied r.alternation (room_asked s rooms.first) said else replied r.alternation s r.last)
 enq_grows r s rooms true said = asked_grows s rooms.first
 enq_grows r s rooms false said = grows_same s.delays
 
@@ -98,10 +95,6 @@ SpoolsGrow old new = (s : ℕ) → s < length old → Grows (spool_at old s).del
 abbrev TerminalGrows : List SpoolValue → TributaryStep → Type 0
 TerminalGrows old out = SpoolsGrow old out.tributary.spools
 
-terminal_if : (old : List SpoolValue) (b : Bool) (x y : TributaryStep) → TerminalGrows old x → TerminalGrows old y → TerminalGrows old (if b then x else y)
-terminal_if old true x y p q = p
-terminal_if old false x y p q = q
-
 spools_same : (old : List SpoolValue) → SpoolsGrow old old
 spools_same old s less = grows_same (spool_at old s).delays
 
@@ -121,12 +114,12 @@ call_grows x Polling rooms =
     let same : SpoolsGrow x.spools x.spools = spools_same x.spools in
     let none : TributaryStep = answer_step d m.Eot in
     let some : TributaryStep = act_step d (begin_step d.sender d.queue) in
-    terminal_if x.spools (is_in_doubt d.sender.phase) none (if nat_eq (length (waiting d.queue)) 0 then none else some) same
-    (terminal_if x.spools (nat_eq (length (waiting d.queue)) 0) none some same same)
+    choose (TerminalGrows x.spools) (is_in_doubt d.sender.phase) none (if nat_eq (length (waiting d.queue)) 0 then none else some) same
+    (choose (TerminalGrows x.spools) (nat_eq (length (waiting d.queue)) 0) none some same same)
 call_grows x (Selection s) rooms =
     let d : TributaryValue = without_line x in
     let z : SpoolValue = room_asked (spool_at x.spools s) rooms.first in
-    terminal_if x.spools x.ready _ _ (spool_set x.spools s z (asked_grows (spool_at x.spools s) rooms.first)) (spools_same x.spools)
+    choose (TerminalGrows x.spools) x.ready _ _ (spool_set x.spools s z (asked_grows (spool_at x.spools s) rooms.first)) (spools_same x.spools)
 call_grows x Other rooms = spools_same x.spools
 
 mode_grows : (x : TributaryValue) (n : Mode) (h : Heard) (rooms : Rooms) → TerminalGrows x.spools (mode_step x n h rooms)
@@ -184,46 +177,42 @@ control_then_grows a b c x y =
           grows_then (peer_at a t).spool.delays (peer_at b t).spool.delays (peer_at c t).spool.delays (x.spools t less) (y.spools t on);
     }
 
-calls_by_grow : (c : ControlValue) (place : ℕ) (way : Way) → ControlGrows c (calls_by c place way).control
+calls_by_grow : (c : ControlValue) (place : ℕ) (way : Way) → ControlGrows c (way_call_step c place way).control
 calls_by_grow c place FromTerminal =
     let t : ℕ = terminal_of_entry c place in
-    peers_set c (calls_by c place FromTerminal).control t (record (peer_at c t) { receiver = begun true }) refl (grows_same (peer_at c t).spool.delays)
+    peers_set c (way_call_step c place FromTerminal).control t (record (peer_at c t) { receiver = new_receiver true }) refl (grows_same (peer_at c t).spool.delays)
 calls_by_grow c place (ToTerminal s) =
     let t : ℕ = terminal_of_entry c place in
-    peers_set c (calls_by c place (ToTerminal s)).control t (record (peer_at c t) { urgent = false }) refl (grows_same (peer_at c t).spool.delays)
+    peers_set c (way_call_step c place (ToTerminal s)).control t (record (peer_at c t) { urgent = false }) refl (grows_same (peer_at c t).spool.delays)
 
-next_grows : (c : ControlValue) (after : After) → ControlGrows c (calls_next c after).control
+next_grows : (c : ControlValue) (after : After) → ControlGrows c (next_call_step c after).control
 next_grows c after = calls_by_grow c (next_call c after).place (next_call c after).way
 
-performs_grow : (c : ControlValue) (s : ℕ) (act : Act) (after : After) → ControlGrows c (performs c s act after).control
+performs_grow : (c : ControlValue) (s : ℕ) (act : Act) (after : After) → ControlGrows c (perform_step c s act after).control
 performs_grow c s (a.Send text) after = record { count = refl; spools = λ t less. grows_same (peer_at c t).spool.delays }
 performs_grow c s a.Enq after = record { count = refl; spools = λ t less. grows_same (peer_at c t).spool.delays }
 performs_grow c s a.Over after = next_grows c after
 performs_grow c s a.Quiet after = control_same_grows c
 
-acted_grows : (c : ControlValue) (s : ℕ) (step : SenderStep) (after : After) → ControlGrows c (acted c s step after).control
+acted_grows : (c : ControlValue) (s : ℕ) (step : SenderStep) (after : After) → ControlGrows c (bid_step c s step after).control
 acted_grows c s step after =
     let o : OutboundValue = outbound_after step in
     let d : ControlValue = with_current c (with_outbound (peer c) s o) in
-    control_then_grows c d (performs d s step.act after).control
+    control_then_grows c d (perform_step d s step.act after).control
     (peers_set c d (current c) (with_outbound (peer c) s o) refl (grows_same (peer c).spool.delays)) (performs_grow d s step.act after)
-
-control_if : (c : ControlValue) (b : Bool) (x y : ControlStep) → ControlGrows c x.control → ControlGrows c y.control → ControlGrows c (if b then x else y).control
-control_if c true x y p q = p
-control_if c false x y p q = q
 
 selecting_grows : (c : ControlValue) (s : ℕ) (r : Option Reply) → ControlGrows c (selecting_step c s r).control
 selecting_grows c s None = control_same_grows c
 selecting_grows c s (Some Ack0) = acted_grows c s (begin_step (outbound_at (peer c) s).sender (outbound_at (peer c) s).queue) (Selection s)
 selecting_grows c s (Some Nak) = next_grows c (Selection s)
-selecting_grows c s (Some Wack) = control_if c (nat_lt c.setup.waits (c.waits + 1)) (calls_next c (Selection s)) (sends (record c { task = k.Selecting s true; tries = 0; waits = c.waits + 1 }) m.Enq) (next_grows c (Selection s)) (record { count = refl; spools = λ t less. grows_same (peer_at c t).spool.delays })
+selecting_grows c s (Some Wack) = choose (λ (x : ControlStep). ControlGrows c x.control) (nat_lt c.setup.waits (c.wacks + 1)) (next_call_step c (Selection s)) (sends (record c { task = k.Selecting s true; failures = 0; wacks = c.wacks + 1 }) m.Enq) (next_grows c (Selection s)) (record { count = refl; spools = λ t less. grows_same (peer_at c t).spool.delays })
 selecting_grows c s (Some Ack1) = control_same_grows c
 selecting_grows c s (Some Rvi) = control_same_grows c
 
-receives_grow : (c : ControlValue) (replied : Replied) (h : Heard) (rooms : Rooms) → ControlGrows c (receives c replied (heard_step (peer c).receiver (peer c).spool h (peer c).urgent rooms)).control
+receives_grow : (c : ControlValue) (replied : Replied) (h : Heard) (rooms : Rooms) → ControlGrows c (receiving_step c replied (heard_step (peer c).receiver (peer c).spool h (peer c).urgent rooms)).control
 receives_grow c replied h rooms =
     let out : ReceiverStep = heard_step (peer c).receiver (peer c).spool h (peer c).urgent rooms in
-    peers_set c (receives c replied out).control (current c) _ refl (heard_grows (peer c).receiver (peer c).spool h (peer c).urgent rooms)
+    peers_set c (receiving_step c replied out).control (current c) _ refl (heard_grows (peer c).receiver (peer c).spool h (peer c).urgent rooms)
 
 polling_grows : (c : ControlValue) (replied : Replied) (h : Heard) (rooms : Rooms) → ControlGrows c (polling_step c replied h rooms).control
 polling_grows c replied (Whole m.Eot) rooms = next_grows c (Poll (has_rvi replied))

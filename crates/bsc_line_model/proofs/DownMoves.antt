@@ -112,8 +112,8 @@ lands_down laws p e s w h x u out there b never fair row =
     let o : OutboundValue = outbound_at p s in
     let becomes : record { tributary = u; sent = out } ≡ receive_step x s r =
     row.row ∙ by_mode x h rooms never ∙ ap (λ (n : Mode). mode_step x n h rooms) b.mode in
-    let flying : InBid o.sender.phase o.queue x.receiver.parity x.receiver.last spool.records (Outward w) =
-    subst (λ (f : Flight). InBid o.sender.phase o.queue x.receiver.parity x.receiver.last spool.records f) b.flies b.bid in
+    let flying : InBid o.sender.phase o.queue x.receiver.alternation x.receiver.last spool.records (Outward w) =
+    subst (λ (f : Flight). InBid o.sender.phase o.queue x.receiver.alternation x.receiver.last spool.records f) b.flies b.bid in
     let agrees : ReceiverAgrees o.sender.phase o.queue spool.records r = laws.hearing o.sender.phase o.queue x.receiver spool w (Some h) x.urgent rooms flying fair in
     let stored : spool_at u.spools s ≡ r.spool = ap (λ (k : TributaryStep). spool_at k.tributary.spools s) becomes ∙ get_or-set_same x.spools s r.spool empty_spool there in
     subst (λ (z : SpoolValue). MovesAtReceiver o.sender.phase (channel o.queue spool.records) (channel o.queue z.records)) (sym stored) agrees.moves
@@ -174,10 +174,10 @@ moves_from laws old new w hears t k less =
         let r : Reply = of.bid.flies.0 in
         let never : is_call w ≡ false = ap is_call of.bid.flies.1 ∙ reply_is_no_call r in
         let fair : IsFairlyHeard (message_of r) (hears t) = subst (λ (v : Message). IsFairlyHeard v (hears t)) of.bid.flies.1 (each_fairly w (terminal_count old) hears never was.1 t less) in
-        let bid : InBid y.sender.phase y.queue q.receiver.parity q.receiver.last q.spool.records (Back r) =
-        subst (λ (f : Flight). InBid y.sender.phase y.queue q.receiver.parity q.receiver.last q.spool.records f) of.bid.flies.2 of.bid.bid in
-        let agrees : SenderAgrees y.queue q.receiver.parity q.receiver.last q.spool.records (reply_step y.sender y.queue (reply_heard (hears t))) =
-        laws.answering y.sender y.queue q.receiver.parity q.receiver.last q.spool.records (Some r) (Some (hears t)) bid fair in
+        let bid : InBid y.sender.phase y.queue q.receiver.alternation q.receiver.last q.spool.records (Back r) =
+        subst (λ (f : Flight). InBid y.sender.phase y.queue q.receiver.alternation q.receiver.last q.spool.records f) of.bid.flies.2 of.bid.bid in
+        let agrees : SenderAgrees y.queue q.receiver.alternation q.receiver.last q.spool.records (reply_step y.sender y.queue (reply_heard (hears t))) =
+        laws.answering y.sender y.queue q.receiver.alternation q.receiver.last q.spool.records (Some r) (Some (hears t)) bid fair in
         let moves : MovesAtSender (channel y.queue q.spool.records) (channel (reply_step y.sender y.queue (reply_heard (hears t))).queue q.spool.records) = agrees.moves in
         let here : MovesAtSender (channel (terminal_at old t).queue (peer_at c t).spool.records) (channel (reply_step (terminal_at old t).sender (terminal_at old t).queue (reply_heard (hears t))).queue (peer_at c t).spool.records) =
         subst (λ (n : ℕ). MovesAtSender (channel (terminal_at old n).queue (peer_at c n).spool.records) (channel (reply_step (terminal_at old n).sender (terminal_at old n).queue (reply_heard (hears t))).queue (peer_at c n).spool.records)) (sym of.terminal) moves in

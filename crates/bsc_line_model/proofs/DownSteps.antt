@@ -91,12 +91,12 @@ stays_quiet e way t x u out h mode never heard =
 
 -- the text that is pending has not landed
 not_landed : (pending : Option Transmission) (p : PeerValue) (e s : ℕ) (x : TributaryValue) (b : SentBlock) (t : TextValue) → pending ≡ Some (record { speaker = sp.Control; message = m.Text t }) → (outbound_at p s).sender.phase ≡ Unanswered b →
-    IsInBidDown pending p e s x → x.receiver.parity ≡ other b.parity
+    IsInBidDown pending p e s x → x.receiver.alternation ≡ other b.alternation
 not_landed pending p e s x b t is phase h =
     let flies : h.flight ≡ Outward (m.Text t) = subst (λ (o : Option Transmission). FliesDown o e h.flight) is h.flies in
-    let agree : Agree (Unanswered b) (outbound_at p s).queue x.receiver.parity x.receiver.last (spool_at x.spools s).records (Outward (m.Text t)) =
-    subst (λ (f : Flight). Agree (Unanswered b) (outbound_at p s).queue x.receiver.parity x.receiver.last (spool_at x.spools s).records f) flies
-    (subst (λ (z : Phase). Agree z (outbound_at p s).queue x.receiver.parity x.receiver.last (spool_at x.spools s).records h.flight) phase h.bid.agree) in
+    let agree : Agree (Unanswered b) (outbound_at p s).queue x.receiver.alternation x.receiver.last (spool_at x.spools s).records (Outward (m.Text t)) =
+    subst (λ (f : Flight). Agree (Unanswered b) (outbound_at p s).queue x.receiver.alternation x.receiver.last (spool_at x.spools s).records f) flies
+    (subst (λ (z : Phase). Agree z (outbound_at p s).queue x.receiver.alternation x.receiver.last (spool_at x.spools s).records h.flight) phase h.bid.agree) in
     elim agree [
       | inl n ↦ n.counted
       | inr n ↦ absurd n.flight
@@ -108,7 +108,7 @@ into_spool mode phase spools s is fits = (subst (λ (n : Mode). SuitsMode n phas
 -- a text to selection address s is acknowledged
 pub text_down : (l new : LineValue) (s n : ℕ) (b : SentBlock) → IsGood l → IsInBlock l.control s n b → (terminal_at l (current l.control)).urgent ≡ false → SameDelays l new →
     let t : TextValue = text_of (outbound_at (peer l.control) s).queue b in
-    (l.pending ≡ Some (record { speaker = sp.Control; message = m.Text t }) → IsCarriedDown (m.Text t) (λ z. Whole (m.Text t)) l new → OneAnswers (current l.control) (ToTerminal s) (message_of (ack b.parity)) l new)
+    (l.pending ≡ Some (record { speaker = sp.Control; message = m.Text t }) → IsCarriedDown (m.Text t) (λ z. Whole (m.Text t)) l new → OneAnswers (current l.control) (ToTerminal s) (message_of (ack b.alternation)) l new)
 text_down l new s n b g i calm delays is h =
     let c : ControlValue = l.control in
     let e : ℕ = current c in
@@ -120,12 +120,12 @@ text_down l new s n b g i calm delays is h =
     let tuned : AreTuned l.addressed l.terminals = g.line.tuned g.trusted in
     let addressed : l.addressed ≡ Some (e, ToTerminal s) = subst (λ (z : Mode). IsTuned l.addressed e z) bid.mode (tuned e there) in
     let into : s < length x.spools = into_spool x.mode x.sender.phase (length x.spools) s bid.mode (g.line.stations.members e there).tributary.bid in
-    let counted : x.receiver.parity ≡ other b.parity = not_landed l.pending (peer c) e s x b t is i.phase bid in
+    let counted : x.receiver.alternation ≡ other b.alternation = not_landed l.pending (peer c) e s x b t is i.phase bid in
     let selects : s < length x.terminal.selects = subst (λ (z : ℕ). s < z) (g.line.stations.members e there).tributary.spools into in
     let same : ((spool_at (terminal_at new e).spools s).delays ≡ (spool_at x.spools s).delays) × ((spool_at x.spools s).delays < 2 ^ 64 - 1) = delays.terminals e s (record { there = there; its_way = selects }) in
-    let taken : (answer_of l.terminals (λ z. Whole (m.Text t)) new.terminals e ≡ Some (message_of (ack b.parity))) × TerminalStays e (ToTerminal s) e x (terminal_at new e) =
-    takes_block e x (terminal_at new e) (answer_of l.terminals (λ z. Whole (m.Text t)) new.terminals e) s t b.parity bid.mode into calm counted same.0 same.1 (h.terminals.each e there) in
-    answered_by_one e (ToTerminal s) (m.Text t) (message_of (ack b.parity)) l new there h
+    let taken : (answer_of l.terminals (λ z. Whole (m.Text t)) new.terminals e ≡ Some (message_of (ack b.alternation))) × TerminalStays e (ToTerminal s) e x (terminal_at new e) =
+    takes_block e x (terminal_at new e) (answer_of l.terminals (λ z. Whole (m.Text t)) new.terminals e) s t b.alternation bid.mode into calm counted same.0 same.1 (h.terminals.each e there) in
+    answered_by_one e (ToTerminal s) (m.Text t) (message_of (ack b.alternation)) l new there h
     (λ z less differ.
     stays_quiet e (ToTerminal s) z (terminal_at l z) (terminal_at new z) (answer_of l.terminals (λ y. Whole (m.Text t)) new.terminals z) (Whole (m.Text t))
     (others_in_control l.addressed e z (ToTerminal s) (terminal_at l z).mode addressed differ (tuned z less)) tt (h.terminals.each z less))

@@ -5,14 +5,14 @@ use Rattle.bsc_frame.specs.declared.message.Message.TheVariants as m
 use Rattle.bsc_frame.specs.declared.message.Heard.TheVariants.{Whole}
 use Rattle.bsc_frame.specs.Texts.{TextValue}
 use Rattle.bsc_spool.specs.Spool.{SpoolValue, room_asked, with_delay}
-use Rattle.bsc_text.specs.declared.parity.Parity.{Parity}
-use Rattle.bsc_text.specs.declared.parity.Parity.TheVariants.{Even, Odd}
+use Rattle.bsc_text.specs.declared.alternation.Alternation.{Alternation}
+use Rattle.bsc_text.specs.declared.alternation.Alternation.TheVariants.{Even, Odd}
 use Rattle.bsc_text.specs.declared.phase.Phase.{Phase}
 use Rattle.bsc_text.specs.declared.phase.Phase.TheVariants.{Idle, Unanswered, Held, InDoubt}
 use Rattle.bsc_text.specs.declared.reply.Reply.{Reply}
 use Rattle.bsc_text.specs.Ready.{IsAtRest}
 use Rattle.bsc_text.specs.Reply.{message_of, ack, other}
-use Rattle.bsc_text.specs.Receiver.{ReceiverValue, ReceiverStep, Rooms, text_step, sends_rvi, begun, first_reply}
+use Rattle.bsc_text.specs.Receiver.{ReceiverValue, ReceiverStep, Rooms, text_step, sends_rvi, new_receiver, first_reply}
 use Rattle.bsc_text.specs.Sender.{cut_phase}
 use Rattle.bsc_tributary.specs.declared.called.Called.{Called}
 use Rattle.bsc_tributary.specs.declared.called.Called.TheVariants.{Selection, Other}
@@ -24,23 +24,18 @@ use Rattle.bsc_control.specs.declared.way.Way.TheVariants.{ToTerminal}
 use Rattle.bsc_control.specs.declared.way.Way.{Way}
 use Rattle.bsc_line_model.proofs.Staying.{TerminalStays}
 
--- a try that was refused is counted
-granted : (d : ℕ) (b : Bool) → (if b then d else with_delay d) ≡ d → d < 2 ^ 64 - 1 → b ≡ true
-granted d true e less = refl
-granted d false e less = absurd (omega (arith, e))
-
 -- a flag that is down stays down
 pub calm : (b u : Bool) → u ≡ false → (if b then false else u) ≡ false
 calm true u e = refl
 calm false u e = e
 
-pub twice_other : (p : Parity) → other (other p) ≡ p
+pub twice_other : (p : Alternation) → other (other p) ≡ p
 twice_other Even = refl
 twice_other Odd = refl
 
 -- a text that finds room is taken and acknowledged
 pub taken_exact : (r : ReceiverValue) (s : SpoolValue) (t : TextValue) (first after : Bool) → (text_step r s t false (record { first = first; after = after })).spool.delays ≡ s.delays → s.delays < 2 ^ 64 - 1 →
-    (text_step r s t false (record { first = first; after = after })).reply ≡ Some (ack (other r.parity))
+    (text_step r s t false (record { first = first; after = after })).reply ≡ Some (ack (other r.alternation))
 taken_exact r s t true true e less = refl
 taken_exact r s t true false e less = absurd (omega (arith, e))
 taken_exact r s t false after e less = absurd (omega (arith, e))
@@ -59,9 +54,9 @@ receives_stays e x s r =
     }
 
 -- a block is taken
-pub takes_block : (e : ℕ) (x u : TributaryValue) (out : Option Message) (s : ℕ) (t : TextValue) (parity : Parity) → x.mode ≡ Receiving s → s < length x.spools → x.urgent ≡ false → x.receiver.parity ≡ other parity →
-    (spool_at u.spools s).delays ≡ (spool_at x.spools s).delays → (spool_at x.spools s).delays < 2 ^ 64 - 1 → Hears x (Whole (m.Text t)) u out → (out ≡ Some (message_of (ack parity))) × TerminalStays e (ToTerminal s) e x u
-takes_block e x u out s t parity mode there not_urgent counted same less h =
+pub takes_block : (e : ℕ) (x u : TributaryValue) (out : Option Message) (s : ℕ) (t : TextValue) (alternation : Alternation) → x.mode ≡ Receiving s → s < length x.spools → x.urgent ≡ false → x.receiver.alternation ≡ other alternation →
+    (spool_at u.spools s).delays ≡ (spool_at x.spools s).delays → (spool_at x.spools s).delays < 2 ^ 64 - 1 → Hears x (Whole (m.Text t)) u out → (out ≡ Some (message_of (ack alternation))) × TerminalStays e (ToTerminal s) e x u
+takes_block e x u out s t alternation mode there not_urgent counted same less h =
     let spool : SpoolValue = spool_at x.spools s in
     let rooms : Rooms = rooms_after (Whole (m.Text t)) u in
     let r : ReceiverStep = text_step x.receiver spool t false rooms in
@@ -69,10 +64,10 @@ takes_block e x u out s t parity mode there not_urgent counted same less h =
     h.row ∙ ap (λ (n : Mode). mode_step x n (Whole (m.Text t)) rooms) mode ∙ ap (λ (b : Bool). receive_step x s (text_step x.receiver spool t b rooms)) not_urgent in
     let stored : spool_at u.spools s ≡ r.spool = ap (λ (o : TributaryStep). spool_at o.tributary.spools s) row ∙ get_or-set_same x.spools s r.spool empty_spool there in
     let delays : r.spool.delays ≡ spool.delays = ap (λ (z : SpoolValue). z.delays) (sym stored) ∙ same in
-    let reply : r.reply ≡ Some (ack (other x.receiver.parity)) = taken_exact x.receiver spool t rooms.first rooms.after delays less in
-    let parity_is : other x.receiver.parity ≡ parity = ap other counted ∙ twice_other parity in
-    let said : out ≡ Some (message_of (ack parity)) =
-    ap (λ (o : TributaryStep). o.sent) row ∙ ap (λ (z : Option Reply). option_map message_of z) reply ∙ ap (λ (p : Parity). Some (message_of (ack p))) parity_is in
+    let reply : r.reply ≡ Some (ack (other x.receiver.alternation)) = taken_exact x.receiver spool t rooms.first rooms.after delays less in
+    let parity_is : other x.receiver.alternation ≡ alternation = ap other counted ∙ twice_other alternation in
+    let said : out ≡ Some (message_of (ack alternation)) =
+    ap (λ (o : TributaryStep). o.sent) row ∙ ap (λ (z : Option Reply). option_map message_of z) reply ∙ ap (λ (p : Alternation). Some (message_of (ack p))) parity_is in
     (said, subst (λ (o : TributaryStep). TerminalStays e (ToTerminal s) e x o.tributary) (sym row) (receives_stays e x s r))
 
 -- a phase at rest is not cut
@@ -96,7 +91,7 @@ selected_exact : (e : ℕ) (x u : TributaryValue) (out : Option Message) (s : �
 selected_exact e x u out s room there ready rest same less row = by_room room exact
   where
     selected : Bool → TributaryStep
-    selected b = record { tributary = record (without_line x) { mode = Receiving s; receiver = begun b; spools = slice_set x.spools s (room_asked (spool_at x.spools s) b) }; sent = Some (message_of (first_reply b)) }
+    selected b = record { tributary = record (without_line x) { mode = Receiving s; receiver = new_receiver b; spools = slice_set x.spools s (room_asked (spool_at x.spools s) b) }; sent = Some (message_of (first_reply b)) }
 
     refused : TributaryStep
     refused = record { tributary = without_line x; sent = Some m.Nak }

@@ -5,7 +5,7 @@ use Rattle.std.proofs.lemmas.List.{length-set}
 use Rattle.bsc_frame.specs.declared.message.Message.{Message}
 use Rattle.bsc_frame.specs.declared.message.Message.TheVariants as m
 use Rattle.bsc_spool.specs.Queue.{QueueValue, with_offered}
-use Rattle.bsc_text.specs.declared.parity.Parity.{Parity}
+use Rattle.bsc_text.specs.declared.alternation.Alternation.{Alternation}
 use Rattle.bsc_text.specs.declared.reply.Reply.{Reply}
 use Rattle.bsc_text.specs.declared.reply.Reply.TheVariants.{Ack0, Wack}
 use Rattle.bsc_text.specs.declared.phase.Phase.{Phase}
@@ -19,7 +19,7 @@ use Rattle.bsc_tributary.specs.Tributary.{TributaryValue, spool_at, after_releas
 use Rattle.bsc_control.specs.declared.task.Replied.{Replied}
 use Rattle.bsc_control.specs.declared.task.Task.{Task}
 use Rattle.bsc_control.specs.declared.task.Task.TheVariants.{AtRest, Selecting, Sending, Polling}
-use Rattle.bsc_control.specs.Peer.{PeerValue, OutboundValue, no_peer, no_outbound, outbound_at, with_outbound, offered, offered_to, released}
+use Rattle.bsc_control.specs.Peer.{PeerValue, OutboundValue, no_peer, no_outbound, outbound_at, with_outbound, offered, offered_to, outbound_released}
 use Rattle.bsc_control.specs.Control.{ControlValue, peer_at, current, with_peer}
 use Rattle.bsc_control.specs.Table.{select_address}
 use Rattle.bsc_line_model.specs.declared.transmission.Speaker.{Speaker}
@@ -38,9 +38,9 @@ pub record IsLike (p : PeerValue) (x : TributaryValue) (q : PeerValue) (u : Trib
   pub receiver : u.receiver ≡ x.receiver
   pub rests_up : RestsUp p x → RestsUp q u
   pub rests_down : (k : ℕ) → RestsDown p x k → RestsDown q u k
-  pub bids_up : (f : Flight) → InBid x.sender.phase x.queue p.receiver.parity p.receiver.last p.spool.records f → InBid u.sender.phase u.queue q.receiver.parity q.receiver.last q.spool.records f
-  pub bids_down : (k : ℕ) (f : Flight) → InBid (outbound_at p k).sender.phase (outbound_at p k).queue x.receiver.parity x.receiver.last (spool_at x.spools k).records f →
-      InBid (outbound_at q k).sender.phase (outbound_at q k).queue u.receiver.parity u.receiver.last (spool_at u.spools k).records f
+  pub bids_up : (f : Flight) → InBid x.sender.phase x.queue p.receiver.alternation p.receiver.last p.spool.records f → InBid u.sender.phase u.queue q.receiver.alternation q.receiver.last q.spool.records f
+  pub bids_down : (k : ℕ) (f : Flight) → InBid (outbound_at p k).sender.phase (outbound_at p k).queue x.receiver.alternation x.receiver.last (spool_at x.spools k).records f →
+      InBid (outbound_at q k).sender.phase (outbound_at q k).queue u.receiver.alternation u.receiver.last (spool_at u.spools k).records f
 
 -- the stations are like before
 pub record AreLike (c : ControlValue) (ts : List TributaryValue) (d : ControlValue) (us : List TributaryValue) : Type 0 where
@@ -75,7 +75,7 @@ fresh_like : (p : PeerValue) (x : TributaryValue) (q : PeerValue) (u : Tributary
 fresh_like p x q u s k h =
     record {
       mode = k.mode ∙ h.mode;
-      even = ap (λ (r : ReceiverValue). r.parity) k.receiver ∙ h.even;
+      even = ap (λ (r : ReceiverValue). r.alternation) k.receiver ∙ h.even;
       last = subst (λ (r : ReceiverValue). (r.last ≡ Ack0) ⊎ (r.last ≡ Wack)) (sym k.receiver) h.last;
     }
 
@@ -222,14 +222,14 @@ offer_at_like laws p x r short =
       receiver = refl;
       rests_up = λ h. laws.offer_at_rest x.sender.phase x.queue p.spool.records r short h;
       rests_down = λ k h. h;
-      bids_up = λ f h. laws.offer x.sender.phase x.queue p.receiver.parity p.receiver.last p.spool.records f r short h;
+      bids_up = λ f h. laws.offer x.sender.phase x.queue p.receiver.alternation p.receiver.last p.spool.records f r short h;
       bids_down = λ k f h. h;
     }
 
 -- one selection address's queue and sender changed
 pub outbound_like : (p : PeerValue) (x : TributaryValue) (s : ℕ) (o : OutboundValue) → s < length p.outbounds →
     (RestsDown p x s → IsResting o.sender.phase o.queue (spool_at x.spools s).records) →
-    ((f : Flight) → InBid (outbound_at p s).sender.phase (outbound_at p s).queue x.receiver.parity x.receiver.last (spool_at x.spools s).records f → InBid o.sender.phase o.queue x.receiver.parity x.receiver.last (spool_at x.spools s).records f) →
+    ((f : Flight) → InBid (outbound_at p s).sender.phase (outbound_at p s).queue x.receiver.alternation x.receiver.last (spool_at x.spools s).records f → InBid o.sender.phase o.queue x.receiver.alternation x.receiver.last (spool_at x.spools s).records f) →
     IsLike p x (with_outbound p s o) x
 outbound_like p x s o there rests bids =
     let q : PeerValue = with_outbound p s o in
@@ -252,11 +252,11 @@ outbound_like p x s o there rests bids =
       bids_down = λ k f h.
           elim (same_or_not k s) [
             | inl same ↦
-                subst (λ (j : ℕ). InBid (outbound_at q j).sender.phase (outbound_at q j).queue x.receiver.parity x.receiver.last (spool_at x.spools j).records f) (sym same)
-                (subst (λ (z : OutboundValue). InBid z.sender.phase z.queue x.receiver.parity x.receiver.last (spool_at x.spools s).records f) (sym this)
-                (bids f (subst (λ (j : ℕ). InBid (outbound_at p j).sender.phase (outbound_at p j).queue x.receiver.parity x.receiver.last (spool_at x.spools j).records f) same h)))
+                subst (λ (j : ℕ). InBid (outbound_at q j).sender.phase (outbound_at q j).queue x.receiver.alternation x.receiver.last (spool_at x.spools j).records f) (sym same)
+                (subst (λ (z : OutboundValue). InBid z.sender.phase z.queue x.receiver.alternation x.receiver.last (spool_at x.spools s).records f) (sym this)
+                (bids f (subst (λ (j : ℕ). InBid (outbound_at p j).sender.phase (outbound_at p j).queue x.receiver.alternation x.receiver.last (spool_at x.spools j).records f) same h)))
             | inr differ ↦
-                subst (λ (z : OutboundValue). InBid z.sender.phase z.queue x.receiver.parity x.receiver.last (spool_at x.spools k).records f) (sym (get_or-set_other p.outbounds s k o no_outbound differ)) h
+                subst (λ (z : OutboundValue). InBid z.sender.phase z.queue x.receiver.alternation x.receiver.last (spool_at x.spools k).records f) (sym (get_or-set_other p.outbounds s k o no_outbound differ)) h
           ];
     }
 
@@ -266,7 +266,7 @@ offer_for_like laws p x s r there short =
     let o : OutboundValue = outbound_at p s in
     outbound_like p x s (offered o r) there
     (λ h. laws.offer_at_rest o.sender.phase o.queue (spool_at x.spools s).records r short h)
-    (λ f h. laws.offer o.sender.phase o.queue x.receiver.parity x.receiver.last (spool_at x.spools s).records f r short h)
+    (λ f h. laws.offer o.sender.phase o.queue x.receiver.alternation x.receiver.last (spool_at x.spools s).records f r short h)
 
 -- a release by the spooled count: a doubt ends, and all else stays
 released_rests : (laws : BidLaws) (s : SenderValue) (q : QueueValue) (spooled : List (List ℕ)) (phase : Phase) → s.phase ≡ phase → IsResting s.phase q spooled →
@@ -279,13 +279,13 @@ released_rests laws s q spooled (InDoubt k) e h =
     subst (λ (z : Phase). ReleaseAgrees (release_in s q z (length spooled)) spooled) e (laws.release s q k spooled e (subst (λ (z : Phase). IsResting z q spooled) e h)) in
     subst (λ (z : Phase). IsResting z (release_in s q (InDoubt k) (length spooled)).queue spooled) (sym r.idle) r.rest
 
-released_bids : (s : SenderValue) (q : QueueValue) (parity : Parity) (last : Reply) (spooled : List (List ℕ)) (f : Flight) (n : ℕ) (phase : Phase) → s.phase ≡ phase → InBid s.phase q parity last spooled f →
-    InBid (release_in s q phase n).sender.phase (release_in s q phase n).queue parity last spooled f
-released_bids s q parity last spooled f n Idle e h = h
-released_bids s q parity last spooled f n (Unanswered b) e h = h
-released_bids s q parity last spooled f n (Held end x) e h = h
-released_bids s q parity last spooled f n (InDoubt k) e h =
-    let i : InBid (InDoubt k) q parity last spooled f = subst (λ (z : Phase). InBid z q parity last spooled f) e h in
+released_bids : (s : SenderValue) (q : QueueValue) (alternation : Alternation) (last : Reply) (spooled : List (List ℕ)) (f : Flight) (n : ℕ) (phase : Phase) → s.phase ≡ phase → InBid s.phase q alternation last spooled f →
+    InBid (release_in s q phase n).sender.phase (release_in s q phase n).queue alternation last spooled f
+released_bids s q alternation last spooled f n Idle e h = h
+released_bids s q alternation last spooled f n (Unanswered b) e h = h
+released_bids s q alternation last spooled f n (Held end x) e h = h
+released_bids s q alternation last spooled f n (InDoubt k) e h =
+    let i : InBid (InDoubt k) q alternation last spooled f = subst (λ (z : Phase). InBid z q alternation last spooled f) e h in
     absurd i.agree
 
 -- a release at a terminal
@@ -298,15 +298,15 @@ release_from_like laws p x =
       receiver = refl;
       rests_up = λ h. released_rests laws x.sender x.queue p.spool.records x.sender.phase refl h;
       rests_down = λ k h. h;
-      bids_up = λ f h. released_bids x.sender x.queue p.receiver.parity p.receiver.last p.spool.records f (length p.spool.records) x.sender.phase refl h;
+      bids_up = λ f h. released_bids x.sender x.queue p.receiver.alternation p.receiver.last p.spool.records f (length p.spool.records) x.sender.phase refl h;
       bids_down = λ k f h. h;
     }
 
 -- a release at the control station
-pub release_to_like : (laws : BidLaws) (p : PeerValue) (x : TributaryValue) (s : ℕ) → s < length p.outbounds → IsLike p x (with_outbound p s (released (outbound_at p s) (length (spool_at x.spools s).records))) x
+pub release_to_like : (laws : BidLaws) (p : PeerValue) (x : TributaryValue) (s : ℕ) → s < length p.outbounds → IsLike p x (with_outbound p s (outbound_released (outbound_at p s) (length (spool_at x.spools s).records))) x
 release_to_like laws p x s there =
     let o : OutboundValue = outbound_at p s in
     let n : ℕ = length (spool_at x.spools s).records in
-    outbound_like p x s (released o n) there
+    outbound_like p x s (outbound_released o n) there
     (λ h. released_rests laws o.sender o.queue (spool_at x.spools s).records o.sender.phase refl h)
-    (λ f h. released_bids o.sender o.queue x.receiver.parity x.receiver.last (spool_at x.spools s).records f n o.sender.phase refl h)
+    (λ f h. released_bids o.sender o.queue x.receiver.alternation x.receiver.last (spool_at x.spools s).records f n o.sender.phase refl h)

@@ -11,7 +11,7 @@ use Rattle.bsc_text.specs.declared.act.Act.TheVariants as a
 use Rattle.bsc_text.specs.declared.reply.Reply.{Reply}
 use Rattle.bsc_text.specs.declared.reply.Reply.TheVariants.{Ack0, Ack1, Nak, Wack, Rvi}
 use Rattle.bsc_text.specs.Reply.{reply_heard}
-use Rattle.bsc_text.specs.Receiver.{ReceiverStep, Rooms, begun, heard_step, sends_rvi}
+use Rattle.bsc_text.specs.Receiver.{ReceiverStep, Rooms, new_receiver, heard_step, sends_rvi}
 use Rattle.bsc_text.specs.Sender.{SenderStep, begin_step, reply_step, silence_step}
 use Rattle.bsc_control.specs.declared.task.Replied.{Replied}
 use Rattle.bsc_control.specs.declared.task.Replied.TheVariants.{Nothing, WithoutRvi, WithRvi}
@@ -23,7 +23,7 @@ use Rattle.bsc_control.specs.Peer.{PeerValue, OutboundValue, no_peer, no_outboun
 use Rattle.bsc_control.specs.Control.{ControlValue, ControlStep, peer_at, peer, current, terminal_of_entry, with_peer, with_current, sends}
 use Rattle.bsc_control.specs.CallOrder.{After, Start, Selection, Poll, next_call}
 use Rattle.bsc_control.specs.Kept.{outbound_of, IsControl, IsSelected, IsInBid, SuitsTask}
-use Rattle.bsc_control.specs.Table.{Hears, ActsOnSilence, polls, calls_by, calls_next, performs, acted, after_bid, selecting_step, receives, polling_step, task_step, rooms_after, repeated, silence_in, has_rvi}
+use Rattle.bsc_control.specs.Table.{Hears, ActsOnSilence, poll_call_step, way_call_step, next_call_step, perform_step, bid_step, after_bid, selecting_step, receiving_step, polling_step, task_step, rooms_after, repeated, silence_in, has_rvi}
 use Rattle.bsc_line_model.proofs.Entries.{HasPlaces, places, same_places, current_there, next_there}
 use Rattle.bsc_line_model.proofs.Stations.{same_or_not}
 use Rattle.bsc_line_model.proofs.QueueSteps.{begin_queue, silence_queue}
@@ -40,18 +40,18 @@ written_queues c e p t k there same =
     ]
 
 -- a call leaves all queues as they were
-polls_queues : (c : ControlValue) (place tries t k : ℕ) → terminal_of_entry c place < length c.peers → (outbound_of (polls c place tries).control t k).queue ≡ (outbound_of c t k).queue
-polls_queues c place tries t k there =
+polls_queues : (c : ControlValue) (place failures t k : ℕ) → terminal_of_entry c place < length c.peers → (outbound_of (poll_call_step c place failures).control t k).queue ≡ (outbound_of c t k).queue
+polls_queues c place failures t k there =
     let e : ℕ = terminal_of_entry c place in
-    written_queues c e (record (peer_at c e) { receiver = begun true }) t k there refl
+    written_queues c e (record (peer_at c e) { receiver = new_receiver true }) t k there refl
 
-calls_queues : (c : ControlValue) (place : ℕ) (way : Way) (t k : ℕ) → terminal_of_entry c place < length c.peers → (outbound_of (calls_by c place way).control t k).queue ≡ (outbound_of c t k).queue
+calls_queues : (c : ControlValue) (place : ℕ) (way : Way) (t k : ℕ) → terminal_of_entry c place < length c.peers → (outbound_of (way_call_step c place way).control t k).queue ≡ (outbound_of c t k).queue
 calls_queues c place FromTerminal t k there = polls_queues c place 0 t k there
 calls_queues c place (ToTerminal s) t k there =
     let e : ℕ = terminal_of_entry c place in
     written_queues c e (record (peer_at c e) { urgent = false }) t k there refl
 
-next_queues : (c : ControlValue) (after : After) (t k : ℕ) → HasPlaces c → (outbound_of (calls_next c after).control t k).queue ≡ (outbound_of c t k).queue
+next_queues : (c : ControlValue) (after : After) (t k : ℕ) → HasPlaces c → (outbound_of (next_call_step c after).control t k).queue ≡ (outbound_of c t k).queue
 next_queues c after t k places = calls_queues c (next_call c after).place (next_call c after).way t k (next_there c after places)
 
 -- what a step of the sender to selection address s leaves
@@ -95,13 +95,13 @@ stepped_queues c s step t k there select =
     ]
 
 -- what it does then changes no queue
-performs_queues : (c : ControlValue) (s : ℕ) (act : Act) (after : After) (t k : ℕ) → HasPlaces c → (outbound_of (performs c s act after).control t k).queue ≡ (outbound_of c t k).queue
+performs_queues : (c : ControlValue) (s : ℕ) (act : Act) (after : After) (t k : ℕ) → HasPlaces c → (outbound_of (perform_step c s act after).control t k).queue ≡ (outbound_of c t k).queue
 performs_queues c s (a.Send text) after t k places = refl
 performs_queues c s a.Enq after t k places = refl
 performs_queues c s a.Over after t k places = next_queues c after t k places
 performs_queues c s a.Quiet after t k places = refl
 
-acted_queues : (c : ControlValue) (s : ℕ) (step : SenderStep) (after : After) (t k : ℕ) → HasPlaces c → s < length (peer c).outbounds → SteppedAt c s step t k (outbound_of (acted c s step after).control t k).queue
+acted_queues : (c : ControlValue) (s : ℕ) (step : SenderStep) (after : After) (t k : ℕ) → HasPlaces c → s < length (peer c).outbounds → SteppedAt c s step t k (outbound_of (bid_step c s step after).control t k).queue
 acted_queues c s step after t k places select =
     let d : ControlValue = after_step c s step in
     let still : HasPlaces d = same_places c d refl refl (length-set c.peers (current c) (with_outbound (peer c) s (outbound_after step))) places in
@@ -109,7 +109,7 @@ acted_queues c s step after t k places select =
     (stepped_queues c s step t k (current_there c places) select)
 
 -- a step that leaves its queue as it was leaves all so
-acted_still : (c : ControlValue) (s : ℕ) (step : SenderStep) (after : After) (t k : ℕ) → HasPlaces c → s < length (peer c).outbounds → step.queue ≡ (outbound_at (peer c) s).queue → (outbound_of (acted c s step after).control t k).queue ≡ (outbound_of c t k).queue
+acted_still : (c : ControlValue) (s : ℕ) (step : SenderStep) (after : After) (t k : ℕ) → HasPlaces c → s < length (peer c).outbounds → step.queue ≡ (outbound_at (peer c) s).queue → (outbound_of (bid_step c s step after).control t k).queue ≡ (outbound_of c t k).queue
 acted_still c s step after t k places select same =
     elim (acted_queues c s step after t k places select) [
       | inl still ↦ still
@@ -127,7 +127,7 @@ OutboundHears c h d t k = ((outbound_of d t k).queue ≡ (outbound_of c t k).que
 
 -- a selection is answered
 wack_queues : (c : ControlValue) (s : ℕ) (over : Bool) (t k : ℕ) → HasPlaces c →
-    (outbound_of (if over then calls_next c (Selection s) else sends (record c { task = Selecting s true; tries = 0; waits = c.waits + 1 }) m.Enq).control t k).queue ≡ (outbound_of c t k).queue
+    (outbound_of (if over then next_call_step c (Selection s) else sends (record c { task = Selecting s true; failures = 0; wacks = c.wacks + 1 }) m.Enq).control t k).queue ≡ (outbound_of c t k).queue
 wack_queues c s true t k places = next_queues c (Selection s) t k places
 wack_queues c s false t k places = refl
 
@@ -137,11 +137,11 @@ selecting_queues c s (Some Ack0) t k places select =
     acted_still c s (begin_step (outbound_at (peer c) s).sender (outbound_at (peer c) s).queue) (Selection s) t k places select (begin_queue (outbound_at (peer c) s).sender (outbound_at (peer c) s).queue)
 selecting_queues c s (Some Ack1) t k places select = refl
 selecting_queues c s (Some Nak) t k places select = next_queues c (Selection s) t k places
-selecting_queues c s (Some Wack) t k places select = wack_queues c s (nat_lt c.setup.waits (c.waits + 1)) t k places
+selecting_queues c s (Some Wack) t k places select = wack_queues c s (nat_lt c.setup.waits (c.wacks + 1)) t k places
 selecting_queues c s (Some Rvi) t k places select = refl
 
 -- a poll is answered
-receives_queues : (c : ControlValue) (replied : Replied) (step : ReceiverStep) (t k : ℕ) → HasPlaces c → (outbound_of (receives c replied step).control t k).queue ≡ (outbound_of c t k).queue
+receives_queues : (c : ControlValue) (replied : Replied) (step : ReceiverStep) (t k : ℕ) → HasPlaces c → (outbound_of (receiving_step c replied step).control t k).queue ≡ (outbound_of c t k).queue
 receives_queues c replied step t k places =
     written_queues c (current c) (record (peer c) { receiver = step.receiver; spool = step.spool; urgent = if sends_rvi step.reply then false else (peer c).urgent }) t k (current_there c places) refl
 
@@ -193,13 +193,13 @@ outbound_queue c d h out t k is row = in_task c.task refl (ap (λ (o : ControlSt
 
 -- a silence leaves all queues as they were
 selects_again : (c : ControlValue) (s : ℕ) (enquired over : Bool) (t k : ℕ) → HasPlaces c →
-    (outbound_of (if over then calls_next c (Selection s) else sends (record c { tries = c.tries + 1 }) (repeated c s enquired)).control t k).queue ≡ (outbound_of c t k).queue
+    (outbound_of (if over then next_call_step c (Selection s) else sends (record c { failures = c.failures + 1 }) (repeated c s enquired)).control t k).queue ≡ (outbound_of c t k).queue
 selects_again c s enquired true t k listed = next_queues c (Selection s) t k listed
 selects_again c s enquired false t k listed = refl
 
-polls_again : (c : ControlValue) (over : Bool) (t k : ℕ) → HasPlaces c → (outbound_of (if over then calls_next c (Poll false) else polls c c.place (c.tries + 1)).control t k).queue ≡ (outbound_of c t k).queue
+polls_again : (c : ControlValue) (over : Bool) (t k : ℕ) → HasPlaces c → (outbound_of (if over then next_call_step c (Poll false) else poll_call_step c c.place (c.failures + 1)).control t k).queue ≡ (outbound_of c t k).queue
 polls_again c true t k listed = next_queues c (Poll false) t k listed
-polls_again c false t k listed = polls_queues c c.place (c.tries + 1) t k (current_there c listed)
+polls_again c false t k listed = polls_queues c c.place (c.failures + 1) t k (current_there c listed)
 
 pub outbound_silent_queue : (c d : ControlValue) (out : Option Message) (t k : ℕ) → IsControl c → ActsOnSilence c d out → (outbound_of d t k).queue ≡ (outbound_of c t k).queue
 outbound_silent_queue c d out t k is row = ap (λ (o : ControlStep). (outbound_of o.control t k).queue) row ∙ in_task c.task refl
@@ -209,10 +209,10 @@ outbound_silent_queue c d out t k is row = ap (λ (o : ControlStep). (outbound_o
 
     in_task : (task : Task) → c.task ≡ task → (outbound_of (silence_in c task).control t k).queue ≡ (outbound_of c t k).queue
     in_task AtRest e = next_queues c Start t k listed
-    in_task (Selecting s enquired) e = selects_again c s enquired (nat_lt c.setup.tries (c.tries + 1)) t k listed
+    in_task (Selecting s enquired) e = selects_again c s enquired (nat_lt c.setup.tries (c.failures + 1)) t k listed
     in_task (Sending s) e =
         acted_still c s (silence_step (outbound_at (peer c) s).sender (outbound_at (peer c) s).queue) (Selection s) t k listed (sending_there c s is e)
         (silence_queue (outbound_at (peer c) s).sender (outbound_at (peer c) s).queue)
-    in_task (Polling Nothing) e = polls_again c (nat_lt c.setup.tries (c.tries + 1)) t k listed
+    in_task (Polling Nothing) e = polls_again c (nat_lt c.setup.tries (c.failures + 1)) t k listed
     in_task (Polling WithoutRvi) e = next_queues c (Poll false) t k listed
     in_task (Polling WithRvi) e = next_queues c (Poll true) t k listed

@@ -7,7 +7,7 @@ use Rattle.bsc_frame.specs.declared.message.Message.{Message}
 use Rattle.bsc_frame.specs.declared.message.Message.TheVariants as msg
 use Rattle.bsc_frame.specs.declared.message.Heard.TheVariants.{Whole}
 use Rattle.bsc_frame.specs.Texts.{TextValue}
-use Rattle.bsc_text.specs.declared.parity.Parity.{Parity}
+use Rattle.bsc_text.specs.declared.alternation.Alternation.{Alternation}
 use Rattle.bsc_text.specs.declared.reply.Reply.{Reply}
 use Rattle.bsc_text.specs.declared.reply.Reply.TheVariants.{Ack0, Ack1, Nak, Wack, Rvi}
 use Rattle.bsc_text.specs.declared.phase.SentBlock.{SentBlock}
@@ -131,51 +131,51 @@ call_up laws l new n g task sure count is h =
     (hears_poll laws.cuts e x (terminal_at new e) (answer_of l.terminals (λ z. Whole (msg.Call a)) new.terminals e) n a (g.line.stations.members e there).tributary.ready.queue (rests e there) sure named count (h.terminals.each e there))
 
 -- the text that is pending has not landed
-not_landed_up : (pending : Option Transmission) (p : PeerValue) (e : ℕ) (x : TributaryValue) (b : SentBlock) (t : TextValue) → pending ≡ Some (record { speaker = sp.Terminal e; message = msg.Text t }) → x.sender.phase ≡ Unanswered b → IsInBidUp pending p e x → p.receiver.parity ≡ other b.parity
+not_landed_up : (pending : Option Transmission) (p : PeerValue) (e : ℕ) (x : TributaryValue) (b : SentBlock) (t : TextValue) → pending ≡ Some (record { speaker = sp.Terminal e; message = msg.Text t }) → x.sender.phase ≡ Unanswered b → IsInBidUp pending p e x → p.receiver.alternation ≡ other b.alternation
 not_landed_up pending p e x b t is phase h =
     let flies : FliesUp (Some (record { speaker = sp.Terminal e; message = msg.Text t })) e h.flight = subst (λ (o : Option Transmission). FliesUp o e h.flight) is h.flies in
-    let agree : Agree (Unanswered b) x.queue p.receiver.parity p.receiver.last p.spool.records (Outward (msg.Text t)) =
-    subst (λ (f : Flight). Agree (Unanswered b) x.queue p.receiver.parity p.receiver.last p.spool.records f) flies.1
-    (subst (λ (z : Phase). Agree z x.queue p.receiver.parity p.receiver.last p.spool.records h.flight) phase h.bid.agree) in
+    let agree : Agree (Unanswered b) x.queue p.receiver.alternation p.receiver.last p.spool.records (Outward (msg.Text t)) =
+    subst (λ (f : Flight). Agree (Unanswered b) x.queue p.receiver.alternation p.receiver.last p.spool.records f) flies.1
+    (subst (λ (z : Phase). Agree z x.queue p.receiver.alternation p.receiver.last p.spool.records h.flight) phase h.bid.agree) in
     elim agree [
       | inl n ↦ n.counted
       | inr n ↦ absurd n.flight
     ]
 
 -- a text from the terminal is acknowledged
-record TakenUp (l new : LineValue) (place : ℕ) (parity : Parity) : Type 0 where
-  pending : new.pending ≡ Some (record { speaker = sp.Control; message = message_of (ack parity) })
+record TakenUp (l new : LineValue) (place : ℕ) (alternation : Alternation) : Type 0 where
+  pending : new.pending ≡ Some (record { speaker = sp.Control; message = message_of (ack alternation) })
   polled : IsPolled new.control place
   terminals : new.terminals ≡ l.terminals
   stays : ControlStays (current l.control) FromTerminal l.control new.control
 
 text_up : (l new : LineValue) (place n : ℕ) (b : SentBlock) → IsGood l → IsPolled l.control place → IsInBlockUp (terminal_at l (current l.control)) n b → (peer l.control).urgent ≡ false → SameDelays l new →
     let t : TextValue = text_of (terminal_at l (current l.control)).queue b in
-    (l.pending ≡ Some (record { speaker = sp.Terminal (current l.control); message = msg.Text t }) → IsCarriedUp (msg.Text t) (Whole (msg.Text t)) l new → TakenUp l new place b.parity)
+    (l.pending ≡ Some (record { speaker = sp.Terminal (current l.control); message = msg.Text t }) → IsCarriedUp (msg.Text t) (Whole (msg.Text t)) l new → TakenUp l new place b.alternation)
 text_up l new place n b g polled i calm delays is h =
     let c : ControlValue = l.control in
     let e : ℕ = current c in
     let x : TributaryValue = terminal_at l e in
     let t : TextValue = text_of x.queue b in
     let polling : IsPolling l.pending c l.terminals polled.replied = subst (λ (z : Task). InTask z l.pending c l.terminals) polled.task g.together in
-    let counted : (peer c).receiver.parity ≡ other b.parity =
+    let counted : (peer c).receiver.alternation ≡ other b.alternation =
     elim polling.present [
       | inl q ↦ absurd (q.0.mode i.mode)
       | inr d ↦ not_landed_up l.pending (peer c) e x b t is i.phase d
     ] in
     let room : ((peer_at new.control e).spool.delays ≡ (peer c).spool.delays) × ((peer c).spool.delays < 2 ^ 64 - 1) = delays.control e (terminal_here l g) in
-    let y : (h.sent ≡ Some (message_of (ack b.parity))) × IsPolled new.control place × ControlStays e FromTerminal c new.control =
-    takes_up c new.control h.sent t b.parity place (current_there l g) polled calm counted room.0 room.1 h.control in
+    let y : (h.sent ≡ Some (message_of (ack b.alternation))) × IsPolled new.control place × ControlStays e FromTerminal c new.control =
+    takes_up c new.control h.sent t b.alternation place (current_there l g) polled calm counted room.0 room.1 h.control in
     record { pending = h.pending ∙ ap (λ (o : Option Message). sent_by sp.Control o) y.0; polled = y.1; terminals = h.terminals; stays = y.2 }
 
 -- its acknowledgement is heard: the next block, or EOT
 ack_up : (laws : VisitLaws) (l new : LineValue) (place n : ℕ) (b : SentBlock) → IsGood l → IsPolled l.control place → IsInBlockUp (terminal_at l (current l.control)) n b →
-    IsCarriedDown (message_of (ack b.parity)) (λ z. Whole (message_of (ack b.parity))) l new → IsInPoll new (current l.control) place n × Stays (current l.control) FromTerminal l new
+    IsCarriedDown (message_of (ack b.alternation)) (λ z. Whole (message_of (ack b.alternation))) l new → IsInPoll new (current l.control) place n × Stays (current l.control) FromTerminal l new
 ack_up laws l new place n b g polled i h =
     let c : ControlValue = l.control in
     let e : ℕ = current c in
     let x : TributaryValue = terminal_at l e in
-    let w : Message = message_of (ack b.parity) in
+    let w : Message = message_of (ack b.alternation) in
     let there : e < length l.terminals = terminal_here l g in
     let tuned : AreTuned l.addressed l.terminals = g.line.tuned g.trusted in
     let addressed : l.addressed ≡ Some (e, FromTerminal) = subst (λ (z : Mode). IsTuned l.addressed e z) i.mode (tuned e there) in
@@ -183,7 +183,7 @@ ack_up laws l new place n b g polled i h =
     one_acts e w l new place n there h polled
     (λ z less differ.
     stays_quiet e FromTerminal z (terminal_at l z) (terminal_at new z) (answer_of l.terminals (λ y. Whole w) new.terminals z) (Whole w)
-    (others_in_control l.addressed e z FromTerminal (terminal_at l z).mode addressed differ (tuned z less)) (ack_no_call b.parity) (h.terminals.each z less))
+    (others_in_control l.addressed e z FromTerminal (terminal_at l z).mode addressed differ (tuned z less)) (ack_no_call b.alternation) (h.terminals.each z less))
     (hears_ack laws.cuts e x (terminal_at new e) (answer_of l.terminals (λ z. Whole w) new.terminals e) n b i (known_queue x.queue x.sender.phase b ready.queue i.phase ready.counts) (h.terminals.each e there))
 
 -- the place after a place
@@ -243,9 +243,9 @@ exchange_up laws at more l new r place n g h calm w =
     let t : TextValue = text_of (terminal_at l e).queue b in
     let is : l.pending ≡ Some (record { speaker = sp.Terminal e; message = msg.Text t }) = h.pending ∙ ap (λ (z : Option Message). sent_by (sp.Terminal e) z) sends.text in
     let one : Stepped (record { speaker = sp.Terminal e; message = msg.Text t }) l (λ mid. Walks (at + 1) (suc more) mid r new) = one_step at (suc more) (suc (suc more)) (record { speaker = sp.Terminal e; message = msg.Text t }) l new r is refl w in
-    let taken : TakenUp l one.mid place b.parity = text_up l one.mid place n b g h.polled sends.in_block calm one.delays is one.carried in
-    let two : Stepped (record { speaker = sp.Control; message = message_of (ack b.parity) }) one.mid (λ mid. Walks (at + 1 + 1) more mid r new) =
-    one_step (at + 1) more (suc more) (record { speaker = sp.Control; message = message_of (ack b.parity) }) one.mid new r taken.pending refl one.rest in
+    let taken : TakenUp l one.mid place b.alternation = text_up l one.mid place n b g h.polled sends.in_block calm one.delays is one.carried in
+    let two : Stepped (record { speaker = sp.Control; message = message_of (ack b.alternation) }) one.mid (λ mid. Walks (at + 1 + 1) more mid r new) =
+    one_step (at + 1) more (suc more) (record { speaker = sp.Control; message = message_of (ack b.alternation) }) one.mid new r taken.pending refl one.rest in
     let cur : current one.mid.control ≡ e = current_same c one.mid.control taken.stays.poll_list (taken.polled.place_is ∙ sym h.polled.place_is) in
     let there : IsInBlockUp (terminal_in one.mid.terminals e) n b = subst (λ (ts : List TributaryValue). IsInBlockUp (terminal_in ts e) n b) (sym taken.terminals) sends.in_block in
     let here : IsInBlockUp (terminal_at one.mid (current one.mid.control)) n b = subst (λ (z : ℕ). IsInBlockUp (terminal_at one.mid z) n b) (sym cur) there in

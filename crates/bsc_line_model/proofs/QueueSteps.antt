@@ -9,11 +9,11 @@ use Rattle.bsc_spool.specs.Queue.{QueueValue, waiting, next_block}
 use Rattle.bsc_spool.specs.Spool.{room_asked}
 use Rattle.bsc_text.specs.declared.act.Act.{Act}
 use Rattle.bsc_text.specs.declared.act.Act.TheVariants as a
-use Rattle.bsc_text.specs.declared.parity.Parity.TheVariants.{Odd}
+use Rattle.bsc_text.specs.declared.alternation.Alternation.TheVariants.{Odd}
 use Rattle.bsc_text.specs.declared.phase.Phase.{Phase}
 use Rattle.bsc_text.specs.declared.phase.Phase.TheVariants.{Idle, Unanswered, Held, InDoubt}
 use Rattle.bsc_text.specs.Reply.{message_of, reply_heard}
-use Rattle.bsc_text.specs.Receiver.{Rooms, begun, first_reply}
+use Rattle.bsc_text.specs.Receiver.{Rooms, new_receiver, first_reply}
 use Rattle.bsc_text.specs.Sender.{SenderValue, with_counts, over, sent_next, begin_step, reply_step, failed, silent_in, silence_step, is_in_doubt}
 use Rattle.bsc_tributary.specs.declared.called.Called.{Called}
 use Rattle.bsc_tributary.specs.declared.called.Called.TheVariants as called
@@ -34,9 +34,9 @@ begin_queue s q = by_next (next_block q)
 
 -- and so does a failure
 failed_queue : (s : SenderValue) (q : QueueValue) (left : Phase) (act : Act) → (failed s q left act).queue ≡ q
-failed_queue s q left act = by_test (nat_lt s.setup.tries (s.tries + 1))
+failed_queue s q left act = by_test (nat_lt s.setup.tries (s.failures + 1))
   where
-    by_test : (b : Bool) → (if b then over (with_counts s (s.tries + 1) s.waits) q left else record { sender = with_counts s (s.tries + 1) s.waits; queue = q; act = act }).queue ≡ q
+    by_test : (b : Bool) → (if b then over (with_counts s (s.failures + 1) s.wacks) q left else record { sender = with_counts s (s.failures + 1) s.wacks; queue = q; act = act }).queue ≡ q
     by_test true = refl
     by_test false = refl
 
@@ -66,7 +66,7 @@ selection_queue : (x : TributaryValue) (s : ℕ) (room : Bool) → (selection_st
 selection_queue x s room = by_ready x.ready
   where
     by_ready : (ready : Bool) →
-        (if ready then answer_step (record (without_line x) { mode = Receiving s; receiver = begun room; spools = slice_set x.spools s (room_asked (spool_at x.spools s) room) }) (message_of (first_reply room))
+        (if ready then answer_step (record (without_line x) { mode = Receiving s; receiver = new_receiver room; spools = slice_set x.spools s (room_asked (spool_at x.spools s) room) }) (message_of (first_reply room))
         else answer_step (without_line x) m.Nak).tributary.queue ≡ x.queue
     by_ready true = refl
     by_ready false = refl

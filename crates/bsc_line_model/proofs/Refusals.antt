@@ -13,7 +13,7 @@ use Rattle.bsc_text.specs.Sender.{SenderValue, ReleaseStep, release_in, release_
 use Rattle.bsc_tributary.specs.Tributary.{TributaryValue, spool_at, after_release}
 use Rattle.bsc_control.specs.declared.way.Way.{Way}
 use Rattle.bsc_control.specs.declared.way.Way.TheVariants.{FromTerminal, ToTerminal}
-use Rattle.bsc_control.specs.Peer.{PeerValue, OutboundValue, no_peer, no_outbound, outbound_at, with_outbound, released as released_to}
+use Rattle.bsc_control.specs.Peer.{PeerValue, OutboundValue, no_peer, no_outbound, outbound_at, with_outbound, outbound_released}
 use Rattle.bsc_control.specs.Control.{ControlValue, peer_at, with_peer}
 use Rattle.bsc_line_model.specs.declared.transmission.Speaker.{Speaker}
 use Rattle.bsc_line_model.specs.declared.transmission.Speaker.TheVariants.{Control, Terminal}
@@ -91,7 +91,7 @@ release_refused old t (ToTerminal s) why new d =
     let o : OutboundValue = outbound_at p s in
     let n : ℕ = length (spool_at (terminal_at old t).spools s).records in
     let same : LeavesAll o.sender o.queue (release_step o.sender o.queue n) = leaves o.sender o.queue n why o.sender.phase d.answer in
-    let this : released_to o n ≡ o =
+    let this : outbound_released o n ≡ o =
     ap (λ (z : SenderValue). record o { sender = z; queue = (release_step o.sender o.queue n).queue }) same.sender ∙ ap (λ (q : QueueValue). record o { queue = q }) same.queue in
     d.becomes
     ∙ ap (λ (y : OutboundValue). with_control old (with_peer c t (with_outbound p s y))) this

@@ -5,13 +5,13 @@ use Rattle.bsc_frame.specs.declared.message.Message.{Message}
 use Rattle.bsc_frame.specs.declared.message.Message.TheVariants as m
 use Rattle.bsc_frame.specs.declared.message.Heard.{Heard}
 use Rattle.bsc_frame.specs.declared.message.Heard.TheVariants.{Whole, Failed, Noise}
-use Rattle.bsc_spool.specs.Spool.{SpoolValue}
-use Rattle.bsc_text.specs.declared.parity.Parity.{Parity}
-use Rattle.bsc_text.specs.declared.parity.Parity.TheVariants.{Even}
+use Rattle.bsc_spool.specs.Spool.{SpoolValue, room_asked}
+use Rattle.bsc_text.specs.declared.alternation.Alternation.{Alternation}
+use Rattle.bsc_text.specs.declared.alternation.Alternation.TheVariants.{Even}
 use Rattle.bsc_text.specs.declared.reply.Reply.{Reply}
 use Rattle.bsc_text.specs.declared.reply.Reply.TheVariants.{Ack0, Ack1, Nak, Wack, Rvi}
 use Rattle.bsc_text.specs.Reply.{message_of, reply_heard, ack}
-use Rattle.bsc_text.specs.Receiver.{Rooms, replied, tried, is_wack}
+use Rattle.bsc_text.specs.Receiver.{Rooms, replied, is_wack}
 use Rattle.bsc_text.specs.Sender.{SenderStep, reply_step}
 use Rattle.bsc_text.specs.Fair.{IsFairlyHeard, IsCallCutShort}
 use Rattle.bsc_text.specs.Agreement.{Flight, Back, InBid, IsResting}
@@ -64,15 +64,15 @@ reply_heard_whole r Noise f = tt
 pub replied_up : (laws : BidLaws) (p : PeerValue) (e : ℕ) (r : Reply) (h : Heard) (x u : TributaryValue) (out : Option Message) → (b : IsInBidUp (Some (record { speaker = sp.Control; message = message_of r })) p e x) → b.flight ≡ Back r → IsFairlyHeard (message_of r) h → Hears x h u out → HasActedUp p e u out
 replied_up laws p e r h x u out b is fair row =
     let step : SenderStep = reply_step x.sender x.queue (reply_heard h) in
-    let bid : InBid x.sender.phase x.queue p.receiver.parity p.receiver.last p.spool.records (Back r) =
-    subst (λ (f : Flight). InBid x.sender.phase x.queue p.receiver.parity p.receiver.last p.spool.records f) is b.bid in
+    let bid : InBid x.sender.phase x.queue p.receiver.alternation p.receiver.last p.spool.records (Back r) =
+    subst (λ (f : Flight). InBid x.sender.phase x.queue p.receiver.alternation p.receiver.last p.spool.records f) is b.bid in
     let becomes : record { tributary = u; sent = out } ≡ act_step x step =
     row.row ∙ by_mode x h (rooms_after h u) (reply_heard_whole r h fair) ∙ ap (λ (n : Mode). mode_step x n h (rooms_after h u)) b.mode in
-    let agrees : SenderAgrees x.queue p.receiver.parity p.receiver.last p.spool.records step =
-    laws.answering x.sender x.queue p.receiver.parity p.receiver.last p.spool.records (Some r) (Some h) bid fair in
+    let agrees : SenderAgrees x.queue p.receiver.alternation p.receiver.last p.spool.records step =
+    laws.answering x.sender x.queue p.receiver.alternation p.receiver.last p.spool.records (Some r) (Some h) bid fair in
     subst (λ (o : TributaryStep). HasActedUp p e o.tributary o.sent) (sym becomes)
     (acts_up laws p e x step step.act refl (record { down = b.down; continues = agrees.continues; ended = agrees.ended })
-    (λ quiet. inl (b.mode, keeps_going step.act x.sender.phase step.sender.phase (laws.fits.reply x.sender x.queue (reply_heard h)) quiet (going_in x.sender.phase x.queue p.receiver.parity p.receiver.last p.spool.records (Back r) bid))))
+    (λ quiet. inl (b.mode, keeps_going step.act x.sender.phase step.sender.phase (laws.fits.reply x.sender x.queue (reply_heard h)) quiet (going_in x.sender.phase x.queue p.receiver.alternation p.receiver.last p.spool.records (Back r) bid))))
 
 -- where only one terminal hears, and is then in control mode, all are
 pub one_modes : (old : List TributaryValue) (hears : ℕ → Heard) (new : List TributaryValue) (addressed : Option (ℕ × Way)) (e : ℕ) (way : Way) → length new ≡ length old → addressed ≡ Some (e, way) → AreTuned addressed old → OneHears old hears new e → (terminal_in new e).mode ≡ Control → AllInControlMode new
@@ -120,13 +120,13 @@ same_records spools s k z there same =
     ]
 
 -- the answer to ENQ, by the last reply and whether there is room
-abbrev enq_answer : TributaryValue → ℕ → Parity → Reply → Bool → TributaryStep
-enq_answer x s parity last room =
+abbrev enq_answer : TributaryValue → ℕ → Alternation → Reply → Bool → TributaryStep
+enq_answer x s alternation last room =
     let spool : SpoolValue = spool_at x.spools s in
     receive_step x s (
     if is_wack last
-    then replied parity (tried spool room) (if room then ack parity else Wack)
-    else replied parity spool last
+    then replied alternation (room_asked spool room) (if room then ack alternation else Wack)
+    else replied alternation spool last
     )
 
 abbrev AnswersEnq : PeerValue → ℕ → ℕ → TributaryStep → List TributaryValue → Type 0
@@ -148,10 +148,10 @@ enq_terminal p e s x ts Ack0 room k q mode there =
     (still_quiet p x s (spool_at x.spools s) (enq_answer x s Even Ack0 room).tributary q mode there refl refl refl refl refl, f, (refl, (f, refl)))
 enq_terminal p e s x ts Wack true k q mode there =
     let f : IsFresh (enq_answer x s Even Wack true).tributary s = record { mode = mode; even = refl; last = inl refl } in
-    (still_quiet p x s (tried (spool_at x.spools s) true) (enq_answer x s Even Wack true).tributary q mode there refl refl refl refl refl, f, (refl, (f, refl)))
+    (still_quiet p x s (room_asked (spool_at x.spools s) true) (enq_answer x s Even Wack true).tributary q mode there refl refl refl refl refl, f, (refl, (f, refl)))
 enq_terminal p e s x ts Wack false k q mode there =
     let f : IsFresh (enq_answer x s Even Wack false).tributary s = record { mode = mode; even = refl; last = inr refl } in
-    (still_quiet p x s (tried (spool_at x.spools s) false) (enq_answer x s Even Wack false).tributary q mode there refl refl refl refl refl, f, (refl, (f, refl)))
+    (still_quiet p x s (room_asked (spool_at x.spools s) false) (enq_answer x s Even Wack false).tributary q mode there refl refl refl refl refl, f, (refl, (f, refl)))
 enq_terminal p e s x ts Ack1 room (inl k) q mode there = absurd (cc)
 enq_terminal p e s x ts Ack1 room (inr k) q mode there = absurd (cc)
 enq_terminal p e s x ts Nak room (inl k) q mode there = absurd (cc)
@@ -176,9 +176,9 @@ enq_no_call h (inr e) = subst IsNoCall (sym e) tt
 enquired_terminal : (p : PeerValue) (e s : ℕ) (x u : TributaryValue) (h : Heard) (out : Option Message) (ts : List TributaryValue) → IsQuiet p x → IsFresh x s → s < length x.spools → Hears x h u out → AfterHearing x h u out → IsEnqHeard h → AnswersEnq p e s (record { tributary = u; sent = out }) ts
 enquired_terminal p e s x u h out ts q f there row after (inl whole) =
     let rooms : Rooms = rooms_after h u in
-    let first : record { tributary = u; sent = out } ≡ enq_answer x s x.receiver.parity x.receiver.last rooms.first =
+    let first : record { tributary = u; sent = out } ≡ enq_answer x s x.receiver.alternation x.receiver.last rooms.first =
     row.row ∙ by_mode x h rooms (enq_no_call h (inl whole)) ∙ ap (λ (z : Heard). mode_step x x.mode z rooms) whole ∙ ap (λ (n : Mode). mode_step x n (Whole m.Enq) rooms) f.mode in
-    let even : record { tributary = u; sent = out } ≡ enq_answer x s Even x.receiver.last rooms.first = first ∙ ap (λ (z : Parity). enq_answer x s z x.receiver.last rooms.first) f.even in
+    let even : record { tributary = u; sent = out } ≡ enq_answer x s Even x.receiver.last rooms.first = first ∙ ap (λ (z : Alternation). enq_answer x s z x.receiver.last rooms.first) f.even in
     subst (λ (o : TributaryStep). AnswersEnq p e s o ts) (sym even) (enq_terminal p e s x ts x.receiver.last rooms.first f.last q f.mode there)
 enquired_terminal p e s x u h out ts q f there row after (inr noise) =
     let quiet : StaysQuiet x u out = after.noise noise in

@@ -72,8 +72,8 @@ enough b n k Etx h = h
 
 pub known_queue : (q : QueueValue) (phase : Phase) (b : SentBlock) → IsQueue q → phase ≡ Unanswered b → CountsOn phase (length (waiting q)) → IsQueue (with_known q b.count)
 known_queue q phase b is e counts =
-    let on : (1 ≤ b.count) × (b.count ≤ 7) × AreWaiting b.count b.end (length (waiting q)) = subst (λ (z : Phase). CountsOn z (length (waiting q))) e counts in
-    let within : b.count ≤ length (waiting q) = enough b (length (waiting q)) b.count b.end on.2 in
+    let on : AreWaiting b.count b.end (length (waiting q)) = subst (λ (z : Phase). CountsOn z (length (waiting q))) e counts in
+    let within : b.count ≤ length (waiting q) = enough b (length (waiting q)) b.count b.end on in
     record { format = is.format; known = omega (arith, within, is.known, length-drop q.known q.offered); short = is.short }
 
 -- what a sender of the control station has
@@ -113,11 +113,11 @@ exchange laws at m l new r s n g h calm w =
     let t : TextValue = text_of o.queue b in
     let is : l.pending ≡ Some (record { speaker = sp.Control; message = msg.Text t }) = h.pending ∙ ap (λ (z : Option Message). sent_by sp.Control z) h.sends.text in
     let one : Stepped (record { speaker = sp.Control; message = msg.Text t }) l (λ mid. Walks (at + 1) (suc m) mid r new) = one_step at (suc m) (suc (suc m)) (record { speaker = sp.Control; message = msg.Text t }) l new r is refl w in
-    let answered : OneAnswers e (ToTerminal s) (message_of (ack b.parity)) l one.mid = text_down l one.mid s n b g h.sends.in_block calm one.delays is one.carried in
-    let two : Stepped (record { speaker = sp.Terminal e; message = message_of (ack b.parity) }) one.mid (λ mid. Walks (at + 1 + 1) m mid r new) =
-    one_step (at + 1) m (suc m) (record { speaker = sp.Terminal e; message = message_of (ack b.parity) }) one.mid new r answered.pending refl one.rest in
-    let up : IsCarriedUp (message_of (ack b.parity)) (Whole (message_of (ack b.parity))) one.mid two.mid = two.carried in
-    let heard : Hears c (Whole (message_of (ack b.parity))) two.mid.control up.sent = subst (λ (d : ControlValue). Hears d (Whole (message_of (ack b.parity))) two.mid.control up.sent) answered.control up.control in
+    let answered : OneAnswers e (ToTerminal s) (message_of (ack b.alternation)) l one.mid = text_down l one.mid s n b g h.sends.in_block calm one.delays is one.carried in
+    let two : Stepped (record { speaker = sp.Terminal e; message = message_of (ack b.alternation) }) one.mid (λ mid. Walks (at + 1 + 1) m mid r new) =
+    one_step (at + 1) m (suc m) (record { speaker = sp.Terminal e; message = message_of (ack b.alternation) }) one.mid new r answered.pending refl one.rest in
+    let up : IsCarriedUp (message_of (ack b.alternation)) (Whole (message_of (ack b.alternation))) one.mid two.mid = two.carried in
+    let heard : Hears c (Whole (message_of (ack b.alternation))) two.mid.control up.sent = subst (λ (d : ControlValue). Hears d (Whole (message_of (ack b.alternation))) two.mid.control up.sent) answered.control up.control in
     let select : s < length (peer c).outbounds = sent_to l s g h.sends.in_block.task in
     let ready : IsOutbound o = outbound_ready l s g select in
     let learnt : GoesOnDown two.mid.control up.sent c.place s n × ControlStays e (ToTerminal s) c two.mid.control =

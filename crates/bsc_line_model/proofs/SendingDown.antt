@@ -10,7 +10,7 @@ use Rattle.bsc_text.specs.declared.phase.Phase.{Phase}
 use Rattle.bsc_text.specs.Reply.{message_of}
 use Rattle.bsc_text.specs.Receiver.{ReceiverStep, Rooms, heard_step}
 use Rattle.bsc_text.specs.Fair.{IsFairlyHeard, IsTextMessage, IsCallCutShort}
-use Rattle.bsc_text.specs.Agreement.{Flight, Outward, InBid, IsResting, back}
+use Rattle.bsc_text.specs.Agreement.{Flight, Outward, InBid, IsResting, reply_flight}
 use Rattle.bsc_text.specs.EachStep.{ReceiverAgrees}
 use Rattle.bsc_tributary.specs.declared.mode.Mode.{Mode}
 use Rattle.bsc_tributary.specs.declared.mode.Mode.TheVariants.{Control, Receiving, Sending}
@@ -137,7 +137,7 @@ one_hears old hears new addressed e way there is tuned never keeps =
     }
 
 -- the reply is on the line
-reply_flies : (e : ℕ) (reply : Option Reply) → FliesDown (sent_by (sp.Terminal e) (option_map message_of reply)) e (back reply)
+reply_flies : (e : ℕ) (reply : Option Reply) → FliesDown (sent_by (sp.Terminal e) (option_map message_of reply)) e (reply_flight reply)
 reply_flies e None = refl
 reply_flies e (Some r) = (refl, (r, refl, refl))
 
@@ -151,8 +151,8 @@ receives_down laws p e s w h t u out there b bid fair x after =
     let r : ReceiverStep = heard_step t.receiver spool h t.urgent rooms in
     let row : record { tributary = u; sent = out } ≡ receive_step t s r =
     x.row ∙ by_mode t h rooms (no_call_heard w h bid fair) ∙ ap (λ (n : Mode). mode_step t n h rooms) b.mode in
-    let flying : InBid (outbound_at p s).sender.phase (outbound_at p s).queue t.receiver.parity t.receiver.last spool.records (Outward w) =
-    subst (λ (f : Flight). InBid (outbound_at p s).sender.phase (outbound_at p s).queue t.receiver.parity t.receiver.last spool.records f) b.flies b.bid in
+    let flying : InBid (outbound_at p s).sender.phase (outbound_at p s).queue t.receiver.alternation t.receiver.last spool.records (Outward w) =
+    subst (λ (f : Flight). InBid (outbound_at p s).sender.phase (outbound_at p s).queue t.receiver.alternation t.receiver.last spool.records f) b.flies b.bid in
     let agrees : ReceiverAgrees (outbound_at p s).sender.phase (outbound_at p s).queue spool.records r =
     laws.hearing (outbound_at p s).sender.phase (outbound_at p s).queue t.receiver spool w (Some h) t.urgent rooms flying fair in
     let stored : spool_at (slice_set t.spools s r.spool) s ≡ r.spool = get_or-set_same t.spools s r.spool empty_spool there in
@@ -164,9 +164,9 @@ receives_down laws p e s w h t u out there b bid fair x after =
           let moved : u.mode ≢ Receiving k = λ same. differ (let e1 : Receiving s ≡ Receiving k = sym b.mode ∙ sym (ap (λ (v : TributaryValue). v.mode) becomes) ∙ same in sym (let e2 : s ≡ k = cc in e2)) in
           let same : spool_at (receive_step t s r).tributary.spools k ≡ spool_at t.spools k = ap (λ (v : TributaryValue). spool_at v.spools k) (sym becomes) ∙ after.other_spools k moved in
           subst (λ (z : SpoolValue). IsResting (outbound_at p k).sender.phase (outbound_at p k).queue z.records) (sym same) (b.down k less differ);
-      flight = back r.reply;
+      flight = reply_flight r.reply;
       flies = reply_flies e r.reply;
-      bid = subst (λ (z : SpoolValue). InBid (outbound_at p s).sender.phase (outbound_at p s).queue r.receiver.parity r.receiver.last z.records (back r.reply)) (sym stored) agrees.bid;
+      bid = subst (λ (z : SpoolValue). InBid (outbound_at p s).sender.phase (outbound_at p s).queue r.receiver.alternation r.receiver.last z.records (reply_flight r.reply)) (sym stored) agrees.bid;
     } in
     subst (λ (o : TributaryStep). IsInBidDown (sent_by (sp.Terminal e) o.sent) p e s o.tributary) (sym row) made
 
@@ -181,8 +181,8 @@ sends_down laws c old addressed s w hears new there stations tuned sending fair 
     let e : ℕ = current c in
     let x : TributaryValue = terminal_in old e in
     let b : IsInBidDown (Some (record { speaker = sp.Control; message = w })) (peer c) e s x = sending.bid in
-    let bid : IsBidMessage w = laws.outward (outbound_at (peer c) s).sender.phase (outbound_at (peer c) s).queue x.receiver.parity x.receiver.last (spool_at x.spools s).records w
-    (subst (λ (f : Flight). InBid (outbound_at (peer c) s).sender.phase (outbound_at (peer c) s).queue x.receiver.parity x.receiver.last (spool_at x.spools s).records f) b.flies b.bid) in
+    let bid : IsBidMessage w = laws.outward (outbound_at (peer c) s).sender.phase (outbound_at (peer c) s).queue x.receiver.alternation x.receiver.last (spool_at x.spools s).records w
+    (subst (λ (f : Flight). InBid (outbound_at (peer c) s).sender.phase (outbound_at (peer c) s).queue x.receiver.alternation x.receiver.last (spool_at x.spools s).records f) b.flies b.bid) in
     let is : addressed ≡ Some (e, ToTerminal s) = subst (λ (n : Mode). IsTuned addressed e n) b.mode (tuned e there) in
     let one : OneHears old hears new e = one_hears old hears new addressed e (ToTerminal s) there is tuned (λ t less. no_call_heard w (hears t) bid (fair t less)) keeps in
     let into : s < length x.spools = receiving_into x.mode x.sender.phase (length x.spools) s b.mode (stations.members e there).tributary.bid in

@@ -9,7 +9,7 @@ use Rattle.bsc_text.specs.Reply.{message_of, reply_heard}
 use Rattle.bsc_spool.specs.Queue.{QueueValue}
 use Rattle.bsc_text.specs.declared.act.Act.{Act}
 use Rattle.bsc_text.specs.declared.act.Act.TheVariants as a
-use Rattle.bsc_text.specs.declared.parity.Parity.{Parity}
+use Rattle.bsc_text.specs.declared.alternation.Alternation.{Alternation}
 use Rattle.bsc_text.specs.declared.reply.Reply.{Reply}
 use Rattle.bsc_text.specs.declared.phase.Phase.{Phase}
 use Rattle.bsc_text.specs.declared.phase.Phase.TheVariants.{Idle, Unanswered, Held, InDoubt}
@@ -24,7 +24,7 @@ use Rattle.bsc_control.specs.declared.task.Task.TheVariants.{Sending}
 use Rattle.bsc_control.specs.Peer.{PeerValue, OutboundValue, no_peer, no_outbound, outbound_at, with_outbound, outbound_after}
 use Rattle.bsc_control.specs.Control.{ControlValue, ControlStep, peer_at, peer, current, with_current}
 use Rattle.bsc_control.specs.CallOrder.{After, Selection, next_call}
-use Rattle.bsc_control.specs.Table.{performs, acted, after_bid}
+use Rattle.bsc_control.specs.Table.{perform_step, bid_step, after_bid}
 use Rattle.bsc_line_model.specs.declared.transmission.Speaker.TheVariants as sp
 use Rattle.bsc_line_model.specs.declared.transmission.Transmission.{Transmission}
 use Rattle.bsc_line_model.specs.Transmission.{sent_by}
@@ -38,18 +38,18 @@ use Rattle.bsc_line_model.specs.Kept.{AreStations}
 use Rattle.bsc_control.specs.Kept.{SuitsTask, IsInBid}
 
 -- a bid is over where the sender is at rest
-pub rests : (phase : Phase) (q : QueueValue) (parity : Parity) (last : Reply) (spooled : List (List ℕ)) (f : Flight) → IsAtRest phase → Continues phase q parity last spooled f → IsResting phase q spooled
-rests Idle q parity last spooled f n h = h.0
-rests (InDoubt k) q parity last spooled f n h = h.0
-rests (Unanswered b) q parity last spooled f n h = absurd n
-rests (Held end x) q parity last spooled f n h = absurd n
+pub rests : (phase : Phase) (q : QueueValue) (alternation : Alternation) (last : Reply) (spooled : List (List ℕ)) (f : Flight) → IsAtRest phase → Continues phase q alternation last spooled f → IsResting phase q spooled
+rests Idle q alternation last spooled f n h = h.0
+rests (InDoubt k) q alternation last spooled f n h = h.0
+rests (Unanswered b) q alternation last spooled f n h = absurd n
+rests (Held end x) q alternation last spooled f n h = absurd n
 
 -- and goes on where it is not
-pub stays : (phase : Phase) (q : QueueValue) (parity : Parity) (last : Reply) (spooled : List (List ℕ)) (f : Flight) → IsGoing phase → Continues phase q parity last spooled f → InBid phase q parity last spooled f
-stays Idle q parity last spooled f n h = absurd n
-stays (InDoubt k) q parity last spooled f n h = absurd n
-stays (Unanswered b) q parity last spooled f n h = h
-stays (Held end x) q parity last spooled f n h = h
+pub stays : (phase : Phase) (q : QueueValue) (alternation : Alternation) (last : Reply) (spooled : List (List ℕ)) (f : Flight) → IsGoing phase → Continues phase q alternation last spooled f → InBid phase q alternation last spooled f
+stays Idle q alternation last spooled f n h = absurd n
+stays (InDoubt k) q alternation last spooled f n h = absurd n
+stays (Unanswered b) q alternation last spooled f n h = h
+stays (Held end x) q alternation last spooled f n h = h
 
 -- the control station after a step of the sender to selection address s, and the terminal that it sends to
 pub record HasActed (c : ControlValue) (ts : List TributaryValue) (s : ℕ) (step : SenderStep) : Type 0 where
@@ -59,7 +59,7 @@ pub record HasActed (c : ControlValue) (ts : List TributaryValue) (s : ℕ) (ste
   pub mode : (terminal_in ts (current c)).mode ≡ Receiving s
   pub up : RestsUp (peer c) (terminal_in ts (current c))
   pub down : (k : ℕ) → k < length (peer c).outbounds → k ≢ s → RestsDown (peer c) (terminal_in ts (current c)) k
-  pub continues : Continues step.sender.phase step.queue (terminal_in ts (current c)).receiver.parity (terminal_in ts (current c)).receiver.last (spool_at (terminal_in ts (current c)).spools s).records (sent_flight step.act)
+  pub continues : Continues step.sender.phase step.queue (terminal_in ts (current c)).receiver.alternation (terminal_in ts (current c)).receiver.last (spool_at (terminal_in ts (current c)).spools s).records (sent_flight step.act)
   pub ended : IsEnded step.act step.sender.phase
 
 -- what the step leaves at the control station
@@ -87,7 +87,7 @@ down_after p s o x down k less differ =
 
 -- the bid goes on with this flight
 bid_after : (c : ControlValue) (ts : List TributaryValue) (s : ℕ) (step : SenderStep) (pending : Option Transmission) (f : Flight) → HasActed c ts s step → FliesDown pending (current c) f →
-    InBid step.sender.phase step.queue (terminal_in ts (current c)).receiver.parity (terminal_in ts (current c)).receiver.last (spool_at (terminal_in ts (current c)).spools s).records f →
+    InBid step.sender.phase step.queue (terminal_in ts (current c)).receiver.alternation (terminal_in ts (current c)).receiver.last (spool_at (terminal_in ts (current c)).spools s).records f →
     IsSending pending (record (after_step c s step) { task = Sending s }) ts s
 bid_after c ts s step pending f h flies bid =
     let e : ℕ = current c in
@@ -99,7 +99,7 @@ bid_after c ts s step pending f h flies bid =
       down = down_after (peer c) s o x h.down;
       flight = f;
       flies = flies;
-      bid = subst (λ (z : OutboundValue). InBid z.sender.phase z.queue x.receiver.parity x.receiver.last (spool_at x.spools s).records f) (sym (outbound_is (peer c) s o h.select)) bid;
+      bid = subst (λ (z : OutboundValue). InBid z.sender.phase z.queue x.receiver.alternation x.receiver.last (spool_at x.spools s).records f) (sym (outbound_is (peer c) s o h.select)) bid;
     } in
     record {
       others = others_after c ts s step h.others;
@@ -135,17 +135,17 @@ places_after c s step h = same_places c (after_step c s step) refl refl (length-
 -- the control station does what its sender's act says
 pub performed : (laws : BidLaws) (c : ControlValue) (ts : List TributaryValue) (s : ℕ) (step : SenderStep) (after : After) (act : Act) → step.act ≡ act → HasActed c ts s step → (act ≡ a.Quiet → (c.task ≡ Sending s) × IsGoing step.sender.phase) →
     length c.peers ≡ length ts → HasPlaces (after_step c s step) →
-    InTask (performs (after_step c s step) s act after).control.task (sent_by sp.Control (performs (after_step c s step) s act after).sent) (performs (after_step c s step) s act after).control ts
+    InTask (perform_step (after_step c s step) s act after).control.task (sent_by sp.Control (perform_step (after_step c s step) s act after).sent) (perform_step (after_step c s step) s act after).control ts
 performed laws c ts s step after (a.Send text) is h keeps count entries =
     let x : TributaryValue = terminal_in ts (current c) in
     bid_after c ts s step (Some (record { speaker = sp.Control; message = m.Text text })) (Outward (m.Text text)) h refl
-    (laws.goes_on step.sender.phase step.queue x.receiver.parity x.receiver.last (spool_at x.spools s).records (m.Text text)
-    (subst (λ (z : Act). Continues step.sender.phase step.queue x.receiver.parity x.receiver.last (spool_at x.spools s).records (sent_flight z)) is h.continues))
+    (laws.goes_on step.sender.phase step.queue x.receiver.alternation x.receiver.last (spool_at x.spools s).records (m.Text text)
+    (subst (λ (z : Act). Continues step.sender.phase step.queue x.receiver.alternation x.receiver.last (spool_at x.spools s).records (sent_flight z)) is h.continues))
 performed laws c ts s step after a.Enq is h keeps count entries =
     let x : TributaryValue = terminal_in ts (current c) in
     bid_after c ts s step (Some (record { speaker = sp.Control; message = m.Enq })) (Outward m.Enq) h refl
-    (laws.goes_on step.sender.phase step.queue x.receiver.parity x.receiver.last (spool_at x.spools s).records m.Enq
-    (subst (λ (z : Act). Continues step.sender.phase step.queue x.receiver.parity x.receiver.last (spool_at x.spools s).records (sent_flight z)) is h.continues))
+    (laws.goes_on step.sender.phase step.queue x.receiver.alternation x.receiver.last (spool_at x.spools s).records m.Enq
+    (subst (λ (z : Act). Continues step.sender.phase step.queue x.receiver.alternation x.receiver.last (spool_at x.spools s).records (sent_flight z)) is h.continues))
 performed laws c ts s step after a.Over is h keeps count entries =
     let d : ControlValue = after_step c s step in
     let at_rest : IsAtRest step.sender.phase = subst (λ (z : Act). IsEnded z step.sender.phase) is h.ended in
@@ -158,25 +158,25 @@ performed laws c ts s step after a.Quiet is h keeps count entries =
     subst (λ (t : Task). InTask t None d ts) (sym (keeps refl).0)
     (subst (λ (k : ControlValue). IsSending None k ts s) same
     (bid_after c ts s step None Still h refl
-    (stays step.sender.phase step.queue x.receiver.parity x.receiver.last (spool_at x.spools s).records Still (keeps refl).1
-    (subst (λ (z : Act). Continues step.sender.phase step.queue x.receiver.parity x.receiver.last (spool_at x.spools s).records (sent_flight z)) is h.continues))))
+    (stays step.sender.phase step.queue x.receiver.alternation x.receiver.last (spool_at x.spools s).records Still (keeps refl).1
+    (subst (λ (z : Act). Continues step.sender.phase step.queue x.receiver.alternation x.receiver.last (spool_at x.spools s).records (sent_flight z)) is h.continues))))
 
 -- a quiet sender goes on in its bid
 pub keeps_going : (act : Act) (old new : Phase) → FitsAct act old new → act ≡ a.Quiet → IsGoing old → IsGoing new
 keeps_going act old new fits is going = subst IsGoing (sym (subst (λ (z : Act). FitsAct z old new) is fits)) going
 
 -- the phase of a bid that goes on
-pub going_in : (phase : Phase) (q : QueueValue) (parity : Parity) (last : Reply) (spooled : List (List ℕ)) (f : Flight) → InBid phase q parity last spooled f → IsGoing phase
-going_in Idle q parity last spooled f b = absurd b.agree
-going_in (InDoubt k) q parity last spooled f b = absurd b.agree
-going_in (Unanswered b) q parity last spooled f i = tt
-going_in (Held end x) q parity last spooled f i = tt
+pub going_in : (phase : Phase) (q : QueueValue) (alternation : Alternation) (last : Reply) (spooled : List (List ℕ)) (f : Flight) → InBid phase q alternation last spooled f → IsGoing phase
+going_in Idle q alternation last spooled f b = absurd b.agree
+going_in (InDoubt k) q alternation last spooled f b = absurd b.agree
+going_in (Unanswered b) q alternation last spooled f i = tt
+going_in (Held end x) q alternation last spooled f i = tt
 
 -- the control station's sender has made a step in its bid: what it then does
 pub stepped_down : (laws : BidLaws) (c : ControlValue) (ts : List TributaryValue) (s : ℕ) (pending : Option Transmission) (step : SenderStep) (after : After) → AreStations c ts → c.task ≡ Sending s → IsSending pending c ts s →
-    SenderAgrees (outbound_at (peer c) s).queue (terminal_in ts (current c)).receiver.parity (terminal_in ts (current c)).receiver.last (spool_at (terminal_in ts (current c)).spools s).records step →
+    SenderAgrees (outbound_at (peer c) s).queue (terminal_in ts (current c)).receiver.alternation (terminal_in ts (current c)).receiver.last (spool_at (terminal_in ts (current c)).spools s).records step →
     FitsAct step.act (outbound_at (peer c) s).sender.phase step.sender.phase →
-    InTask (acted c s step after).control.task (sent_by sp.Control (acted c s step after).sent) (acted c s step after).control ts
+    InTask (bid_step c s step after).control.task (sent_by sp.Control (bid_step c s step after).sent) (bid_step c s step after).control ts
 stepped_down laws c ts s pending step after stations task sending agrees fits =
     let b : IsInBidDown pending (peer c) (current c) s (terminal_in ts (current c)) = sending.bid in
     let suits : IsInBid (peer c) s = subst (λ (t : Task). SuitsTask t (peer c)) task stations.control.orderly.suits in
@@ -197,31 +197,31 @@ stepped_down laws c ts s pending step after stations task sending agrees fits =
 -- it hears the terminal's reply, or noise
 pub answers_down : (laws : BidLaws) (c : ControlValue) (ts : List TributaryValue) (s t : ℕ) (w : Message) (h : Heard) → AreStations c ts → c.task ≡ Sending s → IsSending (Some (record { speaker = sp.Terminal t; message = w })) c ts s → IsFairlyHeard w h →
     let step : SenderStep = reply_step (outbound_at (peer c) s).sender (outbound_at (peer c) s).queue (reply_heard h) in
-    let new : ControlStep = acted c s step (after_bid s (reply_heard h)) in
+    let new : ControlStep = bid_step c s step (after_bid s (reply_heard h)) in
     InTask new.control.task (sent_by sp.Control new.sent) new.control ts
 answers_down laws c ts s t w h stations task sending fair =
     let b : IsInBidDown (Some (record { speaker = sp.Terminal t; message = w })) (peer c) (current c) s (terminal_in ts (current c)) = sending.bid in
     let x : TributaryValue = terminal_in ts (current c) in
     let o : OutboundValue = outbound_at (peer c) s in
     let r : Reply = b.flies.1.0 in
-    let bid : InBid o.sender.phase o.queue x.receiver.parity x.receiver.last (spool_at x.spools s).records (Back r) =
-    subst (λ (f : Flight). InBid o.sender.phase o.queue x.receiver.parity x.receiver.last (spool_at x.spools s).records f) b.flies.1.2 b.bid in
+    let bid : InBid o.sender.phase o.queue x.receiver.alternation x.receiver.last (spool_at x.spools s).records (Back r) =
+    subst (λ (f : Flight). InBid o.sender.phase o.queue x.receiver.alternation x.receiver.last (spool_at x.spools s).records f) b.flies.1.2 b.bid in
     let heard : IsFairlyHeard (message_of r) h = subst (λ (v : Message). IsFairlyHeard v h) b.flies.1.1 fair in
     stepped_down laws c ts s (Some (record { speaker = sp.Terminal t; message = w })) (reply_step o.sender o.queue (reply_heard h)) (after_bid s (reply_heard h)) stations task sending
-    (laws.answering o.sender o.queue x.receiver.parity x.receiver.last (spool_at x.spools s).records (Some r) (Some h) bid heard)
+    (laws.answering o.sender o.queue x.receiver.alternation x.receiver.last (spool_at x.spools s).records (Some r) (Some h) bid heard)
     (laws.fits.reply o.sender o.queue (reply_heard h))
 
 -- a silence comes to it
 pub times_out_down : (laws : BidLaws) (c : ControlValue) (ts : List TributaryValue) (s : ℕ) → AreStations c ts → c.task ≡ Sending s → IsSending None c ts s →
     let step : SenderStep = silence_step (outbound_at (peer c) s).sender (outbound_at (peer c) s).queue in
-    let new : ControlStep = acted c s step (Selection s) in
+    let new : ControlStep = bid_step c s step (Selection s) in
     InTask new.control.task (sent_by sp.Control new.sent) new.control ts
 times_out_down laws c ts s stations task sending =
     let b : IsInBidDown None (peer c) (current c) s (terminal_in ts (current c)) = sending.bid in
     let x : TributaryValue = terminal_in ts (current c) in
     let o : OutboundValue = outbound_at (peer c) s in
-    let bid : InBid o.sender.phase o.queue x.receiver.parity x.receiver.last (spool_at x.spools s).records Still =
-    subst (λ (f : Flight). InBid o.sender.phase o.queue x.receiver.parity x.receiver.last (spool_at x.spools s).records f) b.flies b.bid in
+    let bid : InBid o.sender.phase o.queue x.receiver.alternation x.receiver.last (spool_at x.spools s).records Still =
+    subst (λ (f : Flight). InBid o.sender.phase o.queue x.receiver.alternation x.receiver.last (spool_at x.spools s).records f) b.flies b.bid in
     stepped_down laws c ts s None (silence_step o.sender o.queue) (Selection s) stations task sending
-    (laws.silence o.sender o.queue x.receiver.parity x.receiver.last (spool_at x.spools s).records (laws.continues o.sender.phase o.queue x.receiver.parity x.receiver.last (spool_at x.spools s).records Still bid))
+    (laws.silence o.sender o.queue x.receiver.alternation x.receiver.last (spool_at x.spools s).records (laws.continues o.sender.phase o.queue x.receiver.alternation x.receiver.last (spool_at x.spools s).records Still bid))
     (laws.fits.silence o.sender o.queue)

@@ -17,7 +17,7 @@ use Rattle.bsc_control.specs.declared.way.Way.TheVariants.{FromTerminal}
 use Rattle.bsc_control.specs.Peer.{PeerValue}
 use Rattle.bsc_control.specs.Control.{ControlValue, ControlStep, peer_at, peer, current}
 use Rattle.bsc_control.specs.CallOrder.{Start, Selection, Poll}
-use Rattle.bsc_control.specs.Table.{ActsOnSilence as ControlActs, silence_in, calls_next, polls, repeated}
+use Rattle.bsc_control.specs.Table.{ActsOnSilence as ControlActs, silence_in, next_call_step, poll_call_step, repeated}
 use Rattle.bsc_line_model.specs.declared.transmission.Speaker.TheVariants as sp
 use Rattle.bsc_line_model.specs.Transmission.{sent_by}
 use Rattle.bsc_line_model.specs.Line.{terminal_in, no_terminal}
@@ -35,19 +35,19 @@ use Rattle.bsc_line_model.proofs.AnswersHeard.{StepsTo, next_made}
 
 -- a selection is called again, or given up after too many tries
 selects_again : (c : ControlValue) (ts : List TributaryValue) (s : ℕ) (enquired over : Bool) → AreStations c ts → c.task ≡ Selecting s enquired → IsSelecting None c ts s enquired →
-    StepsTo (if over then calls_next c (Selection s) else record { control = record c { tries = c.tries + 1 }; sent = Some (repeated c s enquired) }) ts
+    StepsTo (if over then next_call_step c (Selection s) else record { control = record c { failures = c.failures + 1 }; sent = Some (repeated c s enquired) }) ts
 selects_again c ts s enquired true stations is k = next_made c ts (Selection s) stations k.quiet
 selects_again c ts s true false stations is k =
-    subst (λ (t : Task). InTask t (Some (record { speaker = sp.Control; message = repeated c s true })) (record c { tries = c.tries + 1 }) ts) (sym is)
+    subst (λ (t : Task). InTask t (Some (record { speaker = sp.Control; message = repeated c s true })) (record c { failures = c.failures + 1 }) ts) (sym is)
     (record { quiet = k.quiet; with_pending = refl; fresh = k.fresh })
 selects_again c ts s false false stations is k =
-    subst (λ (t : Task). InTask t (Some (record { speaker = sp.Control; message = repeated c s false })) (record c { tries = c.tries + 1 }) ts) (sym is)
+    subst (λ (t : Task). InTask t (Some (record { speaker = sp.Control; message = repeated c s false })) (record c { failures = c.failures + 1 }) ts) (sym is)
     (record { quiet = k.quiet; with_pending = refl; fresh = k.fresh })
 
 -- a poll is called again, or given up
-polls_again : (c : ControlValue) (ts : List TributaryValue) (over : Bool) → AreStations c ts → AllQuiet c ts → StepsTo (if over then calls_next c (Poll false) else polls c c.place (c.tries + 1)) ts
+polls_again : (c : ControlValue) (ts : List TributaryValue) (over : Bool) → AreStations c ts → AllQuiet c ts → StepsTo (if over then next_call_step c (Poll false) else poll_call_step c c.place (c.failures + 1)) ts
 polls_again c ts true stations all = next_made c ts (Poll false) stations all
-polls_again c ts false stations all = polled_next c ts c.place (c.tries + 1) (current_there c (places c stations.control.entries)) stations.count all
+polls_again c ts false stations all = polled_next c ts c.place (c.failures + 1) (current_there c (places c stations.control.entries)) stations.count all
 
 -- the control station acts on a silence where no terminal sends
 pub silent_control : (laws : BidLaws) (c d : ControlValue) (ts : List TributaryValue) (out : Option Message) → AreStations c ts → ((t : ℕ) → t < length ts → (terminal_in ts t).mode ≢ Sends) → InTask c.task None c ts → ControlActs c d out →
@@ -68,9 +68,9 @@ silent_control laws c d ts out stations nobody together row = by_task c.task ref
 
     by_task : (task : Task) → c.task ≡ task → InTask task None c ts → InTask d.task (sent_by sp.Control out) d ts
     by_task AtRest is k = by_row AtRest is (next_made c ts Start stations k.quiet)
-    by_task (Selecting s enquired) is k = by_row (Selecting s enquired) is (selects_again c ts s enquired (nat_lt c.setup.tries (c.tries + 1)) stations is k)
+    by_task (Selecting s enquired) is k = by_row (Selecting s enquired) is (selects_again c ts s enquired (nat_lt c.setup.tries (c.failures + 1)) stations is k)
     by_task (Sending s) is k = by_row (Sending s) is (times_out_down laws c ts s stations is k)
-    by_task (Polling Nothing) is k = by_row (Polling Nothing) is (polls_again c ts (nat_lt c.setup.tries (c.tries + 1)) stations (all_quiet Nothing k))
+    by_task (Polling Nothing) is k = by_row (Polling Nothing) is (polls_again c ts (nat_lt c.setup.tries (c.failures + 1)) stations (all_quiet Nothing k))
     by_task (Polling WithoutRvi) is k = by_row (Polling WithoutRvi) is (next_made c ts (Poll false) stations (all_quiet WithoutRvi k))
     by_task (Polling WithRvi) is k = by_row (Polling WithRvi) is (next_made c ts (Poll true) stations (all_quiet WithRvi k))
 
@@ -83,15 +83,15 @@ times_out_up laws c ts addressed u out replied there tuned others b row =
     let x : TributaryValue = terminal_in ts e in
     let us : List TributaryValue = slice_set ts e u in
     let step : SenderStep = silence_step x.sender x.queue in
-    let bid : InBid x.sender.phase x.queue p.receiver.parity p.receiver.last p.spool.records Still =
-    subst (λ (f : Flight). InBid x.sender.phase x.queue p.receiver.parity p.receiver.last p.spool.records f) b.flies b.bid in
-    let agrees : SenderAgrees x.queue p.receiver.parity p.receiver.last p.spool.records step =
-    laws.silence x.sender x.queue p.receiver.parity p.receiver.last p.spool.records (laws.continues x.sender.phase x.queue p.receiver.parity p.receiver.last p.spool.records Still bid) in
+    let bid : InBid x.sender.phase x.queue p.receiver.alternation p.receiver.last p.spool.records Still =
+    subst (λ (f : Flight). InBid x.sender.phase x.queue p.receiver.alternation p.receiver.last p.spool.records f) b.flies b.bid in
+    let agrees : SenderAgrees x.queue p.receiver.alternation p.receiver.last p.spool.records step =
+    laws.silence x.sender x.queue p.receiver.alternation p.receiver.last p.spool.records (laws.continues x.sender.phase x.queue p.receiver.alternation p.receiver.last p.spool.records Still bid) in
     let becomes : record { tributary = u; sent = out } ≡ act_step x step = row ∙ ap (λ (n : Mode). terminal_silence x n) b.mode in
     let acted : HasActedUp p e u out =
     subst (λ (o : TributaryStep). HasActedUp p e o.tributary o.sent) (sym becomes)
     (acts_up laws p e x step step.act refl (record { down = b.down; continues = agrees.continues; ended = agrees.ended })
-    (λ quiet. inl (b.mode, keeps_going step.act x.sender.phase step.sender.phase (laws.fits.silence x.sender x.queue) quiet (going_in x.sender.phase x.queue p.receiver.parity p.receiver.last p.spool.records Still bid)))) in
+    (λ quiet. inl (b.mode, keeps_going step.act x.sender.phase step.sender.phase (laws.fits.silence x.sender x.queue) quiet (going_in x.sender.phase x.queue p.receiver.alternation p.receiver.last p.spool.records Still bid)))) in
     let is : addressed ≡ Some (e, FromTerminal) = subst (λ (n : Mode). IsTuned addressed e n) b.mode (tuned e there) in
     let this : terminal_in us e ≡ u = get_or-set_same ts e u no_terminal there in
     let modes : u.mode ≡ Control → AllInControlMode us = λ here t less.

@@ -36,14 +36,14 @@ bid_down_sound laws pending p e s x (ToTerminal k) w b =
     elim (same_or_not k s) [
       | inl same ↦
           subst (λ (j : ℕ). IsSound (outbound_at p j).sender.phase (channel (outbound_at p j).queue (spool_at x.spools j).records)) (sym same)
-          (laws.sound (outbound_at p s).sender.phase (outbound_at p s).queue x.receiver.parity x.receiver.last (spool_at x.spools s).records b.flight
-          (laws.continues (outbound_at p s).sender.phase (outbound_at p s).queue x.receiver.parity x.receiver.last (spool_at x.spools s).records b.flight b.bid))
+          (laws.sound (outbound_at p s).sender.phase (outbound_at p s).queue x.receiver.alternation x.receiver.last (spool_at x.spools s).records b.flight
+          (laws.continues (outbound_at p s).sender.phase (outbound_at p s).queue x.receiver.alternation x.receiver.last (spool_at x.spools s).records b.flight b.bid))
       | inr differ ↦ (b.down k w differ).sound
     ]
 
 bid_up_sound : (laws : BidLaws) (pending : Option Transmission) (p : PeerValue) (e : ℕ) (x : TributaryValue) (way : Way) → HasWay p way → IsInBidUp pending p e x → IsSoundWith p x way
 bid_up_sound laws pending p e x FromTerminal w b =
-    laws.sound x.sender.phase x.queue p.receiver.parity p.receiver.last p.spool.records b.flight (laws.continues x.sender.phase x.queue p.receiver.parity p.receiver.last p.spool.records b.flight b.bid)
+    laws.sound x.sender.phase x.queue p.receiver.alternation p.receiver.last p.spool.records b.flight (laws.continues x.sender.phase x.queue p.receiver.alternation p.receiver.last p.spool.records b.flight b.bid)
 bid_up_sound laws pending p e x (ToTerminal s) w b = (b.down s w).sound
 
 each_sound : (laws : BidLaws) (task : Task) (pending : Option Transmission) (c : ControlValue) (ts : List TributaryValue) (t : ℕ) (way : Way) → t < length ts → HasWay (peer_at c t) way → InTask task pending c ts → IsSoundWith (peer_at c t) (terminal_in ts t) way

@@ -1,13 +1,13 @@
 -- What one transmission of a visit leaves as it was: all channels but one, and that no end asks for the line.
 use Rattle.std.proofs.Common.{◌≡◌, ◌≢◌, inl, inr, ℕ, ◌<◌, true, false, List, length, slice_set, refl, sym, ◌∙◌, ap, subst, arith, get_or-set_other, get_or-set_same}
 use Rattle.std.proofs.lemmas.List.{length-set}
-use Rattle.bsc_text.specs.Receiver.{begun}
+use Rattle.bsc_text.specs.Receiver.{new_receiver}
 use Rattle.bsc_tributary.specs.Tributary.{TributaryValue, spool_at}
 use Rattle.bsc_control.specs.declared.way.Way.{Way}
 use Rattle.bsc_control.specs.declared.way.Way.TheVariants.{FromTerminal, ToTerminal}
 use Rattle.bsc_control.specs.Peer.{PeerValue, OutboundValue, no_peer, no_outbound, outbound_at, with_outbound}
 use Rattle.bsc_control.specs.Control.{ControlValue, peer_at, peer, current, terminal_of_entry}
-use Rattle.bsc_control.specs.Table.{calls, polls, selects}
+use Rattle.bsc_control.specs.Table.{make_call_step, poll_call_step, selection_call_step}
 use Rattle.bsc_line_model.specs.Line.{LineValue, terminal_in}
 use Rattle.bsc_line_model.proofs.Stations.{same_or_not}
 
@@ -111,17 +111,17 @@ peer_written e way c d t p there k same list =
     }
 
 -- a call moves no channel
-pub call_stays : (e : ℕ) (way : Way) (c : ControlValue) (place : ℕ) (to : Way) → terminal_of_entry c place < length c.peers → ControlStays e way c (calls c (record { place = place; way = to })).control
+pub call_stays : (e : ℕ) (way : Way) (c : ControlValue) (place : ℕ) (to : Way) → terminal_of_entry c place < length c.peers → ControlStays e way c (make_call_step c (record { place = place; way = to })).control
 call_stays e way c place FromTerminal there =
     let t : ℕ = terminal_of_entry c place in
     let p : PeerValue = peer_at c t in
-    let q : PeerValue = record p { receiver = begun true } in
-    peer_written e way c (polls c place 0).control t q there (record { terminal = refl; urgent = λ k. k; count = refl; down = λ s k. refl; up = λ k. refl }) refl refl
+    let q : PeerValue = record p { receiver = new_receiver true } in
+    peer_written e way c (poll_call_step c place 0).control t q there (record { terminal = refl; urgent = λ k. k; count = refl; down = λ s k. refl; up = λ k. refl }) refl refl
 call_stays e way c place (ToTerminal s) there =
     let t : ℕ = terminal_of_entry c place in
     let p : PeerValue = peer_at c t in
     let q : PeerValue = record p { urgent = false } in
-    peer_written e way c (selects c place s).control t q there (record { terminal = refl; urgent = λ k. refl; count = refl; down = λ k m. refl; up = λ k. refl }) refl refl
+    peer_written e way c (selection_call_step c place s).control t q there (record { terminal = refl; urgent = λ k. refl; count = refl; down = λ k m. refl; up = λ k. refl }) refl refl
 
 -- a step of the sender to selection address s moves its own channel
 pub sender_stays : (c : ControlValue) (s : ℕ) (o : OutboundValue) (d : ControlValue) → current c < length c.peers → d.peers ≡ slice_set c.peers (current c) (with_outbound (peer c) s o) → d.poll_list ≡ c.poll_list → ControlStays (current c) (ToTerminal s) c d

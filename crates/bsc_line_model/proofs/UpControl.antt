@@ -6,8 +6,8 @@ use Rattle.bsc_frame.specs.declared.message.Message.TheVariants as m
 use Rattle.bsc_frame.specs.declared.message.Heard.{Heard}
 use Rattle.bsc_frame.specs.declared.message.Heard.TheVariants.{Whole}
 use Rattle.bsc_frame.specs.Texts.{TextValue}
-use Rattle.bsc_text.specs.declared.parity.Parity.{Parity}
-use Rattle.bsc_text.specs.declared.parity.Parity.TheVariants.{Even, Odd}
+use Rattle.bsc_text.specs.declared.alternation.Alternation.{Alternation}
+use Rattle.bsc_text.specs.declared.alternation.Alternation.TheVariants.{Even, Odd}
 use Rattle.bsc_text.specs.declared.reply.Reply.{Reply}
 use Rattle.bsc_text.specs.Reply.{message_of, ack, other}
 use Rattle.bsc_text.specs.Receiver.{ReceiverStep, Rooms, text_step, sends_rvi}
@@ -20,7 +20,7 @@ use Rattle.bsc_control.specs.declared.way.Way.TheVariants.{FromTerminal}
 use Rattle.bsc_control.specs.Peer.{PeerValue, OutboundValue, no_peer}
 use Rattle.bsc_control.specs.Control.{ControlValue, ControlStep, peer_at, peer, current, terminal_of_entry}
 use Rattle.bsc_control.specs.CallOrder.{Poll, way_from, next_place}
-use Rattle.bsc_control.specs.Table.{Hears, task_step, receives, calls, calls_next, replied_after, has_rvi, rooms_after}
+use Rattle.bsc_control.specs.Table.{Hears, task_step, receiving_step, make_call_step, next_call_step, replied_after, has_rvi, rooms_after}
 use Rattle.bsc_line_model.proofs.Staying.{ControlStays, peer_written, call_stays}
 use Rattle.bsc_line_model.proofs.DownControl.{HasCalled, call_is, call_lists}
 use Rattle.bsc_line_model.proofs.DownTerminals.{calm, twice_other, taken_exact}
@@ -33,7 +33,7 @@ pub record IsPolled (c : ControlValue) (place : ℕ) : Type 0 where
   pub without_rvi : has_rvi replied ≡ false
 
 -- an acknowledgement is no RVI
-without : (r : Replied) (p : Parity) → has_rvi r ≡ false → has_rvi (replied_after r (Some (ack p))) ≡ false
+without : (r : Replied) (p : Alternation) → has_rvi r ≡ false → has_rvi (replied_after r (Some (ack p))) ≡ false
 without Nothing Even e = refl
 without Nothing Odd e = refl
 without WithoutRvi Even e = refl
@@ -41,27 +41,27 @@ without WithoutRvi Odd e = refl
 without WithRvi p e = absurd (cc)
 
 -- a block is taken
-pub takes_up : (c d : ControlValue) (sent : Option Message) (t : TextValue) (parity : Parity) (place : ℕ) → current c < length c.peers → IsPolled c place → (peer c).urgent ≡ false → (peer c).receiver.parity ≡ other parity →
-    (peer_at d (current c)).spool.delays ≡ (peer c).spool.delays → (peer c).spool.delays < 2 ^ 64 - 1 → Hears c (Whole (m.Text t)) d sent → (sent ≡ Some (message_of (ack parity))) × IsPolled d place × ControlStays (current c) FromTerminal c d
-takes_up c d sent t parity place there i not_urgent counted same less h =
+pub takes_up : (c d : ControlValue) (sent : Option Message) (t : TextValue) (alternation : Alternation) (place : ℕ) → current c < length c.peers → IsPolled c place → (peer c).urgent ≡ false → (peer c).receiver.alternation ≡ other alternation →
+    (peer_at d (current c)).spool.delays ≡ (peer c).spool.delays → (peer c).spool.delays < 2 ^ 64 - 1 → Hears c (Whole (m.Text t)) d sent → (sent ≡ Some (message_of (ack alternation))) × IsPolled d place × ControlStays (current c) FromTerminal c d
+takes_up c d sent t alternation place there i not_urgent counted same less h =
     let e : ℕ = current c in
     let p : PeerValue = peer c in
     let w : Heard = Whole (m.Text t) in
     let rooms : Rooms = rooms_after c w d in
     let r : ReceiverStep = text_step p.receiver p.spool t false rooms in
     let q : PeerValue = record p { receiver = r.receiver; spool = r.spool; urgent = if sends_rvi r.reply then false else p.urgent } in
-    let row : record { control = d; sent = sent } ≡ receives c i.replied r =
-    h.row ∙ ap (λ (k : Task). task_step c k w rooms) i.task ∙ ap (λ (b : Bool). receives c i.replied (text_step p.receiver p.spool t b rooms)) not_urgent in
+    let row : record { control = d; sent = sent } ≡ receiving_step c i.replied r =
+    h.row ∙ ap (λ (k : Task). task_step c k w rooms) i.task ∙ ap (λ (b : Bool). receiving_step c i.replied (text_step p.receiver p.spool t b rooms)) not_urgent in
     let now : peer_at d e ≡ q = ap (λ (o : ControlStep). peer_at o.control e) row ∙ get_or-set_same c.peers e q no_peer there in
     let delays : r.spool.delays ≡ p.spool.delays = ap (λ (z : PeerValue). z.spool.delays) (sym now) ∙ same in
-    let parity_is : other p.receiver.parity ≡ parity = ap other counted ∙ twice_other parity in
-    let reply : r.reply ≡ Some (ack parity) = taken_exact p.receiver p.spool t rooms.first rooms.after delays less ∙ ap (λ (z : Parity). Some (ack z)) parity_is in (
+    let parity_is : other p.receiver.alternation ≡ alternation = ap other counted ∙ twice_other alternation in
+    let reply : r.reply ≡ Some (ack alternation) = taken_exact p.receiver p.spool t rooms.first rooms.after delays less ∙ ap (λ (z : Alternation). Some (ack z)) parity_is in (
       ap (λ (o : ControlStep). o.sent) row ∙ ap (λ (z : Option Reply). option_map message_of z) reply,
       record {
         place_is = ap (λ (o : ControlStep). o.control.place) row ∙ i.place_is;
-        replied = replied_after i.replied (Some (ack parity));
+        replied = replied_after i.replied (Some (ack alternation));
         task = ap (λ (o : ControlStep). o.control.task) row ∙ ap (λ (z : Option Reply). Polling (replied_after i.replied z)) reply;
-        without_rvi = without i.replied parity i.without_rvi;
+        without_rvi = without i.replied alternation i.without_rvi;
       },
       peer_written e FromTerminal c d e q there (record { terminal = refl; urgent = λ k. calm (sends_rvi r.reply) p.urgent k; count = refl; down = λ s k. refl; up = λ k. absurd (k refl refl) })
           (ap (λ (o : ControlStep). o.control.peers) row) (ap (λ (o : ControlStep). o.control.poll_list) row),
@@ -76,9 +76,9 @@ pub polled_out : (c d : ControlValue) (sent : Option Message) (place : ℕ) → 
 polled_out c d sent place there i h =
     let t : ℕ = terminal_of_entry c (next_place c) in
     let way : Way = way_from (peer_at c t) 0 in
-    let r : ControlStep = calls c (record { place = next_place c; way = way }) in
+    let r : ControlStep = make_call_step c (record { place = next_place c; way = way }) in
     let row : record { control = d; sent = sent } ≡ r =
-    h.row ∙ ap (λ (k : Task). task_step c k (Whole m.Eot) (rooms_after c (Whole m.Eot) d)) i.task ∙ ap (λ (b : Bool). calls_next c (Poll b)) i.without_rvi in
+    h.row ∙ ap (λ (k : Task). task_step c k (Whole m.Eot) (rooms_after c (Whole m.Eot) d)) i.task ∙ ap (λ (b : Bool). next_call_step c (Poll b)) i.without_rvi in
     let lists : (peer r.control).outbounds ≡ (peer_at c t).outbounds = call_lists c (next_place c) way there in
     let way_now : way ≡ way_from (peer r.control) 0 = ap (λ (os : List OutboundValue). way_from (record (peer_at c t) { outbounds = os }) 0) (sym lists) in
     subst (λ (z : ControlStep). CallsNext z.control z.sent (next_place c) × ControlStays (current c) FromTerminal c z.control) (sym row)

@@ -26,7 +26,7 @@ use Rattle.bsc_control.specs.declared.way.Way.TheVariants.{FromTerminal, ToTermi
 use Rattle.bsc_control.specs.Peer.{PeerValue, OutboundValue, no_peer, outbound_at}
 use Rattle.bsc_control.specs.Control.{ControlValue, ControlStep, peer_at, peer, current}
 use Rattle.bsc_control.specs.Kept.{outbound_of, Stores}
-use Rattle.bsc_control.specs.Table.{Hears, task_step, receives, rooms_after}
+use Rattle.bsc_control.specs.Table.{Hears, task_step, receiving_step, rooms_after}
 use Rattle.bsc_line_model.specs.declared.transmission.Speaker.TheVariants as sp
 use Rattle.bsc_line_model.specs.declared.transmission.Transmission.{Transmission}
 use Rattle.bsc_line_model.specs.Line.{LineValue, terminal_in, terminal_at, terminal_count, channel_of}
@@ -72,7 +72,7 @@ spool_after c d t out replied row task there =
     let p : PeerValue = peer c in
     let rooms : Rooms = rooms_after c (Whole (m.Text t)) d in
     let step : ReceiverStep = heard_step p.receiver p.spool (Whole (m.Text t)) p.urgent rooms in
-    let becomes : record { control = d; sent = out } ≡ receives c replied step = row.row ∙ ap (λ (k : Task). task_step c k (Whole (m.Text t)) rooms) task in
+    let becomes : record { control = d; sent = out } ≡ receiving_step c replied step = row.row ∙ ap (λ (k : Task). task_step c k (Whole (m.Text t)) rooms) task in
     ap (λ (o : ControlStep). (peer_at o.control (current c)).spool) becomes
     ∙ ap (λ (q : PeerValue). q.spool) (get_or-set_same c.peers (current c) (record p { receiver = step.receiver; spool = step.spool; urgent = if sends_rvi step.reply then false else p.urgent }) no_peer there)
 
@@ -99,8 +99,8 @@ moves_from laws old new from w h t k =
         subst (λ (v : Message). IsPolling (Some (record { speaker = sp.Terminal from; message = v })) c old.terminals l.replied) text
         (subst (λ (z : Task). InTask z (Some (record { speaker = sp.Terminal from; message = w })) c old.terminals) l.polling (together_with old new from w h k)) in
         let b : IsInBidUp (Some (record { speaker = sp.Terminal from; message = m.Text l.text })) p e x = bid_from c old.terminals from l.text l.replied polling in
-        let bid : InBid x.sender.phase x.queue p.receiver.parity p.receiver.last p.spool.records (Outward (m.Text l.text)) =
-        subst (λ (f : Flight). InBid x.sender.phase x.queue p.receiver.parity p.receiver.last p.spool.records f) b.flies.1 b.bid in
+        let bid : InBid x.sender.phase x.queue p.receiver.alternation p.receiver.last p.spool.records (Outward (m.Text l.text)) =
+        subst (λ (f : Flight). InBid x.sender.phase x.queue p.receiver.alternation p.receiver.last p.spool.records f) b.flies.1 b.bid in
         let rooms : Rooms = rooms_after c (Whole (m.Text l.text)) d in
         let step : ReceiverStep = heard_step p.receiver p.spool (Whole (m.Text l.text)) p.urgent rooms in
         let agrees : ReceiverAgrees x.sender.phase x.queue p.spool.records step = laws.hearing x.sender.phase x.queue p.receiver p.spool (m.Text l.text) (Some (Whole (m.Text l.text))) p.urgent rooms bid (inl refl) in
@@ -136,11 +136,11 @@ moves_to laws old new from w h t s k =
         subst (λ (z : Task). InTask z (Some (record { speaker = sp.Terminal from; message = w })) c old.terminals) l.task (together_with old new from w h k) in
         let b : IsInBidDown (Some (record { speaker = sp.Terminal from; message = w })) (peer c) e s x = sending.bid in
         let r : Reply = b.flies.1.0 in
-        let bid : InBid o.sender.phase o.queue x.receiver.parity x.receiver.last spooled (Back r) =
-        subst (λ (f : Flight). InBid o.sender.phase o.queue x.receiver.parity x.receiver.last spooled f) b.flies.1.2 b.bid in
+        let bid : InBid o.sender.phase o.queue x.receiver.alternation x.receiver.last spooled (Back r) =
+        subst (λ (f : Flight). InBid o.sender.phase o.queue x.receiver.alternation x.receiver.last spooled f) b.flies.1.2 b.bid in
         let fair : IsFairlyHeard (message_of r) h = subst (λ (v : Message). IsFairlyHeard v h) b.flies.1.1 was.1 in
         let step : SenderStep = reply_step o.sender o.queue (reply_heard h) in
-        let agrees : SenderAgrees o.queue x.receiver.parity x.receiver.last spooled step = laws.answering o.sender o.queue x.receiver.parity x.receiver.last spooled (Some r) (Some h) bid fair in
+        let agrees : SenderAgrees o.queue x.receiver.alternation x.receiver.last spooled step = laws.answering o.sender o.queue x.receiver.alternation x.receiver.last spooled (Some r) (Some h) bid fair in
         let left : (outbound_of d e s).queue ≡ step.queue = ap (λ (n : ℕ). (outbound_of d n s).queue) (sym l.terminal) ∙ l.queue in
         let moves : MovesAtSender (channel o.queue spooled) (channel (outbound_of d e s).queue spooled) =
         subst (λ (q : QueueValue). MovesAtSender (channel o.queue spooled) (channel q spooled)) (sym left) agrees.moves in

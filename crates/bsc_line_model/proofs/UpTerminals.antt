@@ -10,8 +10,8 @@ use Rattle.bsc_frame.specs.declared.text.End.TheVariants.{Etb, Etx}
 use Rattle.bsc_spool.specs.Spool.{SpoolValue}
 use Rattle.bsc_spool.specs.declared.queue.Next.{Next}
 use Rattle.bsc_spool.specs.Queue.{QueueValue, IsQueue, waiting, with_known, next_block}
-use Rattle.bsc_text.specs.declared.parity.Parity.{Parity}
-use Rattle.bsc_text.specs.declared.parity.Parity.TheVariants.{Even, Odd}
+use Rattle.bsc_text.specs.declared.alternation.Alternation.{Alternation}
+use Rattle.bsc_text.specs.declared.alternation.Alternation.TheVariants.{Even, Odd}
 use Rattle.bsc_text.specs.declared.phase.SentBlock.{SentBlock}
 use Rattle.bsc_text.specs.declared.phase.Phase.TheVariants.{Unanswered}
 use Rattle.bsc_text.specs.Ready.{IsAtRest}
@@ -67,33 +67,33 @@ up_stays e x u ready urgent spools =
     }
 
 -- a block is sent
-sends_up : (laws : CutLaws) (x u : TributaryValue) (out : Option Message) (n : ℕ) (y : SenderValue) (q : QueueValue) (parity : Parity) → IsQueue q → block_count q ≡ suc n → record { tributary = u; sent = out } ≡ act_step x (sent_next y q parity (next_block q)) → SendsUp u out n
-sends_up laws x u out n y q parity is count row =
+sends_up : (laws : CutLaws) (x u : TributaryValue) (out : Option Message) (n : ℕ) (y : SenderValue) (q : QueueValue) (alternation : Alternation) → IsQueue q → block_count q ≡ suc n → record { tributary = u; sent = out } ≡ act_step x (sent_next y q alternation (next_block q)) → SendsUp u out n
+sends_up laws x u out n y q alternation is count row =
     let h : HasFirstBlock q n = has_first laws q n is count in
-    let b : SentBlock = record { count = h.next.count; end = h.next.end; parity = parity } in
-    let exact : record { tributary = u; sent = out } ≡ act_step x (sent_next y q parity (Some h.next)) = row ∙ ap (λ (o : Option Next). act_step x (sent_next y q parity o)) h.is in
+    let b : SentBlock = record { count = h.next.count; end = h.next.end; alternation = alternation } in
+    let exact : record { tributary = u; sent = out } ≡ act_step x (sent_next y q alternation (Some h.next)) = row ∙ ap (λ (o : Option Next). act_step x (sent_next y q alternation o)) h.is in
     subst (λ (o : TributaryStep). SendsUp o.tributary o.sent n) (sym exact)
     (record { block = b; in_block = record { mode = refl; phase = refl; rest = h.rest; end = h.end }; text = refl })
 
 -- an acknowledgement is no call
-pub ack_no_call : (p : Parity) → IsNoCall (Whole (message_of (ack p)))
+pub ack_no_call : (p : Alternation) → IsNoCall (Whole (message_of (ack p)))
 ack_no_call Even = tt
 ack_no_call Odd = tt
 
 -- a block is acknowledged
-pub hears_ack : (laws : CutLaws) (e : ℕ) (x u : TributaryValue) (out : Option Message) (n : ℕ) (b : SentBlock) → IsInBlockUp x n b → IsQueue (with_known x.queue b.count) → Hears x (Whole (message_of (ack b.parity))) u out → GoesOnUp u out n × TerminalStays e FromTerminal e x u
+pub hears_ack : (laws : CutLaws) (e : ℕ) (x u : TributaryValue) (out : Option Message) (n : ℕ) (b : SentBlock) → IsInBlockUp x n b → IsQueue (with_known x.queue b.count) → Hears x (Whole (message_of (ack b.alternation))) u out → GoesOnUp u out n × TerminalStays e FromTerminal e x u
 hears_ack laws e x u out n b i is h =
-    let w : Heard = Whole (message_of (ack b.parity)) in
-    let row : record { tributary = u; sent = out } ≡ act_step x (accepted x.sender (with_known x.queue b.count) b.end b.parity) =
-    h.row ∙ by_mode x w (rooms_after w u) (ack_no_call b.parity) ∙ ap (λ (z : Mode). mode_step x z w (rooms_after w u)) i.mode
-    ∙ ap (λ (z : SenderStep). act_step x z) (ack_step x.sender x.queue b b.parity refl i.phase) in
+    let w : Heard = Whole (message_of (ack b.alternation)) in
+    let row : record { tributary = u; sent = out } ≡ act_step x (accepted x.sender (with_known x.queue b.count) b.end b.alternation) =
+    h.row ∙ by_mode x w (rooms_after w u) (ack_no_call b.alternation) ∙ ap (λ (z : Mode). mode_step x z w (rooms_after w u)) i.mode
+    ∙ ap (λ (z : SenderStep). act_step x z) (ack_step x.sender x.queue b b.alternation refl i.phase) in
     (by_end b.end row n i.rest i.end, up_stays e x u (ap (λ (o : TributaryStep). o.tributary.ready) row) (λ k. ap (λ (o : TributaryStep). o.tributary.urgent) row ∙ k) (ap (λ (o : TributaryStep). o.tributary.spools) row))
   where
-    by_end : (end : End) → record { tributary = u; sent = out } ≡ act_step x (accepted x.sender (with_known x.queue b.count) end b.parity) → (k : ℕ) → block_count (with_known x.queue b.count) ≡ k → IsEnd end k → GoesOnUp u out k
+    by_end : (end : End) → record { tributary = u; sent = out } ≡ act_step x (accepted x.sender (with_known x.queue b.count) end b.alternation) → (k : ℕ) → block_count (with_known x.queue b.count) ≡ k → IsEnd end k → GoesOnUp u out k
     by_end Etx row zero rest e = subst (λ (o : TributaryStep). EndsUp o.tributary o.sent) (sym row) (record { eot = refl; idle = refl; rest = rest })
     by_end Etx row (suc k) rest e = absurd (omega (arith, e))
     by_end Etb row zero rest e = absurd (omega (arith, e.1))
-    by_end Etb row (suc k) rest e = sends_up laws x u out k x.sender (with_known x.queue b.count) (other b.parity) is rest row
+    by_end Etb row (suc k) rest e = sends_up laws x u out k x.sender (with_known x.queue b.count) (other b.alternation) is rest row
 
 -- its polling address is called
 abbrev called_up : TributaryValue → TributaryValue

@@ -1,6 +1,9 @@
 -- The laws of one step of a bid, as bsc_text's each_step ensures them: the lemmas of the line take
 -- them as one value.
-use Rattle.bsc_text.specs.EachStep.{HearingAgrees, AnsweringAgrees, SilenceAgrees, BeginAgrees, OfferAgrees, OfferKeepsRest, ReleaseKeepsRest, AgreementIsSound, LossAgrees, BidContinues, SendingGoesOn, OutwardIsTextOrEnq, BackIsLast, ActsFit}
+use Rattle.bsc_text.specs.EachStep.{HearingAgrees, AnsweringAgrees, SilenceAgrees, BeginAgrees}
+use Rattle.bsc_text.specs.EachStep.{OfferAgrees, OfferKeepsRest, ReleaseKeepsRest, AgreementIsSound}
+use Rattle.bsc_text.specs.EachStep.{LossAgrees, BidContinues, SendingGoesOn, OutwardIsTextOrEnq}
+use Rattle.bsc_text.specs.EachStep.{ReplyIsLast, ActsFit}
 
 pub record BidLaws : Type 0 where
   pub hearing : HearingAgrees
@@ -15,5 +18,5 @@ pub record BidLaws : Type 0 where
   pub continues : BidContinues
   pub goes_on : SendingGoesOn
   pub outward : OutwardIsTextOrEnq
-  pub back : BackIsLast
+  pub last_reply : ReplyIsLast
   pub fits : ActsFit

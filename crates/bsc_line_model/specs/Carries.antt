@@ -7,7 +7,8 @@ use Rattle.bsc_text.specs.Fair.{IsFairlyHeard}
 use Rattle.bsc_tributary.specs.Tributary.{ActsOnSilence as TerminalActs}
 use Rattle.bsc_tributary.specs.Kept.{AfterSilence as TerminalKeeps}
 use Rattle.bsc_control.specs.Control.{terminals as addresses_of}
-use Rattle.bsc_control.specs.Kept.{AfterHearing as ControlKeepsHearing, AfterSilence as ControlKeepsSilence}
+use Rattle.bsc_control.specs.Kept.{AfterHearing as ControlKeepsHearing}
+use Rattle.bsc_control.specs.Kept.{AfterSilence as ControlKeepsSilence}
 use Rattle.bsc_control.specs.Table.{Hears as ControlHears, ActsOnSilence as ControlActs}
 use Rattle.bsc_line_model.specs.declared.transmission.Speaker.{Speaker}
 use Rattle.bsc_line_model.specs.declared.transmission.Speaker.TheVariants.{Control, Terminal}

@@ -4,7 +4,10 @@ use Rattle.bsc_text.specs.Channel.{Move, Offer, Land, Learn, Makes}
 use Rattle.bsc_control.specs.declared.way.Way.{Way}
 use Rattle.bsc_control.specs.declared.way.Way.TheVariants.{FromTerminal, ToTerminal}
 use Rattle.bsc_line_model.specs.declared.event.Event.{Event}
-use Rattle.bsc_line_model.specs.declared.event.Event.TheVariants.{OfferAt, OfferFor, Carry, CarryEach, CarrySent, Silence, Ready, UrgentAt, UrgentFor, Release}
+use Rattle.bsc_line_model.specs.declared.event.Event.TheVariants.{OfferAt, OfferFor, Carry}
+use Rattle.bsc_line_model.specs.declared.event.Event.TheVariants.{CarryEach, CarrySent, Silence}
+use Rattle.bsc_line_model.specs.declared.event.Event.TheVariants.{Ready, UrgentAt, UrgentFor}
+use Rattle.bsc_line_model.specs.declared.event.Event.TheVariants.{Release}
 use Rattle.bsc_line_model.specs.Line.{LineValue, IsChannel, channel_of}
 
 -- channel (t, way) makes this move, and all others none

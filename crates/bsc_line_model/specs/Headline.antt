@@ -35,7 +35,7 @@ known_on l t way = (channel_of l t way).known
 -- the sending end has no block unanswered and none in doubt
 abbrev pub IsSettled : Phase → Type 0
 IsSettled Idle = Unit {0}
-IsSettled (Held end parity) = Unit {0}
+IsSettled (Held end alternation) = Unit {0}
 IsSettled (Unanswered block) = ⊥
 IsSettled (InDoubt count) = ⊥
 

@@ -1,6 +1,7 @@
 -- What holds of every line (own). That at most one terminal is out of control mode holds where the
 -- line is trusted.
-use Rattle.std.specs.Prelude.{◌≡◌, ◌<◌, ℕ, true, IsTrue, List, length, slice_index_or, Option, None, Some}
+use Rattle.std.specs.Prelude.{◌≡◌, ◌<◌, ℕ, true, IsTrue, List, length, slice_index_or, Option, None}
+use Rattle.std.specs.Prelude.{Some}
 use Rattle.bsc_text.specs.Terminal.{TerminalValue, HasDistinctAddresses}
 use Rattle.bsc_text.specs.Setup.{SetupValue}
 use Rattle.bsc_tributary.specs.declared.mode.Mode.{Mode}

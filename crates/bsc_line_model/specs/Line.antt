@@ -1,8 +1,9 @@
 -- What contracts see of a line, and its channels (own).
-use Rattle.std.specs.Prelude.{ℕ, ◌<◌, Bool, true, false, List, [], length, slice_index_or, slice_set, Option}
+use Rattle.std.specs.Prelude.{ℕ, ◌<◌, Bool, true, false, List, [], length, slice_index_or}
+use Rattle.std.specs.Prelude.{slice_set, Option}
 use Rattle.bsc_text.specs.declared.phase.Phase.{Phase}
 use Rattle.bsc_text.specs.Channel.{Channel, channel}
-use Rattle.bsc_text.specs.Receiver.{begun}
+use Rattle.bsc_text.specs.Receiver.{new_receiver}
 use Rattle.bsc_tributary.specs.declared.mode.Mode.TheVariants as mode
 use Rattle.bsc_tributary.specs.Tributary.{TributaryValue, tributary_of, spool_at}
 use Rattle.bsc_control.specs.declared.way.Way.{Way}
@@ -35,7 +36,7 @@ line_of control terminals pending trusted addressed =
 -- what is read where there is no terminal
 abbrev pub no_terminal : TributaryValue
 no_terminal =
-    tributary_of no_peer.terminal mode.Control false false no_outbound.sender (begun true)
+    tributary_of no_peer.terminal mode.Control false false no_outbound.sender (new_receiver true)
     no_outbound.queue []
 
 -- the terminal of this number

@@ -9,12 +9,15 @@ use Rattle.bsc_text.specs.Sender.{release_step}
 use Rattle.bsc_tributary.specs.Tributary.{spool_at, after_release}
 use Rattle.bsc_control.specs.declared.way.Way.{Way}
 use Rattle.bsc_control.specs.declared.way.Way.TheVariants.{FromTerminal, ToTerminal}
-use Rattle.bsc_control.specs.Peer.{offered_to, with_outbound, released}
+use Rattle.bsc_control.specs.Peer.{offered_to, with_outbound, outbound_released}
 use Rattle.bsc_control.specs.Control.{peer_at, with_peer}
 use Rattle.bsc_control.specs.Kept.{outbound_of}
 use Rattle.bsc_line_model.specs.declared.error.LineError.{LineError}
-use Rattle.bsc_line_model.specs.declared.error.LineError.TheVariants.{NoSuchTerminal, NoSuchAddress, BadRecord, Memory, NotInDoubt, CountMismatch}
-use Rattle.bsc_line_model.specs.Line.{LineValue, terminal_at, terminal_count, with_terminal, with_control}
+use Rattle.bsc_line_model.specs.declared.error.LineError.TheVariants.{NoSuchTerminal, NoSuchAddress}
+use Rattle.bsc_line_model.specs.declared.error.LineError.TheVariants.{BadRecord, Memory, NotInDoubt}
+use Rattle.bsc_line_model.specs.declared.error.LineError.TheVariants.{CountMismatch}
+use Rattle.bsc_line_model.specs.Line.{LineValue, terminal_at, terminal_count, with_terminal}
+use Rattle.bsc_line_model.specs.Line.{with_control}
 
 -- the full length of the line's records
 abbrev pub full_length : LineValue → ℕ
@@ -124,7 +127,7 @@ pub record ReleasesTo (old : LineValue) (t s : ℕ) (result : Result (Unit {0}) 
       (outbound_of old.control t s).queue (count_to old t s)).answer
   pub becomes : new ≡ with_control old (with_peer old.control t
       (with_outbound (peer_at old.control t) s
-      (released (outbound_of old.control t s) (count_to old t s))))
+      (outbound_released (outbound_of old.control t s) (count_to old t s))))
 
 abbrev pub ReleasesWay :
     LineValue → ℕ → Way → Result (Unit {0}) LineError → LineValue → Type 0

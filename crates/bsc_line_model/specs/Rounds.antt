@@ -1,7 +1,9 @@
 -- How many transmissions a visit of a terminal and a round of the poll list take where all is heard
 -- (own), and what they deliver.
-use Rattle.std.specs.Prelude.{◌≡◌, ◌≢◌, ◌<◌, ◌+◌, ◌*◌, ◌-◌, ◌^◌, ℕ, zero, suc, Bool, true, false, IsTrue, nat_eq}
-use Rattle.std.specs.Prelude.{is_some, position, List, [], ◌∷◌, length, sum_by, replicate, slice_index, Some, Result, Ok, if◌then◌else◌}
+use Rattle.std.specs.Prelude.{◌≡◌, ◌≢◌, ◌<◌, ◌+◌, ◌*◌, ◌-◌, ◌^◌, ℕ, zero, suc, Bool, true, false}
+use Rattle.std.specs.Prelude.{IsTrue, nat_eq}
+use Rattle.std.specs.Prelude.{is_some, position, List, [], ◌∷◌, length, sum_by, replicate}
+use Rattle.std.specs.Prelude.{slice_index, Some, Result, Ok, if◌then◌else◌}
 use Rattle.bsc_frame.specs.declared.message.Message.TheVariants as m
 use Rattle.bsc_block.specs.Blocks.{blocks}
 use Rattle.bsc_spool.specs.Queue.{QueueValue, waiting}
@@ -19,7 +21,8 @@ use Rattle.bsc_line_model.specs.declared.transmission.Speaker.TheVariants.{Contr
 use Rattle.bsc_line_model.specs.declared.event.Event.{Event}
 use Rattle.bsc_line_model.specs.declared.event.Event.TheVariants.{CarrySent}
 use Rattle.bsc_line_model.specs.declared.error.Stopped.{Stopped}
-use Rattle.bsc_line_model.specs.Line.{LineValue, terminal_at, terminal_count, IsChannel, channel_of, phase_of}
+use Rattle.bsc_line_model.specs.Line.{LineValue, terminal_at, terminal_count, IsChannel, channel_of}
+use Rattle.bsc_line_model.specs.Line.{phase_of}
 use Rattle.bsc_line_model.specs.Kept.{IsLine}
 use Rattle.bsc_line_model.specs.Runs.{Runs}
 

@@ -1,21 +1,27 @@
 -- What each event does to a line, and what a list of events does (own).
-use Rattle.std.specs.Prelude.{◌≡◌, ◌≢◌, ◌⊎◌, ◌+◌, ℕ, List, [], ◌∷◌, length, Option, None, Some, Result, Ok, Err}
+use Rattle.std.specs.Prelude.{◌≡◌, ◌≢◌, ◌⊎◌, ◌+◌, ℕ, List, [], ◌∷◌, length, Option, None, Some}
+use Rattle.std.specs.Prelude.{Result, Ok, Err}
 use Rattle.std.specs.Borrow.{Bor}
 use Rattle.bsc_frame.specs.declared.message.Heard.{Heard}
 use Rattle.bsc_frame.specs.declared.message.Heard.TheVariants.{Whole}
 use Rattle.bsc_line_model.specs.declared.transmission.Transmission.{Transmission}
 use Rattle.bsc_line_model.specs.declared.transmission.Speaker.TheVariants.{Control}
 use Rattle.bsc_line_model.specs.declared.error.LineError.{LineError}
-use Rattle.bsc_line_model.specs.declared.error.LineError.TheVariants.{NothingSent, NotControl, WrongCount, Pending}
+use Rattle.bsc_line_model.specs.declared.error.LineError.TheVariants.{NothingSent, NotControl}
+use Rattle.bsc_line_model.specs.declared.error.LineError.TheVariants.{WrongCount, Pending}
 use Rattle.bsc_line_model.specs.declared.error.Stopped.{Stopped}
 use Rattle.bsc_line_model.specs.declared.event.Event.{Event}
-use Rattle.bsc_line_model.specs.declared.event.Event.TheVariants.{OfferAt, OfferFor, Carry, CarryEach, CarrySent, Silence, Ready, UrgentAt, UrgentFor, Release}
+use Rattle.bsc_line_model.specs.declared.event.Event.TheVariants.{OfferAt, OfferFor, Carry}
+use Rattle.bsc_line_model.specs.declared.event.Event.TheVariants.{CarryEach, CarrySent, Silence}
+use Rattle.bsc_line_model.specs.declared.event.Event.TheVariants.{Ready, UrgentAt, UrgentFor}
+use Rattle.bsc_line_model.specs.declared.event.Event.TheVariants.{Release}
 use Rattle.bsc_line_model.specs.Line.{LineValue, terminal_count}
 use Rattle.bsc_line_model.specs.Hearing.{heard_in, heard_at, octets_in}
 use Rattle.bsc_line_model.specs.Kept.{IsLine}
 use Rattle.bsc_line_model.specs.Terminals.{line_owner}
 use Rattle.bsc_line_model.specs.Carries.{IsCarriedBy, IsCarriedDown, OwnerActs}
-use Rattle.bsc_line_model.specs.Offers.{OffersAt, OffersFor, Sets, ready_set, urgent_set_at, urgent_set_for, Releases}
+use Rattle.bsc_line_model.specs.Offers.{OffersAt, OffersFor, Sets, ready_set, urgent_set_at}
+use Rattle.bsc_line_model.specs.Offers.{urgent_set_for, Releases}
 
 -- what is pending is heard so
 pub record CarriesAs (hear : Transmission → Heard) (old new : LineValue) : Type 0 where

@@ -8,11 +8,12 @@ use Rattle.bsc_text.specs.Terminal.{TerminalValue}
 use Rattle.bsc_tributary.specs.Tributary.{TributaryValue, after_release}
 use Rattle.bsc_tributary.specs.Kept.{IsTributary, KeepsSetupAndMode}
 use Rattle.bsc_control.specs.Control.{ControlValue, peer_at, with_peer}
-use Rattle.bsc_control.specs.Peer.{offered_to, with_outbound, released}
+use Rattle.bsc_control.specs.Peer.{offered_to, with_outbound, outbound_released}
 use Rattle.bsc_control.specs.Kept.{IsControl, outbound_of}
 use Rattle.bsc_line_model.specs.declared.transmission.Speaker.TheVariants.{Control}
 use Rattle.bsc_line_model.specs.declared.transmission.Transmission.{Transmission}
-use Rattle.bsc_line_model.specs.Line.{LineValue, terminal_at, terminal_count, with_terminal, with_control}
+use Rattle.bsc_line_model.specs.Line.{LineValue, terminal_at, terminal_count, with_terminal}
+use Rattle.bsc_line_model.specs.Line.{with_control}
 use Rattle.bsc_line_model.specs.Carries.{IsCarriedDown, IsCarriedUp}
 use Rattle.bsc_line_model.specs.Offers.{full_length, select_count, count_from, count_to}
 use Rattle.bsc_line_model.specs.Runs.{PassesSilence}
@@ -90,4 +91,4 @@ ReleaseToStays =
     (l : LineValue) (t s : ℕ) (c : ControlValue) → IsLine l → t < terminal_count l →
     s < select_count l t → IsControl c →
     c ≡ with_peer l.control t (with_outbound (peer_at l.control t) s
-    (released (outbound_of l.control t s) (count_to l t s))) → IsLine (with_control l c)
+    (outbound_released (outbound_of l.control t s) (count_to l t s))) → IsLine (with_control l c)

@@ -1,9 +1,10 @@
 -- How the stations of a trusted line go together, by what the control station does (own). Every
 -- event keeps it; that each channel is sound rests on it.
-use Rattle.std.specs.Prelude.{◌≡◌, ◌≢◌, ◌⊎◌, ◌<◌, ℕ, Bool, true, false, List, length, Option, None, Some}
+use Rattle.std.specs.Prelude.{◌≡◌, ◌≢◌, ◌⊎◌, ◌<◌, ℕ, Bool, true, false, List, length, Option, None}
+use Rattle.std.specs.Prelude.{Some}
 use Rattle.bsc_frame.specs.declared.message.Message.{Message}
 use Rattle.bsc_frame.specs.declared.message.Message.TheVariants as m
-use Rattle.bsc_text.specs.declared.parity.Parity.TheVariants.{Even}
+use Rattle.bsc_text.specs.declared.alternation.Alternation.TheVariants.{Even}
 use Rattle.bsc_text.specs.declared.reply.Reply.{Reply}
 use Rattle.bsc_text.specs.declared.reply.Reply.TheVariants.{Ack0, Wack}
 use Rattle.bsc_text.specs.Reply.{message_of}
@@ -53,7 +54,7 @@ AllInControlMode ts = (t : ℕ) → t < length ts → (terminal_in ts t).mode �
 -- a terminal that was selected, and has taken nothing since
 pub record IsFresh (x : TributaryValue) (s : ℕ) : Type 0 where
   pub mode : x.mode ≡ mode.Receiving s
-  pub even : x.receiver.parity ≡ Even
+  pub even : x.receiver.alternation ≡ Even
   pub last : (x.receiver.last ≡ Ack0) ⊎ (x.receiver.last ≡ Wack)
 
 -- the answer of a selected terminal: NAK with all in control mode, else its last reply while it is
@@ -109,7 +110,7 @@ pub record IsInBidDown (pending : Option Transmission) (p : PeerValue) (e s : �
   pub down : (k : ℕ) → k < length p.outbounds → k ≢ s → RestsDown p x k
   pub flight : Flight
   pub flies : FliesDown pending e flight
-  pub bid : InBid (outbound_at p s).sender.phase (outbound_at p s).queue x.receiver.parity
+  pub bid : InBid (outbound_at p s).sender.phase (outbound_at p s).queue x.receiver.alternation
       x.receiver.last (spool_at x.spools s).records flight
 
 -- a bid of terminal e goes on
@@ -119,7 +120,8 @@ pub record IsInBidUp (pending : Option Transmission) (p : PeerValue) (e : ℕ) (
   pub down : (k : ℕ) → k < length p.outbounds → RestsDown p x k
   pub flight : Flight
   pub flies : FliesUp pending e flight
-  pub bid : InBid x.sender.phase x.queue p.receiver.parity p.receiver.last p.spool.records flight
+  pub bid : InBid x.sender.phase x.queue p.receiver.alternation p.receiver.last
+      p.spool.records flight
 
 -- on the line in a poll that no text has answered: the call, with no reply sent, or EOT with all in
 -- control mode

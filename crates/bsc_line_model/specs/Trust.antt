@@ -1,6 +1,7 @@
 -- When a line is trusted: every transmission that was spoiled failed its check, and each call of
 -- the control station reached all terminals whole or none (GA27-3004: VRC and LRC checking; own).
-use Rattle.std.specs.Prelude.{◌≡◌, ◌⊎◌, ◌<◌, ◌↔◌, ℕ, IsTrue, Bool, true, false, List, Option, None, Some}
+use Rattle.std.specs.Prelude.{◌≡◌, ◌⊎◌, ◌<◌, ◌↔◌, ℕ, IsTrue, Bool, true, false, List, Option, None}
+use Rattle.std.specs.Prelude.{Some}
 use Rattle.bsc_frame.specs.declared.message.Message.{Message}
 use Rattle.bsc_frame.specs.declared.message.Message.TheVariants as m
 use Rattle.bsc_frame.specs.declared.message.Heard.{Heard}

@@ -9,7 +9,7 @@ use std::test::Fail;
 
 /// What is played before the first silence, and how many transmissions follow it.
 pub(crate) struct Exchange {
-    /// The events, each so many times.
+    /// The events, each this many times.
     pub(crate) offers: &'static [(usize, Event<'static>)],
 
     transmissions: usize,

@@ -15,7 +15,7 @@ use std::test::Fail;
 const EVENTS: usize = 40;
 
 /// The most octets that are read as a message.
-const MOST: usize = 2048;
+const LONGEST: usize = 2048;
 
 /// An exchange, and memory to play it.
 #[derive(Clone, Copy)]
@@ -144,8 +144,8 @@ fn hear_two(rt: &impl Abort, stage: Stage<'_>, sent: &Sent, all: &[Sent]) -> Res
 fn hear_near(rt: &impl Abort, stage: Stage<'_>, sent: &Sent, all: &[Sent]) -> Result<(), Fail> {
     hear_fronts(rt, stage, sent)?;
     hear_octets(rt, stage, sent)?;
-    hear_padded(rt, stage, sent, MOST)?;
-    hear_padded(rt, stage, sent, MOST + 1)?;
+    hear_padded(rt, stage, sent, LONGEST)?;
+    hear_padded(rt, stage, sent, LONGEST + 1)?;
     hear_others(rt, stage, sent, all)?;
     hear_two(rt, stage, sent, all)
 }

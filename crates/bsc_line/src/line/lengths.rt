@@ -3,7 +3,8 @@
 ghost use Rattle.std.specs.Prelude.{◌≡◌, ◌<◌, ◌+◌, if◌then◌else◌};
 ghost use Rattle.bsc_line_model.specs.Kept.{IsLine};
 ghost use Rattle.bsc_line_model.specs.Line.{terminal_count};
-ghost use Rattle.bsc_line_model.specs.Rounds.{visit_length, round_length, selection_length as selection, poll_length as poll};
+ghost use Rattle.bsc_line_model.specs.Rounds.{visit_length, round_length};
+ghost use Rattle.bsc_line_model.specs.Rounds.{selection_length as selection, poll_length as poll};
 ghost use Rattle.bsc_line.specs.Counts.{in_u64};
 
 use crate::line::Line;

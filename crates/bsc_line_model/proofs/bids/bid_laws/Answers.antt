@@ -14,6 +14,6 @@ returns c = record {
   continues = c.each_step.ensures.continues;
   goes_on = c.each_step.ensures.goes_on;
   outward = c.each_step.ensures.outward;
-  back = c.each_step.ensures.back;
+  last_reply = c.each_step.ensures.last_reply;
   fits = c.each_step.ensures.fits;
 }

@@ -2,4 +2,4 @@ use Rattle.bsc_line_model.proofs.HeardAlike.{alike_is_fair, fair_is_alike}
 use Rattle.bsc_line_model.proofs.laws.heard_alike.Goals as goal
 
 pub returns : goal.returns
-returns c = record { fair = alike_is_fair; back = fair_is_alike }
+returns c = record { fair = alike_is_fair; only = fair_is_alike }

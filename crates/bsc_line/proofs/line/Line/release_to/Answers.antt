@@ -2,7 +2,7 @@ use Rattle.std.proofs.Common.{◌≡◌, ◌<◌, ℕ, List, length, sym, ◌∙
 use Rattle.bsc_spool.specs.Spool.{SpoolValue}
 use Rattle.bsc_tributary.specs.Tributary.{TributaryValue, spool_at}
 use Rattle.bsc_control.specs.Control.{ControlValue, peer_at, with_peer}
-use Rattle.bsc_control.specs.Peer.{PeerValue, outbound_at, with_outbound, released}
+use Rattle.bsc_control.specs.Peer.{PeerValue, outbound_at, with_outbound, outbound_released}
 use Rattle.bsc_line_model.specs.Line.{LineValue, line_of, terminal_in, terminal_count}
 use Rattle.bsc_line_model.specs.Offers.{select_count, count_to}
 use Rattle.bsc_line.proofs.Carrying.{is_terminal}
@@ -21,8 +21,8 @@ invariant_of-self g c =
     let here : terminal_in ts t ≡ c.index-station.result.now = is_terminal ts t c.index-station.result.now less c.index-station.ensures in
     let stored : c.records-count.result.now ≡ (spool_at (terminal_in ts t).spools s).records =
     c.records-count.ensures ∙ ap (λ (z : SpoolValue). z.records) c.spool.ensures.value ∙ ap (λ (y : TributaryValue). (spool_at y.spools s).records) (sym here) in
-    let becomes : c.release.new.self ≡ with_peer control t (with_outbound p s (released (outbound_at p s) (count_to old t s))) =
-    c.release.ensures.state ∙ ap (λ (xs : List (List ℕ)). with_peer control t (with_outbound p s (released (outbound_at p s) (length xs)))) stored in (
+    let becomes : c.release.new.self ≡ with_peer control t (with_outbound p s (outbound_released (outbound_at p s) (count_to old t s))) =
+    c.release.ensures.state ∙ ap (λ (xs : List (List ℕ)). with_peer control t (with_outbound p s (outbound_released (outbound_at p s) (length xs)))) stored in (
       c.each_event.ensures.release_to old t s c.release.new.self c.self.invariant.0 less way c.release.ensures.control becomes,
       c.self.invariant.1,
     )
