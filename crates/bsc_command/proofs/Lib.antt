@@ -1,3 +1,4 @@
+pub mod FaultLemmas
 pub mod PartLemmas
 pub mod ListLemmas
 pub mod LineLemmas

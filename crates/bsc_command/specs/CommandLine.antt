@@ -1,7 +1,10 @@
--- The command line: what `clap` reads of the command, and the work that its matches ask for. All of it is own.
-use Rattle.std.specs.Prelude.{◌≡◌, ◌⊎◌, List, [], Bool, true, Option, Some, None, codes, string_bytes, if◌then◌else◌}
+-- The command line: what `clap` reads of the command, and the work that its matches ask for. All of
+-- it is own.
+use Rattle.std.specs.Prelude.{◌≡◌, ◌⊎◌, List, [], Bool, true, Option, Some, None, codes}
+use Rattle.std.specs.Prelude.{string_bytes, if◌then◌else◌}
 use Rattle.std.specs.Str.{bytes_eq}
-use Rattle.clap.specs.Words.{App, Kinds, Row, Text, fault_of, new_app, subcommand_of, with_rule, with_subcommand}
+use Rattle.clap.specs.Words.{App, Kinds, Row, Text, fault_of, new_app, subcommand_of, with_rule}
+use Rattle.clap.specs.Words.{with_subcommand}
 use Rattle.clap.specs.declared.error.kind.ErrorKind.{ErrorKind}
 use Rattle.clap.specs.declared.error.kind.ErrorKind.TheVariants.{DisplayHelp, DisplayVersion}
 use Rattle.bsc_command.specs.declared.words.Work.{Work}
@@ -25,7 +28,8 @@ run_app =
 
 -- The program, which has a version.
 abbrev pub program_app : App
-program_app = record { top = record (new_app (codes "bscline")).top { has_version = true }; subs = [] }
+program_app =
+    record { top = record (new_app (codes "bscline")).top { has_version = true }; subs = [] }
 
 -- The program with the commands that name transmissions.
 abbrev pub naming_app : App

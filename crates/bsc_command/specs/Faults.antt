@@ -4,9 +4,13 @@ use Rattle.clap.specs.Words.{kind_of}
 use Rattle.clap.specs.declared.error.Error.{Error}
 use Rattle.clap.specs.declared.error.kind.ErrorKind.TheVariants as kind
 use Rattle.bsc_command.specs.declared.fault.Fault.{Fault}
-use Rattle.bsc_command.specs.declared.fault.Fault.TheVariants.{NotHexadecimal, NotHexadecimalAt, InputTooLong, Input, Output, OutOfMemory}
-use Rattle.bsc_command.specs.declared.fault.Fault.TheVariants.{CannotRead, FileTooLong, Config, Script, Sockets, Run, Usage}
-use Rattle.bsc_command.specs.declared.fault.Fault.TheVariants.{Offer, Connections, Closed, InDoubt, Undelivered}
+use Rattle.bsc_command.specs.declared.fault.Fault.TheVariants.{NotHexadecimal, NotHexadecimalAt}
+use Rattle.bsc_command.specs.declared.fault.Fault.TheVariants.{InputTooLong, Input, Output}
+use Rattle.bsc_command.specs.declared.fault.Fault.TheVariants.{OutOfMemory}
+use Rattle.bsc_command.specs.declared.fault.Fault.TheVariants.{CannotRead, FileTooLong, Config}
+use Rattle.bsc_command.specs.declared.fault.Fault.TheVariants.{Script, Sockets, Run, Usage}
+use Rattle.bsc_command.specs.declared.fault.Fault.TheVariants.{Offer, Connections, Closed, InDoubt}
+use Rattle.bsc_command.specs.declared.fault.Fault.TheVariants.{Undelivered}
 use Rattle.bsc_live.specs.declared.awaited.LiveError.{LiveError}
 use Rattle.bsc_live.specs.declared.awaited.LiveError.TheVariants as live
 use Rattle.bsc_sockets.specs.declared.error.SocketsError.{SocketsError}
@@ -29,8 +33,8 @@ abbrev pub run_status : RunError → ℕ
 run_status (run.Refused line why) = 3
 run_status _ = 1
 
--- The exit status: 2 for wrong usage, 3 for a refused event and for records in doubt, 4 for records that are
--- not delivered, 1 for every other fault.
+-- The exit status: 2 for wrong usage, 3 for a refused event and for records in doubt, 4 for records
+-- that are not delivered, 1 for every other fault.
 abbrev pub status_of : Fault → ℕ
 status_of NotHexadecimal = 1
 status_of (NotHexadecimalAt line) = 1
@@ -151,8 +155,29 @@ IsUsage (Usage text) = Unit {0}
 IsUsage OutOfMemory = Unit {0}
 IsUsage _ = ⊥
 
--- The faults of the records that a station is to send: their text, its path, or that a line of it is no record.
+-- The faults of the records that a station is to send: their text, its path, or that a line of it
+-- is no record.
 abbrev pub IsOfferFault : Fault → Type 0
 IsOfferFault (Offer path error) = Unit {0}
 IsOfferFault (Usage text) = Unit {0}
 IsOfferFault fault = IsTextFault fault
+
+-- The faults of naming the lines of standard input.
+abbrev pub IsNamesFault : Fault → Type 0
+IsNamesFault InputTooLong = Unit {0}
+IsNamesFault Input = Unit {0}
+IsNamesFault fault = IsLineFault fault
+
+-- The faults of a station whose connections are made: those of attending it and of printing, and
+-- how it ended.
+abbrev pub IsAttendedFault : Fault → Type 0
+IsAttendedFault (Connections error) = Unit {0}
+IsAttendedFault (Closed error) = Unit {0}
+IsAttendedFault InDoubt = Unit {0}
+IsAttendedFault Undelivered = Unit {0}
+IsAttendedFault fault = IsPrintFault fault
+
+-- The faults of a station: of its words, its configuration and its records, and of attending it.
+abbrev pub IsStationFault : Fault → Type 0
+IsStationFault (Config error) = Unit {0}
+IsStationFault fault = IsOfferFault fault ⊎ IsAttendedFault fault

@@ -1,13 +1,14 @@
 -- What is printed for the lines of the command's input. All of it is own.
-use Rattle.std.specs.Prelude.{◌≡◌, ℕ, ◌+◌, ◌==◌, ◌&&◌, not, Bool, false, List, [], ◌∷◌, ◌++◌, take, position, Option, Some, None, is_none, if◌then◌else◌}
+use Rattle.std.specs.Prelude.{◌≡◌, ℕ, ◌+◌, ◌==◌, ◌&&◌, not, Bool, false, List, [], ◌∷◌, ◌++◌, take}
+use Rattle.std.specs.Prelude.{position, Option, Some, None, is_none, if◌then◌else◌}
 use Rattle.std.specs.List.{flat_map}
 use Rattle.std.specs.Option.{option_to_list}
 use Rattle.std.specs.Io.KnownBytes.{Appends}
 use Rattle.bsc_frame.specs.declared.message.Heard.{Heard}
+use Rattle.bsc_frame.specs.Spells.{IsHeardAs}
 use Rattle.bsc_input.specs.Hexadecimal.{octets_of}
 use Rattle.bsc_input.specs.Lines.{is_blank, lines_of}
 use Rattle.bsc_input.specs.Parts.{parts_at}
-use Rattle.bsc_names.specs.Names.{IsHeard}
 
 -- A line of a trace begins with +.
 abbrev pub is_traced : List ℕ → Bool
@@ -40,22 +41,26 @@ transmission line = given (digits line)
 abbrev pub AreShown : (Heard → List ℕ) → List (List ℕ) → List ℕ → Type 0
 AreShown show [] text = text ≡ []
 AreShown show (octets ∷ more) text =
-    (heard : Heard) × (rest : List ℕ) × IsHeard octets heard × (text ≡ show heard ++ rest) × AreShown show more rest
+    (heard : Heard) × (rest : List ℕ) × IsHeardAs octets heard × (text ≡ show heard ++ rest)
+    × AreShown show more rest
 
 -- A writer that held old holds new: what is shown of the lines' transmissions was appended.
-pub record PrintsLines (show : Heard → List ℕ) (lines : List (List ℕ)) (old new : Option (List ℕ)) : Type 0 where
+pub record PrintsLines (show : Heard → List ℕ) (lines : List (List ℕ))
+    (old new : Option (List ℕ)) : Type 0 where
   pub text : List ℕ
   pub shown : AreShown show (flat_map transmission lines) text
   pub appended : Appends old new text
 
 -- No line of the input is wrong, and all were printed.
-pub record PrintsInput (show : Heard → List ℕ) (input : List ℕ) (old new : Option (List ℕ)) : Type 0 where
+pub record PrintsInput (show : Heard → List ℕ) (input : List ℕ)
+    (old new : Option (List ℕ)) : Type 0 where
   pub right : position is_wrong (lines_of input) ≡ None
   pub printed : PrintsLines show (lines_of input) old new
 
--- The line with this number, counted from 1, is the first wrong one of the input, and the lines before it
--- were printed, and nothing else.
-pub record StopsAt (show : Heard → List ℕ) (number : ℕ) (input : List ℕ) (old new : Option (List ℕ)) : Type 0 where
+-- The line with this number, counted from 1, is the first wrong one of the input, and the lines
+-- before it were printed, and nothing else.
+pub record StopsAt (show : Heard → List ℕ) (number : ℕ) (input : List ℕ)
+    (old new : Option (List ℕ)) : Type 0 where
   pub place : ℕ
   pub counted : number ≡ place + 1
   pub first : position is_wrong (lines_of input) ≡ Some place

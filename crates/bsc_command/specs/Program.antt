@@ -1,27 +1,61 @@
 -- What the program prints for its work. All of it is own.
-use Rattle.std.specs.Prelude.{ℕ, List, Option, IfSome, IsSomeAnd}
-use Rattle.bsc_command.specs.CommandLine.{Asked, names, name, show, run, station}
+use Rattle.std.specs.Prelude.{◌≡◌, ◌⊎◌, ℕ, List, [], Option, IfSome, IsSomeAnd, Result, Ok, Err}
+use Rattle.std.specs.Prelude.{if◌then◌else◌}
+use Rattle.clap.specs.Words.{HasKind, Text, kind_of}
+use Rattle.clap.specs.declared.error.Error.{Error}
+use Rattle.bsc_station.specs.declared.standing.Standing.{Standing}
+use Rattle.bsc_command.specs.CommandLine.{Asked, names, name, show, run, station, IsHelp, asked_of}
+use Rattle.bsc_command.specs.CommandLine.{faults_at}
 use Rattle.bsc_input.specs.Hexadecimal.{octets_of}
 use Rattle.bsc_names.specs.Names.{Prints, name_line, unit_lines}
+use Rattle.bsc_command.specs.declared.fault.Fault.{Fault}
+use Rattle.bsc_command.specs.declared.fault.Fault.TheVariants.{InDoubt, Undelivered}
+use Rattle.bsc_command.specs.Faults.{IsNameFault, IsNamesFault, IsPrintFault, IsRunFault}
+use Rattle.bsc_command.specs.Faults.{IsStationFault, IsUsage}
 use Rattle.bsc_command.specs.Lines.{PrintsInput, StopsAt}
 
 -- The work was done with this input: a writer that held old holds new.
 abbrev pub IsDone : Asked → Option (List ℕ) → Option (List ℕ) → Option (List ℕ) → Type 0
 IsDone names input old new = IfSome input (λ octets. PrintsInput name_line octets old new)
-IsDone (name text) input old new = IsSomeAnd (octets_of text) (λ octets. Prints name_line octets old new)
+IsDone (name text) input old new =
+    IsSomeAnd (octets_of text) (λ octets. Prints name_line octets old new)
 IsDone show input old new = IfSome input (λ octets. PrintsInput unit_lines octets old new)
 IsDone (run config script check) input old new = Unit {0}
 IsDone (station words) input old new = Unit {0}
 
 -- The work stopped at the line with this number.
 abbrev pub StopsAtLine : Asked → ℕ → Option (List ℕ) → Option (List ℕ) → Option (List ℕ) → Type 0
-StopsAtLine names number input old new = IfSome input (λ octets. StopsAt name_line number octets old new)
+StopsAtLine names number input old new =
+    IfSome input (λ octets. StopsAt name_line number octets old new)
 StopsAtLine (name text) number input old new = ⊥
-StopsAtLine show number input old new = IfSome input (λ octets. StopsAt unit_lines number octets old new)
+StopsAtLine show number input old new =
+    IfSome input (λ octets. StopsAt unit_lines number octets old new)
 StopsAtLine (run config script check) number input old new = ⊥
-StopsAtLine (station words) number input old new = Unit {0}
+StopsAtLine (station words) number input old new = ⊥
 
--- It holds of all work but that of a station, of whose faults nothing is said here.
-abbrev pub UnlessStation : Asked → Type 0 → Type 0
-UnlessStation (station words) P = Unit {0}
-UnlessStation asked P = P
+-- A fault that this work may end with.
+abbrev pub IsFaultOf : Asked → Fault → Type 0
+IsFaultOf names fault = IsNamesFault fault
+IsFaultOf (name text) fault = IsNameFault fault
+IsFaultOf show fault = IsNamesFault fault
+IsFaultOf (run config script check) fault = IsRunFault fault
+IsFaultOf (station words) fault = IsStationFault fault
+
+-- How a station that ended stands is the answer of its run: doubt comes before what waits.
+abbrev pub outcome_of : Standing → Result (Unit {0}) Fault
+outcome_of standing =
+    if standing.doubt then Err InDoubt else (if standing.waiting then Err Undelivered else Ok tt)
+
+-- The words ask for the help or the version.
+abbrev pub AskForHelp : List Text → Type 0
+AskForHelp words = (error : Error) × HasKind (faults_at words) error × IsHelp (kind_of error)
+
+-- The words were obeyed with this input: the help or the version was printed, or they are a command
+-- and its work was done.
+abbrev pub IsObeyed : List Text → Option (List ℕ) → Option (List ℕ) → Option (List ℕ) → Type 0
+IsObeyed words input old new =
+    AskForHelp words ⊎ ((faults_at words ≡ []) × IsDone (asked_of words) input old new)
+
+-- A fault of the words, of printing, or of the work that the words ask for.
+abbrev pub IsFaultAt : List Text → Fault → Type 0
+IsFaultAt words fault = IsUsage fault ⊎ (IsPrintFault fault ⊎ IsFaultOf (asked_of words) fault)

@@ -90,8 +90,8 @@ pub enum Fault {
     #[error("records not delivered")]
     Undelivered,
 
-    /// The words of the command line are no command. The text is that of `clap`, which is printed as
-    /// it stands.
+    /// The words of the command line are no command. The text is that of `clap`, which is printed
+    /// as it stands.
     #[error("{0}")]
     Usage(clap::Error),
 }
@@ -239,9 +239,9 @@ impl From<clap::Error> for Fault {
     }
 }
 
-/// The exit status of the program: 2 for wrong usage, 3 where the line refused an event of a script or
-/// a station ended in doubt, 4 where one ended with records that are not delivered, and 1 for every
-/// other fault.
+/// The exit status of the program: 2 for wrong usage, 3 where the line refused an event of a script
+/// or a station ended in doubt, 4 where one ended with records that are not delivered, and 1 for
+/// every other fault.
 pub fn status(fault: &Fault) -> u8
     ensures { result ≡ status_of fault.now }
 {

@@ -1,5 +1,5 @@
-//! What the command `bscline` does: it names transmissions of a line, shows the units of texts, runs a
-//! whole line over loopback connections, and runs one station of a line over TCP.
+//! What the command `bscline` does: it names transmissions of a line, shows the units of texts,
+//! runs a whole line over loopback connections, and runs one station of a line over TCP.
 #![tactic(auto)]
 
 mod fault;
@@ -12,6 +12,7 @@ mod station;
 mod station_settings;
 mod station_words;
 mod texts;
+mod whole_command;
 mod words;
 
 pub use bsc_config::{Config, read_config};
@@ -24,6 +25,7 @@ pub use naming::{name, names, show};
 pub use program::perform;
 pub use station_settings::Place;
 pub use station_words::StationWords;
+pub use whole_command::{command, fail};
 pub use words::{Work, help_or_fault, not_text, read_words};
 
 #[cfg(test)]

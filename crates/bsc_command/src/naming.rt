@@ -1,9 +1,11 @@
 //! Names of transmissions that are given in hexadecimal text, or by the lines of a trace.
-ghost use Rattle.std.specs.Prelude.{◌≡◌, ◌+◌, ◌<◌, ◌^◌, ◌∷◌, [], length, true, false, None, OnOk, IfErr, IsErrOf, IsSomeAnd, ℕ};
+ghost use Rattle.std.specs.Prelude.{◌≡◌, ◌+◌, ◌<◌, ◌^◌, ◌∷◌, [], length, true, false, None, OnOk};
+ghost use Rattle.std.specs.Prelude.{IfErr, IsErrOf, IsSomeAnd, ℕ};
 ghost use Rattle.bsc_input.specs.Hexadecimal.{octets_of};
 ghost use Rattle.bsc_input.specs.Parts.{parts_at};
 ghost use Rattle.bsc_names.specs.Names.{Prints, name_line, unit_lines, shown};
-ghost use Rattle.bsc_command.specs.Lines.{PrintsInput, PrintsLines, StopsAt, is_traced, is_wrong, last_part};
+ghost use Rattle.bsc_command.specs.Lines.{PrintsInput, PrintsLines, StopsAt, is_traced, is_wrong};
+ghost use Rattle.bsc_command.specs.Lines.{last_part};
 ghost use Rattle.bsc_command.specs.Faults.{IsLineFault, IsNameFault, IsPrintFault};
 
 use crate::Fault;
@@ -29,10 +31,10 @@ pub fn name<A: Allocator + Copy, W: Write>(alloc: A, text: &str, out: &mut W) ->
     }
 }
 
-/// Prints the name of each line's transmission, one a line. A line that begins with `+` is a line of
-/// a trace: its transmission is the hexadecimal text after its last space, and where that is none it
-/// is skipped. Blank lines are skipped too, and all lines are counted. At any other line that is not
-/// hexadecimal text it stops; the names of the lines before stay printed. (Own.)
+/// Prints the name of each line's transmission, one a line. A line that begins with `+` is a line
+/// of a trace: its transmission is the hexadecimal text after its last space, and where that is
+/// none it is skipped. Blank lines are skipped too, and all lines are counted. At any other line
+/// that is not hexadecimal text it stops; the names of the lines before stay printed. (Own.)
 pub fn names<A: Allocator + Copy, W: Write>(
     alloc: A,
     input: &[u8],

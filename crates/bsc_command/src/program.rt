@@ -1,7 +1,7 @@
 //! The work of the program, over any reader, any writer and any host.
-ghost use Rattle.std.specs.Prelude.{◌≡◌, ◌⊎◌, ℕ, OnOk, List, true};
-ghost use Rattle.bsc_command.specs.Program.{IsDone, StopsAtLine, UnlessStation};
-ghost use Rattle.bsc_command.specs.CommandLine.{asked, run as run_asked};
+ghost use Rattle.std.specs.Prelude.{◌≡◌, ◌⊎◌, ℕ, OnOk, IfErr, List, true};
+ghost use Rattle.bsc_command.specs.Program.{IsDone, IsFaultOf, StopsAtLine};
+ghost use Rattle.bsc_command.specs.CommandLine.{asked, name as name_asked, run as run_asked};
 
 use crate::running::run;
 use crate::station::station;
@@ -21,12 +21,15 @@ pub fn perform<R: Read, H: Host, W: Write>(
     out: &mut W,
 ) -> Result<(), Fault>
     ensures ok { OnOk result
-        (IsDone (asked work.now) (R.remaining input.old) (W.contents out.old) (W.contents out.new)) }
+        (IsDone (asked work.now) (R.remaining input.old)
+        (W.contents out.old) (W.contents out.new)) }
+    ensures fault { IfErr result (IsFaultOf (asked work.now)) }
     ensures wrong { (n : ℕ) → result ≡ Err (Fault.NotHexadecimalAt n) →
         StopsAtLine (asked work.now) n (R.remaining input.old)
         (W.contents out.old) (W.contents out.new) }
     ensures unread { (result ≡ Err Fault.InputTooLong) ⊎ (result ≡ Err Fault.Input) →
-        UnlessStation (asked work.now) (out.new ≡ out.old) }
+        out.new ≡ out.old }
+    ensures unasked { (text : List ℕ) → asked work.now ≡ name_asked text → input.new ≡ input.old }
     ensures checked { (config script : List ℕ) → asked work.now ≡ run_asked config script true →
         out.new ≡ out.old }
 {

@@ -1,5 +1,9 @@
-//! One station of a line: its configuration and its records are read, then its connections are made,
-//! and then it is attended until it ends.
+//! One station of a line: its configuration and its records are read, then its connections are
+//! made, and then it is attended until it ends.
+
+ghost use Rattle.std.specs.Prelude.{◌≡◌, ◌⊎◌, Err, IfErr};
+ghost use Rattle.bsc_command.specs.Faults.{IsAttendedFault, IsPrintFault, IsStationFault};
+ghost use Rattle.bsc_command.specs.Program.{outcome_of};
 
 use crate::host::{Asked, Opened};
 use crate::offering::{offer_all_at_terminal, offer_all_for_terminals, repeats_standard_input};
@@ -11,8 +15,8 @@ use bsc_config::{Config, read_config};
 use bsc_control::Control;
 use bsc_live::{Connection, Framing, Gaps, SocketRecords, attend};
 use bsc_station::{
-    ControlWatch, Ended, LineTerminal, Standing, TerminalWatch, Watch, new_control, new_terminal,
-    station_standing, write_report,
+    ControlWatch, Ended, LastWatch, LineTerminal, Standing, TerminalWatch, Watch, new_control,
+    new_terminal, station_standing, write_report,
 };
 use std::alloc::Global;
 use std::io::{Read, Write};
@@ -27,7 +31,11 @@ pub(crate) fn station<R: Read, H: Host, W: Write>(
     input: &mut R,
     host: &mut H,
     out: &mut W,
-) -> Result<(), Fault> {
+) -> Result<(), Fault>
+    ensures fault { IfErr result IsStationFault }
+    ensures unread { (result ≡ Err Fault.InputTooLong) ⊎ (result ≡ Err Fault.Input) →
+        out.new ≡ out.old }
+{
     let settings = read_settings(alloc, words)?;
     if repeats_standard_input(words, settings.role) {
         let why = "standard input is given more than once";
@@ -80,7 +88,9 @@ fn listens(place: Place<'_>) -> bool {
 fn connections_of<R: Read + Drop, W: Write + Drop, F: Framing + Drop>(
     alloc: Global,
     directions: Vec<(R, W)>,
-) -> Result<Vec<Connection<R, W, F>>, Fault> {
+) -> Result<Vec<Connection<R, W, F>>, Fault>
+    ensures { IfErr result IsPrintFault }
+{
     let mut connections = Vec::new(alloc);
     for (reader, writer) in directions {
         connections.push(Connection::new(reader, writer))?;
@@ -97,18 +107,35 @@ fn control_station<R: Read, H: Host, W: Write>(
     input: &mut R,
     host: &mut H,
     out: &mut W,
-) -> Result<(), Fault> {
+) -> Result<(), Fault>
+    ensures fault { IfErr result IsStationFault }
+    ensures unread { (result ≡ Err Fault.InputTooLong) ⊎ (result ≡ Err Fault.Input) →
+        out.new ≡ out.old }
+{
     let mut control = new_control(alloc, config)?;
     offer_all_for_terminals(alloc, &words.offers, &mut control, input, host)?;
-    let asked = asked_by_control(settings, config.terminals());
-    let opened = host.open(&asked)?;
+    run_control(alloc, settings, config.terminals(), &mut control, host, out)
+}
+
+/// Makes the connections of the control station, attends it, and prints its report.
+fn run_control<H: Host, W: Write>(
+    alloc: Global,
+    settings: &StationSettings<'_>,
+    terminals: usize,
+    control: &mut Control<Global>,
+    host: &mut H,
+    out: &mut W,
+) -> Result<(), Fault>
+    ensures { IfErr result IsAttendedFault }
+{
+    let opened = host.open(&asked_by_control(settings, terminals))?;
     if settings.raw {
-        attend_control::<Gaps, H, W>(alloc, settings, &mut control, opened, host, out)?;
+        attend_control::<Gaps, H, W>(alloc, settings, control, opened, host, out)?;
     } else {
-        attend_control::<SocketRecords, H, W>(alloc, settings, &mut control, opened, host, out)?;
+        attend_control::<SocketRecords, H, W>(alloc, settings, control, opened, host, out)?;
     }
-    write_report(alloc, &control, out)?;
-    outcome(station_standing(&control))
+    write_report(alloc, control, out)?;
+    outcome(station_standing(control))
 }
 
 /// Attends the control station until it ends.
@@ -119,7 +146,9 @@ fn attend_control<F: Framing + Drop, H: Host, W: Write>(
     opened: Opened<H::Reader, H::Writer, H::Waiter>,
     host: &mut H,
     out: &mut W,
-) -> Result<(), Fault> {
+) -> Result<(), Fault>
+    ensures { IfErr result IsAttendedFault }
+{
     let Opened {
         mut waiter,
         connections,
@@ -132,14 +161,21 @@ fn attend_control<F: Framing + Drop, H: Host, W: Write>(
     let watch = Watch::new(alloc, control, settings.printing, timer, out, &mut trace)?;
     let mut watch = ControlWatch::new(control, watch, settings.limits, listens(settings.place));
     attend(control, &mut connections, &mut waiter, &mut watch)?;
-    if !watch.is_closed() {
-        attend(
-            &mut Ended,
-            &mut connections,
-            &mut waiter,
-            &mut watch.into_last(),
-        )?;
+    if watch.is_closed() {
+        return Ok(());
     }
+    attend_ended::<F, H, W>(&mut connections, &mut waiter, &mut watch.into_last())
+}
+
+/// Attends connections whose control station has ended, until its last call is answered.
+fn attend_ended<F: Framing + Drop, H: Host, W: Write>(
+    connections: &mut [Connection<H::Reader, H::Writer, F>],
+    waiter: &mut H::Waiter,
+    watch: &mut LastWatch<'_, Global, H::Timer, W, H::Trace>,
+) -> Result<(), Fault>
+    ensures { IfErr result IsAttendedFault }
+{
+    attend(&mut Ended, connections, waiter, watch)?;
     Ok(())
 }
 
@@ -153,23 +189,40 @@ fn terminal<R: Read, H: Host, W: Write>(
     input: &mut R,
     host: &mut H,
     out: &mut W,
-) -> Result<(), Fault> {
+) -> Result<(), Fault>
+    ensures fault { IfErr result IsStationFault }
+    ensures unread { (result ≡ Err Fault.InputTooLong) ⊎ (result ≡ Err Fault.Input) →
+        out.new ≡ out.old }
+{
     if number >= config.terminals() {
         return Err(wrong_value(alloc, "CONFIG has no such terminal"));
     }
     let mut terminal = new_terminal(alloc, config, number);
     let setup = config.setup();
     offer_all_at_terminal(alloc, &words.offers, setup, &mut terminal, input, host)?;
+    run_terminal(alloc, settings, &mut terminal, host, out)
+}
+
+/// Makes the connection of a terminal, attends it, and prints its report.
+fn run_terminal<H: Host, W: Write>(
+    alloc: Global,
+    settings: &StationSettings<'_>,
+    terminal: &mut LineTerminal<Global>,
+    host: &mut H,
+    out: &mut W,
+) -> Result<(), Fault>
+    ensures { IfErr result IsAttendedFault }
+{
     let opened = host.open(&asked_by_terminal(settings))?;
     let closed = if settings.raw {
-        attend_terminal::<Gaps, H, W>(alloc, settings, &mut terminal, opened, host, out)?
+        attend_terminal::<Gaps, H, W>(alloc, settings, terminal, opened, host, out)?
     } else {
-        attend_terminal::<SocketRecords, H, W>(alloc, settings, &mut terminal, opened, host, out)?
+        attend_terminal::<SocketRecords, H, W>(alloc, settings, terminal, opened, host, out)?
     };
-    write_report(alloc, &terminal, out)?;
+    write_report(alloc, terminal, out)?;
     match closed {
         Some(error) => Err(Fault::Closed { error }),
-        None => outcome(station_standing(&terminal)),
+        None => outcome(station_standing(terminal)),
     }
 }
 
@@ -181,7 +234,9 @@ fn attend_terminal<F: Framing + Drop, H: Host, W: Write>(
     opened: Opened<H::Reader, H::Writer, H::Waiter>,
     host: &mut H,
     out: &mut W,
-) -> Result<Option<CarrierError>, Fault> {
+) -> Result<Option<CarrierError>, Fault>
+    ensures { IfErr result IsAttendedFault }
+{
     let Opened {
         mut waiter,
         connections,
@@ -198,7 +253,9 @@ fn attend_terminal<F: Framing + Drop, H: Host, W: Write>(
 }
 
 /// How a station ended.
-fn outcome(standing: Standing) -> Result<(), Fault> {
+fn outcome(standing: Standing) -> Result<(), Fault>
+    ensures { result ≡ outcome_of standing }
+{
     if standing.doubt {
         return Err(Fault::InDoubt);
     }

@@ -1,9 +1,12 @@
 //! The words of `bscline station`.
-ghost use Rattle.std.specs.Prelude.{◌≡◌, [], map, codes, IfOk, false, option_map, string_bytes, unwrap_or};
-ghost use Rattle.clap.specs.Words.{app_of, first_value, found_of, matched_of, raw_values, rows_of, rule_of};
+ghost use Rattle.std.specs.Prelude.{◌≡◌, [], map, codes, IfOk, false, option_map, string_bytes};
+ghost use Rattle.std.specs.Prelude.{unwrap_or};
+ghost use Rattle.clap.specs.Words.{app_of, first_value, found_of, matched_of, raw_values, rows_of};
+ghost use Rattle.clap.specs.Words.{rule_of};
 ghost use Rattle.clap.specs.declared.builder.command.Command.TheViews.{out-Command};
 ghost use Rattle.bsc_command.specs.Options.{flag, is_true_text, option, value_list};
-ghost use Rattle.bsc_command.specs.StationWords.{asked_words, words_in, station_app, party_app, place_app, timing_app};
+ghost use Rattle.bsc_command.specs.StationWords.{asked_words, words_in, station_app, party_app};
+ghost use Rattle.bsc_command.specs.StationWords.{place_app, timing_app};
 
 use clap::{Arg, ArgAction, ArgMatches, Command};
 use std::alloc::{AllocError, Global};

@@ -1,8 +1,12 @@
 //! The words of the command line.
-ghost use Rattle.std.specs.Prelude.{◌≡◌, ◌⊎◌, ◌≢◌, [], map, IfOk, IfErr, OnOk, codes, false, string_bytes, unwrap_or};
-ghost use Rattle.clap.specs.Words.{app_of, kind_of, HasKind, first_value, found_of, rows_of, rule_of, subcommand_rows_of};
+ghost use Rattle.std.specs.Prelude.{◌≡◌, ◌⊎◌, ◌≢◌, [], map, IfOk, IfErr, OnOk, codes, false};
+ghost use Rattle.std.specs.Prelude.{string_bytes, unwrap_or};
+ghost use Rattle.clap.specs.Words.{app_of, kind_of, HasKind, first_value, found_of, rows_of};
+ghost use Rattle.clap.specs.Words.{rule_of, subcommand_rows_of};
 ghost use Rattle.clap.specs.declared.builder.command.Command.TheViews.{out-Command};
-ghost use Rattle.bsc_command.specs.CommandLine.{IsHelp, bscline_app, name_app, naming_app, program_app, run_app, show_app, faults_at, asked, asked_of, asked_run, asked_station, asked_sub};
+ghost use Rattle.bsc_command.specs.CommandLine.{IsHelp, bscline_app, name_app, naming_app};
+ghost use Rattle.bsc_command.specs.CommandLine.{program_app, run_app, show_app, faults_at, asked};
+ghost use Rattle.bsc_command.specs.CommandLine.{asked_of, asked_run, asked_station, asked_sub};
 ghost use Rattle.bsc_command.specs.Options.{flag, is_true_text, required};
 
 use crate::Fault;
@@ -129,7 +133,8 @@ fn command_line<'a>(alloc: Global) -> Result<Command<'a>, AllocError>
 
 /// The text of a value that the command requires.
 fn text_of(alloc: Global, matches: &ArgMatches<'_>, id: &str) -> Result<String, AllocError>
-    ensures { IfOk result (λ s. string_bytes s ≡ unwrap_or (first_value (found_of matches.now) id.now) []) }
+    ensures { IfOk result (λ s. string_bytes s
+        ≡ unwrap_or (first_value (found_of matches.now) id.now) []) }
 {
     match matches.get_str(id) {
         Some(text) => String::from_str(alloc, text),
@@ -214,7 +219,8 @@ fn not_text_error(alloc: Global) -> Result<Error, AllocError>
 /// The answer where the configuration and the script are both standard input, as `clap` has it for
 /// any other values that do not go together.
 pub(crate) fn two_standard_inputs(alloc: Global) -> Error
-    ensures { (kind_of result ≡ ErrorKind.ArgumentConflict) ⊎ (kind_of result ≡ ErrorKind.OutOfMemory) }
+    ensures { (kind_of result ≡ ErrorKind.ArgumentConflict)
+        ⊎ (kind_of result ≡ ErrorKind.OutOfMemory) }
 {
     match two_standard_inputs_error(alloc) {
         Ok(error) => error,
@@ -256,7 +262,8 @@ fn wrong_words_error(alloc: Global, kind: ErrorKind, why: &str) -> Result<Error,
 pub fn help_or_fault<W: Write>(error: Error, out: &mut W) -> Result<(), Fault>
     ensures help { IsHelp (kind_of error) → (result ≡ Ok tt) ⊎ (result ≡ Err Fault.Output) }
     ensures memory { kind_of error ≡ ErrorKind.OutOfMemory → result ≡ Err Fault.OutOfMemory }
-    ensures usage { (IsHelp (kind_of error) → ⊥) → kind_of error ≢ ErrorKind.OutOfMemory → result ≡ Err (Fault.Usage error) }
+    ensures usage { (IsHelp (kind_of error) → ⊥) → kind_of error ≢ ErrorKind.OutOfMemory
+        → result ≡ Err (Fault.Usage error) }
 {
     match error.kind() {
         ErrorKind::DisplayHelp | ErrorKind::DisplayVersion => match write!(out, "{error}") {

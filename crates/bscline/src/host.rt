@@ -1,5 +1,5 @@
-//! The machine that the program runs on: its files, its loopback address, its network, its clock, and
-//! standard error.
+//! The machine that the program runs on: its files, its loopback address, its network, its clock,
+//! and standard error.
 
 use bsc_carrier::Cable;
 use bsc_command::{Asked, Host, InputError, Opened, Place, read_input};
@@ -47,7 +47,7 @@ impl<R: Clock> Timer for Since<'_, R> {
 /// Standard error.
 #[derive(Drop)]
 pub struct Errors<'a, R> {
-    runtime: &'a R,
+    pub runtime: &'a R,
 }
 
 impl<R: Eprint> Write for Errors<'_, R> {

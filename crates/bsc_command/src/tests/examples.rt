@@ -252,8 +252,8 @@ impl<R: Net> Host for Files<'_, R> {
     }
 }
 
-/// What is printed by a run of these texts by these paths, where `-` gives the input, and the text of
-/// the fault.
+/// What is printed by a run of these texts by these paths, where `-` gives the input, and the text
+/// of the fault.
 fn printed<R: Net>(
     runtime: &R,
     alloc: Global,
@@ -308,8 +308,8 @@ fn a_check_prints_nothing(rt: HostRuntime) -> Result<(), Fail> {
     Ok(())
 }
 
-/// The configuration is read first, then the script; then what they say is checked in that order, and
-/// only then is the line made.
+/// The configuration is read first, then the script; then what they say is checked in that order,
+/// and only then is the line made.
 #[test]
 fn a_run_names_the_first_fault(rt: HostRuntime) -> Result<(), Fail> {
     let alloc = rt.alloc();

@@ -98,8 +98,8 @@ fn not_hexadecimal(rt: HostRuntime) -> Result<(), Fail> {
     Ok(())
 }
 
-/// The lines before a wrong one are printed, and those after it are not. Blank lines are counted. Of
-/// two carriage returns one belongs to the line.
+/// The lines before a wrong one are printed, and those after it are not. Blank lines are counted.
+/// Of two carriage returns one belongs to the line.
 #[test]
 fn wrong_line_after_good_ones(rt: HostRuntime) -> Result<(), Fail> {
     for input in [

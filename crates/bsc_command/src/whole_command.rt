@@ -1,0 +1,91 @@
+//! The whole command: from the words of the command line to the exit status.
+
+ghost use Rattle.std.specs.Prelude.{◌≡◌, ◌≢◌, ◌⊎◌, [], map, string_bytes, IfErr, IfOk, IsOkAnd, OnOk};
+ghost use Rattle.std.specs.Io.Buffered.{writer_buffer, writer_contents};
+ghost use Rattle.bsc_command.specs.declared.fault.Fault.{Fault as FaultValue};
+ghost use Rattle.bsc_command.specs.Faults.{IsPrintFault, status_of};
+ghost use Rattle.bsc_command.specs.Program.{IsFaultAt, IsObeyed};
+
+use crate::{Fault, Host, help_or_fault, perform, read_words, status};
+use std::alloc::{AllocError, Global};
+use std::io::{BufWriter, Read, Write};
+
+/// The words as `clap` takes them.
+fn lent(alloc: Global, words: &[String]) -> Result<Vec<&str>, AllocError>
+    ensures { IfOk result (λ lent. map (λ s. s.now) lent.items ≡ map string_bytes words.now) }
+{
+    let mut lent = Vec::new(alloc);
+    'words: for word in words {
+        lent.push(word.as_str())?;
+    }
+    Ok(lent)
+}
+
+/// Does what the words ask for, or prints the help or the version.
+fn obey<R: Read, H: Host, W: Write>(
+    alloc: Global,
+    words: &[String],
+    input: &mut R,
+    host: &mut H,
+    out: &mut W,
+) -> Result<(), Fault>
+    ensures ok { OnOk result
+        (IsObeyed (map string_bytes words.now) (R.remaining input.old)
+        (W.contents out.old) (W.contents out.new)) }
+    ensures fault { IfErr result (IsFaultAt (map string_bytes words.now)) }
+{
+    let words = lent(alloc, words)?;
+    match read_words(alloc, &words) {
+        Ok(work) => perform(alloc, &work, input, host, out),
+        Err(error) => help_or_fault(error, out),
+    }
+}
+
+/// Tells on `errors` why the command ends, and gives the exit status of the fault. Wrong usage is
+/// told by the text of `clap` as it stands, any other fault in one line after `bscline: `. (Own.)
+pub fn fail<E: Write>(fault: &Fault, errors: &mut E) -> u8
+    ensures { result ≡ status_of fault.now }
+{
+    // Where `errors` takes no text, only the status is left to tell it.
+    let _ = match fault {
+        Fault::Usage(text) => write!(errors, "{text}"),
+        _ => writeln!(errors, "bscline: {fault}"),
+    };
+    status(fault)
+}
+
+/// Does what the words ask for, the program's name first, and gives the exit status: 0 when the
+/// work was done or the help or the version was printed, else that of the fault, which `fail`
+/// tells. What was printed leaves the buffer, also before a fault; where it cannot, the fault is
+/// `Output`. Words that could not be had are given as their fault. (Own.)
+pub fn command<R: Read, H: Host, W: Write + Drop, E: Write>(
+    alloc: Global,
+    words: Result<Vec<String>, Fault>,
+    input: &mut R,
+    host: &mut H,
+    out: &mut BufWriter<W>,
+    errors: &mut E,
+) -> u8
+    ensures done { result ≡ 0 →
+        IsOkAnd words (λ given. IsObeyed (map string_bytes given.items) (R.remaining input.old)
+        (writer_contents W.contents out.old) (writer_contents W.contents out.new)) }
+    ensures flushed { result ≡ 0 → writer_buffer out.new ≡ [] }
+    ensures untold { result ≡ 0 → errors.new ≡ errors.old }
+    ensures fault { result ≢ 0 → (fault : FaultValue)
+        × IfOk words (λ given. IsFaultAt (map string_bytes given.items) fault)
+        × IfErr words (λ given. (fault ≡ given) ⊎ IsPrintFault fault)
+        × (result ≡ status_of fault) }
+{
+    let outcome = match words {
+        Ok(words) => obey(alloc, &words, input, host, out),
+        Err(fault) => Err(fault),
+    };
+    let flushed = match out.flush() {
+        Ok(()) => outcome,
+        Err(_) => Err(Fault::Output),
+    };
+    match flushed {
+        Ok(()) => 0,
+        Err(fault) => fail(&fault, errors),
+    }
+}
