@@ -12,7 +12,8 @@ channel_arrivals form selects numbers ends t way printed =
     arrival_lines form (channel_name (selects t) (numbers t) way) printed (records_at (ends t way))
 
 -- the same of the channel of this number
-abbrev pub arrivals_of : Form → (ℕ → ℕ) → (ℕ → ℕ) → (ℕ → Way → End) → (ℕ → ℕ) → (ℕ → Way) → List ℕ → ℕ → List ℕ
+abbrev pub arrivals_of : Form → (ℕ → ℕ) → (ℕ → ℕ) → (ℕ → Way → End) → (ℕ → ℕ) → (ℕ → Way) → List ℕ
+    → ℕ → List ℕ
 arrivals_of form selects numbers ends terminal_of way_of printed n =
     channel_arrivals form selects numbers ends (terminal_of n) (way_of n) (slice_index printed n)
 
@@ -23,4 +24,5 @@ counted ends t way printed = max printed (length (records_at (ends t way)))
 -- each channel's count is kept
 abbrev pub AreCounted : (ℕ → Way → End) → (ℕ → ℕ) → (ℕ → Way) → List ℕ → List ℕ → ℕ → Type 0
 AreCounted ends terminal_of way_of old new count =
-    (n : ℕ) → n < count → slice_index new n ≡ counted ends (terminal_of n) (way_of n) (slice_index old n)
+    (n : ℕ) → n < count → slice_index new n
+    ≡ counted ends (terminal_of n) (way_of n) (slice_index old n)

@@ -1,5 +1,6 @@
 -- What a station knows of the channels that end at it (own).
-use Rattle.std.specs.Prelude.{ℕ, ◌<◌, nat_lt, zero, suc, Bool, true, false, not, ◌||◌, ◌&&◌, if◌then◌else◌, List, length, map}
+use Rattle.std.specs.Prelude.{ℕ, ◌<◌, nat_lt, zero, suc, Bool, true, false, not, ◌||◌, ◌&&◌}
+use Rattle.std.specs.Prelude.{if◌then◌else◌, List, length, map}
 use Rattle.bsc_control.specs.declared.way.Way.{Way}
 use Rattle.bsc_control.specs.declared.way.Way.TheVariants.{FromTerminal, ToTerminal}
 use Rattle.bsc_control.specs.Control.{ControlValue, peer_at}
@@ -11,8 +12,8 @@ use Rattle.bsc_tributary.specs.Tributary.{TributaryValue, spool_at}
 use Rattle.bsc_station.specs.declared.standing.Standing.{Standing}
 
 -- the end of a channel: that which sends knows how many records were offered and how many of them
--- are known to have arrived, and whether this is in doubt of the last block; that which receives has the
--- records that arrived
+-- are known to have arrived, and whether this is in doubt of the last block; that which receives
+-- has the records that arrived
 pub data End : Type 0 where
   sending : ℕ → ℕ → Bool → End
   receiving : List (List ℕ) → End
@@ -32,7 +33,7 @@ abbrev pub terminal_end : TributaryValue → Way → End
 terminal_end t FromTerminal = queue_end t.queue (is_in_doubt t.sender.phase)
 terminal_end t (ToTerminal s) = receiving (spool_at t.spools s).records
 
--- a way of a terminal that has so many selection addresses
+-- a way of a terminal that has this many selection addresses
 abbrev pub IsWay : Way → ℕ → Type 0
 IsWay FromTerminal count = Unit {0}
 IsWay (ToTerminal s) count = s < count

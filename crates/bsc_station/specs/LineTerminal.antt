@@ -14,7 +14,8 @@ abbrev pub line_terminal_of : ℕ → TributaryValue → LineTerminalValue
 line_terminal_of number tributary = record { number = number; tributary = tributary }
 
 -- the terminal hears, and keeps its number
-pub record Hears (old : LineTerminalValue) (heard : Heard) (new : LineTerminalValue) (sent : Option Message) : Type 0 where
+pub record Hears (old : LineTerminalValue) (heard : Heard) (new : LineTerminalValue)
+    (sent : Option Message) : Type 0 where
   pub number : new.number ≡ old.number
   pub hearing : IsHearing old.tributary heard new.tributary sent
 

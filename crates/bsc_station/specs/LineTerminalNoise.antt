@@ -7,7 +7,8 @@ use Rattle.bsc_frame.specs.declared.message.Heard.TheVariants.{Noise}
 use Rattle.bsc_tributary.specs.Noise.{noise_changes_nothing as nothing_changes}
 use Rattle.bsc_station.specs.LineTerminal.{LineTerminalValue, Hears, line_terminal_of}
 
-pub noise_changes_nothing : (old new : LineTerminalValue) (sent : Option Message) → Hears old Noise new sent →
+pub noise_changes_nothing : (old new : LineTerminalValue) (sent : Option Message)
+    → Hears old Noise new sent →
     (new ≡ old) × (sent ≡ None)
 noise_changes_nothing old new sent h =
     let still = nothing_changes old.tributary new.tributary sent h.hearing.row in

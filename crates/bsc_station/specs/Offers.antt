@@ -1,5 +1,6 @@
 -- The records that the lines of a text are (own).
-use Rattle.std.specs.Prelude.{◌≡◌, ℕ, ◌+◌, ◌<◌, List, [], ◌∷◌, ◌++◌, length, take, slice_index_or, Ok, Err}
+use Rattle.std.specs.Prelude.{◌≡◌, ℕ, ◌+◌, ◌<◌, List, [], ◌∷◌, ◌++◌, length, take, slice_index_or}
+use Rattle.std.specs.Prelude.{Ok, Err}
 use Rattle.bsc_control.specs.Control.{ControlValue, peer_at}
 use Rattle.bsc_control.specs.Kept.{outbound_of}
 use Rattle.std.specs.List.{AllByRecursion}
@@ -10,9 +11,10 @@ use Rattle.bsc_block.specs.declared.record.RecordError.{RecordError}
 abbrev pub AreRecords : ℕ → List (List ℕ) → Type 0
 AreRecords full = AllByRecursion (λ codes. record_of full codes ≡ Ok codes)
 
--- the line of this number, counted from 1, is no record for this reason, and the lines before it are
--- records
-pub record IsFirstRefused (full number : ℕ) (why : RecordError) (lines : List (List ℕ)) : Type 0 where
+-- the line of this number, counted from 1, is no record for this reason, and the lines before it
+-- are records
+pub record IsFirstRefused (full number : ℕ) (why : RecordError)
+    (lines : List (List ℕ)) : Type 0 where
   pub place : ℕ
   pub counted : number ≡ place + 1
   pub within : place < length lines
@@ -20,8 +22,10 @@ pub record IsFirstRefused (full number : ℕ) (why : RecordError) (lines : List 
   pub before : AreRecords full (take place lines)
 
 -- a record was offered for this selection address
-pub record IsOffered (old : ControlValue) (t s : ℕ) (codes : List ℕ) (new : ControlValue) : Type 0 where
+pub record IsOffered (old : ControlValue) (t s : ℕ) (codes : List ℕ)
+    (new : ControlValue) : Type 0 where
   pub setup : new.setup ≡ old.setup
   pub peers : length new.peers ≡ length old.peers
   pub selects : length (peer_at new t).outbounds ≡ length (peer_at old t).outbounds
-  pub offered : (outbound_of new t s).queue.offered ≡ (outbound_of old t s).queue.offered ++ codes ∷ []
+  pub offered : (outbound_of new t s).queue.offered ≡ (outbound_of old t s).queue.offered ++ codes
+      ∷ []

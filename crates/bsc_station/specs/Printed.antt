@@ -46,6 +46,6 @@ abbrev pub records_at : End → List (List ℕ)
 records_at (sending offered known doubt) = []
 records_at (receiving records) = records
 
--- the lines of the records past so many on the channel of this name
+-- the lines of the records past this many on the channel of this name
 abbrev pub arrival_lines : Form → List ℕ → ℕ → List (List ℕ) → List ℕ
 arrival_lines form name printed records = flat_map (arrival_line form name) (drop printed records)

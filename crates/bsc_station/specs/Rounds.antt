@@ -1,5 +1,6 @@
 -- The rounds of a poll list, and when there are enough of them (own).
-use Rattle.std.specs.Prelude.{ℕ, ◌+◌, ◌-◌, ◌^◌, nat_lt, nat_le, min, Bool, true, false, not, ◌||◌, ◌&&◌, if◌then◌else◌, Option, None, Some}
+use Rattle.std.specs.Prelude.{ℕ, ◌+◌, ◌-◌, ◌^◌, nat_lt, nat_le, min, Bool, true, false, not, ◌||◌}
+use Rattle.std.specs.Prelude.{◌&&◌, if◌then◌else◌, Option, None, Some}
 use Rattle.bsc_station.specs.declared.rounds.Limits.{Limits}
 use Rattle.bsc_station.specs.declared.rounds.Rounds.{Rounds}
 
@@ -11,8 +12,8 @@ rounds_of entries left found rounds idle =
 abbrev pub one_more : ℕ → ℕ
 one_more n = min (n + 1) (2 ^ 64 - 1)
 
--- the idle rounds at the end, once a round is over in which a record was found, or at whose end there is
--- something more to send
+-- the idle rounds at the end, once a round is over in which a record was found, or at whose end
+-- there is something more to send
 abbrev pub idle_after : ℕ → Bool → Bool → ℕ
 idle_after idle found more = if not found && not more then one_more idle else 0
 

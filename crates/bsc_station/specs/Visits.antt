@@ -1,5 +1,5 @@
--- Where the visit of an entry of the poll list ends (GA27-3004, polling and selection; the counting is
--- own).
+-- Where the visit of an entry of the poll list ends (GA27-3004, polling and selection; the counting
+-- is own).
 use Rattle.std.specs.Prelude.{ℕ, ◌+◌, nat_lt, Bool, true, false, ◌&&◌, if◌then◌else◌}
 use Rattle.bsc_station.specs.declared.visits.Sent.{Sent}
 use Rattle.bsc_station.specs.declared.visits.Sent.TheVariants.{Poll, Selection, Other}
@@ -10,15 +10,16 @@ use Rattle.bsc_station.specs.declared.visits.Visits.{Visits}
 abbrev pub visits_of : ℕ → Bool → Polled → Visits
 visits_of tries silent polled = record { tries = tries; silent = silent; polled = polled }
 
--- the poll is repeated: after a silence, while nothing else was sent, and fewer times than failures in
--- a row are borne
+-- the poll is repeated: after a silence, while nothing else was sent, and fewer times than failures
+-- in a row are borne
 abbrev pub repeats_poll : ℕ → Bool → Polled → Bool
 repeats_poll tries silent (Called repeats) = silent && nat_lt repeats tries
 repeats_poll tries silent _ = false
 
 -- what was sent of the poll once the polling address was called
 abbrev pub polled_after : ℕ → Bool → Polled → Polled
-polled_after tries silent (Called repeats) = if silent && nat_lt repeats tries then Called (repeats + 1) else Called 0
+polled_after tries silent (Called repeats) =
+    if silent && nat_lt repeats tries then Called (repeats + 1) else Called 0
 polled_after tries silent _ = Called 0
 
 -- the entry was polled

@@ -1,6 +1,6 @@
-//! One station of a configured line, as `bscline station` runs it: the control station or one of the
-//! terminals, with the records that it is to send, what it prints of the records that arrive, the
-//! trace of what is sent and heard, and when it ends.
+//! One station of a configured line, as `bscline station` runs it: the control station or one of
+//! the terminals, with the records that it is to send, what it prints of the records that arrive,
+//! the trace of what is sent and heard, and when it ends.
 //!
 //! The station itself is `bsc_control` or `bsc_tributary`, and `bsc_live` attends it over its
 //! connections. This library stands between them and the command: it has no socket, no file and no

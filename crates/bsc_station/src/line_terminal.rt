@@ -60,8 +60,8 @@ impl<A: Allocator> LineTerminal<A> {
         self.number
     }
 
-    /// Adds a record to those that it has to send. It comes back where there is no memory for it, and
-    /// then nothing changed. Condition: it is not longer than the full length.
+    /// Adds a record to those that it has to send. It comes back where there is no memory for it,
+    /// and then nothing changed. Condition: it is not longer than the full length.
     pub fn offer(&mut self, record: Record) -> Result<(), Record>
         requires { length «record» ≤ self.old.tributary.queue.format.full }
         ensures number { self.new.number ≡ self.old.number }

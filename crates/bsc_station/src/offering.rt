@@ -32,8 +32,8 @@ pub fn offer_at_terminal<A: Allocator, B: Allocator>(
 }
 
 /// Offers records at the control station, for a selection address of a terminal, in their order.
-/// Condition: there is such an address, and no record is longer than the full length. `Memory` comes
-/// where there is none for a record; those before it are offered. (Own.)
+/// Condition: there is such an address, and no record is longer than the full length. `Memory`
+/// comes where there is none for a record; those before it are offered. (Own.)
 pub fn offer_for_terminal<A: Allocator, B: Allocator>(
     control: &mut Control<A>,
     terminal: usize,

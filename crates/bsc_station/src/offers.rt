@@ -14,7 +14,8 @@ use thiserror::Error;
 /// Why the lines of a text are no records that can be offered.
 #[derive(Clone, Copy, Debug, PartialEq, Eq, Error)]
 pub enum OfferError {
-    /// The line with this number, counted from 1, is the first that is no record of the full length.
+    /// The line with this number, counted from 1, is the first that is no record of the full
+    /// length.
     #[error("line {line}: {why}")]
     Refused { line: u64, why: RecordError },
 
@@ -24,9 +25,9 @@ pub enum OfferError {
 }
 
 /// The lines of a text as records of at most `full` characters, which is 1 to 144. A line ends at a
-/// line feed, before which one carriage return is dropped; what follows the last line feed is a line
-/// too unless it is empty. An empty line is the empty record. `Refused` names the first line that is
-/// no record; `Memory` may come in its place. (Own.)
+/// line feed, before which one carriage return is dropped; what follows the last line feed is a
+/// line too unless it is empty. An empty line is the empty record. `Refused` names the first line
+/// that is no record; `Memory` may come in its place. (Own.)
 pub fn read_records<A: Allocator>(
     alloc: A,
     text: &[u8],

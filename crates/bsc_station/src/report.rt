@@ -7,7 +7,8 @@ ghost use Rattle.std.specs.Io.KnownBytes.{Appends};
 ghost use Rattle.bsc_run.specs.Printed.{doubt_shown, record_line};
 ghost use Rattle.bsc_station.specs.Ends.{IsWay};
 ghost use Rattle.bsc_station.specs.EndValues.{end_of};
-ghost use Rattle.bsc_station.specs.Printed.{end_shown, channel_lines, terminal_lines, station_report};
+ghost use Rattle.bsc_station.specs.Printed.{end_shown, channel_lines, terminal_lines};
+ghost use Rattle.bsc_station.specs.Printed.{station_report};
 
 use crate::printing::put;
 use crate::{ChannelEnd, Party};
@@ -18,10 +19,10 @@ use bsc_run::{write_channel_name, write_record};
 use std::alloc::Allocator;
 use std::io::Write;
 
-/// Writes the report of a station: for each channel on which it sends how many records were offered,
-/// how many of them are known to have arrived and whether it is in doubt; and for each on which it
-/// receives how many records arrived, and these. The channels stand in the order of the report of a
-/// run. (Own.)
+/// Writes the report of a station: for each channel on which it sends how many records were
+/// offered, how many of them are known to have arrived and whether it is in doubt; and for each on
+/// which it receives how many records arrived, and these. The channels stand in the order of the
+/// report of a run. (Own.)
 pub fn write_report<A: Allocator + Copy, P: Party, W: Write>(
     alloc: A,
     station: &P,

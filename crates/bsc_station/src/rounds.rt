@@ -6,15 +6,15 @@ ghost use Rattle.bsc_station.specs.Rounds.{rounds_of, after_visit, are_enough};
 /// When a control station ends (own).
 #[derive(Clone, Copy, Debug, PartialEq, Eq)]
 pub struct Limits {
-    /// After so many rounds; None where it ends only with nothing more to send.
+    /// After this many rounds; None where it ends only with nothing more to send.
     pub rounds: Option<u64>,
 
-    /// After so many idle rounds in a row.
+    /// After this many idle rounds in a row.
     pub idle_rounds: u64,
 }
 
-/// The rounds of a poll list. A round is one visit of each of its entries. It is idle where no record
-/// arrived in it and nothing more is to be sent at its end. (Own.)
+/// The rounds of a poll list. A round is one visit of each of its entries. It is idle where no
+/// record arrived in it and nothing more is to be sent at its end. (Own.)
 #[derive(Clone, Copy, Debug, PartialEq, Eq)]
 pub struct Rounds {
     /// The entries of the poll list.
@@ -30,7 +30,7 @@ pub struct Rounds {
 }
 
 impl Rounds {
-    /// Those of a poll list of so many entries of which none was visited yet.
+    /// Those of a poll list of this many entries of which none was visited yet.
     pub fn new(entries: usize) -> Rounds
         ensures { result ≡ rounds_of entries entries false 0 0 }
     {
@@ -51,8 +51,8 @@ impl Rounds {
         self.found = true;
     }
 
-    /// The visit of an entry ended, with something more to send or not. With the last entry the round
-    /// is over. The counts stay at 2^64 - 1.
+    /// The visit of an entry ended, with something more to send or not. With the last entry the
+    /// round is over. The counts stay at 2^64 - 1.
     pub fn visited(&mut self, more: bool)
         ensures { self.new ≡ after_visit self.old more }
     {

@@ -11,7 +11,8 @@ pub struct Standing {
     /// Of some channel it is not known if the last block arrived.
     pub doubt: bool,
 
-    /// On some channel that is not in doubt records were offered that are not known to have arrived.
+    /// On some channel that is not in doubt records were offered that are not known to have
+    /// arrived.
     pub waiting: bool,
 }
 

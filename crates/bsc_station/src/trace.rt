@@ -5,7 +5,8 @@ ghost use Rattle.std.specs.Fmt.{decimal};
 ghost use Rattle.std.specs.Io.KnownBytes.{Appends};
 ghost use Rattle.bsc_frame.specs.Reading.{heard};
 ghost use Rattle.bsc_names.specs.Names.{name_of};
-ghost use Rattle.bsc_station.specs.Traces.{deed_shown, octets_shown, time_shown, transmission_line, who_shown};
+ghost use Rattle.bsc_station.specs.Traces.{deed_shown, octets_shown, time_shown, transmission_line};
+ghost use Rattle.bsc_station.specs.Traces.{who_shown};
 
 use crate::printing::put;
 use bsc_carrier::CarrierError;

@@ -3,7 +3,8 @@
 ghost use Rattle.std.specs.Prelude.{◌≡◌, true, false};
 ghost use Rattle.bsc_station.specs.Visits.{visits_of, after_sent, ends_visit};
 
-/// What a control station sends, as far as visits are told by it (GA27-3004, polling and selection).
+/// What a control station sends, as far as visits are told by it (GA27-3004, polling and
+/// selection).
 #[derive(Clone, Copy, Debug, PartialEq, Eq)]
 pub enum Sent {
     /// The call of a polling address.
@@ -43,7 +44,7 @@ pub struct Visits {
 }
 
 impl Visits {
-    /// Those of a control station that sent nothing yet and bears so many failures in a row.
+    /// Those of a control station that sent nothing yet and bears this many failures in a row.
     pub fn new(tries: u8) -> Visits
         ensures { result ≡ visits_of tries false Polled.NotYet }
     {

@@ -55,7 +55,8 @@ const TO_CONTROL: &[u8] = b"\x00\x05\x16\x16\x10\xB0\xFF\
 \x00\x04\x16\x16\x04\xFF\
 \x00\x04\x16\x16\x04\xFF";
 
-/// The trace of the control station that hears this, and nothing of the terminal with the address B.
+/// The trace of the control station that hears this, and nothing of the terminal with the address
+/// B.
 const CONTROL_TRACE: &[u8] = b"+1 silence
 +2 control sent CALL a 161604ff16166185ff
 +3 connection 0 heard ACK0 161610b0ff
