@@ -33,9 +33,6 @@ pub not_whole_and_wrong : (stream : List ℕ) → BeginsRecord stream → HasWro
 not_whole_and_wrong stream (octets, rest, carried, is) wrong =
     not_wrong_and_right (length octets) (subst IsWrongLength (ap stated_length is ∙ stated_length-record octets rest carried) wrong.1) carried
 
-pub not_wrong_and_partial : (stream : List ℕ) → HasWrongLength stream → IsPartial stream → ⊥
-not_wrong_and_partial stream wrong partial = not_wrong_and_right (stated_length stream) wrong.1 (partial wrong.0).0
-
 pub IsPartial-nil : IsPartial []
 IsPartial-nil two = absurd (omega (arith, two))
 

@@ -25,26 +25,26 @@ module _ {S : Type 0} where
       (each 0 x (omega arith), AllZip-from_places R old new (omega (arith, long)) (λ i d below. each (suc i) d (omega (arith, below))))
 
   -- the ends after the first, when the first has changed
-  pub ends_behind : (ends : List S) (first : S) → take (length (set ends 0 first) - 1) (drop 1 (set ends 0 first)) ≡ drop 1 ends
-  ends_behind [] first = refl
-  ends_behind (end ∷ ends) first = take_rest (first ∷ ends) 1
+  pub ends_after : (ends : List S) (first : S) → take (length (set ends 0 first) - 1) (drop 1 (set ends 0 first)) ≡ drop 1 ends
+  ends_after [] first = refl
+  ends_after (end ∷ ends) first = take_rest (first ∷ ends) 1
 
   -- what holds of an end after the first holds of one of all
-  pub Any-behind : (P : S → Type 0) (ends : List S) → Any P (drop 1 ends) → Any P ends
-  Any-behind P [] any = any
-  Any-behind P (end ∷ ends) (place, found, below, is, holds) = (suc place, found, omega (arith, below), is, holds)
+  pub Any-later : (P : S → Type 0) (ends : List S) → Any P (drop 1 ends) → Any P ends
+  Any-later P [] any = any
+  Any-later P (end ∷ ends) (place, found, below, is, holds) = (suc place, found, omega (arith, below), is, holds)
 
   pub Any-first : (P : S → Type 0) (ends : List S) (d : S) → 1 ≤ length ends → P (get_or ends 0 d) → Any P ends
   Any-first P [] d some holds = absurd (omega (arith, some))
   Any-first P (end ∷ ends) d some holds = (0, end, omega arith, refl, holds)
 
   -- the first end, and those after it
-  pub AllZip-first_and_behind : (R : S → S → Type 0) (old behind : List S) (first d : S) → 1 ≤ length old → R (get_or old 0 d) first → AllZip R (drop 1 old) behind
-      → AllZip R old (put_mid 1 (length (set old 0 first) - 1) (set old 0 first) behind)
-  AllZip-first_and_behind R [] behind first d some one more = absurd (omega (arith, some))
-  AllZip-first_and_behind R (end ∷ old) behind first d some one more =
+  pub AllZip-first_and_later : (R : S → S → Type 0) (old later : List S) (first d : S) → 1 ≤ length old → R (get_or old 0 d) first → AllZip R (drop 1 old) later
+      → AllZip R old (put_mid 1 (length (set old 0 first) - 1) (set old 0 first) later)
+  AllZip-first_and_later R [] later first d some one more = absurd (omega (arith, some))
+  AllZip-first_and_later R (end ∷ old) later first d some one more =
       let none : drop (length (first ∷ old) - 1) old ≡ [] = drop_all (length (first ∷ old) - 1) old (omega arith) in
-      (one, subst (AllZip R old) (sym (append-nil behind) ∙ ap (λ l. behind ++ l) (sym none)) more)
+      (one, subst (AllZip R old) (sym (append-nil later) ∙ ap (λ l. later ++ l) (sym none)) more)
 
   -- where a call failed, the end stays as it is
   pub stays_after_error : {T E : Type 0} (result : Result T E) (P : S → S → Type 0) (ends : List S) (t : ℕ) → t < length ends → IsErr result

@@ -9,17 +9,13 @@ use Rattle.bsc_carrier.specs.Stream.{Splits, Assembles, ended, goes_on, complete
 use Rattle.bsc_carrier.specs.declared.error.CarrierError.TheVariants.{Length}
 use Rattle.bsc_carrier.proofs.Fronts.{stated_length-record, not_whole_and_partial, not_whole_and_wrong, IsPartial-nil, HasWrongLength-append}
 
--- what follows a record's two octets of length
-after_length : (octets rest : List ℕ) → drop 2 (socket_record octets ++ rest) ≡ octets ++ rest
-after_length octets rest = refl
-
 -- a record at the front of a stream, and what follows it, are determined
 one_record : (a b x y : List ℕ) → IsCarried a → IsCarried b → socket_record a ++ x ≡ socket_record b ++ y → (a ≡ b) × (x ≡ y)
 one_record a b x y carried_a carried_b same =
     let lengths : length a ≡ length b = sym (stated_length-record a x carried_a) ∙ ap stated_length same ∙ stated_length-record b y carried_b in
-    let behind : a ++ x ≡ b ++ y = ap (drop 2) same in (
-      sym (take-append_seam a x) ∙ ap₂ take lengths behind ∙ take-append_seam b y,
-      sym (drop-append_seam a x) ∙ ap₂ drop lengths behind ∙ drop-append_seam b y,
+    let later : a ++ x ≡ b ++ y = ap (drop 2) same in (
+      sym (take-append_seam a x) ∙ ap₂ take lengths later ∙ take-append_seam b y,
+      sym (drop-append_seam a x) ∙ ap₂ drop lengths later ∙ drop-append_seam b y,
     )
 
 begins : (octets more rest : List ℕ) → IsCarried octets → BeginsRecord ((socket_record octets ++ more) ++ rest)
@@ -52,11 +48,11 @@ splits_when_fed {old = old} {new = new} partial (completes {mid = mid} {piece = 
     let (split, left) = splits_when_fed none more in
     let record_of = socket_record mid.complete in
     let rest = drop taken piece ++ concat pieces in
-    let behind : rest ≡ flat_map socket_record records ++ new.begun = ap (λ l. l ++ rest) (sym fed.3) ∙ split.whole in
+    let later : rest ≡ flat_map socket_record records ++ new.begun = ap (λ l. l ++ rest) (sym fed.3) ∙ split.whole in
     let front : old.begun ++ piece ≡ record_of ++ drop taken piece =
     ap (λ l. old.begun ++ l) (sym (take-append-drop taken piece)) ∙ sym (append_assoc old.begun (take taken piece) (drop taken piece)) ∙ ap (λ l. l ++ drop taken piece) fed.2 in
     let whole = sym (append_assoc old.begun piece (concat pieces)) ∙ ap (λ l. l ++ concat pieces) front ∙ append_assoc record_of (drop taken piece) (concat pieces)
-    ∙ ap (λ l. record_of ++ l) behind ∙ sym (append_assoc record_of (flat_map socket_record records) new.begun) in
+    ∙ ap (λ l. record_of ++ l) later ∙ sym (append_assoc record_of (flat_map socket_record records) new.begun) in
     (record { whole = whole; carried = (fed.1, split.carried); rest_begins_none = split.rest_begins_none }, left)
 
 -- where `Length` is answered, the stream has a wrong length after its records

@@ -1,9 +1,11 @@
 -- What an assembler holds, and what one piece of the stream does to it (own).
-use Rattle.std.specs.Prelude.{◌≡◌, ℕ, ◌+◌, ◌-◌, ◌≤◌, ◌⊎◌, Bool, true, false, ◌&&◌, nat_lt, nat_le, if◌then◌else◌, List, [], ◌++◌, length, take, drop, Result, Ok, Err}
+use Rattle.std.specs.Prelude.{◌≡◌, ℕ, ◌+◌, ◌-◌, ◌≤◌, ◌⊎◌, Bool, true, false, ◌&&◌, nat_lt, nat_le}
+use Rattle.std.specs.Prelude.{if◌then◌else◌, List, [], ◌++◌, length, take, drop, Result, Ok, Err}
 use Rattle.bsc_carrier.specs.Record.{IsCarried, socket_record}
 use Rattle.bsc_carrier.specs.Front.{stated_length, IsPartial, HasWrongLength}
 use Rattle.bsc_carrier.specs.declared.error.CarrierError.{CarrierError}
-use Rattle.bsc_carrier.specs.declared.error.CarrierError.TheVariants.{Length, Short, Device, Unequal}
+use Rattle.bsc_carrier.specs.declared.error.CarrierError.TheVariants.{Length, Short, Device}
+use Rattle.bsc_carrier.specs.declared.error.CarrierError.TheVariants.{Unequal}
 
 -- the octets that came since the last record was complete, and what that record carried
 pub record AssemblerValue : Type 0 where
@@ -19,14 +21,18 @@ IsBegun begun = IsPartial begun ⊎ (HasWrongLength begun × (length begun ≡ 2
 abbrev pub wanted_after : List ℕ → ℕ
 wanted_after begun =
     if nat_lt (length begun) 2 then 2 - length begun
-    else (if nat_le 1 (stated_length begun) && nat_le (stated_length begun) 2048 then 2 + stated_length begun - length begun else 0)
+    else (if nat_le 1 (stated_length begun) && nat_le (stated_length begun) 2048
+    then 2 + stated_length begun - length begun
+    else 0)
 
 -- what came grows by the octets that were taken of the piece: they end the record, or are all of
 -- the piece and end nothing, or a wrong length came
 abbrev pub Gathers : List ℕ → List ℕ → Result (ℕ × Bool) CarrierError → List ℕ → Type 0
 Gathers old piece (Ok (taken, true)) new =
-    (taken ≤ length piece) × (new ≡ old ++ take taken piece) × IsCarried (drop 2 new) × (new ≡ socket_record (drop 2 new))
-Gathers old piece (Ok (taken, false)) new = (taken ≡ length piece) × (new ≡ old ++ piece) × IsPartial new
+    (taken ≤ length piece) × (new ≡ old ++ take taken piece) × IsCarried (drop 2 new)
+    × (new ≡ socket_record (drop 2 new))
+Gathers old piece (Ok (taken, false)) new = (taken ≡ length piece) × (new ≡ old ++ piece)
+    × IsPartial new
 Gathers old piece (Err Length) new = (new ≡ take 2 (old ++ piece)) × HasWrongLength new
 Gathers old piece (Err Short) new = ⊥
 Gathers old piece (Err Device) new = ⊥
@@ -36,13 +42,16 @@ Gathers old piece (Err Unequal) new = ⊥
 abbrev pub Fed : AssemblerValue → List ℕ → Result (ℕ × Bool) CarrierError → AssemblerValue → Type 0
 -- the octets taken end a record
 Fed old piece (Ok (taken, true)) new =
-    (taken ≤ length piece) × IsCarried new.complete × (old.begun ++ take taken piece ≡ socket_record new.complete) × (new.begun ≡ [])
+    (taken ≤ length piece) × IsCarried new.complete
+    × (old.begun ++ take taken piece ≡ socket_record new.complete) × (new.begun ≡ [])
 -- the whole piece is taken, and still no record is whole
 Fed old piece (Ok (taken, false)) new =
-    (taken ≡ length piece) × IsPartial new.begun × (new.begun ≡ old.begun ++ piece) × (new.complete ≡ old.complete)
+    (taken ≡ length piece) × IsPartial new.begun × (new.begun ≡ old.begun ++ piece)
+    × (new.complete ≡ old.complete)
 -- a wrong length came, now or earlier
 Fed old piece (Err Length) new =
-    HasWrongLength new.begun × (new.begun ≡ take 2 (old.begun ++ piece)) × (new.complete ≡ old.complete)
+    HasWrongLength new.begun × (new.begun ≡ take 2 (old.begun ++ piece))
+    × (new.complete ≡ old.complete)
 Fed old piece (Err Short) new = ⊥
 Fed old piece (Err Device) new = ⊥
 Fed old piece (Err Unequal) new = ⊥

@@ -1,11 +1,13 @@
 -- The ends of some connections that one process holds, and what calls do to them (own).
-use Rattle.std.specs.Prelude.{⊤, ◌≡◌, ◌≢◌, ℕ, List, ◌++◌, Option, Some, Result, Err, IfSome, IsOk, slice_get, slice_set, Any}
+use Rattle.std.specs.Prelude.{⊤, ◌≡◌, ◌≢◌, ℕ, List, ◌++◌, Option, Some, Result, Err, IfSome, IsOk}
+use Rattle.std.specs.Prelude.{slice_get, slice_set, Any}
 use Rattle.std.specs.Io.KnownBytes.{Appends, Consumes}
 use Rattle.bsc_carrier.specs.Record.{IsCarried, socket_record}
 use Rattle.bsc_carrier.specs.Front.{BeginsRecord, IsPartial, HasWrongLength}
 use Rattle.bsc_carrier.specs.KnownOctets.{IsExactly}
 use Rattle.bsc_carrier.specs.declared.error.CarrierError.{CarrierError}
-use Rattle.bsc_carrier.specs.declared.error.CarrierError.TheVariants.{Length, Short, Device, Unequal}
+use Rattle.bsc_carrier.specs.declared.error.CarrierError.TheVariants.{Length, Short, Device}
+use Rattle.bsc_carrier.specs.declared.error.CarrierError.TheVariants.{Unequal}
 
 -- the control station's ends, the terminals' ends, and the error that came first
 pub record CableValue (S : Type 0) : Type 0 where
@@ -15,19 +17,23 @@ pub record CableValue (S : Type 0) : Type 0 where
 
 -- an end took the record of these octets
 abbrev pub Takes : {S : Type 0} → (S → Option (List ℕ)) → List ℕ → S → S → Type 0
-Takes contents octets before after = Appends (contents before) (contents after) (socket_record octets)
+Takes contents octets before after =
+    Appends (contents before) (contents after) (socket_record octets)
 
 -- an end gave the record of these octets
 abbrev pub Gives : {S : Type 0} → (S → Option (List ℕ)) → List ℕ → S → S → Type 0
-Gives remaining octets before after = Consumes (remaining before) (remaining after) (socket_record octets)
+Gives remaining octets before after =
+    Consumes (remaining before) (remaining after) (socket_record octets)
 
 -- the end at this place goes from one state to another so, and all others stay as they were
 abbrev pub ChangesAt : {S : Type 0} → ℕ → (S → S → Type 0) → List S → List S → Type 0
-ChangesAt {S} place P old new = (before : S) × (after : S) × (slice_get old place ≡ Some before) × (new ≡ slice_set old place after) × P before after
+ChangesAt {S} place P old new = (before : S) × (after : S) × (slice_get old place ≡ Some before)
+    × (new ≡ slice_set old place after) × P before after
 
 -- what a call answers that reads one record at an end which has this left: each answer comes
 -- exactly where it is due
-pub record AnswersFor {T : Type 0} (result : Result T CarrierError) (stream : Option (List ℕ)) : Type 0 where
+pub record AnswersFor {T : Type 0} (result : Result T CarrierError)
+    (stream : Option (List ℕ)) : Type 0 where
   pub whole : IsExactly result (IsOk result) BeginsRecord stream
   pub wrong : IsExactly result (result ≡ Err Length) HasWrongLength stream
   pub short : IsExactly result (result ≡ Err Short) IsPartial stream
@@ -35,11 +41,13 @@ pub record AnswersFor {T : Type 0} (result : Result T CarrierError) (stream : Op
 
 -- the stream, where it is told, begins with the record of these octets
 abbrev pub BeginsWith : List ℕ → Option (List ℕ) → Type 0
-BeginsWith octets stream = IsCarried octets × IfSome stream (λ all. (rest : List ℕ) × (all ≡ socket_record octets ++ rest))
+BeginsWith octets stream = IsCarried octets
+    × IfSome stream (λ all. (rest : List ℕ) × (all ≡ socket_record octets ++ rest))
 
 -- one of these ends begins with the record of other octets
 abbrev pub BeginsOther : {S : Type 0} → (S → Option (List ℕ)) → List ℕ → List S → Type 0
-BeginsOther remaining octets ends = (other : List ℕ) × (octets ≢ other) × Any (λ end. BeginsWith other (remaining end)) ends
+BeginsOther remaining octets ends = (other : List ℕ) × (octets ≢ other)
+    × Any (λ end. BeginsWith other (remaining end)) ends
 
 -- why a call that reads one record at each of these ends answers an error, as far as they tell what
 -- they have left
@@ -49,4 +57,5 @@ Explains remaining Short ends = Any (λ end. IfSome (remaining end) IsPartial) e
 Explains remaining Device ends = ⊤
 -- two ends begin with different records
 Explains remaining Unequal ends =
-    (octets : List ℕ) × Any (λ end. BeginsWith octets (remaining end)) ends × BeginsOther remaining octets ends
+    (octets : List ℕ) × Any (λ end. BeginsWith octets (remaining end)) ends
+    × BeginsOther remaining octets ends

@@ -9,12 +9,14 @@ stated_length stream = from_be_bytes w16 (take 2 stream)
 
 -- the stream begins with a whole record
 abbrev pub BeginsRecord : List ℕ → Type 0
-BeginsRecord stream = (octets : List ℕ) × (rest : List ℕ) × IsCarried octets × (stream ≡ socket_record octets ++ rest)
+BeginsRecord stream = (octets : List ℕ) × (rest : List ℕ) × IsCarried octets
+    × (stream ≡ socket_record octets ++ rest)
 
 -- less than a record: not both octets of length, or a length that a record may have and fewer
 -- octets than it says
 abbrev pub IsPartial : List ℕ → Type 0
-IsPartial stream = 2 ≤ length stream → IsLength (stated_length stream) × (length stream < 2 + stated_length stream)
+IsPartial stream = 2 ≤ length stream → IsLength (stated_length stream)
+    × (length stream < 2 + stated_length stream)
 
 -- a length of 0 or above 2,048 stands where a record begins
 abbrev pub HasWrongLength : List ℕ → Type 0

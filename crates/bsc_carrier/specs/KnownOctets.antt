@@ -1,10 +1,12 @@
 -- What calls do to a reader or a writer that tells its octets (own).
-use Rattle.std.specs.Prelude.{◌≡◌, ◌≢◌, ℕ, ◌<◌, ◌↔◌, ⊤, Bool, true, false, List, length, take, Option, Some, None, Result, Ok, Err}
+use Rattle.std.specs.Prelude.{◌≡◌, ◌≢◌, ℕ, ◌<◌, ◌↔◌, ⊤, Bool, true, false, List, length, take}
+use Rattle.std.specs.Prelude.{Option, Some, None, Result, Ok, Err}
 use Rattle.std.specs.Io.KnownBytes.{Appends, Consumes, Keeps, IsAtEnd}
 use Rattle.bsc_carrier.specs.Record.{IsCarried, socket_record}
 use Rattle.bsc_carrier.specs.Front.{IsPartial, EndsWithin, HasWrongLength}
 use Rattle.bsc_carrier.specs.declared.error.CarrierError.{CarrierError}
-use Rattle.bsc_carrier.specs.declared.error.CarrierError.TheVariants.{Length, Short, Device, Unequal}
+use Rattle.bsc_carrier.specs.declared.error.CarrierError.TheVariants.{Length, Short, Device}
+use Rattle.bsc_carrier.specs.declared.error.CarrierError.TheVariants.{Unequal}
 
 -- the writer holds some octets more: the beginning of these, and not all of them
 abbrev pub AppendsPart : Option (List ℕ) → Option (List ℕ) → List ℕ → Type 0
@@ -15,13 +17,15 @@ abbrev pub LosesSome : (List ℕ → Type 0) → Option (List ℕ) → Option (L
 LosesSome P old new = (front : List ℕ) × P front × Consumes old new front
 
 -- what a read of one record answers, and what it takes from the reader
-abbrev pub ReadsRecord : Option (List ℕ) → Result Bool CarrierError → List ℕ → Option (List ℕ) → Type 0
+abbrev pub ReadsRecord : Option (List ℕ) → Result Bool CarrierError → List ℕ → Option (List ℕ)
+    → Type 0
 -- the record of these octets, and just that
 ReadsRecord old (Ok true) octets new = IsCarried octets × Consumes old new (socket_record octets)
 -- nothing: the input has ended
 ReadsRecord old (Ok false) octets new = IsAtEnd old × Keeps old new
 -- a wrong length
-ReadsRecord old (Err Length) octets new = LosesSome (λ front. HasWrongLength front × (length front ≡ 2)) old new
+ReadsRecord old (Err Length) octets new =
+    LosesSome (λ front. HasWrongLength front × (length front ≡ 2)) old new
 -- all that was left, which is less than a record
 ReadsRecord old (Err Short) octets new = LosesSome EndsWithin old new × IsAtEnd new
 -- less than a record, and then a read failed
@@ -29,6 +33,7 @@ ReadsRecord old (Err Device) octets new = LosesSome IsPartial old new
 ReadsRecord old (Err Unequal) octets new = ⊥
 
 -- unless a read or a write failed, a call answers so exactly where what the reader had left is so
-abbrev pub IsExactly : {T : Type 0} → Result T CarrierError → Type 0 → (List ℕ → Type 0) → Option (List ℕ) → Type 0
+abbrev pub IsExactly : {T : Type 0} → Result T CarrierError → Type 0 → (List ℕ → Type 0)
+    → Option (List ℕ) → Type 0
 IsExactly result answer P None = ⊤
 IsExactly result answer P (Some stream) = result ≢ Err Device → (answer ↔ P stream)

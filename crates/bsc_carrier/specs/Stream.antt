@@ -16,9 +16,11 @@ pub record Splits (stream : List ℕ) (records : List (List ℕ)) (rest : List �
 -- feed leaves octets of its piece, they are the next piece.
 pub data Assembles : AssemblerValue → List (List ℕ) → List (List ℕ) → AssemblerValue → Type 0 where
   ended : {held : AssemblerValue} → Assembles held [] [] held
-  goes_on : {old mid new : AssemblerValue} {piece : List ℕ} {pieces records : List (List ℕ)} (taken : ℕ)
+  goes_on : {old mid new : AssemblerValue} {piece : List ℕ} {pieces records : List (List ℕ)}
+      (taken : ℕ)
       → Fed old piece (Ok (taken, false)) mid → Assembles mid pieces records new
       → Assembles old (piece ∷ pieces) records new
-  completes : {old mid new : AssemblerValue} {piece : List ℕ} {pieces records : List (List ℕ)} (taken : ℕ)
+  completes : {old mid new : AssemblerValue} {piece : List ℕ} {pieces records : List (List ℕ)}
+      (taken : ℕ)
       → Fed old piece (Ok (taken, true)) mid → Assembles mid (drop taken piece ∷ pieces) records new
       → Assembles old (piece ∷ pieces) (mid.complete ∷ records) new

@@ -1,7 +1,8 @@
 //! Records out of pieces: a stream gives octets in pieces of its own choosing, and whoever reads it
 //! wants records.
 
-ghost use Rattle.std.specs.Prelude.{◌≡◌, ◌+◌, ◌<◌, ◌≤◌, ◌↔◌, [], ◌++◌, min, length, take, IsTrue, MatchBool, IfOk, IsErrOf};
+ghost use Rattle.std.specs.Prelude.{◌≡◌, ◌+◌, ◌<◌, ◌≤◌, ◌↔◌, [], ◌++◌, min, length, take, IsTrue};
+ghost use Rattle.std.specs.Prelude.{MatchBool, IfOk, IsErrOf};
 ghost use Rattle.std.specs.Int.{to_be_bytes, w16};
 ghost use Rattle.bsc_carrier.specs.Record.{IsLength, IsWrongLength};
 ghost use Rattle.bsc_carrier.specs.Front.{stated_length, HasWrongLength};

@@ -1,11 +1,13 @@
 //! A cable: one process holds both ends of each connection, and carries a transmission down to the
 //! terminals or up from one of them.
 
-ghost use Rattle.std.specs.Prelude.{◌≡◌, ◌<◌, ◌≤◌, ℕ, length, None, Some, Err, OnOk, OnErr, IfErr, IfSome, IsErrOf, Any, slice_get};
+ghost use Rattle.std.specs.Prelude.{◌≡◌, ◌<◌, ◌≤◌, ℕ, length, None, Some, Err, OnOk, OnErr, IfErr};
+ghost use Rattle.std.specs.Prelude.{IfSome, IsErrOf, Any, slice_get};
 ghost use Rattle.std.specs.List.{AllZip};
 ghost use Rattle.bsc_carrier.specs.Record.{IsCarried};
 ghost use Rattle.bsc_carrier.specs.Front.{IsPartial, HasWrongLength};
-ghost use Rattle.bsc_carrier.specs.Cable.{Takes, Gives, AnswersFor, ChangesAt, BeginsWith, BeginsOther, Explains};
+ghost use Rattle.bsc_carrier.specs.Cable.{Takes, Gives, AnswersFor, ChangesAt, BeginsWith};
+ghost use Rattle.bsc_carrier.specs.Cable.{BeginsOther, Explains};
 ghost use Rattle.std.specs.Result.{result_err};
 
 use crate::error::{CarrierError, Octets};

@@ -1,5 +1,6 @@
 //! A text that is cut at an octet.
-ghost use Rattle.std.specs.Prelude.{◌≡◌, ◌==◌, ◌∷◌, ◌+◌, ◌≤◌, [], length, None, IfSome, option_map, position};
+ghost use Rattle.std.specs.Prelude.{◌≡◌, ◌==◌, ◌∷◌, ◌+◌, ◌≤◌, [], length, None, IfSome, option_map};
+ghost use Rattle.std.specs.Prelude.{position};
 ghost use Rattle.bsc_input.specs.Parts.{after_octet, before_octet, parts_at};
 
 /// The place of the first octet of this value.

@@ -1,10 +1,11 @@
 -- What a station that is attended does: what happens on its connections, step by step (own).
-use Rattle.std.specs.Prelude.{◌≡◌, ◌≢◌, ◌⊎◌, ℕ, Bool, true, List, [], ◌∷◌, ◌++◌, position, Option, None, Some, is_none, Result, Ok, Err, slice_get, slice_set}
+use Rattle.std.specs.Prelude.{◌≡◌, ◌≢◌, ◌⊎◌, ℕ, Bool, true, List, [], ◌∷◌, ◌++◌, position, Option}
+use Rattle.std.specs.Prelude.{None, Some, is_none, Result, Ok, Err, slice_get, slice_set}
 use Rattle.std.specs.List.{AllZip}
 use Rattle.bsc_frame.specs.declared.message.Message.{Message}
 use Rattle.bsc_frame.specs.declared.message.Heard.{Heard}
 use Rattle.bsc_frame.specs.Wire.{wire}
-use Rattle.bsc_text.specs.Station.{IsHeardAs}
+use Rattle.bsc_frame.specs.Spells.{IsHeardAs}
 use Rattle.bsc_carrier.specs.declared.error.CarrierError.{CarrierError}
 use Rattle.bsc_live.specs.declared.awaited.Awaited.{Awaited}
 use Rattle.bsc_live.specs.declared.awaited.Awaited.TheVariants.{Octets, Newcomer, TimeOut}
@@ -43,7 +44,8 @@ wait_for None = wait.TimeOut
 
 module _ {R W F : Type 0} (contents : W → Option (List ℕ)) (framed : List ℕ → List ℕ) where
   -- what is sent goes out on each connection that is open
-  abbrev pub SendsAll : Option Message → List (ConnectionValue R W F) → List (ConnectionValue R W F) → Type 0
+  abbrev pub SendsAll : Option Message → List (ConnectionValue R W F) → List (ConnectionValue R W F)
+      → Type 0
   SendsAll None old new = new ≡ old
   SendsAll (Some m) old new = AllZip (Sends contents framed (wire m)) old new
 
@@ -90,7 +92,8 @@ module _ {S R W F : Type 0}
   abbrev pub ReadsAt : ℕ → Taken → S → S → List (ConnectionValue R W F)
       → List (ConnectionValue R W F) → List Happening → Type 0
   ReadsAt place Whole old new before after happened =
-      (between : List (ConnectionValue R W F)) × IsTakenAt remaining feeds place before Whole between
+      (between : List (ConnectionValue R W F))
+      × IsTakenAt remaining feeds place before Whole between
       × HearsLast contents framed hears last place old new between after happened
   ReadsAt place taken old new before after happened =
       IsTakenAt remaining feeds place before taken after × (new ≡ old) × (happened ≡ [])
@@ -99,7 +102,8 @@ module _ {S R W F : Type 0}
   pub record HearsAtGap (place : ℕ) (old new : S) (before after : List (ConnectionValue R W F))
       (happened : List Happening) : Type 0 where
     pub between : List (ConnectionValue R W F)
-    pub ended : ChangesAt place (λ b a. (a.ends ≡ b.ends) × ends b.framing true a.framing) before between
+    pub ended : ChangesAt place
+        (λ b a. (a.ends ≡ b.ends) × ends b.framing true a.framing) before between
     pub heard : HearsLast contents framed hears last place old new between after happened
 
   -- the time passed: that ends a transmission that is begun, where there is one, and is a silence
@@ -138,7 +142,8 @@ module _ {S R W F : Type 0}
         (new : Attended S (ConnectionValue R W F) T) : Type 0 where
       pub awaited : Awaited
       pub waiter : T
-      pub waited : waits old.waiter (wait_for (first_awaiting awaits old.connections)) (Ok awaited) waiter
+      pub waited : waits old.waiter (wait_for (first_awaiting awaits old.connections))
+          (Ok awaited) waiter
       pub does : Does awaited old.station new.station old.connections new.connections happened
 
     -- one step; or nothing was done, since the waiter failed

@@ -1,9 +1,11 @@
 -- What a read and a transmission do to one connection (own).
-use Rattle.std.specs.Prelude.{⊤, ◌≡◌, ◌⊎◌, ℕ, Bool, true, false, List, length, Option, None, Some, Result, Ok}
+use Rattle.std.specs.Prelude.{⊤, ◌≡◌, ◌⊎◌, ℕ, Bool, true, false, List, length, Option, None, Some}
+use Rattle.std.specs.Prelude.{Result, Ok}
 use Rattle.std.specs.Io.KnownBytes.{Appends, Consumes, Keeps}
 use Rattle.bsc_carrier.specs.declared.error.CarrierError.{CarrierError}
 use Rattle.bsc_live.specs.declared.connection.Taken.{Taken}
-use Rattle.bsc_live.specs.declared.connection.Taken.TheVariants.{Nothing, Interrupted, Part, Whole, Closed}
+use Rattle.bsc_live.specs.declared.connection.Taken.TheVariants.{Nothing, Interrupted, Part, Whole}
+use Rattle.bsc_live.specs.declared.connection.Taken.TheVariants.{Closed}
 
 -- the two directions of a connection while it is open, and what its framing holds
 pub record ConnectionValue (R W F : Type 0) : Type 0 where

@@ -1,5 +1,6 @@
 -- What is kept of octets that arrive without a gap (own).
-use Rattle.std.specs.Prelude.{◌≡◌, ◌≢◌, ℕ, ◌+◌, ◌<◌, ◌≤◌, Bool, true, false, List, [], ◌∷◌, ◌++◌, length, take, Result, Ok, Err}
+use Rattle.std.specs.Prelude.{◌≡◌, ◌≢◌, ℕ, ◌+◌, ◌<◌, ◌≤◌, Bool, true, false, List, [], ◌∷◌, ◌++◌}
+use Rattle.std.specs.Prelude.{length, take, Result, Ok, Err}
 use Rattle.std.specs.List.{concat}
 use Rattle.bsc_frame.specs.Spells.{IsNoise}
 use Rattle.bsc_carrier.specs.declared.error.CarrierError.{CarrierError}
@@ -34,7 +35,8 @@ Gathers old piece (Err _) new = ⊥
 
 -- a gap ends the transmission that is begun, and nothing else
 abbrev pub EndsAtGap : GapsValue → Bool → GapsValue → Type 0
-EndsAtGap old true new = (old.begun ≢ []) × (new ≡ record { begun = []; arrived = 0; complete = old.begun })
+EndsAtGap old true new = (old.begun ≢ [])
+    × (new ≡ record { begun = []; arrived = 0; complete = old.begun })
 EndsAtGap old false new = (old.begun ≡ []) × (new ≡ old)
 
 -- there is no element

@@ -1,10 +1,12 @@
 //! A station is attended: what happens on its connections is done, one thing after another.
 
-ghost use Rattle.std.specs.Prelude.{◌≡◌, ◌<◌, length, List, true, false, is_none, IfSome, IfOk, OnOk};
+ghost use Rattle.std.specs.Prelude.{◌≡◌, ◌<◌, length, List, true, false, is_none, IfSome, IfOk};
+ghost use Rattle.std.specs.Prelude.{OnOk};
 ghost use Rattle.std.specs.List.{AllZip};
 ghost use Rattle.bsc_live.specs.Connections.{Sends};
 ghost use Rattle.bsc_live.specs.Histories.{Happening};
-ghost use Rattle.bsc_live.specs.Attending.{Attends, StepsOrFails, Does, HearsLast, IsSilent, IsTakenAt, first_awaiting, first_closed, wait_for};
+ghost use Rattle.bsc_live.specs.Attending.{Attends, StepsOrFails, Does, HearsLast, IsSilent};
+ghost use Rattle.bsc_live.specs.Attending.{IsTakenAt, first_awaiting, first_closed, wait_for};
 
 use crate::{Awaited, Connection, Framing, LiveError, Monitor, Note, Taken, Wait, Waiter};
 use bsc_frame::Wire;
@@ -31,7 +33,8 @@ pub fn attend<
     ensures attends { (history : List Happening)
         × Attends S.hears S.acts R.remaining W.contents F.starts F.feeds F.ends F.awaits F.last
         F.framed T.waits
-        (record { station = station.old; connections = connections.old; waiter = waiter.old }) history
+        (record { station = station.old; connections = connections.old; waiter = waiter.old })
+        history
         (record { station = station.new; connections = connections.new; waiter = waiter.new }) }
     ensures ended { OnOk result (M.has_ended monitor.new ≡ true) }
 {
@@ -59,7 +62,8 @@ fn step<
 ) -> Result<bool, LiveError>
     ensures steps { StepsOrFails S.hears S.acts R.remaining W.contents F.starts F.feeds F.ends
         F.awaits F.last F.framed T.waits
-        (record { station = station.old; connections = connections.old; waiter = waiter.old }) result
+        (record { station = station.old; connections = connections.old; waiter = waiter.old })
+        result
         (record { station = station.new; connections = connections.new; waiter = waiter.new }) }
     ensures ended { IfOk result (λ goes_on. goes_on ≡ false → M.has_ended monitor.new ≡ true) }
 {
@@ -221,8 +225,8 @@ fn note_sent<S: Station, M: Monitor<S>>(
     Ok(true)
 }
 
-/// The time has passed and nothing arrived: that ends a transmission where one is begun that ends at
-/// a gap, and else it is a silence.
+/// The time has passed and nothing arrived: that ends a transmission where one is begun that ends
+/// at a gap, and else it is a silence.
 fn time_out<S: Station, R: Read + Drop, W: Write + Drop, F: Framing + Drop, M: Monitor<S>>(
     station: &mut S,
     connections: &mut [Connection<R, W, F>],

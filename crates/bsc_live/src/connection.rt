@@ -1,7 +1,8 @@
 //! One connection of a station.
 
 ghost use Rattle.std.specs.Prelude.{◌≡◌, ◌≤◌, None, Some, not, is_none, length};
-ghost use Rattle.bsc_live.specs.Connections.{Takes, Sends, Reads, IsClosed, IsClosedOrNothing, GivesNoOctets};
+ghost use Rattle.bsc_live.specs.Connections.{Takes, Sends, Reads, IsClosed, IsClosedOrNothing};
+ghost use Rattle.bsc_live.specs.Connections.{GivesNoOctets};
 
 use crate::Framing;
 use bsc_carrier::CarrierError;
@@ -114,7 +115,8 @@ impl<R: Read + Drop, W: Write + Drop, F: Framing + Drop> Connection<R, W, F> {
         taken
     }
 
-    /// What a read of a closed connection says: that a write failed, where no read has told that yet.
+    /// What a read of a closed connection says: that a write failed, where no read has told that
+    /// yet.
     fn take_closed(&mut self) -> Taken
         requires { self.old.ends ≡ None }
         ensures taken { IsClosedOrNothing result }

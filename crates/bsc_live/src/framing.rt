@@ -43,7 +43,8 @@ pub trait Framing {
     /// how many it took, and whether they ended a transmission.
     fn feed(&mut self, piece: &[u8]) -> Result<(usize, bool), CarrierError>
         ensures feeds { feeds self.old piece.now result self.new }
-        ensures whole { length piece.now ≤ room self.old → IfOk result (λ r. r.0 ≡ length piece.now) };
+        ensures whole { length piece.now ≤ room self.old
+            → IfOk result (λ r. r.0 ≡ length piece.now) };
 
     /// Nothing arrived for a gap. True where that ended a transmission.
     fn gap(&mut self) -> bool
@@ -63,5 +64,6 @@ pub trait Framing {
 
     /// Writes a transmission.
     fn write<W: Write>(writer: &mut W, octets: &[u8]) -> Result<(), CarrierError>
-        ensures { OnOk result (Appends (W.contents writer.old) (W.contents writer.new) (framed octets.now)) };
+        ensures { OnOk result
+            (Appends (W.contents writer.old) (W.contents writer.new) (framed octets.now)) };
 }

@@ -32,7 +32,11 @@ impl Model for Gaps {
 
     ghost Value = { GapsValue };
 
-    ghost view = { λ g. record { begun = g.begun.items; arrived = g.arrived; complete = g.complete.items } };
+    ghost view = { λ g. record {
+      begun = g.begun.items;
+      arrived = g.arrived;
+      complete = g.complete.items;
+    } };
 
     ghost invariant = { λ g. g.arrived ≤ most_without_gap };
 }

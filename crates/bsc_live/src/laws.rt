@@ -3,7 +3,8 @@
 
 ghost use Rattle.std.specs.Prelude.{◌≡◌, ℕ, ◌+◌, ◌≤◌, Bool, true, [], List, length};
 ghost use Rattle.std.specs.List.{concat};
-ghost use Rattle.bsc_live.specs.Framings.{GapsValue, GathersAll, ArriveBetweenGaps, EndsAll, most_without_gap};
+ghost use Rattle.bsc_live.specs.Framings.{GapsValue, GathersAll, ArriveBetweenGaps, EndsAll};
+ghost use Rattle.bsc_live.specs.Framings.{most_without_gap};
 ghost use Rattle.bsc_live.specs.Silences.{TellsEachSilence};
 ghost use Rattle.bsc_live.specs.declared.socket_records.SocketRecords.{SocketRecords as RecordsValue};
 ghost use Rattle.bsc_live.specs.Streams.{CarriesHistory, GivesRecords, GivesByGaps, SplitsAll};

@@ -40,8 +40,8 @@ pub trait Monitor<S> {
     /// Whether the station is to be attended no longer.
     ghost has_ended: { Self → Bool };
 
-    /// Takes note. False where the station is to be attended no longer, and then also at every later
-    /// note.
+    /// Takes note. False where the station is to be attended no longer, and then also at every
+    /// later note.
     fn note(&mut self, station: &S, note: Note<'_>) -> Result<bool, LiveError>
         ensures answer { IfOk result (λ goes_on. goes_on ≡ not (has_ended self.new)) }
         ensures kept { has_ended self.old ≡ true → has_ended self.new ≡ true };

@@ -1,5 +1,5 @@
-//! A cable whose connections are TCP connections of the loopback address, both ends in this process.
-//! It is a crate of its own since all else of the line does without sockets.
+//! A cable whose connections are TCP connections of the loopback address, both ends in this
+//! process. It is a crate of its own since all else of the line does without sockets.
 #![tactic(auto)]
 
 ghost use Rattle.std.specs.Prelude.{◌≡◌, ◌≤◌, length, IfOk, None};
@@ -53,9 +53,10 @@ impl<T: Drop> From<AllocFailed<T>> for LoopbackError {
     }
 }
 
-/// A cable of this many new connections over the loopback address. Each end sends its octets at once,
-/// and waits for `TIME_OUT_SECONDS` at most. `Sockets` comes where the system refuses a socket, as
-/// where too many files are open, or where the peer of an accepted connection is not our own end.
+/// A cable of this many new connections over the loopback address. Each end sends its octets at
+/// once, and waits for `TIME_OUT_SECONDS` at most. `Sockets` comes where the system refuses a
+/// socket, as where too many files are open, or where the peer of an accepted connection is not our
+/// own end.
 pub fn connect<R: Net, A: Allocator + Copy>(
     rt: &R,
     alloc: A,

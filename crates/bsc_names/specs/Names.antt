@@ -1,35 +1,30 @@
 -- What is printed for a transmission: its name, and for a text a line for each unit. All of it is
 -- own.
-use Rattle.std.specs.Prelude.{ℕ, Bool, ◌==◌, List, [], ◌∷◌, ◌++◌, length, Option, codes, if◌then◌else◌}
+use Rattle.std.specs.Prelude.{ℕ, Bool, ◌==◌, List, [], ◌∷◌, ◌++◌, length, Option, codes}
+use Rattle.std.specs.Prelude.{if◌then◌else◌}
 use Rattle.std.specs.List.{flat_map}
 use Rattle.std.specs.Fmt.{decimal}
 use Rattle.std.specs.Io.KnownBytes.{Appends}
 use Rattle.hex.specs.Hex.{encode_lower}
-use Rattle.bsc_frame.specs.Spells.{Spells, IsFailed, IsNoise}
+use Rattle.bsc_frame.specs.Spells.{IsHeardAs}
 use Rattle.bsc_frame.specs.Texts.{TextUnit}
 use Rattle.bsc_frame.specs.declared.text.End.{End}
 use Rattle.bsc_frame.specs.declared.text.End.TheVariants.{Etb, Etx}
 use Rattle.bsc_frame.specs.declared.message.Message.{Message}
-use Rattle.bsc_frame.specs.declared.message.Message.TheVariants.{Eot, Call, Enq, Ack0, Ack1, Nak, Wack, Rvi, Text}
+use Rattle.bsc_frame.specs.declared.message.Message.TheVariants.{Eot, Call, Enq, Ack0, Ack1, Nak}
+use Rattle.bsc_frame.specs.declared.message.Message.TheVariants.{Wack, Rvi, Text}
 use Rattle.bsc_frame.specs.declared.message.Heard.{Heard}
 use Rattle.bsc_frame.specs.declared.message.Heard.TheVariants.{Whole, Failed, Noise}
 use Rattle.bsc_names.specs.declared.printed.Detail.{Detail}
 use Rattle.bsc_names.specs.declared.printed.Detail.TheVariants.{Name, Units}
-
--- What octets are heard as: the message that they spell, a text whose check or form failed, or noise.
--- One of them holds of all octets, and no octets spell two messages.
-abbrev pub IsHeard : List ℕ → Heard → Type 0
-IsHeard octets (Whole message) = Spells octets message
-IsHeard octets Failed = IsFailed octets
-IsHeard octets Noise = IsNoise octets
 
 -- The character that ends a text.
 abbrev pub end_name : End → List ℕ
 end_name Etb = codes "ETB"
 end_name Etx = codes "ETX"
 
--- A control sequence by its name, a call with its address, a text with its end and the number of its
--- units.
+-- A control sequence by its name, a call with its address, a text with its end and the number of
+-- its units.
 abbrev pub message_name : Message → List ℕ
 message_name Eot = codes "EOT"
 message_name (Call address) = codes "CALL " ++ address
@@ -87,5 +82,5 @@ shown Units heard = unit_lines heard
 pub record Prints (show : Heard → List ℕ) (octets : List ℕ) (old new : Option (List ℕ))
     : Type 0 where
   pub heard : Heard
-  pub is_heard : IsHeard octets heard
+  pub is_heard : IsHeardAs octets heard
   pub appended : Appends old new (show heard)

@@ -3,7 +3,8 @@ ghost use Rattle.std.specs.Prelude.{◌≡◌, ◌<◌, OnOk, IfErr, length};
 ghost use Rattle.std.specs.Io.KnownBytes.{Appends};
 ghost use Rattle.std.specs.List.{flat_map};
 ghost use Rattle.bsc_frame.specs.Units.{text_unit};
-ghost use Rattle.bsc_names.specs.Names.{end_name, message_name, message_units, name_of, name_line, chars_shown, em_shown, unit_line, shown, units_of};
+ghost use Rattle.bsc_names.specs.Names.{end_name, message_name, message_units, name_of, name_line};
+ghost use Rattle.bsc_names.specs.Names.{chars_shown, em_shown, unit_line, shown, units_of};
 
 use crate::PrintError;
 use bsc_frame::{End, Heard, Message, Text, Unit};

@@ -93,11 +93,3 @@ acts_fault contents remaining asked old new before after (step.Refused w) h = ab
 acts_fault contents remaining asked old new before after step.Output h = record { accepted = tt; fits = tt; refused = λ w q. cc }
 acts_fault contents remaining asked old new before after step.Socket h = record { accepted = tt; fits = tt; refused = λ w q. cc }
 acts_fault contents remaining asked old new before after step.Memory h = record { accepted = tt; fits = tt; refused = λ w q. cc }
-
--- items that are not one for each terminal, or that are not to be heard, are refused whatever was heard
-pub refuses_items : (items : List (Option (List ℕ))) (old : LineValue) (w : LineError) → IsRefusedEach old (length items) w → Refuses (heard_each items) w old old
-refuses_items items old why.NothingSent h e m = subst (λ (y : Event). Does y old (Err why.NothingSent) old) (sym m.2) (h, refl)
-refuses_items items old why.NotControl h e m = subst (λ (y : Event). Does y old (Err why.NotControl) old) (sym m.2) (h, refl)
-refuses_items items old why.WrongCount h e m =
-    subst (λ (y : Event). Does y old (Err why.WrongCount) old) (sym m.2) (h.0, λ q. h.1 (sym m.1 ∙ q), refl)
-refuses_items items old _ h e m = absurd h

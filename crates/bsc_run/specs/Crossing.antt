@@ -24,12 +24,12 @@ module _ {S : Type 0} (contents remaining : S → Option (List ℕ)) where
     pub written : AllZip (Takes contents sent) old.control_ends new.control_ends
     pub read : AllZip (Gives remaining heard) old.terminal_ends new.terminal_ends
 
-  -- the connection of terminal t alone did so, the other way
+  -- only the connection of terminal t did so, the other way
   pub record CrossesUp (t : ℕ) (sent heard : List ℕ) (old new : CableValue S) : Type 0 where
     pub written : ChangesAt t (Takes contents sent) old.terminal_ends new.terminal_ends
     pub read : ChangesAt t (Gives remaining heard) old.control_ends new.control_ends
 
-  -- the connection of terminal t alone did so, down
+  -- only the connection of terminal t did so, down
   pub record CrossesTo (t : ℕ) (sent heard : List ℕ) (old new : CableValue S) : Type 0 where
     pub written : ChangesAt t (Takes contents sent) old.control_ends new.control_ends
     pub read : ChangesAt t (Gives remaining heard) old.terminal_ends new.terminal_ends

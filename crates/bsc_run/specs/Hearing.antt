@@ -1,7 +1,8 @@
 -- When each terminal may be given something to hear (own).
 use Rattle.std.specs.Prelude.{◌≡◌, ◌≢◌, ℕ, None}
 use Rattle.bsc_line_model.specs.declared.error.LineError.{LineError}
-use Rattle.bsc_line_model.specs.declared.error.LineError.TheVariants.{NothingSent, NotControl, WrongCount}
+use Rattle.bsc_line_model.specs.declared.error.LineError.TheVariants.{NothingSent, NotControl}
+use Rattle.bsc_line_model.specs.declared.error.LineError.TheVariants.{WrongCount}
 use Rattle.bsc_line_model.specs.Line.{LineValue, terminal_count}
 use Rattle.bsc_line_model.specs.Runs.{IsFromTerminal, IsFromControl}
 

@@ -1,5 +1,6 @@
 -- What the events of a script do to a line and a cable (own).
-use Rattle.std.specs.Prelude.{◌≡◌, ℕ, Bool, true, false, if◌then◌else◌, List, [], length, map, Option, None, Some, Result, Ok, Err, OnOk}
+use Rattle.std.specs.Prelude.{◌≡◌, ℕ, Bool, true, false, if◌then◌else◌, List, [], length, map}
+use Rattle.std.specs.Prelude.{Option, None, Some, Result, Ok, Err, OnOk}
 use Rattle.std.specs.Borrow.{Bor}
 use Rattle.bsc_frame.specs.declared.message.Message.{Message}
 use Rattle.bsc_frame.specs.Wire.{wire}
@@ -11,7 +12,8 @@ use Rattle.bsc_line_model.specs.declared.event.Event.TheVariants as event
 use Rattle.bsc_line_model.specs.Hearing.{octets_in}
 use Rattle.bsc_line_model.specs.Line.{LineValue}
 use Rattle.bsc_line_model.specs.Runs.{Does}
-use Rattle.bsc_script.specs.Events.{Event as Asked, offer_at, offer_for, carry, lose, heard, heard_each, silence, ready, urgent_at, urgent_for, release}
+use Rattle.bsc_script.specs.Events.{Event as Asked, offer_at, offer_for, carry, lose, heard}
+use Rattle.bsc_script.specs.Events.{heard_each, silence, ready, urgent_at, urgent_for, release}
 use Rattle.bsc_run.specs.declared.error.StepError.{StepError}
 use Rattle.bsc_run.specs.declared.error.StepError.TheVariants.{Refused}
 use Rattle.bsc_run.specs.Crossing.{Crosses, ItemsCross}

@@ -1,6 +1,7 @@
 //! What each event of a script does to the line and the cable.
 
-ghost use Rattle.std.specs.Prelude.{◌≡◌, ◌≢◌, ℕ, length, map, option_map, None, Some, Ok, Err, OnOk, IfErr};
+ghost use Rattle.std.specs.Prelude.{◌≡◌, ◌≢◌, ℕ, length, map, option_map, None, Some, Ok, Err};
+ghost use Rattle.std.specs.Prelude.{OnOk, IfErr};
 ghost use Rattle.bsc_frame.specs.declared.message.Message.{Message as MessageValue};
 ghost use Rattle.bsc_frame.specs.Wire.{wire};
 ghost use Rattle.bsc_carrier.specs.Record.{IsCarried};

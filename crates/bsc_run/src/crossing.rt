@@ -5,7 +5,8 @@ ghost use Rattle.std.specs.Result.{result_err};
 ghost use Rattle.bsc_carrier.specs.Record.{IsCarried};
 ghost use Rattle.bsc_line_model.specs.Hearing.{octets_in};
 ghost use Rattle.bsc_run.specs.Faults.{IsFault};
-ghost use Rattle.bsc_run.specs.Crossing.{connection_count, HasConnection, Crosses, ItemCrosses, ItemsCross};
+ghost use Rattle.bsc_run.specs.Crossing.{connection_count, HasConnection, Crosses, ItemCrosses};
+ghost use Rattle.bsc_run.specs.Crossing.{ItemsCross};
 
 use crate::error::StepError;
 use bsc_carrier::{Cable, CarrierError, Octets};

@@ -6,7 +6,8 @@ ghost use Rattle.std.specs.List.{flat_map};
 ghost use Rattle.std.specs.Io.KnownBytes.{Appends};
 ghost use Rattle.bsc_line_model.specs.Line.{terminal_count, IsChannel, channel_of};
 ghost use Rattle.bsc_line_model.specs.Offers.{select_count};
-ghost use Rattle.bsc_run.specs.Printed.{channel_name, counts_shown, doubt_shown, record_line, channel_lines, terminal_lines, trust_line, report_of};
+ghost use Rattle.bsc_run.specs.Printed.{channel_name, counts_shown, doubt_shown, record_line};
+ghost use Rattle.bsc_run.specs.Printed.{channel_lines, terminal_lines, trust_line, report_of};
 
 use crate::trace::put;
 use bsc_block::Record;
@@ -79,8 +80,8 @@ fn write_channel<A: Allocator + Copy, B: Allocator, W: Write>(
     write_records(alloc, line.spooled(terminal, way), out)
 }
 
-/// Writes the name of a channel of a terminal that has this many selection addresses. After an error a
-/// part of it may have been written.
+/// Writes the name of a channel of a terminal that has this many selection addresses. After an
+/// error a part of it may have been written.
 pub fn write_channel_name<W: Write>(
     addresses: usize,
     terminal: usize,
@@ -144,7 +145,8 @@ fn write_records<A: Allocator + Copy, W: Write>(
     Ok(())
 }
 
-/// Writes the line of a record of these characters. After an error a part of it may have been written.
+/// Writes the line of a record of these characters. After an error a part of it may have been
+/// written.
 pub fn write_record<A: Allocator, W: Write>(
     alloc: A,
     chars: &[u8],

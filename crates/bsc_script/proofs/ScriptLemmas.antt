@@ -6,10 +6,6 @@ use Rattle.bsc_script.specs.declared.action.Step.{Step}
 use Rattle.bsc_script.specs.Events.{event_of}
 use Rattle.bsc_script.specs.Script.{Reading, after_these, events_from, is_skipped}
 
-pub after_these-nil : (rest : Reading) → rest ≡ after_these [] rest
-after_these-nil (Ok more) = refl
-after_these-nil (Err n) = refl
-
 pub after_these-more : (done : List NumberedEvent) (next : NumberedEvent) (rest : Reading) → after_these done (after_these (next ∷ []) rest) ≡ after_these (done ++ next ∷ []) rest
 after_these-more done next (Ok more) = ap Ok (sym (append_assoc done (next ∷ []) more))
 after_these-more done next (Err n) = refl

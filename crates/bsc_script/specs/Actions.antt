@@ -1,6 +1,7 @@
 -- The steps of a script as events. All of it is own.
 use Rattle.std.specs.Prelude.{ℕ}
-use Rattle.bsc_script.specs.Events.{Event, offer_at, offer_for, carry, lose, heard, heard_each, silence, ready, urgent_at, urgent_for, release}
+use Rattle.bsc_script.specs.Events.{Event, offer_at, offer_for, carry, lose, heard, heard_each}
+use Rattle.bsc_script.specs.Events.{silence, ready, urgent_at, urgent_for, release}
 use Rattle.bsc_script.specs.declared.action.Action.{Action}
 use Rattle.bsc_script.specs.declared.action.Action.TheVariants as act
 use Rattle.bsc_script.specs.declared.action.Step.{Step}

@@ -1,11 +1,15 @@
 -- What the lines of a script ask for: the events, and the line of each. All of it is own.
-use Rattle.std.specs.Prelude.{ℕ, Bool, true, false, List, [], codes, Option, Some, None, option_map, unwrap_or, if◌then◌else◌}
+use Rattle.std.specs.Prelude.{ℕ, Bool, true, false, List, [], codes, Option, Some, None, option_map}
+use Rattle.std.specs.Prelude.{unwrap_or, if◌then◌else◌}
 use Rattle.std.specs.Option.{option_and_then}
 use Rattle.std.specs.Str.{bytes_eq}
 use Rattle.bsc_control.specs.declared.way.Way.{Way}
 use Rattle.bsc_control.specs.declared.way.Way.TheVariants.{FromTerminal, ToTerminal}
 use Rattle.bsc_script.specs.declared.keyword.Keyword.{Keyword}
-use Rattle.bsc_script.specs.declared.keyword.Keyword.TheVariants.{OfferAt, OfferFor, OfferTo, Carry, Lose, Heard, HeardEach, Silence, Ready, Unready, UrgentAt, UrgentFor, Release}
+use Rattle.bsc_script.specs.declared.keyword.Keyword.TheVariants.{OfferAt, OfferFor, OfferTo, Carry}
+use Rattle.bsc_script.specs.declared.keyword.Keyword.TheVariants.{Lose, Heard, HeardEach, Silence}
+use Rattle.bsc_script.specs.declared.keyword.Keyword.TheVariants.{Ready, Unready, UrgentAt}
+use Rattle.bsc_script.specs.declared.keyword.Keyword.TheVariants.{UrgentFor, Release}
 use Rattle.bsc_script.specs.Numbers.{terminal_of, select_of}
 use Rattle.bsc_script.specs.Transmissions.{transmission_of, items_of}
 use Rattle.bsc_script.specs.Words.{first_word, after_word, words_of}
@@ -60,8 +64,8 @@ first_terminal rest = terminal_of (first_word rest)
 abbrev pub first_select : List ℕ → Option ℕ
 first_select rest = select_of (first_word rest)
 
--- The codes of a record that ends the line, after a word: what follows the space, or none where that
--- space is missing.
+-- The codes of a record that ends the line, after a word: what follows the space, or none where
+-- that space is missing.
 abbrev pub codes_after : List ℕ → List ℕ
 codes_after rest = unwrap_or (after_word rest) []
 
@@ -80,7 +84,8 @@ offer_select_of t rest = option_map (λ s. offer_for t s (codes_after rest)) (fi
 -- `T S RECORD`, for a selection address of a terminal.
 abbrev pub offer_to_of : List ℕ → Option Event
 offer_to_of rest =
-    option_and_then (λ t. option_and_then (offer_select_of t) (after_word rest)) (first_terminal rest)
+    option_and_then (λ t. option_and_then (offer_select_of t) (after_word rest))
+    (first_terminal rest)
 
 -- `to S`: the way to this selection address.
 abbrev pub way_to : List ℕ → Option Way
@@ -123,7 +128,7 @@ event_with UrgentFor rest = option_map urgent_for (terminal_of rest)
 event_with Release rest = release_of rest
 event_with _ rest = None
 
--- The event of a word, alone or with the rest of the line.
+-- The event of a word, by itself or with the rest of the line.
 abbrev pub event_by : Option (List ℕ) → Keyword → Option Event
 event_by None keyword = event_alone keyword
 event_by (Some rest) keyword = event_with keyword rest

@@ -1,5 +1,6 @@
 -- A script as a whole. All of it is own.
-use Rattle.std.specs.Prelude.{ℕ, ◌+◌, ◌==◌, Bool, true, List, [], ◌∷◌, ◌++◌, Option, Some, None, Result, Ok, Err, if◌then◌else◌}
+use Rattle.std.specs.Prelude.{ℕ, ◌+◌, ◌==◌, Bool, true, List, [], ◌∷◌, ◌++◌, Option, Some, None}
+use Rattle.std.specs.Prelude.{Result, Ok, Err, if◌then◌else◌}
 use Rattle.bsc_input.specs.Lines.{lines_of}
 use Rattle.bsc_script.specs.Events.{Event, event_of}
 use Rattle.bsc_script.specs.Actions.{NumberedEvent}
@@ -9,8 +10,8 @@ abbrev pub is_skipped : List ℕ → Bool
 is_skipped [] = true
 is_skipped (octet ∷ more) = octet == 35
 
--- The events of lines in order, each with its number; or the number of the first line that is neither
--- skipped nor an event.
+-- The events of lines in order, each with its number; or the number of the first line that is
+-- neither skipped nor an event.
 abbrev pub Reading : Type 0
 Reading = Result (List NumberedEvent) ℕ
 

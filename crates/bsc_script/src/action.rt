@@ -5,8 +5,8 @@ use bsc_control::Way;
 use std::alloc::Allocator;
 
 /// What one line of a script asks for (own). Terminals are counted from 0, and so are the selection
-/// addresses of each. Whether the terminal and the address that are named exist, whether the record is
-/// taken and whether something is pending shows only when the event is run.
+/// addresses of each. Whether the terminal and the address that are named exist, whether the record
+/// is taken and whether something is pending shows only when the event is run.
 #[derive(Drop)]
 pub enum Action<'a, A: Allocator> {
     /// A record of these codes is offered at a terminal, for the control station.

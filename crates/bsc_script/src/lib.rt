@@ -15,10 +15,10 @@
 //! | `release T from` | the doubt about what terminal T sent is ended |
 //! | `release T to`, `release T to S` | the same of what was sent to its address 0, or S |
 //!
-//! T has one to three decimal digits, S has one. HEX is hexadecimal text; an ITEM is hexadecimal text
-//! without spaces, or `-` where the terminal hears nothing. Words stand one space apart. RECORD is what
-//! follows the space before it, up to the end of the line; where that space is missing, it is empty.
-//! Empty lines, and lines that begin with `#`, are skipped and counted.
+//! T has one to three decimal digits, S has one. HEX is hexadecimal text; an ITEM is hexadecimal
+//! text without spaces, or `-` where the terminal hears nothing. Words stand one space apart.
+//! RECORD is what follows the space before it, up to the end of the line; where that space is
+//! missing, it is empty. Empty lines, and lines that begin with `#`, are skipped and counted.
 #![tactic(auto)]
 
 mod action;

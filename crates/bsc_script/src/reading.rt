@@ -2,7 +2,9 @@
 ghost use Rattle.std.specs.Prelude.{◌≡◌, [], IfOk, option_map, unwrap_or, true, false};
 ghost use Rattle.bsc_script.specs.Actions.{event_in};
 ghost use Rattle.bsc_script.specs.Events as events;
-ghost use Rattle.bsc_script.specs.Events.{event_alone, event_by, event_of, event_with, offer_at_of, offer_for_of, offer_select_of, offer_to_of, release_of, way_of};
+ghost use Rattle.bsc_script.specs.Events.{event_alone, event_by, event_of, event_with, offer_at_of};
+ghost use Rattle.bsc_script.specs.Events.{offer_for_of, offer_select_of, offer_to_of, release_of};
+ghost use Rattle.bsc_script.specs.Events.{way_of};
 ghost use Rattle.bsc_script.specs.Numbers.{terminal_of};
 ghost use Rattle.bsc_script.specs.Transmissions.{item_of, items_of, transmission_of};
 ghost use Rattle.bsc_script.specs.Words.{words_of};
@@ -29,7 +31,7 @@ pub(crate) fn read_action<'a, A: Allocator + Copy>(
     }
 }
 
-/// The action of a word, alone or with the rest of the line.
+/// The action of a word, by itself or with the rest of the line.
 fn action_by<'a, A: Allocator + Copy>(
     alloc: A,
     keyword: Keyword,

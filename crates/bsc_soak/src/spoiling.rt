@@ -78,8 +78,9 @@ pub fn damaged(random: &mut Random, octets: Vec<u8>) -> Result<Vec<u8>, AllocErr
     }
 }
 
-/// Messages that may be heard in place of others: EOT, ENQ, NAK, ACK0, ACK1, WACK, RVI, a text whose
-/// check fails, one that carries a record, one without, and a call of an address of no terminal.
+/// Messages that may be heard in place of others: EOT, ENQ, NAK, ACK0, ACK1, WACK, RVI, a text
+/// whose check fails, one that carries a record, one without, and a call of an address of no
+/// terminal.
 fn other(choice: usize) -> &'static [u8] {
     match choice {
         0 => b"\x16\x04",

@@ -1,5 +1,6 @@
 -- The order in which places are served (own).
-use Rattle.std.specs.Prelude.{◌≡◌, ◌∷◌, ◌++◌, ◌==◌, [], List, ℕ, Option, None, Some, if◌then◌else◌, not, filter}
+use Rattle.std.specs.Prelude.{◌≡◌, ◌∷◌, ◌++◌, ◌==◌, [], List, ℕ, Option, None, Some, if◌then◌else◌}
+use Rattle.std.specs.Prelude.{not, filter}
 use Rattle.std.specs.List.{list_any}
 
 -- these places, and this one as the last unless it is one of them

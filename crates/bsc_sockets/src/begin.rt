@@ -26,8 +26,8 @@ pub struct Begun<'a, N: Net + Clock, A: Allocator> {
 }
 
 /// One connection, to a peer that listens at this address; of a host with several addresses at the
-/// first one that answers. `Address` comes where the text is no address, and `NobodyThere` where the
-/// peer refuses, cannot be reached, or has not answered in this time.
+/// first one that answers. `Address` comes where the text is no address, and `NobodyThere` where
+/// the peer refuses, cannot be reached, or has not answered in this time.
 pub fn connect<'a, N: Net + Clock, A: Allocator + Copy>(
     runtime: &'a N,
     alloc: A,
@@ -78,7 +78,7 @@ fn connect_to<N: Net + Clock, A: Allocator>(
     }
 }
 
-/// A connection for each of so many peers, in the order in which they connect. `NobodyConnected`
+/// A connection for each of this many peers, in the order in which they connect. `NobodyConnected`
 /// comes where one has not done so in this time, counted from the one before it. Where it keeps
 /// listening, a further peer is a newcomer; else the system refuses it.
 pub fn listen<'a, N: Net + Clock, A: Allocator + Copy>(
@@ -92,7 +92,8 @@ pub fn listen<'a, N: Net + Clock, A: Allocator + Copy>(
 ) -> Result<Begun<'a, N, A>, SocketsError>
     requires { peers < 2 ^ 16 }
     ensures count { IfOk result (λ begun. length begun.connections.items ≡ peers) }
-    ensures refuses { keeps_listening ≡ false → IfOk result (λ begun. IsNone begun.sockets.listener) }
+    ensures refuses { keeps_listening ≡ false
+        → IfOk result (λ begun. IsNone begun.sockets.listener) }
 {
     let mut sockets = Sockets::new(runtime, alloc, peers, settings)?;
     sockets.take_peers_of(listening)?;

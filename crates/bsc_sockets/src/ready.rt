@@ -1,6 +1,7 @@
 //! The order in which places are served.
 
-ghost use Rattle.std.specs.Prelude.{◌≡◌, ◌∷◌, ◌++◌, ◌↔◌, [], List, ℕ, IfOk, IsNone, MatchOption, OnOk, OnErr};
+ghost use Rattle.std.specs.Prelude.{◌≡◌, ◌∷◌, ◌++◌, ◌↔◌, [], List, ℕ, IfOk, IsNone, MatchOption};
+ghost use Rattle.std.specs.Prelude.{OnOk, OnErr};
 ghost use Rattle.bsc_sockets.specs.Ready.{with_place, without_place, IsServed};
 
 use std::alloc::{AllocError, Allocator};

@@ -106,7 +106,7 @@ const OCTETS: [&[u8]; 22] = [
     b"heard-every 16",
 ];
 
-/// Whether the line is no event, alone and after one that is.
+/// Whether the line is no event, by itself and after one that is.
 fn is_wrong(rt: &HostRuntime, line: &[u8]) -> Result<bool, Fail> {
     let alone = read_script(rt.alloc(), line).err();
     let mut text = Vec::new(rt.alloc());

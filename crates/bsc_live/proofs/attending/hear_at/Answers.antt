@@ -1,7 +1,7 @@
 use Rattle.std.proofs.Common.{ℕ, List, ◌∷◌, get_or, refl, subst}
 use Rattle.std.proofs.lemmas.Option.{slice_get-get_or}
 use Rattle.std.specs.List.{AllZip}
-use Rattle.bsc_text.specs.Station.{IsHeardAs}
+use Rattle.bsc_frame.specs.Spells.{IsHeardAs}
 use Rattle.bsc_live.specs.Connections.{Sends}
 use Rattle.bsc_live.specs.Histories.{WasHeard, sent_where_some}
 use Rattle.bsc_live.proofs.Sending.{goes_out, nothing_goes}
