@@ -1,4 +1,3 @@
-pub mod FaultLemmas
 pub mod PartLemmas
 pub mod ListLemmas
 pub mod LineLemmas

@@ -8,7 +8,7 @@
 //! | `carry` | what is pending is carried |
 //! | `lose` | what is pending is lost |
 //! | `heard HEX` | what is pending is heard as these octets |
-//! | `heard-each ITEM ITEM ..` | what the control station sent is heard by each terminal as its item |
+//! | `heard-each ITEM ITEM ..` | what is pending is heard by each terminal as its item |
 //! | `silence` | nothing is heard for the time of a time-out |
 //! | `ready T`, `unready T` | terminal T takes selections, or it does not |
 //! | `urgent-at T`, `urgent-for T` | terminal T, or the control station for it, is urgent |

@@ -128,14 +128,16 @@ BidContinues =
 abbrev pub SendingGoesOn : Type 0
 SendingGoesOn =
     (phase : Phase) (q : QueueValue) (alternation : Alternation) (last : Reply)
-    (spooled : List (List ℕ)) (sent : Message) → Continues phase q alternation last spooled (Outward sent)
+    (spooled : List (List ℕ)) (sent : Message)
+    → Continues phase q alternation last spooled (Outward sent)
     → InBid phase q alternation last spooled (Outward sent)
 
 -- what the sender has on the way is a text or ENQ
 abbrev pub OutwardIsTextOrEnq : Type 0
 OutwardIsTextOrEnq =
     (phase : Phase) (q : QueueValue) (alternation : Alternation) (last : Reply)
-    (spooled : List (List ℕ)) (sent : Message) → InBid phase q alternation last spooled (Outward sent)
+    (spooled : List (List ℕ)) (sent : Message)
+    → InBid phase q alternation last spooled (Outward sent)
     → IsTextMessage sent ⊎ (sent ≡ m.Enq)
 
 -- a reply on the way is the receiver's last one
