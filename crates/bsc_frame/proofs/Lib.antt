@@ -1,5 +1,6 @@
 pub mod AddressLemmas
 pub mod ReadLemmas
+pub mod CallLemmas
 pub mod FrontLemmas
 pub mod ControlLemmas
 pub mod HeardLemmas

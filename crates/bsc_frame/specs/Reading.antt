@@ -64,11 +64,14 @@ abbrev pub call_to : Result (List ℕ) AddressError → Option Message
 call_to (Ok a) = Some (Call a)
 call_to (Err e) = None
 
+-- the call of the address that octets carry, up to their ENQ
+abbrev pub call_of : List ℕ → Option Message
+call_of octets =
+    option_and_then (λ codes. call_to (read_address codes)) (called MAX_ADDRESS octets)
+
 -- a call, after its EOT
 unfoldable pub call : List ℕ → Option Message
-call rest =
-    option_and_then (λ codes. call_to (read_address codes))
-    (called MAX_ADDRESS (skip (is_octet 0x16) (skip (is_octet 0xff) rest)))
+call rest = call_of (skip (is_octet 0x16) (skip (is_octet 0xff) rest))
 
 -- whether the first octet is there and passes
 abbrev pub begins : (ℕ → Bool) → List ℕ → Bool

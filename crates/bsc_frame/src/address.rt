@@ -1,5 +1,5 @@
 //! Addresses: the characters by which the control station calls a terminal.
-ghost use Rattle.std.specs.Prelude.{◌≡◌, ◌≢◌, ◌==◌, IfOk, not, position};
+ghost use Rattle.std.specs.Prelude.{◌≡◌, ◌≢◌, ◌==◌, IfOk, not, option_map, position};
 ghost use Rattle.std.specs.Ordering.{nat_cmp, as_partial_cmp};
 ghost use Rattle.std.specs.Cmp.Lexicographic.{slice_cmp, nat_list_cmp_total, nat_list_eq_equiv};
 ghost use Rattle.std.specs.Cmp.{partial_order_from_own_ties};
@@ -10,6 +10,8 @@ ghost use lib.Pointwise.{pointwise};
 ghost use Rattle.bsc_frame.specs.Addresses.{IsAddress, is_address_code};
 
 use crate::limits::MAX_ADDRESS;
+use crate::octets::ENQ;
+use bsc_octet::from_line;
 use std::cmp::Ordering;
 use std::hash::{Hash, Hasher};
 use std::marker::Model;
@@ -38,7 +40,7 @@ pub enum AddressError {
 #[derive(Clone, Copy, Debug)]
 pub struct Address {
     buffer: [u8; MAX_ADDRESS],
-    len: usize,
+    len: u8,
 }
 
 impl Model for Address {
@@ -121,6 +123,8 @@ fn wrong_place(codes: &[u8]) -> Option<usize>
 
 impl Address {
     ghost use Rattle.bsc_frame.specs.Message.{read_address};
+    ghost use Rattle.bsc_frame.specs.Reading.{call_of};
+    ghost use Rattle.bsc_frame.specs.declared.message.Message.TheVariants.{Call};
 
     /// The address with these codes, each of seven bits and without parity. In this order: `Empty`
     /// where there is none, `TooLong` where there are more than seven, `BadChar` with the place of
@@ -142,8 +146,39 @@ impl Address {
         buffer[..codes.len()].copy_from_slice(codes);
         Ok(Address {
             buffer,
-            len: codes.len(),
+            len: codes.len() as u8,
         })
+    }
+
+    /// The address that the octets of a call carry, up to the ENQ at their end. Each octet is told
+    /// and stored in one turn, since an address that is moved as it grows costs more than its call.
+    pub(crate) fn called(octets: &[u8]) -> Option<Address>
+        ensures { option_map Call result ≡ call_of octets.now }
+    {
+        let mut buffer = [0; MAX_ADDRESS];
+        for (i, octet) in octets.iter().enumerate() {
+            if *octet == ENQ {
+                return if i > 0 && i + 1 == octets.len() {
+                    Some(Address {
+                        buffer,
+                        len: i as u8,
+                    })
+                } else {
+                    None
+                };
+            }
+            if i == MAX_ADDRESS {
+                return None;
+            }
+            let Some(code) = from_line(*octet) else {
+                return None;
+            };
+            if !is_address_code(code) {
+                return None;
+            }
+            buffer[i] = code;
+        }
+        None
     }
 
     /// The codes, 1 to 7 of them, each 0x21 to 0x7e.
@@ -151,6 +186,6 @@ impl Address {
         ensures value { result.now ≡ self.now }
         ensures address { IsAddress self.now }
     {
-        &self.buffer[..self.len]
+        &self.buffer[..self.len as usize]
     }
 }

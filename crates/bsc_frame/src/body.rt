@@ -1,27 +1,33 @@
 //! The body of a transmission: what stands between its pads and SYN and its PAD.
-ghost use Rattle.std.specs.Prelude.{◌≡◌};
+ghost use Rattle.std.specs.Prelude.{◌≡◌, ◌<◌, length};
 ghost use Rattle.bsc_frame.specs.Reading.{skip, is_pad_octet, is_octet, trimmed, begins};
 ghost use Rattle.bsc_frame.specs.Reading.{heard_body, heard};
 
-use crate::front::{LANES, either_front, either_in};
+use crate::front::{LANES, either_front, either_in, either_rest};
 use crate::limits::MAX_HEARD;
 use crate::octets::{LEADING_PADS, PAD, SYN};
 
 /// What stands after the leading pads, 0x55 or 0xaa.
 #[tactic(auto, using(crate::proofs::RunLemmas::skip_pads))]
-fn behind_pads(octets: &[u8]) -> &[u8]
+fn after_pads(octets: &[u8]) -> &[u8]
     ensures { result.now ≡ skip is_pad_octet octets.now }
 {
     let start = either_front(octets, LEADING_PADS[0], LEADING_PADS[1]);
     &octets[start..]
 }
 
-/// What stands after the octets at the front that are this one.
+/// What stands after the octets at the front that are this one. Few octets are taken one at a
+/// time.
 #[tactic(auto, using(crate::proofs::RunLemmas::skip_all))]
-pub(crate) fn behind_all(octets: &[u8], octet: u8) -> &[u8]
+#[inline(always)]
+pub(crate) fn after_all(octets: &[u8], octet: u8) -> &[u8]
     ensures { result.now ≡ skip (is_octet octet) octets.now }
 {
-    let start = either_front(octets, octet, octet);
+    let start = if octets.len() < LANES {
+        either_rest(octets, octet, octet)
+    } else {
+        either_front(octets, octet, octet)
+    };
     &octets[start..]
 }
 
@@ -69,17 +75,47 @@ pub(crate) fn starts_with(octets: &[u8], octet: u8) -> bool
     !octets.is_empty() && octets[0] == octet
 }
 
-/// The body that the octets carry; the empty one where they carry none.
+/// The body of few octets, taken one at a time. It is all that most transmissions want, and calls
+/// nothing.
+#[tactic(auto, using(crate::proofs::RunLemmas::skip_pads, crate::proofs::RunLemmas::skip_all), unfolding(crate::specs::Reading::heard, crate::specs::Reading::heard_body, crate::specs::Reading::control))]
+#[inline(always)]
+fn body_of_few(octets: &[u8]) -> &[u8]
+    requires { length octets.now < 32 }
+    ensures { heard octets.now ≡ heard_body result.now }
+{
+    let pads = either_rest(octets, LEADING_PADS[0], LEADING_PADS[1]);
+    let rest = &octets[pads..];
+    if !starts_with(rest, SYN) {
+        return &[];
+    }
+    let syns = either_rest(rest, SYN, SYN);
+    trim_rest(&rest[syns..])
+}
+
+/// The body of any octets, taken 32 at a time. Its own function, so that a caller with few octets
+/// keeps no registers for it.
 #[tactic(auto, unfolding(crate::specs::Reading::heard, crate::specs::Reading::heard_body, crate::specs::Reading::control))]
-pub(crate) fn body_of(octets: &[u8]) -> &[u8]
+#[inline(never)]
+fn body_of_many(octets: &[u8]) -> &[u8]
     ensures { heard octets.now ≡ heard_body result.now }
 {
     if octets.len() > MAX_HEARD {
         return &[];
     }
-    let rest = behind_pads(octets);
+    let rest = after_pads(octets);
     if !starts_with(rest, SYN) {
         return &[];
     }
-    trim(behind_all(rest, SYN))
+    trim(after_all(rest, SYN))
+}
+
+/// The body that the octets carry; the empty one where they carry none.
+#[inline(always)]
+pub(crate) fn body_of(octets: &[u8]) -> &[u8]
+    ensures { heard octets.now ≡ heard_body result.now }
+{
+    if octets.len() < LANES {
+        return body_of_few(octets);
+    }
+    body_of_many(octets)
 }

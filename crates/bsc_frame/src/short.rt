@@ -1,14 +1,11 @@
 //! Short messages: all but texts. They are told without room for a text, which a `Heard` has.
-ghost use Rattle.std.specs.Prelude.{◌≡◌, option_map, IfSome, IfNone};
+ghost use Rattle.std.specs.Prelude.{◌≡◌, IfSome, IfNone};
 ghost use Rattle.bsc_frame.specs.Short.{heard_as, IsHeard, BeginsText};
-ghost use Rattle.bsc_frame.specs.Reading.{called, call, control, whole_or_noise};
+ghost use Rattle.bsc_frame.specs.Reading.{call, control, whole_or_noise};
 
 use crate::Address;
-use crate::body::{behind_all, body_of, starts_with};
-use crate::limits::MAX_ADDRESS;
+use crate::body::{after_all, body_of, starts_with};
 use crate::octets::{ACK0, ACK1, ENQ, EOT, NAK, PAD, RVI, STX, SYN, WACK};
-use arrayvec::ArrayVec;
-use bsc_octet::from_line;
 
 /// What octets are heard as that do not begin as a text: a message without a text, or noise.
 #[derive(Clone, Copy, Debug, PartialEq, Eq)]
@@ -26,42 +23,14 @@ pub enum Short {
     Noise,
 }
 
-/// The address of a call, after its EOT.
-#[tactic(auto, using(crate::proofs::ReadLemmas::called_end, crate::proofs::ReadLemmas::called_early, crate::proofs::ReadLemmas::called_full, crate::proofs::ReadLemmas::called_wrong, crate::proofs::ReadLemmas::called_more, crate::proofs::ReadLemmas::called_none))]
-fn address_codes(octets: &[u8]) -> Option<ArrayVec<u8, MAX_ADDRESS>>
-    ensures { option_map (λ v. v.items) result ≡ called MAX_ADDRESS octets.now }
-{
-    let mut codes = ArrayVec::new();
-    for (i, octet) in octets.iter().enumerate() {
-        if *octet == ENQ {
-            return if i + 1 == octets.len() {
-                Some(codes)
-            } else {
-                None
-            };
-        }
-        if codes.is_full() {
-            return None;
-        }
-        let Some(code) = from_line(*octet) else {
-            return None;
-        };
-        codes.push(code);
-    }
-    None
-}
-
 /// What a call is, after its EOT.
 #[tactic(auto, unfolding(crate::specs::Reading::call))]
 fn short_call(octets: &[u8]) -> Short
     ensures { heard_as result ≡ whole_or_noise (call octets.now) }
 {
-    let Some(codes) = address_codes(behind_all(behind_all(octets, PAD), SYN)) else {
-        return Short::Noise;
-    };
-    match Address::read(&codes) {
-        Ok(address) => Short::Call(address),
-        Err(_) => Short::Noise,
+    match Address::called(after_all(after_all(octets, PAD), SYN)) {
+        Some(address) => Short::Call(address),
+        None => Short::Noise,
     }
 }
 

@@ -1,0 +1,5 @@
+use Rattle.bsc_frame.proofs.CallLemmas.{Called}
+use Rattle.bsc_frame.proofs.address.Address.called.Given as goal
+
+abbrev pub invariant-loop-i : goal.invariant-loop-i
+invariant-loop-i l = Called l.buffer l.i l.octets
