@@ -12,7 +12,6 @@ use Rattle.bsc_frame.specs.Message.{read_address}
 use Rattle.bsc_frame.specs.Reading.{called, call_of, call_to}
 use Rattle.bsc_frame.specs.declared.address.AddressError.{AddressError}
 use Rattle.bsc_frame.specs.declared.limits.TheConstants.{MAX_ADDRESS}
-use Rattle.bsc_frame.specs.declared.message.Message.{Message}
 use Rattle.bsc_frame.specs.declared.message.Message.TheVariants.{Call}
 use Rattle.bsc_frame.proofs.ControlLemmas.{address_read, address_reads}
 use Rattle.bsc_frame.proofs.ReadLemmas.{Reads, with_codes, called_end, called_early, called_full, called_wrong}

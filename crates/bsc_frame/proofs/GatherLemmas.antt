@@ -121,11 +121,11 @@ odd_other c o =
     test_false (odd_octet c) 0x16 (λ e. elim (odd_cases c) [ inl k ↦ absurd (o.other (sym k.0 ∙ e)) | inr k ↦ absurd (omega arith) ])
 
 -- the same is read after fill
-behind_fill : (room : ℕ) (fill rest : List ℕ) → AreAll 0x16 fill
+after_fill : (room : ℕ) (fill rest : List ℕ) → AreAll 0x16 fill
     → gathered room (fill ++ rest) ≡ gathered room rest
 unfolding gathered
-behind_fill room [] rest h = refl
-behind_fill room (x ∷ fill) rest h = rw h.0 (behind_fill room fill rest h.1)
+after_fill room [] rest h = refl
+after_fill room (x ∷ fill) rest h = rw h.0 (after_fill room fill rest h.1)
 
 -- where there is room for one more, room is not 0
 has_room : (n room : ℕ) → suc n ≤ room → room ≡ 0 → ⊥
@@ -141,11 +141,11 @@ gathered_read room (c ∷ []) front rest f r l =
     let first : gathered room (odd_octet c ∷ rest) ≡ Some (c ∷ [], rest) =
     rw (odd_other c r.0, some, code_of-odd_octet c r.0.code, r.1) refl in
     let here : front ≡ f.0 ++ odd_octet c ∷ [] = f.3 ∙ ap (λ z. f.0 ++ odd_octet c ∷ z) f.4 in
-    ap (λ z. gathered room (z ++ rest)) here ∙ ap (gathered room) (append_assoc f.0 (odd_octet c ∷ []) rest) ∙ behind_fill room f.0 (odd_octet c ∷ rest) f.2 ∙ first
+    ap (λ z. gathered room (z ++ rest)) here ∙ ap (gathered room) (append_assoc f.0 (odd_octet c ∷ []) rest) ∙ after_fill room f.0 (odd_octet c ∷ rest) f.2 ∙ first
 gathered_read room (c ∷ d ∷ cs) front rest f r l =
     let some : (room == 0) ≡ false = test_false room 0 (has_room (length (d ∷ cs)) room l) in
     let more : gathered (room - 1) (f.1 ++ rest) ≡ Some (d ∷ cs, rest) =
     gathered_read (room - 1) (d ∷ cs) f.1 rest f.4 r.2 (omega arith) in
     let first : gathered room (odd_octet c ∷ f.1 ++ rest) ≡ Some (c ∷ d ∷ cs, rest) =
     rw (odd_other c r.0, some, code_of-odd_octet c r.0.code, r.1, more) refl in
-    ap (λ z. gathered room (z ++ rest)) f.3 ∙ ap (gathered room) (append_assoc f.0 (odd_octet c ∷ f.1) rest) ∙ behind_fill room f.0 (odd_octet c ∷ f.1 ++ rest) f.2 ∙ first
+    ap (λ z. gathered room (z ++ rest)) f.3 ∙ ap (gathered room) (append_assoc f.0 (odd_octet c ∷ f.1) rest) ∙ after_fill room f.0 (odd_octet c ∷ f.1 ++ rest) f.2 ∙ first

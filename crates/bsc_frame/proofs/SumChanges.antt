@@ -1,6 +1,6 @@
 -- What changed members do to a longitudinal sum.
 use Rattle.std.proofs.Common.{◌≡◌, ℕ, zero, suc, ◌+◌, ◌*◌, ◌/◌, ◌%◌, ◌<◌, ◌==◌, cond, refl, sym, ap, ◌∙◌}
-use Rattle.std.proofs.Common.{arith, List, [], ◌∷◌, ◌++◌, bit_xor}
+use Rattle.std.proofs.Common.{arith, List, ◌∷◌, ◌++◌, bit_xor}
 use Rattle.std.specs.Int.{bit_at}
 use Rattle.std.proofs.lemmas.Nat.Bits.{bit_at_xor, bit_at-lt}
 use Rattle.std.proofs.lemmas.List.Sums.{sum_by-cons}

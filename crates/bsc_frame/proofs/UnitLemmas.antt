@@ -477,8 +477,8 @@ odd_no_pad c h = test_false (odd_octet c) 0xff (λ e. elim (odd_cases c) [
 ])
 
 -- what ends so does with more octets before it
-ends_behind : (front octets : List ℕ) → Ends octets → Ends (front ++ octets)
-ends_behind front octets e =
+ends_after : (front octets : List ℕ) → Ends octets → Ends (front ++ octets)
+ends_after front octets e =
     record { front = front ++ e.front; last = e.last; whole = ap (λ z. front ++ z) e.whole ∙ sym (append_assoc front e.front (e.last ∷ [])); other = e.other }
 
 -- octets that are units end so that no PAD is taken from them
@@ -488,4 +488,4 @@ units_end after_us [] end octets a h = absurd (omega arith)
 units_end after_us (u ∷ []) end octets a h =
     record { front = a.1; last = odd_octet (longitudinal_sum (a.0 ++ unit_codes u (ending [] end))); whole = a.5 ∙ rw a.6 refl; other = odd_no_pad (longitudinal_sum (a.0 ++ unit_codes u (ending [] end))) (longitudinal_sum-lt (a.0 ++ unit_codes u (ending [] end))) }
 units_end after_us (u ∷ v ∷ us) end octets a h =
-    rw a.5 (ends_behind a.1 _ (ends_behind (odd_octet (longitudinal_sum (a.0 ++ unit_codes u 0x1f)) ∷ []) a.2 (units_end true (v ∷ us) end a.2 a.6 (omega arith))))
+    rw a.5 (ends_after a.1 _ (ends_after (odd_octet (longitudinal_sum (a.0 ++ unit_codes u 0x1f)) ∷ []) a.2 (units_end true (v ∷ us) end a.2 a.6 (omega arith))))

@@ -75,8 +75,7 @@ pub(crate) fn starts_with(octets: &[u8], octet: u8) -> bool
     !octets.is_empty() && octets[0] == octet
 }
 
-/// The body of few octets, taken one at a time. It is all that most transmissions want, and calls
-/// nothing.
+/// The body of few octets, taken one at a time: all that most transmissions want.
 #[tactic(auto, using(crate::proofs::RunLemmas::skip_pads, crate::proofs::RunLemmas::skip_all), unfolding(crate::specs::Reading::heard, crate::specs::Reading::heard_body, crate::specs::Reading::control))]
 #[inline(always)]
 fn body_of_few(octets: &[u8]) -> &[u8]
@@ -92,10 +91,9 @@ fn body_of_few(octets: &[u8]) -> &[u8]
     trim_rest(&rest[syns..])
 }
 
-/// The body of any octets, taken 32 at a time. Its own function, so that a caller with few octets
-/// keeps no registers for it.
+/// The body of any octets, taken 32 at a time.
 #[tactic(auto, unfolding(crate::specs::Reading::heard, crate::specs::Reading::heard_body, crate::specs::Reading::control))]
-#[inline(never)]
+#[inline(always)]
 fn body_of_many(octets: &[u8]) -> &[u8]
     ensures { heard octets.now ≡ heard_body result.now }
 {
@@ -109,7 +107,8 @@ fn body_of_many(octets: &[u8]) -> &[u8]
     trim(after_all(rest, SYN))
 }
 
-/// The body that the octets carry; the empty one where they carry none.
+/// The body that the octets carry; the empty one where they carry none. A caller that knows that
+/// there are few octets has only the loops for those.
 #[inline(always)]
 pub(crate) fn body_of(octets: &[u8]) -> &[u8]
     ensures { heard octets.now ≡ heard_body result.now }

@@ -68,6 +68,7 @@ pub(crate) fn short_of(body: &[u8]) -> Short
 /// [`crate::decode`] tells the text or that it failed. It is for a caller to whom the size of a
 /// `Heard` is too much: most transmissions on a line are short (GA27-3004: control sequences,
 /// polling and selection).
+#[inline(always)]
 pub fn decode_short(octets: &[u8]) -> Option<Short>
     ensures short { IfSome result (λ s. IsHeard octets.now (heard_as s)) }
     ensures text { IfNone result (BeginsText octets.now) }

@@ -165,7 +165,7 @@ fn units_are_checked_one_by_one(rt: HostRuntime) {
 }
 
 #[test]
-fn start_of_text_behind_a_check_is_in_the_next_sum(rt: HostRuntime) {
+fn start_of_text_after_a_check_is_in_the_next_sum(rt: HostRuntime) {
     let octets = [
         0x16, 0x16, 0x02, 0xc8, 0x49, 0x19, 0x1f, 0x07, 0x02, 0x19, 0x83, 0x98, 0xff,
     ];
