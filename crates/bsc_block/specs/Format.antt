@@ -4,7 +4,7 @@ use Rattle.std.specs.Prelude.{ℕ, ◌≤◌, Bool, ◌&&◌, nat_le, if◌then�
 use Rattle.bsc_block.specs.declared.format.FormatError.{FormatError}
 use Rattle.bsc_block.specs.declared.format.FormatError.TheVariants.{Full, BlockChars}
 use Rattle.bsc_frame.specs.declared.limits.TheConstants.{MAX_CHARS}
-use Rattle.bsc_block.specs.declared.format.TheConstants.{MIN_BLOCK_CHARS, MAX_BLOCK_CHARS}
+use Rattle.bsc_block.specs.declared.limits.TheConstants.{MIN_BLOCK_CHARS, MAX_BLOCK_CHARS}
 
 -- How many characters a full record has, and how many a block may count.
 pub record FormatValue : Type 0 where

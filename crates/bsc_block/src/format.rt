@@ -2,19 +2,9 @@
 //! terminals on it. What is received is not held to them.
 ghost use Rattle.std.specs.Prelude.{◌≡◌, IfOk};
 
-use bsc_frame::limits::MAX_CHARS;
+use crate::limits::{MAX_BLOCK_CHARS, MAX_FULL, MIN_BLOCK_CHARS};
 use std::marker::Model;
 use thiserror::Error;
-
-/// The greatest full length: a record goes into one unit.
-const MAX_FULL: u8 = MAX_CHARS as u8;
-
-/// The least that a block may count, so that each record fits one: its characters, EM and the
-/// ending character.
-pub(crate) const MIN_BLOCK_CHARS: u16 = MAX_CHARS as u16 + 2;
-
-/// The most that a block may count (own: the buffer of a terminal).
-const MAX_BLOCK_CHARS: u16 = 400;
 
 /// Why two numbers are no format.
 #[derive(Clone, Copy, Debug, Error, PartialEq, Eq)]

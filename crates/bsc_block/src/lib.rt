@@ -4,6 +4,7 @@
 mod block;
 mod format;
 pub mod laws;
+pub mod limits;
 mod packing;
 mod record;
 

@@ -5,7 +5,7 @@ ghost use Rattle.bsc_frame.specs.Units.{text_unit};
 ghost use Rattle.bsc_block.specs.Blocks.{unit_of, cost as cost_of, taken, AreShort, IsTaken};
 ghost use Rattle.bsc_block.specs.Blocks.{block_text};
 
-use crate::format::MIN_BLOCK_CHARS;
+use crate::limits::MIN_BLOCK_CHARS;
 use crate::{Format, Record};
 use bsc_frame::limits::MAX_UNITS;
 use bsc_frame::{End, Text, Unit};

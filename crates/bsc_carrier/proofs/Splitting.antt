@@ -3,6 +3,7 @@ use Rattle.std.proofs.Common.{◌≡◌, ℕ, zero, suc, ◌+◌, ◌*◌, ◌/�
 use Rattle.std.proofs.lemmas.List.{length-take-le}
 use Rattle.std.proofs.lemmas.Bool.{cases_lt}
 use Rattle.std.specs.List.{flat_map}
+use Rattle.bsc_carrier.specs.declared.limits.TheConstants.{MAX_RECORD}
 use Rattle.bsc_carrier.specs.Record.{socket_record}
 use Rattle.bsc_carrier.specs.Front.{BeginsRecord}
 use Rattle.bsc_carrier.specs.Stream.{Splits}
@@ -15,7 +16,7 @@ octets_of_length high low octets (carried, rest, right, is) =
     let second : low ≡ length carried % 256 = ap (λ l. get_or l 1 0) is in
     (omega (arith, first), omega (arith, second))
 
-begins_here : (high low : ℕ) (octets : List ℕ) → high < 256 → low < 256 → 1 ≤ high * 256 + low → high * 256 + low ≤ 2048 → high * 256 + low ≤ length octets
+begins_here : (high low : ℕ) (octets : List ℕ) → high < 256 → low < 256 → 1 ≤ high * 256 + low → high * 256 + low ≤ MAX_RECORD → high * 256 + low ≤ length octets
     → BeginsRecord (high ∷ low ∷ octets)
 begins_here high low octets high_fits low_fits some many there =
     let n = high * 256 + low in
@@ -39,7 +40,7 @@ front_cases (high ∷ low ∷ octets) =
         | inr big ↦ inr (λ whole. omega (arith, big, (octets_of_length high low octets whole).1))
         | inl low_fits ↦ elim (cases_lt (high * 256 + low) 1) [
           | inl none ↦ inr (λ whole. not_whole_and_wrong (high ∷ low ∷ octets) whole (omega arith, inl (omega (arith, none))))
-          | inr some ↦ elim (cases_lt 2048 (high * 256 + low)) [
+          | inr some ↦ elim (cases_lt MAX_RECORD (high * 256 + low)) [
             | inl many ↦ inr (λ whole. not_whole_and_wrong (high ∷ low ∷ octets) whole (omega arith, inr many))
             | inr right ↦ elim (cases_lt (length octets) (high * 256 + low)) [
               | inl lacks ↦ inr (λ whole. not_whole_and_partial (high ∷ low ∷ octets) whole (λ two. ((some, right), omega (arith, lacks))))

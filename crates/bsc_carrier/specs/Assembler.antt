@@ -3,6 +3,7 @@ use Rattle.std.specs.Prelude.{◌≡◌, ℕ, ◌+◌, ◌-◌, ◌≤◌, ◌�
 use Rattle.std.specs.Prelude.{if◌then◌else◌, List, [], ◌++◌, length, take, drop, Result, Ok, Err}
 use Rattle.bsc_carrier.specs.Record.{IsCarried, socket_record}
 use Rattle.bsc_carrier.specs.Front.{stated_length, IsPartial, HasWrongLength}
+use Rattle.bsc_carrier.specs.declared.limits.TheConstants.{MAX_RECORD}
 use Rattle.bsc_carrier.specs.declared.error.CarrierError.{CarrierError}
 use Rattle.bsc_carrier.specs.declared.error.CarrierError.TheVariants.{Length, Short, Device}
 use Rattle.bsc_carrier.specs.declared.error.CarrierError.TheVariants.{Unequal}
@@ -21,7 +22,7 @@ IsBegun begun = IsPartial begun ⊎ (HasWrongLength begun × (length begun ≡ 2
 abbrev pub wanted_after : List ℕ → ℕ
 wanted_after begun =
     if nat_lt (length begun) 2 then 2 - length begun
-    else (if nat_le 1 (stated_length begun) && nat_le (stated_length begun) 2048
+    else (if nat_le 1 (stated_length begun) && nat_le (stated_length begun) MAX_RECORD
     then 2 + stated_length begun - length begun
     else 0)
 

@@ -1,14 +1,15 @@
 -- The socket record (own): how the octets of one transmission stand on a byte stream.
 use Rattle.std.specs.Int.{w16, to_be_bytes}
 use Rattle.std.specs.Prelude.{◌≡◌, ℕ, ◌<◌, ◌≤◌, ◌⊎◌, List, ◌++◌, length}
+use Rattle.bsc_carrier.specs.declared.limits.TheConstants.{MAX_RECORD}
 
 -- how many octets a record may carry
 abbrev pub IsLength : ℕ → Type 0
-IsLength n = (1 ≤ n) × (n ≤ 2048)
+IsLength n = (1 ≤ n) × (n ≤ MAX_RECORD)
 
 -- how many octets no record carries
 abbrev pub IsWrongLength : ℕ → Type 0
-IsWrongLength n = (n ≡ 0) ⊎ (2048 < n)
+IsWrongLength n = (n ≡ 0) ⊎ (MAX_RECORD < n)
 
 -- octets that a record may carry
 abbrev pub IsCarried : List ℕ → Type 0

@@ -9,6 +9,7 @@ ghost use Rattle.bsc_carrier.specs.Front.{stated_length, HasWrongLength};
 ghost use Rattle.bsc_carrier.specs.Assembler.{wanted_after, IsBegun, Gathers, Fed};
 
 use crate::error::{CarrierError, Octets};
+use crate::limits::{MAX_RECORD, MAX_RECORD_OCTETS};
 use arrayvec::ArrayVec;
 use std::marker::Model;
 
@@ -16,7 +17,7 @@ use std::marker::Model;
 mod tests;
 
 /// The octets of a record, its two octets of length included.
-pub(crate) type RecordOctets = ArrayVec<u8, 2050>;
+pub(crate) type RecordOctets = ArrayVec<u8, MAX_RECORD_OCTETS>;
 
 /// Puts records together from the pieces of a stream (own).
 #[derive(Drop)]
@@ -43,7 +44,7 @@ impl Model for Assembler {
 fn is_length(length: usize) -> bool
     ensures { MatchBool result (IsLength length) (IsWrongLength length) }
 {
-    1 <= length && length <= 2048
+    1 <= length && length <= MAX_RECORD
 }
 
 /// The length that the first two octets state.

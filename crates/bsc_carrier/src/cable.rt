@@ -11,6 +11,7 @@ ghost use Rattle.bsc_carrier.specs.Cable.{BeginsOther, Explains};
 ghost use Rattle.std.specs.Result.{result_err};
 
 use crate::error::{CarrierError, Octets};
+use crate::limits::MAX_CONNECTIONS;
 use crate::record::{read_record, write_record};
 use std::alloc::{Allocator, Global};
 use std::io::{Read, Write};
@@ -35,6 +36,7 @@ impl<S, A: Allocator> Model for Cable<S, A> {
     ghost Value = { CableValue S };
 
     ghost use Rattle.std.specs.Prelude.{◌≡◌, ◌≤◌, length};
+    ghost use Rattle.bsc_carrier.specs.declared.limits.TheConstants.{MAX_CONNECTIONS};
 
     ghost view = { λ c. record {
       control_ends = c.control_ends.items;
@@ -43,7 +45,7 @@ impl<S, A: Allocator> Model for Cable<S, A> {
     } };
 
     ghost invariant = { λ c. (length c.control_ends.items ≡ length c.terminal_ends.items)
-        × (1 ≤ length c.control_ends.items) × (length c.control_ends.items ≤ 64) };
+        × (1 ≤ length c.control_ends.items) × (length c.control_ends.items ≤ MAX_CONNECTIONS) };
 }
 
 /// Answers the error that came first, where there was one.
@@ -166,7 +168,7 @@ impl<S: Read + Write + Drop, A: Allocator> Cable<S, A> {
     pub fn new(control_ends: Vec<S, A>, terminal_ends: Vec<S, A>) -> Cable<S, A>
         requires paired { length control_ends.items ≡ length terminal_ends.items }
         requires least { 1 ≤ length control_ends.items }
-        requires most { length control_ends.items ≤ 64 }
+        requires most { length control_ends.items ≤ MAX_CONNECTIONS }
         ensures control_ends { result.control_ends ≡ control_ends.items }
         ensures terminal_ends { result.terminal_ends ≡ terminal_ends.items }
         ensures fault { result.fault ≡ None }

@@ -1,10 +1,11 @@
 //! What a carrier answers, and where it puts octets.
 
+use crate::limits::MAX_RECORD;
 use arrayvec::ArrayVec;
 use thiserror::Error;
 
 /// The octets of one record: at most 2,048 (own).
-pub type Octets = ArrayVec<u8, 2048>;
+pub type Octets = ArrayVec<u8, MAX_RECORD>;
 
 /// Why octets were not carried (own).
 #[derive(Clone, Copy, Debug, PartialEq, Eq, Error)]

@@ -9,6 +9,7 @@ mod assembler;
 mod cable;
 mod error;
 pub mod laws;
+pub mod limits;
 #[cfg(test)]
 mod memory;
 mod record;

@@ -9,6 +9,7 @@ ghost use Rattle.bsc_carrier.specs.KnownOctets.{AppendsPart, ReadsRecord, IsExac
 
 use crate::assembler::{Assembler, RecordOctets};
 use crate::error::{CarrierError, Octets};
+use crate::limits::MAX_RECORD;
 use std::io::{Read, Write};
 
 #[cfg(test)]
@@ -56,7 +57,7 @@ fn assemble<R: Read>(reader: &mut R, assembler: &mut Assembler) -> Result<bool, 
     ensures { ReadsRecord (R.remaining reader.old) result assembler.new.complete
         (R.remaining reader.new) }
 {
-    let mut piece = [0u8; 2048];
+    let mut piece = [0u8; MAX_RECORD];
     'reads: loop {
         let wanted = assembler.wanted();
         let count = match reader.read(&mut piece[..wanted]) {

@@ -4,6 +4,7 @@ ghost use Rattle.std.specs.Prelude.{◌≡◌, ◌≤◌, length, IfOk};
 
 use crate::Place;
 use bsc_carrier::Cable;
+use bsc_carrier::limits::MAX_CONNECTIONS;
 use bsc_input::InputError;
 use bsc_live::Waiter;
 use bsc_loopback::LoopbackError;
@@ -67,7 +68,7 @@ pub trait Host {
     /// A cable of this many new connections.
     fn connect(&mut self, count: usize) -> Result<Cable<Self::Stream>, LoopbackError>
         requires least { 1 ≤ count }
-        requires most { count ≤ 64 }
+        requires most { count ≤ MAX_CONNECTIONS }
         ensures count { IfOk result (λ cable. length cable.control_ends ≡ count) };
 
     /// The connections that a station asks for.

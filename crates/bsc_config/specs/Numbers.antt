@@ -2,6 +2,9 @@
 use Rattle.std.specs.Prelude.{ℕ, List, Option, Some, None, Result, Ok, option_map}
 use Rattle.std.specs.Prelude.{if◌then◌else◌, nat_eq}
 use Rattle.toml.specs.Data.{Data, Members}
+use Rattle.bsc_block.specs.declared.limits.TheConstants.{MAX_FULL, MIN_BLOCK_CHARS}
+use Rattle.bsc_block.specs.declared.limits.TheConstants.{MAX_BLOCK_CHARS}
+use Rattle.bsc_text.specs.declared.limits.TheConstants.{MAX_TRIES, MAX_WAITS}
 use Rattle.bsc_text.specs.Setup.{SetupValue}
 use Rattle.bsc_config.specs.declared.key.Key.{Key}
 use Rattle.bsc_config.specs.declared.key.Key.TheVariants.{Version, Full, BlockChars, Tries, Waits}
@@ -32,10 +35,10 @@ setup_of_numbers full block_chars tries waits = record {
 -- The settings of a document.
 abbrev pub setup_in : Members → Result SetupValue Fault
 setup_in document = do
-  full ← number_at Full 1 144 80 document
-  block_chars ← number_at BlockChars 146 400 400 document
-  tries ← number_at Tries 1 15 3 document
-  waits ← number_at Waits 1 255 10 document
+  full ← number_at Full 1 MAX_FULL 80 document
+  block_chars ← number_at BlockChars MIN_BLOCK_CHARS MAX_BLOCK_CHARS 400 document
+  tries ← number_at Tries 1 MAX_TRIES 3 document
+  waits ← number_at Waits 1 MAX_WAITS 10 document
   Ok (setup_of_numbers full block_chars tries waits)
 
 -- The version with this number: 1, else 2.

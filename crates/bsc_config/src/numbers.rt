@@ -11,7 +11,9 @@ use crate::error::ConfigError;
 use crate::key::Key;
 use crate::lookup::{required, value_at};
 use crate::values::{Version, whole_number};
+use bsc_block::limits::{MAX_BLOCK_CHARS, MAX_FULL, MIN_BLOCK_CHARS};
 use bsc_text::Setup;
+use bsc_text::limits::{MAX_TRIES, MAX_WAITS};
 use toml::Table;
 
 /// The version: 1 or 2.
@@ -54,10 +56,16 @@ fn number_at(
 pub(crate) fn setup_in(document: &Table) -> Result<Setup, ConfigError>
     ensures { Gives (λ s. s) result (setup_of_document (table_view document.now)) }
 {
-    let full = number_at(document, Key::Full, 1, 144, 80)?;
-    let block_chars = number_at(document, Key::BlockChars, 146, 400, 400)?;
-    let tries = number_at(document, Key::Tries, 1, 15, 3)?;
-    let waits = number_at(document, Key::Waits, 1, 255, 10)?;
+    let full = number_at(document, Key::Full, 1, u16::from(MAX_FULL), 80)?;
+    let block_chars = number_at(
+        document,
+        Key::BlockChars,
+        MIN_BLOCK_CHARS,
+        MAX_BLOCK_CHARS,
+        400,
+    )?;
+    let tries = number_at(document, Key::Tries, 1, u16::from(MAX_TRIES), 3)?;
+    let waits = number_at(document, Key::Waits, 1, u16::from(MAX_WAITS), 10)?;
     match Setup::new(full as u8, block_chars, tries as u8, waits as u8) {
         Ok(setup) => Ok(setup),
         // Each number is within its limits.

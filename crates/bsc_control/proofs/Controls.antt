@@ -10,6 +10,7 @@ use Rattle.bsc_text.specs.Ready.{IsGoing}
 use Rattle.bsc_text.specs.Sender.{ReleaseStep, release_in}
 use Rattle.std.specs.Result.{OnOk, OnErr}
 use Rattle.std.specs.Prelude.{Result, Ok, Err}
+use Rattle.bsc_control.specs.declared.limits.TheConstants.{MAX_TERMINALS, MAX_ENTRIES}
 use Rattle.bsc_control.specs.declared.way.Way.{Way}
 use Rattle.bsc_control.specs.declared.way.Way.TheVariants.{FromTerminal, ToTerminal}
 use Rattle.bsc_control.specs.Addresses.{AreDistinct}
@@ -35,8 +36,8 @@ pub still_control : (old new : ControlValue) → IsControl old → KeepsSetup ol
 still_control old new h keeps entries orderly =
     record {
       some = subst (λ (n : ℕ). 1 ≤ n) (sym keeps.peers) h.some;
-      few = subst (λ (n : ℕ). n ≤ 64) (sym keeps.peers) h.few;
-      list = subst (λ (xs : List ℕ). length xs ≤ 255) (sym keeps.poll_list) h.list;
+      few = subst (λ (n : ℕ). n ≤ MAX_TERMINALS) (sym keeps.peers) h.few;
+      list = subst (λ (xs : List ℕ). length xs ≤ MAX_ENTRIES) (sym keeps.poll_list) h.list;
       distinct = subst AreDistinct (sym keeps.terminals) h.distinct;
       entries = entries;
       orderly = orderly;

@@ -5,6 +5,7 @@ use Rattle.std.specs.List.{All}
 use Rattle.bsc_text.specs.Ready.{IsAtRest}
 use Rattle.bsc_text.specs.Setup.{SetupValue}
 use Rattle.bsc_text.specs.Terminal.{TerminalValue}
+use Rattle.bsc_control.specs.declared.limits.TheConstants.{MAX_TERMINALS, MAX_ENTRIES}
 use Rattle.bsc_control.specs.declared.task.Task.{Task}
 use Rattle.bsc_control.specs.Addresses.{AreDistinct}
 use Rattle.bsc_control.specs.Control.{ControlValue, HasEntries, peer, peer_at}
@@ -44,17 +45,17 @@ rests_at [] s h = tt
 rests_at (o ∷ os) zero h = h (omega arith)
 rests_at (o ∷ os) (suc s) h = rests_at os s (λ within. h (omega (arith, within)))
 
-short_list : (n : ℕ) → (255 < n → 255 < 255) → n ≤ 255
+short_list : (n : ℕ) → (MAX_ENTRIES < n → MAX_ENTRIES < MAX_ENTRIES) → n ≤ MAX_ENTRIES
 short_list n h = grind (arith, h)
 
 pub new_control : (setup : SetupValue) (ts : List TerminalValue) (list : List ℕ) (c : ControlValue) → IsTerminalCount (length ts) → AreDistinct ts → AreEntries (length ts) list → HasEntries c → IsNewControl setup ts list c → IsControl c
 new_control setup ts list c number distinct right entries new =
     let lengths : length c.peers ≡ length ts = sym (length-map c.peers (λ (p : PeerValue). p.terminal)) ∙ ap length new.terminals_given in
-    let short : 255 < length list → 255 < 255 = λ long. (right 255 long).0 in
+    let short : MAX_ENTRIES < length list → MAX_ENTRIES < MAX_ENTRIES = λ long. (right MAX_ENTRIES long).0 in
     record {
       some = subst (λ (n : ℕ). 1 ≤ n) (sym lengths) number.some;
-      few = subst (λ (n : ℕ). n ≤ 64) (sym lengths) number.few;
-      list = subst (λ (xs : List ℕ). length xs ≤ 255) (sym new.poll_list_given) (short_list (length list) short);
+      few = subst (λ (n : ℕ). n ≤ MAX_TERMINALS) (sym lengths) number.few;
+      list = subst (λ (xs : List ℕ). length xs ≤ MAX_ENTRIES) (sym new.poll_list_given) (short_list (length list) short);
       distinct = subst AreDistinct (sym new.terminals_given) distinct;
       entries = entries;
       orderly =

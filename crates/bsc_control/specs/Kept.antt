@@ -15,6 +15,7 @@ use Rattle.bsc_text.specs.Receiver.{new_receiver}
 use Rattle.bsc_text.specs.Reply.{reply_heard}
 use Rattle.bsc_text.specs.Setup.{SetupValue}
 use Rattle.bsc_text.specs.Terminal.{TerminalValue}
+use Rattle.bsc_control.specs.declared.limits.TheConstants.{MAX_TERMINALS, MAX_ENTRIES}
 use Rattle.bsc_control.specs.declared.task.Replied.{Replied}
 use Rattle.bsc_control.specs.declared.task.Replied.TheVariants.{Nothing, WithoutRvi, WithRvi}
 use Rattle.bsc_control.specs.declared.task.Task.{Task}
@@ -75,8 +76,8 @@ pub record IsOrderly (c : ControlValue) : Type 0 where
 -- one bid goes on
 pub record IsControl (c : ControlValue) : Type 0 where
   pub some : 1 ≤ length c.peers
-  pub few : length c.peers ≤ 64
-  pub list : length c.poll_list ≤ 255
+  pub few : length c.peers ≤ MAX_TERMINALS
+  pub list : length c.poll_list ≤ MAX_ENTRIES
   pub distinct : AreDistinct (terminals c)
   pub entries : HasEntries c
   pub orderly : IsOrderly c

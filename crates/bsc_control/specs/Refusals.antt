@@ -3,6 +3,7 @@ use Rattle.std.specs.Prelude.{◌≡◌, ◌≢◌, ◌<◌, ◌≤◌, ℕ, Lis
 use Rattle.std.specs.Prelude.{slice_index}
 use Rattle.std.specs.List.{AllPairs}
 use Rattle.bsc_text.specs.Terminal.{TerminalValue}
+use Rattle.bsc_control.specs.declared.limits.TheConstants.{MAX_TERMINALS, MAX_ENTRIES}
 use Rattle.bsc_control.specs.declared.refusal.SetupError.{SetupError}
 use Rattle.bsc_control.specs.declared.refusal.SetupError.TheVariants.{NoTerminal, TooMany}
 use Rattle.bsc_control.specs.declared.refusal.SetupError.TheVariants.{SameAddress, EmptyPollList}
@@ -24,7 +25,7 @@ RefusesAddresses old more _ = ⊥
 
 -- an entry of a poll list of this many terminals is right only at places below 255
 abbrev pub IsEntry : ℕ → List ℕ → ℕ → Type 0
-IsEntry count poll_list place = (place < 255) × (slice_index poll_list place < count)
+IsEntry count poll_list place = (place < MAX_ENTRIES) × (slice_index poll_list place < count)
 
 -- each entry of a poll list is right
 abbrev pub AreEntries : ℕ → List ℕ → Type 0
@@ -33,7 +34,7 @@ AreEntries count poll_list = (k : ℕ) → k < length poll_list → IsEntry coun
 -- 1 to 64 terminals
 pub record IsTerminalCount (count : ℕ) : Type 0 where
   pub some : 1 ≤ count
-  pub few : count ≤ 64
+  pub few : count ≤ MAX_TERMINALS
 
 -- the least place of the poll list that is 255 or more, or whose entry is no terminal
 pub record IsFirstWrong (count : ℕ) (poll_list : List ℕ) (place : ℕ) : Type 0 where
@@ -44,7 +45,7 @@ pub record IsFirstWrong (count : ℕ) (poll_list : List ℕ) (place : ℕ) : Typ
 -- what each refusal says; those before it, but for out of memory, do not hold
 abbrev pub IsRefused : List TerminalValue → List ℕ → SetupError → Type 0
 IsRefused terminals poll_list NoTerminal = length terminals ≡ 0
-IsRefused terminals poll_list TooMany = 64 < length terminals
+IsRefused terminals poll_list TooMany = MAX_TERMINALS < length terminals
 IsRefused terminals poll_list (SameAddress i j) =
     IsTerminalCount (length terminals) × IsFirstRepeat (addresses terminals) i j
 IsRefused terminals poll_list EmptyPollList =

@@ -12,6 +12,7 @@ ghost use Rattle.bsc_control.specs.Peer.{with_outbound, outbound_released, offer
 ghost use Rattle.bsc_control.specs.Ways.{IsSelection, select_of};
 
 use crate::directory::Directory;
+use crate::limits::MAX_TERMINALS;
 use crate::procedure::Procedure;
 use crate::refusal::{SetupError, wrong_entry};
 use crate::way::Way;
@@ -21,9 +22,6 @@ use bsc_spool::{Queue, Spool};
 use bsc_text::{ReleaseError, Setup, Station, Terminal};
 use std::alloc::Allocator;
 use std::marker::Model;
-
-/// The most terminals of a line.
-const MAX_TERMINALS: usize = 64;
 
 /// The control station of a line (GA27-3004, centralised multipoint operation).
 #[derive(Drop)]

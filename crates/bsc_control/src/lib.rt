@@ -9,6 +9,7 @@
 mod control;
 mod directory;
 pub mod laws;
+pub mod limits;
 mod outbound;
 mod peer;
 mod procedure;

@@ -3,6 +3,7 @@
 ghost use Rattle.std.specs.Prelude.{◌≡◌, None, IfSome};
 ghost use Rattle.bsc_control.specs.Refusals.{AreEntries, IsFirstWrong};
 
+use crate::limits::MAX_ENTRIES;
 use std::alloc::{AllocError, AllocFailed};
 use thiserror::Error;
 
@@ -56,9 +57,6 @@ impl<T: Drop> From<AllocFailed<T>> for SetupError {
         SetupError::Memory
     }
 }
-
-/// The most entries of a poll list.
-const MAX_ENTRIES: usize = 255;
 
 /// The least place of the poll list that is 255 or more, or whose entry is none of this many
 /// terminals.

@@ -23,13 +23,14 @@ use crate::taking::take;
 use crate::tally::Tally;
 use arrayvec::ArrayVec;
 use bsc_control::Way;
+use bsc_control::limits::MAX_TERMINALS;
 use bsc_frame::Address;
 use bsc_line::{Event, Line, LineError, Speaker};
 use bsc_text::{Setup, Terminal};
 use std::alloc::{AllocError, Allocator, Global};
 
 /// What each station heard that hears a transmission.
-type Hearings = ArrayVec<Hearing, 64>;
+type Hearings = ArrayVec<Hearing, MAX_TERMINALS>;
 
 /// What is known of a line that is watched from its beginning on.
 #[derive(Drop)]

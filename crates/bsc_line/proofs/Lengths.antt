@@ -2,6 +2,7 @@
 use Rattle.std.proofs.Common.{◌≡◌, ◌≢◌, ℕ, zero, suc, ◌+◌, ◌^◌, ◌<◌, Bool, true, false, nat_eq, List, [], ◌∷◌, length, drop, get_or, slice_set, refl, sym, ◌∙◌, ap, arith, if◌then◌else◌, get_or-set_other, get_or-set_same}
 use Rattle.std.proofs.lemmas.Bool.Decides.{nat_tests}
 use Rattle.std.proofs.Math.Seq.{drop-cons}
+use Rattle.bsc_control.specs.declared.limits.TheConstants.{MAX_TERMINALS}
 use Rattle.bsc_control.specs.Peer.{OutboundValue}
 use Rattle.bsc_line_model.specs.Line.{LineValue}
 use Rattle.bsc_line_model.specs.Rounds.{block_count, selection_length, visit_length, entries_length, is_seen, SeesLast, SeesEarlier}
@@ -53,8 +54,8 @@ differ_by : (a b : ℕ) → nat_eq a b ≡ false → a ≢ b
 differ_by a b is = grind (arith, nat_tests)
 
 -- the terminal of this entry is marked
-pub marks : SeesLast → SeesEarlier → (list : List ℕ) (seen : List Bool) (k e : ℕ) → length seen ≡ 64 → e < 64 → e ≡ get_or list k 0 → ((t : ℕ) → t < 64 → get_or seen t false ≡ is_seen t (seen_before list k)) →
-    (t : ℕ) → t < 64 → get_or (slice_set seen e true) t false ≡ is_seen t (seen_before list (k + 1))
+pub marks : SeesLast → SeesEarlier → (list : List ℕ) (seen : List Bool) (k e : ℕ) → length seen ≡ MAX_TERMINALS → e < MAX_TERMINALS → e ≡ get_or list k 0 → ((t : ℕ) → t < MAX_TERMINALS → get_or seen t false ≡ is_seen t (seen_before list k)) →
+    (t : ℕ) → t < MAX_TERMINALS → get_or (slice_set seen e true) t false ≡ is_seen t (seen_before list (k + 1))
 marks last earlier list seen k e sized there named marked t less = by_test (nat_eq t e) refl
   where
     more : seen_before list (k + 1) ≡ e ∷ seen_before list k

@@ -10,7 +10,8 @@ use Rattle.bsc_carrier.specs.Record.{IsCarried, socket_record}
 use Rattle.bsc_carrier.specs.declared.error.CarrierError.{CarrierError}
 use Rattle.bsc_carrier.proofs.Fronts.{not_whole_and_partial, IsPartial-nil}
 use Rattle.bsc_live.specs.declared.socket_records.SocketRecords.{SocketRecords}
-use Rattle.bsc_live.specs.Framings.{GapsValue, kept, Gathers, EndsAtGap}
+use Rattle.bsc_live.specs.declared.limits.TheConstants.{KEPT}
+use Rattle.bsc_live.specs.Framings.{GapsValue, Gathers, EndsAtGap}
 use Rattle.bsc_live.specs.Streams.{begun_of, GivesRecords, GivesByGaps}
 use Rattle.bsc_live.proofs.Gathered.{take_of_front}
 use Rattle.bsc_live.proofs.Sessions.{all_of_both}
@@ -90,7 +91,7 @@ gaps_both a b c g k h t p q = λ sooner begun.
           ∙ sym (append_assoc (concat front.between) (concat back.between) back.later)
           ∙ ap (λ (l : List ℕ). l ++ back.later) (sym (concat-append front.between back.between));
       some = all_of_both (λ octets. octets ≢ []) front.between back.between front.some back.some;
-      first = ap₂ (λ (x y : List (List ℕ)). x ++ y) front.first back.first ∙ sym (map-append (take kept) front.between back.between);
+      first = ap₂ (λ (x y : List (List ℕ)). x ++ y) front.first back.first ∙ sym (map-append (take KEPT) front.between back.between);
       kept_of = back.kept_of;
     }
 
@@ -101,7 +102,7 @@ gaps_part a b piece fed = λ sooner begun. record {
   whole = refl;
   some = tt;
   first = refl;
-  kept_of = ap (λ (v : GapsValue). v.begun) fed.3 ∙ ap (λ (front : List ℕ). take kept (front ++ piece)) begun ∙ take_of_front kept sooner piece;
+  kept_of = ap (λ (v : GapsValue). v.begun) fed.3 ∙ ap (λ (front : List ℕ). take KEPT (front ++ piece)) begun ∙ take_of_front KEPT sooner piece;
 }
 
 pub gaps_whole : (a b : GapsValue) (piece : List ℕ) → Gathers a piece (Ok (length piece, true)) b → GivesByGaps a piece (b.complete ∷ []) b
@@ -112,7 +113,7 @@ gaps_gap a b (some, is) = λ sooner begun. record {
   between = sooner ∷ [];
   later = [];
   whole = sym (append-nil (sooner ++ []));
-  some = (λ none. some (begun ∙ ap (take kept) none), tt);
+  some = (λ none. some (begun ∙ ap (take KEPT) none), tt);
   first = ap (λ (v : GapsValue). v.complete ∷ []) is ∙ ap (λ (l : List ℕ). l ∷ []) begun;
   kept_of = ap (λ (v : GapsValue). v.begun) is;
 }

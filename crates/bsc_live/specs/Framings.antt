@@ -2,17 +2,11 @@
 use Rattle.std.specs.Prelude.{◌≡◌, ◌≢◌, ℕ, ◌+◌, ◌<◌, ◌≤◌, Bool, true, false, List, [], ◌∷◌, ◌++◌}
 use Rattle.std.specs.Prelude.{length, take, Result, Ok, Err}
 use Rattle.std.specs.List.{concat}
+use Rattle.bsc_frame.specs.declared.limits.TheConstants.{MAX_HEARD}
 use Rattle.bsc_frame.specs.Spells.{IsNoise}
 use Rattle.bsc_carrier.specs.declared.error.CarrierError.{CarrierError}
 use Rattle.bsc_carrier.specs.declared.error.CarrierError.TheVariants.{Length}
-
--- how many octets of a transmission are kept: one more than may be heard
-abbrev pub kept : ℕ
-kept = 2049
-
--- how many octets may arrive without a gap
-abbrev pub most_without_gap : ℕ
-most_without_gap = 1048576
+use Rattle.bsc_live.specs.declared.limits.TheConstants.{KEPT, MOST_WITHOUT_GAP}
 
 -- the octets that arrived since the last gap, as far as they are kept, and their count; and the
 -- octets of the last transmission that a gap ended
@@ -24,13 +18,13 @@ pub record GapsValue : Type 0 where
 -- A piece is taken whole and ends nothing; of too many octets without a gap none is taken.
 abbrev pub Gathers : GapsValue → List ℕ → Result (ℕ × Bool) CarrierError → GapsValue → Type 0
 Gathers old piece (Ok (taken, whole)) new =
-    (taken ≡ length piece) × (whole ≡ false) × (old.arrived + length piece ≤ most_without_gap)
+    (taken ≡ length piece) × (whole ≡ false) × (old.arrived + length piece ≤ MOST_WITHOUT_GAP)
     × (new ≡ record {
-      begun = take kept (old.begun ++ piece);
+      begun = take KEPT (old.begun ++ piece);
       arrived = old.arrived + length piece;
       complete = old.complete;
     })
-Gathers old piece (Err Length) new = (most_without_gap < old.arrived + length piece) × (new ≡ old)
+Gathers old piece (Err Length) new = (MOST_WITHOUT_GAP < old.arrived + length piece) × (new ≡ old)
 Gathers old piece (Err _) new = ⊥
 
 -- a gap ends the transmission that is begun, and nothing else
@@ -62,9 +56,9 @@ pub record ArriveBetweenGaps (old : GapsValue) (pieces : List (List ℕ)) (ended
 -- what is complete after these pieces: the first 2,049 of their octets; that is all of them, or it
 -- is heard as noise
 pub record IsHeardOf (pieces : List (List ℕ)) (complete : List ℕ) : Type 0 where
-  pub first : complete ≡ take kept (concat pieces)
-  pub all : length (concat pieces) ≤ 2048 → complete ≡ concat pieces
-  pub noise : 2048 < length (concat pieces) → IsNoise complete
+  pub first : complete ≡ take KEPT (concat pieces)
+  pub all : length (concat pieces) ≤ MAX_HEARD → complete ≡ concat pieces
+  pub noise : MAX_HEARD < length (concat pieces) → IsNoise complete
 
 -- where a gap ends a transmission there were octets, and the last transmission is heard of them;
 -- where it ends none there were none, and the last transmission stays

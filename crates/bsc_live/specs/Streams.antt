@@ -14,7 +14,8 @@ use Rattle.bsc_live.specs.declared.awaited.Wait.{Wait}
 use Rattle.bsc_live.specs.declared.awaited.LiveError.{LiveError}
 use Rattle.bsc_live.specs.declared.socket_records.SocketRecords.{SocketRecords}
 use Rattle.bsc_live.specs.Connections.{ConnectionValue}
-use Rattle.bsc_live.specs.Framings.{GapsValue, kept}
+use Rattle.bsc_live.specs.declared.limits.TheConstants.{KEPT}
+use Rattle.bsc_live.specs.Framings.{GapsValue}
 use Rattle.bsc_live.specs.Histories.{Happening, HasJoined, heard_at, all_sent, NobodyJoins}
 use Rattle.bsc_live.specs.Attending.{Attended, Attends}
 
@@ -37,13 +38,13 @@ pub record CutsAtGaps (octets : List ℕ) (heard : List (List ℕ)) (begun : Lis
   pub later : List ℕ
   pub whole : octets ≡ concat between ++ later
   pub some : AllByRecursion (λ octets. octets ≢ []) between
-  pub first : heard ≡ map (take kept) between
-  pub kept_of : begun ≡ take kept later
+  pub first : heard ≡ map (take KEPT) between
+  pub kept_of : begun ≡ take KEPT later
 
 -- these octets were given, after those that came before them since the last gap
 abbrev pub GivesByGaps : GapsValue → List ℕ → List (List ℕ) → GapsValue → Type 0
 GivesByGaps old given heard new =
-    (sooner : List ℕ) → old.begun ≡ take kept sooner → CutsAtGaps (sooner ++ given) heard new.begun
+    (sooner : List ℕ) → old.begun ≡ take KEPT sooner → CutsAtGaps (sooner ++ given) heard new.begun
 
 -- A connection was open, and is open. Its reader gave some octets, of which these transmissions
 -- were heard. Its writer took the octets that carry the transmissions that were sent, each once and

@@ -5,6 +5,7 @@ ghost use Rattle.bsc_live.specs.Connections.{Takes, Sends, Reads, IsClosed, IsCl
 ghost use Rattle.bsc_live.specs.Connections.{GivesNoOctets};
 
 use crate::Framing;
+use crate::limits::MAX_READ;
 use bsc_carrier::CarrierError;
 use std::io::{ErrorKind, Read, Write};
 use std::marker::Model;
@@ -103,8 +104,8 @@ impl<R: Read + Drop, W: Write + Drop, F: Framing + Drop> Connection<R, W, F> {
     pub(crate) fn take(&mut self) -> Taken
         ensures { Takes R.remaining F.feeds self.old result self.new }
     {
-        let mut room = [0u8; 2048];
-        let wanted = self.framing.wanted().min(2048);
+        let mut room = [0u8; MAX_READ];
+        let wanted = self.framing.wanted().min(MAX_READ);
         let Some((reader, _)) = &mut self.ends else {
             return self.take_closed();
         };

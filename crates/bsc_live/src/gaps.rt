@@ -1,17 +1,11 @@
 //! Transmissions as octets between gaps.
 
 use crate::Framing;
+use crate::limits::{KEPT, MAX_READ, MOST_WITHOUT_GAP};
 use arrayvec::ArrayVec;
 use bsc_carrier::CarrierError;
 use std::io::Write;
 use std::marker::Model;
-
-/// How many octets are kept of a transmission: one more than may be heard, so that a longer one is
-/// heard as noise.
-const KEPT: usize = 2_049;
-
-/// How many octets may arrive without a gap.
-const MOST_WITHOUT_GAP: usize = 1_048_576;
 
 /// A transmission is the octets that arrive without a gap between them, as they stand on the line
 /// (own). Of more than 2,048 octets the first 2,049 are kept, which are heard as noise. More than
@@ -19,16 +13,17 @@ const MOST_WITHOUT_GAP: usize = 1_048_576;
 #[derive(Drop)]
 pub struct Gaps {
     /// The first octets that arrived since the last gap.
-    begun: ArrayVec<u8, 2049>,
+    begun: ArrayVec<u8, KEPT>,
     /// How many arrived since then.
     arrived: usize,
     /// The octets of the last transmission that a gap ended.
-    complete: ArrayVec<u8, 2049>,
+    complete: ArrayVec<u8, KEPT>,
 }
 
 impl Model for Gaps {
     ghost use Rattle.std.specs.Prelude.{◌≤◌, ◌≡◌, min, length};
-    ghost use Rattle.bsc_live.specs.Framings.{GapsValue, kept, most_without_gap};
+    ghost use Rattle.bsc_live.specs.declared.limits.TheConstants.{MOST_WITHOUT_GAP};
+    ghost use Rattle.bsc_live.specs.Framings.{GapsValue};
 
     ghost Value = { GapsValue };
 
@@ -38,11 +33,12 @@ impl Model for Gaps {
       complete = g.complete.items;
     } };
 
-    ghost invariant = { λ g. g.arrived ≤ most_without_gap };
+    ghost invariant = { λ g. g.arrived ≤ MOST_WITHOUT_GAP };
 }
 
 impl Framing for Gaps {
     ghost use Rattle.std.specs.Prelude.{◌≡◌, [], not};
+    ghost use Rattle.bsc_live.specs.declared.limits.TheConstants.{MAX_READ};
     ghost use Rattle.bsc_live.specs.Framings.{Gathers, EndsAtGap, is_empty};
 
     ghost starts = { λ gaps. (gaps.begun ≡ []) × (gaps.arrived ≡ 0) × (gaps.complete ≡ []) };
@@ -55,7 +51,7 @@ impl Framing for Gaps {
 
     ghost last = { λ gaps. gaps.complete };
 
-    ghost room = { λ _. 2048 };
+    ghost room = { λ _. MAX_READ };
 
     ghost framed = { λ octets. octets };
 
@@ -68,7 +64,7 @@ impl Framing for Gaps {
     }
 
     fn wanted(&self) -> usize {
-        2_048
+        MAX_READ
     }
 
     #[tactic(auto, using(crate::proofs::Kept::kept_of_both))]

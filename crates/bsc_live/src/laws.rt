@@ -4,11 +4,11 @@
 ghost use Rattle.std.specs.Prelude.{◌≡◌, ℕ, ◌+◌, ◌≤◌, Bool, true, [], List, length};
 ghost use Rattle.std.specs.List.{concat};
 ghost use Rattle.bsc_live.specs.Framings.{GapsValue, GathersAll, ArriveBetweenGaps, EndsAll};
-ghost use Rattle.bsc_live.specs.Framings.{most_without_gap};
 ghost use Rattle.bsc_live.specs.Silences.{TellsEachSilence};
 ghost use Rattle.bsc_live.specs.declared.socket_records.SocketRecords.{SocketRecords as RecordsValue};
 ghost use Rattle.bsc_live.specs.Streams.{CarriesHistory, GivesRecords, GivesByGaps, SplitsAll};
 
+use crate::limits::MOST_WITHOUT_GAP;
 use crate::{Framing, Gaps, SocketRecords, Waiter};
 use bsc_text::Station;
 use std::io::{Read, Write};
@@ -27,8 +27,8 @@ pub fn gaps()
     ensures counted { (old new : GapsValue) (pieces : List (List ℕ))
         → GathersAll old pieces new → new.arrived ≡ old.arrived + length (concat pieces) }
     ensures bounded { (old new : GapsValue) (pieces : List (List ℕ))
-        → old.arrived ≤ most_without_gap → GathersAll old pieces new
-        → old.arrived + length (concat pieces) ≤ most_without_gap }
+        → old.arrived ≤ MOST_WITHOUT_GAP → GathersAll old pieces new
+        → old.arrived + length (concat pieces) ≤ MOST_WITHOUT_GAP }
 {}
 
 /// In every session over socket records, what a connection carries is what the history has. Of a

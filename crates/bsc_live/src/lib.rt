@@ -12,6 +12,7 @@ mod connection;
 mod framing;
 mod gaps;
 pub mod laws;
+mod limits;
 mod monitor;
 mod socket_records;
 #[cfg(test)]

@@ -1,6 +1,7 @@
 //! Transmissions as socket records.
 
 use crate::Framing;
+use bsc_carrier::limits::MAX_RECORD;
 use bsc_carrier::{Assembler, CarrierError, write_record};
 use std::io::Write;
 
@@ -62,7 +63,7 @@ impl Framing for SocketRecords {
     }
 
     fn write<W: Write>(writer: &mut W, octets: &[u8]) -> Result<(), CarrierError> {
-        if octets.is_empty() || octets.len() > 2048 {
+        if octets.is_empty() || octets.len() > MAX_RECORD {
             return Err(CarrierError::Length);
         }
         write_record(writer, octets)

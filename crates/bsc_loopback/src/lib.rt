@@ -5,6 +5,7 @@
 ghost use Rattle.std.specs.Prelude.{◌≡◌, ◌≤◌, length, IfOk, None};
 
 use bsc_carrier::Cable;
+use bsc_carrier::limits::MAX_CONNECTIONS;
 use std::alloc::{AllocError, AllocFailed, Allocator};
 use std::io;
 use std::net::{Net, OpenListener, OpenStream, SocketAddr, TcpListener};
@@ -63,7 +64,7 @@ pub fn connect<R: Net, A: Allocator + Copy>(
     count: usize,
 ) -> Result<Cable<R::Stream, A>, LoopbackError>
     requires least { 1 ≤ count }
-    requires most { count ≤ 64 }
+    requires most { count ≤ MAX_CONNECTIONS }
     ensures count { IfOk result (λ cable. length cable.control_ends ≡ count) }
     ensures fault { IfOk result (λ cable. cable.fault ≡ None) }
 {

@@ -3,11 +3,12 @@ use Rattle.std.specs.Prelude.{ℕ, ◌&&◌, nat_le, Bool, List, [], ◌∷◌, 
 use Rattle.std.specs.Prelude.{None, option_map, if◌then◌else◌}
 use Rattle.std.specs.Option.{option_and_then}
 use Rattle.std.specs.Str.{bytes_eq}
+use Rattle.bsc_carrier.specs.declared.limits.TheConstants.{MAX_RECORD}
 use Rattle.bsc_input.specs.Hexadecimal.{octets_of}
 
 -- 1 to 2,048 octets, as many as a socket record carries.
 abbrev pub is_carried : List ℕ → Bool
-is_carried octets = nat_le 1 (length octets) && nat_le (length octets) 2048
+is_carried octets = nat_le 1 (length octets) && nat_le (length octets) MAX_RECORD
 
 -- These octets, where a socket record carries them.
 abbrev pub carried : List ℕ → Option (List ℕ)

@@ -3,6 +3,7 @@ ghost use Rattle.std.specs.Prelude.{◌≡◌, IfOk, option_map};
 ghost use Rattle.bsc_carrier.specs.Record.{IsCarried};
 ghost use Rattle.bsc_script.specs.Transmissions.{transmission_of};
 
+use bsc_carrier::limits::MAX_RECORD;
 use bsc_input::read_octets;
 use std::alloc::{AllocError, Allocator};
 use std::marker::Model;
@@ -43,7 +44,9 @@ pub(crate) fn read_transmission<A: Allocator + Copy>(
     ensures { IfOk result (λ t. t ≡ transmission_of text.now) }
 {
     match read_octets(alloc, text)? {
-        Some(octets) if (1..=2048).contains(&octets.len()) => Ok(Some(Transmission { octets })),
+        Some(octets) if (1..=MAX_RECORD).contains(&octets.len()) => Ok(Some(Transmission {
+            octets,
+        })),
         _ => Ok(None),
     }
 }

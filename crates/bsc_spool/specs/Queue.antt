@@ -1,6 +1,7 @@
 -- What contracts see of a queue, and which block of it is sent next (own).
 use Rattle.std.specs.Prelude.{◌≡◌, ℕ, ◌+◌, ◌<◌, ◌≤◌, nat_eq, if◌then◌else◌, List, [], ◌∷◌, ◌++◌}
 use Rattle.std.specs.Prelude.{length, drop, Option, None, Some}
+use Rattle.bsc_frame.specs.declared.limits.TheConstants.{MAX_UNITS}
 use Rattle.bsc_frame.specs.declared.text.End.TheVariants.{Etb, Etx}
 use Rattle.bsc_block.specs.Format.{FormatValue, IsFormat}
 use Rattle.bsc_block.specs.Blocks.{AreShort, taken}
@@ -54,7 +55,7 @@ next_block q = next_after q.format (waiting q)
 pub record IsNext (q : QueueValue) (n : Next) : Type 0 where
   pub count : n.count ≡ taken q.format (waiting q)
   pub some : 1 ≤ n.count
-  pub few : n.count ≤ 7
+  pub few : n.count ≤ MAX_UNITS
   pub there : n.count ≤ length (waiting q)
   pub last : n.end ≡ Etx → n.count ≡ length (waiting q)
   pub more : n.end ≡ Etb → n.count < length (waiting q)

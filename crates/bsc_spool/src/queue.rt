@@ -8,6 +8,7 @@ ghost use Rattle.bsc_spool.specs.Queue.{IsQueue, IsNext};
 
 use bsc_block::laws::cut_into_blocks;
 use bsc_block::{Format, Record, build, pack};
+use bsc_frame::limits::MAX_UNITS;
 use bsc_frame::{End, Text};
 use std::alloc::Allocator;
 use std::marker::Model;
@@ -133,7 +134,7 @@ impl<A: Allocator> Queue<A> {
     /// wait.
     pub fn text(&self, count: usize, end: End) -> Text
         requires some { 1 ≤ count }
-        requires few { count ≤ 7 }
+        requires few { count ≤ MAX_UNITS }
         requires wait { count ≤ length (waiting self.now) }
         ensures { result ≡ block_text self.now.format (take count (waiting self.now)) end }
     {

@@ -4,11 +4,9 @@ ghost use Rattle.std.specs.Prelude.{◌≡◌, [], ◌++◌, true, false};
 ghost use Rattle.bsc_spool.specs.Spool.{room_asked};
 
 use bsc_block::{Block, Record};
+use bsc_frame::limits::MAX_UNITS;
 use std::alloc::Allocator;
 use std::marker::Model;
-
-/// The most records of a text.
-const RECORDS_OF_A_TEXT: usize = 7;
 
 /// The records that arrived.
 #[derive(Drop)]
@@ -22,13 +20,14 @@ pub struct Spool<A: Allocator> {
 
 impl<A: Allocator> Model for Spool<A> {
     ghost use Rattle.std.specs.Prelude.{◌+◌, vec_len, vec_capacity, nat_le};
+    ghost use Rattle.bsc_frame.specs.declared.limits.TheConstants.{MAX_UNITS};
     ghost use Rattle.bsc_spool.specs.Spool.{SpoolValue};
 
     ghost Value = { SpoolValue };
 
     ghost view = { λ s. record {
       records = s.records.items;
-      room = nat_le (vec_len s.records + 7) (vec_capacity s.records);
+      room = nat_le (vec_len s.records + MAX_UNITS) (vec_capacity s.records);
       delays = s.delays;
     } };
 }
@@ -52,7 +51,7 @@ impl<A: Allocator> Spool<A> {
         ensures answer { self.new ≡ room_asked self.old result }
         ensures there { self.old.room ≡ true → result ≡ true }
     {
-        match self.records.try_reserve(RECORDS_OF_A_TEXT) {
+        match self.records.try_reserve(MAX_UNITS) {
             Ok(()) => true,
             Err(_) => {
                 self.delays = self.delays.saturating_add(1);
@@ -65,7 +64,7 @@ impl<A: Allocator> Spool<A> {
     pub fn has_room(&self) -> bool
         ensures { result ≡ self.now.room }
     {
-        self.records.len() + RECORDS_OF_A_TEXT <= self.records.capacity()
+        self.records.len() + MAX_UNITS <= self.records.capacity()
     }
 
     /// Appends the records of a text. There is room for seven; it takes no memory.

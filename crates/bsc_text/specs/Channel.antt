@@ -1,6 +1,7 @@
 -- A channel: the records that one end offers and the other end spools (own). No acknowledgement,
 -- retry or buffer is in it.
 use Rattle.std.specs.Prelude.{◌≡◌, ◌⊎◌, ℕ, ◌+◌, ◌≤◌, List, [], ◌∷◌, ◌++◌, length, take, drop}
+use Rattle.bsc_frame.specs.declared.limits.TheConstants.{MAX_UNITS}
 use Rattle.bsc_spool.specs.Queue.{QueueValue}
 use Rattle.bsc_text.specs.declared.phase.Phase.{Phase}
 use Rattle.bsc_text.specs.declared.phase.Phase.TheVariants.{Idle, Unanswered, Held, InDoubt}
@@ -28,7 +29,7 @@ pub data Move : Type 0 where
 -- known
 pub record Lands (k : ℕ) (old new : Channel) : Type 0 where
   pub some : 1 ≤ k
-  pub few : k ≤ 7
+  pub few : k ≤ MAX_UNITS
   pub all_known : length old.spooled ≡ old.known
   pub there : old.known + k ≤ length old.offered
   pub landed : new ≡ record old { spooled = old.spooled ++ take k (drop old.known old.offered) }

@@ -1,6 +1,7 @@
 -- What a sender keeps, and what it counts on in its queue (own). It is true of the queue of
 -- `begin`, whatever is offered since.
 use Rattle.std.specs.Prelude.{◌≡◌, ℕ, ◌+◌, ◌≤◌, length}
+use Rattle.bsc_frame.specs.declared.limits.TheConstants.{MAX_UNITS}
 use Rattle.bsc_frame.specs.declared.text.End.{End}
 use Rattle.bsc_frame.specs.declared.text.End.TheVariants.{Etb, Etx}
 use Rattle.bsc_spool.specs.Queue.{QueueValue, IsQueue, waiting}
@@ -32,7 +33,7 @@ pub record IsReady (s : SenderValue) (q : QueueValue) : Type 0 where
 abbrev pub HasBlock : Phase → Type 0
 HasBlock Idle = Unit {0}
 HasBlock (InDoubt k) = Unit {0}
-HasBlock (Unanswered b) = (1 ≤ b.count) × (b.count ≤ 7)
+HasBlock (Unanswered b) = (1 ≤ b.count) × (b.count ≤ MAX_UNITS)
 HasBlock (Held end alternation) = Unit {0}
 
 -- while a bid goes on, no counter is over its limit

@@ -3,6 +3,7 @@ use Rattle.std.specs.Prelude.{ℕ, ◌≤◌, if◌then◌else◌, Result, Ok, E
 use Rattle.bsc_block.specs.Format.{FormatValue, IsFormat, is_within, format_of}
 use Rattle.bsc_block.specs.declared.FormatError.{FormatError}
 use Rattle.bsc_block.specs.declared.FormatError.TheVariants as f
+use Rattle.bsc_text.specs.declared.limits.TheConstants.{MAX_TRIES, MAX_WAITS}
 use Rattle.bsc_text.specs.declared.setup.SettingError.{SettingError}
 use Rattle.bsc_text.specs.declared.setup.SettingError.TheVariants.{Full, BlockChars, Tries, Waits}
 
@@ -16,9 +17,9 @@ pub record SetupValue : Type 0 where
 pub record IsSetup (s : SetupValue) : Type 0 where
   pub format : IsFormat s.format
   pub tries_least : 1 ≤ s.tries
-  pub tries_most : s.tries ≤ 15
+  pub tries_most : s.tries ≤ MAX_TRIES
   pub waits_least : 1 ≤ s.waits
-  pub waits_most : s.waits ≤ 255
+  pub waits_most : s.waits ≤ MAX_WAITS
 
 -- the setting that is wrong where the format is
 abbrev pub setting_error : FormatError → SettingError
@@ -29,8 +30,8 @@ setting_error f.BlockChars = BlockChars
 abbrev pub with_limits : Result FormatValue FormatError → ℕ → ℕ → Result SetupValue SettingError
 with_limits (Err e) tries waits = Err (setting_error e)
 with_limits (Ok format) tries waits =
-    if is_within 1 15 tries
-    then (if is_within 1 255 waits
+    if is_within 1 MAX_TRIES tries
+    then (if is_within 1 MAX_WAITS waits
     then Ok (record { format = format; tries = tries; waits = waits })
     else Err Waits)
     else Err Tries

@@ -8,6 +8,7 @@
 mod act;
 mod alternation;
 pub mod laws;
+pub mod limits;
 mod phase;
 mod receiver;
 mod reply;

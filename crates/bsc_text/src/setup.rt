@@ -3,6 +3,7 @@
 ghost use Rattle.std.specs.Prelude.{◌≡◌, ◌≤◌, IfOk};
 ghost use Rattle.bsc_text.specs.Setup.{IsSetup, setup_of, setting_error};
 
+use crate::limits::{MAX_TRIES, MAX_WAITS};
 use bsc_block::{Format, FormatError};
 use std::marker::Model;
 use thiserror::Error;
@@ -74,10 +75,10 @@ impl Setup {
         ensures limits { IfOk result IsSetup }
     {
         let format = Format::new(full, block_chars)?;
-        if tries == 0 || tries > 15 {
+        if !(1..=MAX_TRIES).contains(&tries) {
             return Err(SettingError::Tries);
         }
-        if waits == 0 {
+        if !(1..=MAX_WAITS).contains(&waits) {
             return Err(SettingError::Waits);
         }
         Ok(Setup {

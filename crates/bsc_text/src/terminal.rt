@@ -3,12 +3,10 @@
 ghost use Rattle.std.specs.Prelude.{◌≡◌, ◌<◌, length, Some, slice_get, IfOk};
 ghost use Rattle.bsc_text.specs.Terminal.{IsTerminal, terminal_of};
 
+use crate::limits::MAX_SELECTS;
 use bsc_frame::Address;
 use std::marker::Model;
 use thiserror::Error;
-
-/// The most selection addresses of a terminal.
-const MAX_SELECTS: usize = 4;
 
 /// The address that a terminal is polled by, and the one to four addresses that it is selected by.
 #[derive(Clone, Copy, Debug, PartialEq, Eq)]
@@ -17,7 +15,7 @@ pub struct Terminal {
     poll: Address,
 
     /// The addresses that it is selected by, in the first places.
-    selects: [Address; 4],
+    selects: [Address; MAX_SELECTS],
 
     /// How many of them there are: 1 to 4.
     count: usize,
@@ -62,7 +60,7 @@ impl Terminal {
         if count == 0 || count > MAX_SELECTS {
             return Err(TerminalError::Count);
         }
-        let mut table = [poll; 4];
+        let mut table = [poll; MAX_SELECTS];
         table[..count].copy_from_slice(selects);
         Ok(Terminal {
             poll,

@@ -7,6 +7,7 @@ ghost use Rattle.bsc_tributary.specs.Tributary.{spool_at};
 
 use bsc_frame::Heard;
 use bsc_spool::Spool;
+use bsc_text::limits::MAX_SELECTS;
 use bsc_text::{Receiver, Reply};
 use std::alloc::Allocator;
 use std::marker::Model;
@@ -35,12 +36,13 @@ pub(crate) struct Spools<A: Allocator> {
 impl<A: Allocator> Model for Spools<A> {
     ghost use Rattle.std.specs.Prelude.{◌≤◌, List, [], ◌∷◌, take};
     ghost use Rattle.bsc_spool.specs.Spool.{SpoolValue};
+    ghost use Rattle.bsc_text.specs.declared.limits.TheConstants.{MAX_SELECTS};
 
     ghost Value = { List SpoolValue };
 
     ghost view = { λ s. take s.count (s.first ∷ s.second ∷ s.third ∷ s.fourth ∷ []) };
 
-    ghost invariant = { λ s. s.count ≤ 4 };
+    ghost invariant = { λ s. s.count ≤ MAX_SELECTS };
 }
 
 impl<A: Allocator> Spools<A> {
@@ -48,7 +50,7 @@ impl<A: Allocator> Spools<A> {
     pub(crate) fn new(alloc: A, count: usize) -> Self
     where
         A: Copy,
-        requires { count ≤ 4 }
+        requires { count ≤ MAX_SELECTS }
         ensures count { length result ≡ count }
         ensures empty { All (λ s. (s.records ≡ []) × (s.delays ≡ 0)) result }
     {

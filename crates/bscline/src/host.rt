@@ -2,6 +2,7 @@
 //! and standard error.
 
 use bsc_carrier::Cable;
+use bsc_carrier::limits::MAX_CONNECTIONS;
 use bsc_command::{Asked, Host, InputError, Opened, Place, read_input};
 use bsc_loopback::{LoopbackError, connect};
 use bsc_sockets::{
@@ -107,7 +108,7 @@ impl<'a, R: AllocGlobal + Clock + Eprint + Files + Net> Host for Machine<'a, R> 
             Place::Listen { address } => {
                 let listening = Listening::bind(runtime, address)?;
                 let patience = Duration::from_millis(PATIENCE);
-                let peers = asked.connections.min(64);
+                let peers = asked.connections.min(MAX_CONNECTIONS);
                 listen(
                     runtime,
                     alloc,

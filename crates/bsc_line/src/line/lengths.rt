@@ -8,6 +8,7 @@ ghost use Rattle.bsc_line_model.specs.Rounds.{selection_length as selection, pol
 ghost use Rattle.bsc_line.specs.Counts.{in_u64};
 
 use crate::line::Line;
+use bsc_control::limits::MAX_TERMINALS;
 use bsc_line_model::laws::seen_terminals;
 use std::alloc::Allocator;
 
@@ -37,7 +38,7 @@ impl<A: Allocator> Line<A> {
         ensures line { IsLine self.now }
     {
         seen_terminals();
-        let mut seen = [false; 64];
+        let mut seen = [false; MAX_TERMINALS];
         let mut total = 0;
         for entry in self.control.poll_list() {
             let terminal = usize::from(*entry);

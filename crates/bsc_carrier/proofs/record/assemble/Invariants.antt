@@ -1,6 +1,7 @@
 use Rattle.std.proofs.Common.{◌-◌, length}
 use Rattle.std.specs.Io.KnownBytes.{Consumes}
 use Rattle.bsc_carrier.specs.Front.{IsPartial}
+use Rattle.bsc_carrier.specs.declared.limits.TheConstants.{MAX_RECORD_OCTETS}
 use Rattle.bsc_carrier.proofs.record.assemble.Given as goal
 
 -- what is begun is what was read, and less than a record
@@ -9,4 +10,4 @@ invariant-reads g l =
     IsPartial l.assembler.begun × Consumes (g.R.Read.remaining l.initial.reader) (g.R.Read.remaining l.reader) l.assembler.begun
 
 abbrev pub decreases-reads : goal.decreases-reads
-decreases-reads g l = 2050 - length l.assembler.begun
+decreases-reads g l = MAX_RECORD_OCTETS - length l.assembler.begun

@@ -1,5 +1,6 @@
 use Rattle.std.proofs.Common.{◌≡◌, ◌<◌, ◌≤◌, ◌+◌, ℕ, List, length, drop, get_or, false, true, refl, sym, ◌∙◌, ap, subst, arith}
 use Rattle.std.proofs.lemmas.List.{drop_all, length-set, get_or-replicate}
+use Rattle.bsc_control.specs.declared.limits.TheConstants.{MAX_TERMINALS}
 use Rattle.bsc_control.specs.Kept.{IsControl}
 use Rattle.bsc_line_model.specs.Line.{LineValue}
 use Rattle.bsc_line_model.specs.Rounds.{entries_length, round_length}
@@ -8,7 +9,7 @@ use Rattle.bsc_line.proofs.Lengths.{seen_before, none_yet, whole, entry_added, m
 use Rattle.bsc_line.proofs.line.Line.round.Goals as goal
 
 pub loop-entry-init : goal.loop-entry-init
-loop-entry-init g c = record { fits = omega arith; sized = refl; seen = λ t less. get_or-replicate 64 t false false less; total = none_yet (round_length c.args.self.now) }
+loop-entry-init g c = record { fits = omega arith; sized = refl; seen = λ t less. get_or-replicate MAX_TERMINALS t false false less; total = none_yet (round_length c.args.self.now) }
 
 pub loop-entry-preserved : goal.loop-entry-preserved
 loop-entry-preserved g c =
@@ -19,7 +20,7 @@ loop-entry-preserved g c =
     let named : c.from-terminal.result ≡ get_or list k 0 = c.from-terminal.ensures ∙ ap (λ (ts : List ℕ). get_or ts k 0) items in
     let control : IsControl c.args.self.now.control = subst (λ (l : LineValue). IsControl l.control) c.self.view_is c.poll_list-entry-items.ensures.control in
     let inside : get_or list k 0 < length c.args.self.now.control.peers = control.entries.entries k 0 less in
-    let there : c.from-terminal.result < 64 = omega (arith, named, inside, control.few) in
+    let there : c.from-terminal.result < MAX_TERMINALS = omega (arith, named, inside, control.few) in
     record {
       fits = c.with_entry-total.type_inv;
       sized = length-set c.loop-entry.seen c.from-terminal.result true ∙ c.loop-entry.invariant.sized;

@@ -1,4 +1,5 @@
 use Rattle.std.proofs.Common.{◌≡◌, ◌<◌, ◌+◌, ◌^◌, ℕ, drop, false, length, get_or}
+use Rattle.bsc_control.specs.declared.limits.TheConstants.{MAX_TERMINALS}
 use Rattle.bsc_line_model.specs.Rounds.{entries_length, round_length, is_seen}
 use Rattle.bsc_line.specs.Counts.{in_u64}
 use Rattle.bsc_line.proofs.Lengths.{seen_before}
@@ -8,7 +9,7 @@ use Rattle.bsc_line.proofs.line.Line.round.Given as goal
 abbrev pub invariant-loop-entry : goal.invariant-loop-entry
 invariant-loop-entry g l = record {
   fits : l.total < 2 ^ 64;
-  sized : length l.seen ≡ 64;
-  seen : (t : ℕ) → t < 64 → get_or l.seen t false ≡ is_seen t (seen_before l.self.control.poll_list l.entry-index);
+  sized : length l.seen ≡ MAX_TERMINALS;
+  seen : (t : ℕ) → t < MAX_TERMINALS → get_or l.seen t false ≡ is_seen t (seen_before l.self.control.poll_list l.entry-index);
   total : in_u64 (l.total + entries_length l.self (seen_before l.self.control.poll_list l.entry-index) (drop l.entry-index l.self.control.poll_list)) ≡ in_u64 (round_length l.self);
 }
