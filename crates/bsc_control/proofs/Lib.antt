@@ -1,7 +1,6 @@
 pub mod Calls
 pub mod PeerLists
 pub mod Entries
-pub mod ReceiverSteps
 pub mod SenderSteps
 pub mod Bids
 pub mod Steps

@@ -25,7 +25,7 @@ use Rattle.bsc_control.specs.Table.{poll_call_step, next_call_step, bid_step, af
 use Rattle.bsc_control.proofs.Bids.{OthersRest, keeps_spools-bid_step, calls-bid_step}
 use Rattle.bsc_control.proofs.Calls.{IsCalm, KeepsSpools, IsSamePeer, shape, entry_within, keeps-moved, rests-moved, settings-moved, keeps_spools-poll_call_step, keeps_spools-next_call_step, next_is_called, terminal_there, selects_there}
 use Rattle.bsc_control.proofs.PeerLists.{same_map, value_at, holds_at}
-use Rattle.bsc_control.proofs.ReceiverSteps.{TakesText, Grows, grows-heard_step, silent-heard_step}
+use Rattle.bsc_text.proofs.ReceiverSteps.{TakesText, Grows, grows-heard_step, silent-heard_step}
 use Rattle.bsc_text.proofs.Choice.{choose}
 use Rattle.bsc_control.proofs.SenderSteps.{StepKeeps, keeps-begin_step, no_quiet-begin_step, keeps-reply_step, keeps-silence_step}
 

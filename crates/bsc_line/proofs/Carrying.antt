@@ -28,6 +28,7 @@ use Rattle.bsc_line_model.specs.Terminals.{EachHears, EachKeeps, first_answer, l
 use Rattle.bsc_line_model.specs.Trust.{IsHeardFairly, IsTrustAfter, IsAddressedAfter}
 use Rattle.bsc_line_model.specs.Carries.{IsCarriedDown, IsCarriedUp, IsCarriedBy, TerminalActsAlone, OwnerActs}
 use Rattle.bsc_line_model.specs.Runs.{Carries, CarriesAs, CarriesEachAs, PassesSilence, IsFromTerminal, IsFromControl}
+use Rattle.bsc_line_model.proofs.Carrying.{is_terminal}
 use Rattle.bsc_line_model.specs.Kept.{AreStations}
 
 -- both are true
@@ -53,10 +54,6 @@ of_some P o s h e = subst (λ (z : Option Transmission). IfSome z P) e h
 -- there is a terminal
 pub some_terminal : (c : ControlValue) (ts : List TributaryValue) → AreStations c ts → 0 < length ts
 some_terminal c ts s = let some : 1 ≤ length c.peers = s.control.some in omega (arith, s.count)
-
--- the element that is there is the terminal
-pub is_terminal : (ts : List TributaryValue) (t : ℕ) (x : TributaryValue) → t < length ts → x ≡ get_or ts t x → terminal_in ts t ≡ x
-is_terminal ts t x less is = get_or_default ts t no_terminal x less ∙ sym is
 
 -- who sent what is on the line
 sent_of : (Q : Type 0) (o : Option Transmission) (speaker : Speaker) → speaker_of o ≡ Some speaker → ((s : Transmission) → o ≡ Some s → s.speaker ≡ speaker → Q) → Q

@@ -30,6 +30,7 @@ use Rattle.bsc_control.specs.Addresses.{IsAddressOf}
 use Rattle.bsc_control.specs.Peer.{PeerValue, IsPeer, no_peer, outbound_at}
 use Rattle.bsc_control.specs.Control.{ControlValue, peer, current, terminals}
 use Rattle.bsc_control.specs.Table.{select_address}
+use Rattle.bsc_tributary.proofs.InMode.{hear_step-no_call}
 use Rattle.bsc_line_model.specs.declared.transmission.Speaker.TheVariants as sp
 use Rattle.bsc_line_model.specs.declared.transmission.Transmission.{Transmission}
 use Rattle.bsc_line_model.specs.Transmission.{sent_by}
@@ -41,7 +42,7 @@ use Rattle.bsc_line_model.specs.Together.{InTask, IsSelecting, IsSending, IsInBi
 use Rattle.bsc_line_model.specs.Rounds.{SameDelays}
 use Rattle.bsc_line_model.proofs.Stations.{same_or_not, terminal_there}
 use Rattle.bsc_line_model.proofs.Tuning.{NamesOwn}
-use Rattle.bsc_line_model.proofs.SendingDown.{by_mode, others_in_control, one_answers, place_of}
+use Rattle.bsc_line_model.proofs.SendingDown.{others_in_control, one_answers, place_of}
 use Rattle.bsc_line_model.proofs.Staying.{TerminalStays, TerminalsStay, terminal_same}
 use Rattle.bsc_line_model.proofs.DownControl.{IsInBlock}
 use Rattle.bsc_line_model.proofs.DownTerminals.{takes_block, hears_other, hears_selection}
@@ -86,7 +87,7 @@ terminal_here l g = subst (λ (n : ℕ). current l.control < n) g.line.stations.
 -- a terminal in control mode does nothing with what is no call and no EOT
 pub stays_quiet : (e : ℕ) (way : Way) (t : ℕ) (x u : TributaryValue) (out : Option Message) (h : Heard) → x.mode ≡ Control → IsNoCall h → Hears x h u out → Answers e way t x u out None
 stays_quiet e way t x u out h mode never heard =
-    let row : record { tributary = u; sent = out } ≡ quiet_step x = heard.row ∙ by_mode x h (rooms_after h u) never ∙ ap (λ (n : Mode). mode_step x n h (rooms_after h u)) mode in
+    let row : record { tributary = u; sent = out } ≡ quiet_step x = heard.row ∙ hear_step-no_call x h (rooms_after h u) never ∙ ap (λ (n : Mode). mode_step x n h (rooms_after h u)) mode in
     record { says = ap (λ (o : TributaryStep). o.sent) row; stays = terminal_same e way t x u (ap (λ (o : TributaryStep). o.tributary) row) }
 
 -- the text that is pending has not landed

@@ -21,8 +21,8 @@ use Rattle.bsc_tributary.specs.declared.mode.Mode.{Mode}
 use Rattle.bsc_tributary.specs.declared.mode.Mode.TheVariants.{Control, Receiving, Sending}
 use Rattle.bsc_tributary.specs.Called.{called_as}
 use Rattle.bsc_tributary.specs.Kept.{IsNoCall}
+use Rattle.bsc_tributary.proofs.InMode.{hear_step-no_call}
 use Rattle.bsc_tributary.specs.Tributary.{TributaryValue, TributaryStep, Hears, ActsOnSilence, spool_at, without_line, answer_step, act_step, poll_step, selection_step, call_step, mode_step, silence_in, rooms_after}
-use Rattle.bsc_line_model.proofs.SendingDown.{by_mode}
 
 -- a begin leaves the queue as it was
 pub begin_queue : (s : SenderValue) (q : QueueValue) → (begin_step s q).queue ≡ q
@@ -86,7 +86,7 @@ abbrev pub QueueHears : TributaryValue → Heard → TributaryValue → Type 0
 QueueHears x h u = (u.queue ≡ x.queue) ⊎ LearnsUp x h u
 
 no_call_queue : (x u : TributaryValue) (h : Heard) (out : Option Message) → IsNoCall h → Hears x h u out → QueueHears x h u
-no_call_queue x u h out never row = in_mode x.mode refl (ap (λ (o : TributaryStep). o.tributary.queue) (row.row ∙ by_mode x h (rooms_after h u) never))
+no_call_queue x u h out never row = in_mode x.mode refl (ap (λ (o : TributaryStep). o.tributary.queue) (row.row ∙ hear_step-no_call x h (rooms_after h u) never))
   where
     in_mode : (mode : Mode) → x.mode ≡ mode → u.queue ≡ (mode_step x mode h (rooms_after h u)).tributary.queue → QueueHears x h u
     in_mode Control is same = inl same

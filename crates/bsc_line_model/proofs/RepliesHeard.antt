@@ -15,6 +15,7 @@ use Rattle.bsc_text.specs.Receiver.{Rooms, replied, is_wack}
 use Rattle.bsc_text.specs.Sender.{SenderStep, reply_step}
 use Rattle.bsc_text.specs.Fair.{IsFairlyHeard, IsCallCutShort}
 use Rattle.bsc_text.specs.Agreement.{Flight, Back, InBid, IsResting}
+use Rattle.bsc_text.proofs.Answering.{reply_not_cut}
 use Rattle.bsc_text.specs.EachStep.{SenderAgrees}
 use Rattle.bsc_tributary.specs.declared.mode.Mode.{Mode}
 use Rattle.bsc_tributary.specs.declared.mode.Mode.TheVariants.{Control, Receiving}
@@ -25,6 +26,7 @@ use Rattle.bsc_control.specs.declared.way.Way.{Way}
 use Rattle.bsc_control.specs.declared.way.Way.TheVariants.{FromTerminal, ToTerminal}
 use Rattle.bsc_control.specs.Peer.{PeerValue, outbound_at}
 use Rattle.bsc_control.specs.Control.{ControlValue, peer_at, peer, current}
+use Rattle.bsc_tributary.proofs.InMode.{hear_step-no_call}
 use Rattle.bsc_line_model.specs.declared.transmission.Speaker.TheVariants as sp
 use Rattle.bsc_line_model.specs.Transmission.{sent_by}
 use Rattle.bsc_line_model.specs.Line.{terminal_in}
@@ -34,18 +36,10 @@ use Rattle.bsc_line_model.specs.Kept.{IsTuned, AreTuned, AreStations}
 use Rattle.bsc_line_model.specs.Together.{IsQuiet, AllQuiet, OthersQuiet, AllInControlMode, IsFresh, IsSelectedWith, IsSelecting, IsInBidUp, IsPolling}
 use Rattle.bsc_line_model.specs.BidLaws.{BidLaws}
 use Rattle.bsc_line_model.proofs.Stations.{same_or_not}
-use Rattle.bsc_line_model.proofs.SendingDown.{by_mode, others_in_control, OneHears, one_hears, receiving_into}
+use Rattle.bsc_line_model.proofs.SendingDown.{others_in_control, OneHears, one_hears, receiving_into}
 use Rattle.bsc_line_model.proofs.SendingUp.{keeps_going, going_in}
 use Rattle.bsc_line_model.proofs.ActingUp.{HasActedUp, acts_up, present_after}
 use Rattle.bsc_line_model.proofs.CallsHeard.{with_others}
-
--- a reply is no call, and is not cut short
-reply_not_cut : (r : Reply) (v : Message) → IsCallCutShort (message_of r) v → ⊥
-reply_not_cut Ack0 v f = f
-reply_not_cut Ack1 v f = f
-reply_not_cut Nak v f = f
-reply_not_cut Wack v f = f
-reply_not_cut Rvi v f = f
 
 reply_no_call : (r : Reply) → IsNoCall (Whole (message_of r))
 reply_no_call Ack0 = tt
@@ -67,7 +61,7 @@ replied_up laws p e r h x u out b is fair row =
     let bid : InBid x.sender.phase x.queue p.receiver.alternation p.receiver.last p.spool.records (Back r) =
     subst (λ (f : Flight). InBid x.sender.phase x.queue p.receiver.alternation p.receiver.last p.spool.records f) is b.bid in
     let becomes : record { tributary = u; sent = out } ≡ act_step x step =
-    row.row ∙ by_mode x h (rooms_after h u) (reply_heard_whole r h fair) ∙ ap (λ (n : Mode). mode_step x n h (rooms_after h u)) b.mode in
+    row.row ∙ hear_step-no_call x h (rooms_after h u) (reply_heard_whole r h fair) ∙ ap (λ (n : Mode). mode_step x n h (rooms_after h u)) b.mode in
     let agrees : SenderAgrees x.queue p.receiver.alternation p.receiver.last p.spool.records step =
     laws.answering x.sender x.queue p.receiver.alternation p.receiver.last p.spool.records (Some r) (Some h) bid fair in
     subst (λ (o : TributaryStep). HasActedUp p e o.tributary o.sent) (sym becomes)
@@ -177,7 +171,7 @@ enquired_terminal : (p : PeerValue) (e s : ℕ) (x u : TributaryValue) (h : Hear
 enquired_terminal p e s x u h out ts q f there row after (inl whole) =
     let rooms : Rooms = rooms_after h u in
     let first : record { tributary = u; sent = out } ≡ enq_answer x s x.receiver.alternation x.receiver.last rooms.first =
-    row.row ∙ by_mode x h rooms (enq_no_call h (inl whole)) ∙ ap (λ (z : Heard). mode_step x x.mode z rooms) whole ∙ ap (λ (n : Mode). mode_step x n (Whole m.Enq) rooms) f.mode in
+    row.row ∙ hear_step-no_call x h rooms (enq_no_call h (inl whole)) ∙ ap (λ (z : Heard). mode_step x x.mode z rooms) whole ∙ ap (λ (n : Mode). mode_step x n (Whole m.Enq) rooms) f.mode in
     let even : record { tributary = u; sent = out } ≡ enq_answer x s Even x.receiver.last rooms.first = first ∙ ap (λ (z : Alternation). enq_answer x s z x.receiver.last rooms.first) f.even in
     subst (λ (o : TributaryStep). AnswersEnq p e s o ts) (sym even) (enq_terminal p e s x ts x.receiver.last rooms.first f.last q f.mode there)
 enquired_terminal p e s x u h out ts q f there row after (inr noise) =

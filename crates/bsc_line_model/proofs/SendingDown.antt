@@ -20,6 +20,7 @@ use Rattle.bsc_control.specs.declared.way.Way.{Way}
 use Rattle.bsc_control.specs.declared.way.Way.TheVariants.{ToTerminal}
 use Rattle.bsc_control.specs.Peer.{PeerValue, outbound_at}
 use Rattle.bsc_control.specs.Control.{ControlValue, peer_at, peer, current}
+use Rattle.bsc_tributary.proofs.InMode.{hear_step-no_call}
 use Rattle.bsc_line_model.specs.declared.transmission.Speaker.TheVariants as sp
 use Rattle.bsc_line_model.specs.declared.transmission.Transmission.{Transmission}
 use Rattle.bsc_line_model.specs.Transmission.{sent_by}
@@ -66,20 +67,6 @@ no_call_heard w (Whole v) b (inl e) = subst (λ (x : Message). IsNoCall (Whole x
 no_call_heard w (Whole v) b (inr f) = absurd (never_cut w v b f)
 no_call_heard w Failed b f = tt
 no_call_heard w Noise b f = tt
-
--- then a terminal does what its mode says
-pub by_mode : (t : TributaryValue) (h : Heard) (rooms : Rooms) → IsNoCall h → hear_step t h rooms ≡ mode_step t t.mode h rooms
-by_mode t Failed rooms k = refl
-by_mode t Noise rooms k = refl
-by_mode t (Whole m.Eot) rooms k = absurd k
-by_mode t (Whole (m.Call z)) rooms k = absurd k
-by_mode t (Whole (m.Text b)) rooms k = refl
-by_mode t (Whole m.Enq) rooms k = refl
-by_mode t (Whole m.Ack0) rooms k = refl
-by_mode t (Whole m.Ack1) rooms k = refl
-by_mode t (Whole m.Nak) rooms k = refl
-by_mode t (Whole m.Wack) rooms k = refl
-by_mode t (Whole m.Rvi) rooms k = refl
 
 abbrev pub place_of : Option (ℕ × Way) → ℕ
 place_of None = 0
@@ -150,7 +137,7 @@ receives_down laws p e s w h t u out there b bid fair x after =
     let rooms : Rooms = rooms_after h u in
     let r : ReceiverStep = heard_step t.receiver spool h t.urgent rooms in
     let row : record { tributary = u; sent = out } ≡ receive_step t s r =
-    x.row ∙ by_mode t h rooms (no_call_heard w h bid fair) ∙ ap (λ (n : Mode). mode_step t n h rooms) b.mode in
+    x.row ∙ hear_step-no_call t h rooms (no_call_heard w h bid fair) ∙ ap (λ (n : Mode). mode_step t n h rooms) b.mode in
     let flying : InBid (outbound_at p s).sender.phase (outbound_at p s).queue t.receiver.alternation t.receiver.last spool.records (Outward w) =
     subst (λ (f : Flight). InBid (outbound_at p s).sender.phase (outbound_at p s).queue t.receiver.alternation t.receiver.last spool.records f) b.flies b.bid in
     let agrees : ReceiverAgrees (outbound_at p s).sender.phase (outbound_at p s).queue spool.records r =

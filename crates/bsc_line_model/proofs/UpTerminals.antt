@@ -25,9 +25,9 @@ use Rattle.bsc_tributary.specs.Called.{called_as}
 use Rattle.bsc_tributary.specs.Tributary.{TributaryValue, TributaryStep, Hears, mode_step, call_step, poll_step, act_step, answer_step, rooms_after, without_line, spool_at}
 use Rattle.bsc_tributary.specs.Kept.{IsNoCall}
 use Rattle.bsc_control.specs.declared.way.Way.TheVariants.{FromTerminal}
+use Rattle.bsc_tributary.proofs.InMode.{hear_step-no_call}
 use Rattle.bsc_line_model.specs.Rounds.{block_count}
 use Rattle.bsc_line_model.proofs.BlockCounts.{CutLaws, HasFirstBlock, IsEnd, has_first, no_block, a_block}
-use Rattle.bsc_line_model.proofs.SendingDown.{by_mode}
 use Rattle.bsc_line_model.proofs.Staying.{TerminalStays}
 use Rattle.bsc_line_model.proofs.DownControl.{ack_step}
 use Rattle.bsc_line_model.proofs.DownTerminals.{rests_on}
@@ -85,7 +85,7 @@ pub hears_ack : (laws : CutLaws) (e : ℕ) (x u : TributaryValue) (out : Option 
 hears_ack laws e x u out n b i is h =
     let w : Heard = Whole (message_of (ack b.alternation)) in
     let row : record { tributary = u; sent = out } ≡ act_step x (accepted x.sender (with_known x.queue b.count) b.end b.alternation) =
-    h.row ∙ by_mode x w (rooms_after w u) (ack_no_call b.alternation) ∙ ap (λ (z : Mode). mode_step x z w (rooms_after w u)) i.mode
+    h.row ∙ hear_step-no_call x w (rooms_after w u) (ack_no_call b.alternation) ∙ ap (λ (z : Mode). mode_step x z w (rooms_after w u)) i.mode
     ∙ ap (λ (z : SenderStep). act_step x z) (ack_step x.sender x.queue b b.alternation refl i.phase) in
     (by_end b.end row n i.rest i.end, up_stays e x u (ap (λ (o : TributaryStep). o.tributary.ready) row) (λ k. ap (λ (o : TributaryStep). o.tributary.urgent) row ∙ k) (ap (λ (o : TributaryStep). o.tributary.spools) row))
   where

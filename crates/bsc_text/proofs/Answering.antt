@@ -322,12 +322,12 @@ no_text Nak f = f
 no_text Wack f = f
 no_text Rvi f = f
 
-no_call : (r : Reply) (v : Message) → IsCallCutShort (message_of r) v → ⊥
-no_call Ack0 v f = f
-no_call Ack1 v f = f
-no_call Nak v f = f
-no_call Wack v f = f
-no_call Rvi v f = f
+pub reply_not_cut : (r : Reply) (v : Message) → IsCallCutShort (message_of r) v → ⊥
+reply_not_cut Ack0 v f = f
+reply_not_cut Ack1 v f = f
+reply_not_cut Nak v f = f
+reply_not_cut Wack v f = f
+reply_not_cut Rvi v f = f
 
 reply_again : (r : Reply) → reply_in (message_of r) ≡ Some r
 reply_again Ack0 = refl
@@ -342,7 +342,7 @@ pub fair_reply : (r : Reply) (h : Heard) → IsFairlyHeard (message_of r) h
 fair_reply r Noise f = inr refl
 fair_reply r Failed f = absurd (no_text r f)
 fair_reply r (Whole v) (inl e) = inl (ap reply_in e ∙ reply_again r)
-fair_reply r (Whole v) (inr e) = absurd (no_call r v e)
+fair_reply r (Whole v) (inr e) = absurd (reply_not_cut r v e)
 
 goes_on : (phase : Phase) (q : QueueValue) (alternation : Alternation) (last : Reply)
     (spooled : List (List ℕ)) → InBid phase q alternation last spooled Still

@@ -7,6 +7,7 @@ pub mod Hearing
 pub mod KeepLemmas
 pub mod OfferLemmas
 pub mod ReadyLemmas
+pub mod ReceiverSteps
 pub mod SelectLemmas
 pub mod StepLemmas
 pub mod TurnCount

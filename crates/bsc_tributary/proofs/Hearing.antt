@@ -6,16 +6,16 @@ use Rattle.bsc_frame.specs.declared.message.Message.{Message}
 use Rattle.bsc_frame.specs.declared.message.Message.TheVariants as m
 use Rattle.bsc_frame.specs.declared.message.Heard.{Heard}
 use Rattle.bsc_frame.specs.declared.message.Heard.TheVariants.{Whole, Failed, Noise}
-use Rattle.bsc_frame.specs.Texts.{TextValue}
 use Rattle.bsc_block.specs.Blocks.{records_in}
 use Rattle.bsc_spool.specs.Queue.{waiting, next_block}
 use Rattle.bsc_spool.specs.Spool.{SpoolValue, room_asked}
 use Rattle.bsc_text.specs.declared.alternation.Alternation.TheVariants.{Odd}
 use Rattle.bsc_text.specs.Reply.{reply_heard}
-use Rattle.bsc_text.specs.Receiver.{ReceiverValue, ReceiverStep, Rooms, heard_step, text_step, stored_text, taken_urgently, enq_step, is_rvi, is_wack}
+use Rattle.bsc_text.specs.Receiver.{ReceiverStep, Rooms, heard_step}
 use Rattle.bsc_text.specs.Ready.{IsReady}
 use Rattle.bsc_text.specs.Sender.{SenderValue, SenderStep, with_phase, cut_phase, begin_step, reply_step, silence_step, is_in_doubt}
 use Rattle.bsc_text.proofs.Choice.{choose}
+use Rattle.bsc_text.proofs.ReceiverSteps.{Grows, grows-heard_step}
 use Rattle.bsc_tributary.specs.declared.called.Called.{Called}
 use Rattle.bsc_tributary.specs.declared.called.Called.TheVariants.{Polling, Selection, Other}
 use Rattle.bsc_tributary.specs.declared.mode.Mode.{Mode}
@@ -143,42 +143,6 @@ from_call t address step c =
       noise = λ e. absurd (cc);
     }
 
--- the spool of a receiver has the records that it had, or those and all of a whole text
-record Grown (h : Heard) (old new : List (List ℕ)) : Type 0 where
-  text : TextValue
-  heard : h ≡ Whole (m.Text text)
-  becomes : new ≡ old ++ records_in text.units
-
-abbrev Grows : Heard → SpoolValue → ReceiverStep → Type 0
-Grows h s step = (step.spool.records ≡ s.records) ⊎ Grown h s.records step.spool.records
-
-text_grows : (r : ReceiverValue) (s : SpoolValue) (text : TextValue) (urgent : Bool) (rooms : Rooms) →
-    Grows (Whole (m.Text text)) s (text_step r s text urgent rooms)
-text_grows r s text urgent rooms =
-    let P : ReceiverStep → Type 0 = Grows (Whole (m.Text text)) s in
-    let stored : P (stored_text r s text rooms) = inr (record { text = text; heard = refl; becomes = refl }) in
-    let stored_urgently : P (taken_urgently r s text rooms) = inr
-    (record { text = text; heard = refl; becomes = refl }) in
-    choose P rooms.first _ _ (choose P urgent _ _
-    (choose P (is_rvi r.last) _ _ stored stored_urgently) stored) (inl refl)
-
-enq_grows : (r : ReceiverValue) (s : SpoolValue) (rooms : Rooms) → Grows (Whole m.Enq) s (enq_step r s rooms)
-enq_grows r s rooms = choose (Grows (Whole m.Enq) s) (is_wack r.last) _ _ (inl refl) (inl refl)
-
-heard_grows : (r : ReceiverValue) (s : SpoolValue) (h : Heard) (urgent : Bool) (rooms : Rooms) →
-    Grows h s (heard_step r s h urgent rooms)
-heard_grows r s (Whole (m.Text text)) urgent rooms = text_grows r s text urgent rooms
-heard_grows r s (Whole m.Enq) urgent rooms = enq_grows r s rooms
-heard_grows r s (Whole m.Eot) urgent rooms = inl refl
-heard_grows r s (Whole (m.Call address)) urgent rooms = inl refl
-heard_grows r s Failed urgent rooms = inl refl
-heard_grows r s Noise urgent rooms = inl refl
-heard_grows r s (Whole m.Ack0) urgent rooms = inl refl
-heard_grows r s (Whole m.Ack1) urgent rooms = inl refl
-heard_grows r s (Whole m.Nak) urgent rooms = inl refl
-heard_grows r s (Whole m.Wack) urgent rooms = inl refl
-heard_grows r s (Whole m.Rvi) urgent rooms = inl refl
-
 -- a row of a mode
 record ModeChanges (old : TributaryValue) (h : Heard) (step : TributaryStep) : Type 0 where
   keeps : Keeps old step.tributary
@@ -245,7 +209,7 @@ mode_changes : (t : TributaryValue) (h : Heard) (mode : Mode) (rooms : Rooms) �
 mode_changes t h Control rooms is suits = control_changes t h
 mode_changes t h (Receiving s) rooms is suits = receiving_changes t h s
     (heard_step t.receiver (spool_at t.spools s) h t.urgent rooms) is suits.1
-    (heard_grows t.receiver (spool_at t.spools s) h t.urgent rooms)
+    (grows-heard_step t.receiver (spool_at t.spools s) h t.urgent rooms)
 mode_changes t h Sending rooms is suits = sending_changes t h (reply_step t.sender t.queue (reply_heard h)) is
     (follows-reply_step (length t.spools) t.sender t.queue (reply_heard h) suits)
 

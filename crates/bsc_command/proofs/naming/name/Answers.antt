@@ -1,7 +1,7 @@
 use Rattle.std.proofs.Common.{◌≡◌, Some, sym, ap, ◌∙◌, option_map}
 use Rattle.bsc_input.specs.Hexadecimal.{octets_of}
 use Rattle.bsc_names.specs.Names.{Prints, name_line}
-use Rattle.bsc_command.proofs.ListLemmas.{on_ok}
+use Rattle.bsc_run.proofs.Appending.{on_ok}
 use Rattle.bsc_command.proofs.naming.name.Goals as goal
 
 pub returns-in-Some-clause-ok : goal.returns-in-Some-clause-ok

@@ -4,7 +4,7 @@ use Rattle.bsc_input.specs.Lines.{is_blank}
 use Rattle.bsc_names.specs.Names.{shown}
 use Rattle.bsc_command.specs.Lines.{digits}
 use Rattle.bsc_command.proofs.LineLemmas.{PrintsLines-one, PrintsLines-skip, digits-traced, given-blank, given-wrong}
-use Rattle.bsc_command.proofs.ListLemmas.{on_ok}
+use Rattle.bsc_run.proofs.Appending.{on_ok}
 use Rattle.bsc_command.proofs.naming.write_traced.Goals as goal
 
 pub returns-then-is_blank-clause-ok : goal.returns-then-is_blank-clause-ok

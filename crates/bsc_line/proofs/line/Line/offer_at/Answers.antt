@@ -3,7 +3,7 @@ use Rattle.bsc_tributary.specs.Tributary.{TributaryValue}
 use Rattle.bsc_text.specs.Setup.{SetupValue}
 use Rattle.bsc_line_model.specs.Line.{LineValue, line_of, terminal_at, with_terminal}
 use Rattle.bsc_line_model.specs.Offers.{full_length, read_for}
-use Rattle.bsc_line.proofs.Carrying.{is_terminal}
+use Rattle.bsc_line_model.proofs.Carrying.{is_terminal}
 use Rattle.bsc_line.proofs.Offering.{offers_at, offer_line, read_short, terminal_full}
 use Rattle.bsc_line.proofs.line.Line.offer_at.Goals as goal
 

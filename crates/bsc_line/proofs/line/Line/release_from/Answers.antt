@@ -4,7 +4,7 @@ use Rattle.bsc_tributary.specs.Tributary.{TributaryValue, after_release}
 use Rattle.bsc_tributary.specs.Kept.{KeepsSetupAndMode}
 use Rattle.bsc_line_model.specs.Line.{LineValue, line_of, terminal_at, terminal_count}
 use Rattle.bsc_line_model.specs.Offers.{count_from}
-use Rattle.bsc_line.proofs.Carrying.{is_terminal}
+use Rattle.bsc_line_model.proofs.Carrying.{is_terminal}
 use Rattle.bsc_line.proofs.line.Line.release_from.Goals as goal
 
 pub invariant_of-self : goal.invariant_of-self

@@ -5,7 +5,7 @@ use Rattle.bsc_control.specs.Control.{ControlValue, peer_at, with_peer}
 use Rattle.bsc_control.specs.Peer.{PeerValue, outbound_at, with_outbound, outbound_released}
 use Rattle.bsc_line_model.specs.Line.{LineValue, line_of, terminal_in, terminal_count}
 use Rattle.bsc_line_model.specs.Offers.{select_count, count_to}
-use Rattle.bsc_line.proofs.Carrying.{is_terminal}
+use Rattle.bsc_line_model.proofs.Carrying.{is_terminal}
 use Rattle.bsc_line.proofs.line.Line.release_to.Goals as goal
 
 pub invariant_of-self : goal.invariant_of-self

@@ -1,7 +1,7 @@
 use Rattle.std.proofs.Common.{◌≡◌, ◌<◌, true, length, ap, arith, sym, ◌∙◌}
 use Rattle.bsc_tributary.specs.Tributary.{TributaryValue}
 use Rattle.bsc_line_model.specs.Line.{LineValue, line_of, terminal_at}
-use Rattle.bsc_line.proofs.Carrying.{is_terminal}
+use Rattle.bsc_line_model.proofs.Carrying.{is_terminal}
 use Rattle.bsc_line.proofs.line.Line.set_urgent_at.Goals as goal
 
 pub invariant_of-self : goal.invariant_of-self

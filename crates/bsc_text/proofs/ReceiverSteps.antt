@@ -1,4 +1,5 @@
--- How the records of a spool grow when its receiver hears something.
+-- What a receiver does with what it hears, for both stations: how the records of its spool grow, and
+-- that it stays as it is where it replies nothing.
 use Rattle.std.proofs.Common.{◌≡◌, ◌⊎◌, inl, inr, ℕ, Bool, List, ◌++◌, None, refl}
 use Rattle.bsc_frame.specs.declared.message.Message.TheVariants as m
 use Rattle.bsc_frame.specs.declared.message.Heard.{Heard}
