@@ -16,10 +16,10 @@ use Rattle.bsc_control.specs.declared.way.Way.TheVariants.{FromTerminal, ToTermi
 use Rattle.bsc_control.specs.Addresses.{AreDistinct}
 use Rattle.bsc_control.specs.Control.{ControlValue, HasEntries, terminals, peer_at, with_peer}
 use Rattle.bsc_control.specs.Kept.{IsOrderly, IsControl, Keeps, AfterHearing, AfterSilence, outbound_of}
-use Rattle.bsc_control.specs.Noise.{noise_changes_nothing}
 use Rattle.bsc_control.specs.Peer.{OutboundValue, PeerValue, IsOutbound, IsPeer, no_peer, with_outbound, offered, outbound_released}
 use Rattle.bsc_control.specs.Table.{Hears, ActsOnSilence}
 use Rattle.bsc_control.specs.Ways.{IsSelection, select_of}
+use Rattle.bsc_control.proofs.Noise.{noise_changes_nothing}
 use Rattle.bsc_control.proofs.Entries.{peer-with_outbound, entries-with_peer}
 use Rattle.bsc_control.proofs.PeerLists.{same_map}
 use Rattle.bsc_control.proofs.Replacing.{replaced, Follows, orderly-replaced, orderly-flags}

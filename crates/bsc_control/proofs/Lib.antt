@@ -5,6 +5,7 @@ pub mod SenderSteps
 pub mod Bids
 pub mod Steps
 pub mod Replacing
+pub mod Noise
 pub mod Controls
 pub mod Reached
 pub mod EachTerminal

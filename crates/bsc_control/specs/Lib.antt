@@ -5,5 +5,4 @@ pub mod Peer
 pub mod Control
 pub mod CallOrder
 pub mod Table
-pub mod Noise
 pub mod Kept

@@ -223,9 +223,8 @@ impl<A: Allocator> Control<A> {
 }
 
 impl<A: Allocator> Station for Control<A> {
-    ghost use Rattle.std.specs.Prelude.{false};
+    ghost use Rattle.std.specs.Prelude.{false, refl};
     ghost use Rattle.bsc_control.specs.Kept.{IsHearing, IsSilence};
-    ghost use Rattle.bsc_control.specs.Noise.{noise_changes_nothing};
 
     ghost hears = { IsHearing };
 
@@ -251,6 +250,5 @@ impl<A: Allocator> Station for Control<A> {
         false
     }
 
-    ghost ignores_noise = { λ old new sent hearing.
-        noise_changes_nothing old new sent hearing.row };
+    ghost ignores_noise = { λ old new sent hearing. hearing.after.noise refl };
 }

@@ -2,7 +2,6 @@ pub mod Arrivals
 pub mod EndValues
 pub mod Ends
 pub mod LineTerminal
-pub mod LineTerminalNoise
 pub mod Offers
 pub mod Printed
 pub mod Rounds

@@ -74,9 +74,10 @@ impl<A: Allocator> LineTerminal<A> {
 }
 
 impl<A: Allocator> Station for LineTerminal<A> {
+    ghost use Rattle.std.specs.Prelude.{refl};
+    ghost use Rattle.std.proofs.Common.{ap₂};
     ghost use Rattle.bsc_tributary.specs.Tributary.{holds};
-    ghost use Rattle.bsc_station.specs.LineTerminal.{Hears, Acts};
-    ghost use Rattle.bsc_station.specs.LineTerminalNoise.{noise_changes_nothing};
+    ghost use Rattle.bsc_station.specs.LineTerminal.{Hears, Acts, line_terminal_of};
 
     ghost hears = { Hears };
 
@@ -98,7 +99,10 @@ impl<A: Allocator> Station for LineTerminal<A> {
         self.tributary.holds_line()
     }
 
-    ghost ignores_noise = { noise_changes_nothing };
+    ghost ignores_noise = { λ old new sent h. (
+        ap₂ line_terminal_of h.number (h.hearing.after.noise refl).0,
+        (h.hearing.after.noise refl).1
+    ) };
 }
 
 impl<A: Allocator> Party for LineTerminal<A> {

@@ -23,10 +23,10 @@ use Rattle.bsc_tributary.specs.declared.mode.Mode.TheVariants.{Control, Receivin
 use Rattle.bsc_tributary.specs.Called.{called_as}
 use Rattle.bsc_tributary.specs.Tributary.{TributaryValue, TributaryStep, spool_at, empty_spool, quiet_step, answer_step, without_line, mode_after, act_step, receive_step, poll_step, selection_step, call_step, mode_step, hear_step, Hears, rooms_after}
 use Rattle.bsc_tributary.specs.Kept.{IsTributary, SuitsMode, Keeps, GrowsByText, IsModeCalled, IsModeAfter, TakesLine, IsNoCall, StaysQuiet, AfterHearing, AfterSilence, IsHearing}
-use Rattle.bsc_tributary.specs.Noise.{quiet_in}
 use Rattle.bsc_tributary.proofs.Acts.{FollowsFrom, follows-sent_next, follows-reply_step, follows-silence_step, mode_after-Sending}
 use Rattle.bsc_tributary.proofs.CallsHeard.{begun_mode, within-selects}
 use Rattle.bsc_tributary.proofs.InMode.{hear_step-no_call}
+use Rattle.bsc_tributary.proofs.Noise.{quiet_in}
 use Rattle.bsc_tributary.proofs.Stays.{stays-without_line}
 
 -- what a row changes

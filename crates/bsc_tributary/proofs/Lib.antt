@@ -4,6 +4,7 @@ pub mod Calls
 pub mod CallsHeard
 pub mod Hearing
 pub mod InMode
+pub mod Noise
 pub mod Offering
 pub mod Places
 pub mod Stays

@@ -1,4 +1,3 @@
 pub mod Called
 pub mod Tributary
 pub mod Kept
-pub mod Noise

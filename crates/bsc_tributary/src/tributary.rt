@@ -278,9 +278,9 @@ impl<A: Allocator> Tributary<A> {
 }
 
 impl<A: Allocator> Station for Tributary<A> {
+    ghost use Rattle.std.specs.Prelude.{refl};
     ghost use Rattle.bsc_tributary.specs.Tributary.{holds};
     ghost use Rattle.bsc_tributary.specs.Kept.{IsHearing, IsSilence};
-    ghost use Rattle.bsc_tributary.specs.Noise.{noise_changes_nothing};
 
     ghost hears = { IsHearing };
 
@@ -317,8 +317,7 @@ impl<A: Allocator> Station for Tributary<A> {
         self.mode == Mode::Sending
     }
 
-    ghost ignores_noise = { λ old new sent hearing.
-        noise_changes_nothing old new sent hearing.row };
+    ghost ignores_noise = { λ old new sent hearing. hearing.after.noise refl };
 }
 
 /// Whether the urgent flag stays up once the terminal gave this reply: RVI clears it.

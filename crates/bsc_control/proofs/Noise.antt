@@ -1,8 +1,6 @@
 -- Noise changes no control station, and none answers it (GA27-3004: what is not understood is not
 -- answered).
--- The proof stands here since `impl Station` cites it, and src may only name what is in specs.
-use Rattle.std.specs.Prelude.{◌≡◌, ℕ, List, Option, None, refl}
-use Rattle.std.proofs.Common.{ap, sym, ◌∙◌}
+use Rattle.std.proofs.Common.{◌≡◌, ℕ, List, Option, None, refl, ap, sym, ◌∙◌}
 use Rattle.std.proofs.lemmas.List.{set-get_or}
 use Rattle.bsc_frame.specs.declared.message.Message.{Message}
 use Rattle.bsc_frame.specs.declared.message.Heard.TheVariants.{Noise}
