@@ -1,7 +1,6 @@
 -- What is heard and how it is told: the steps of the calls that carry.
 use Rattle.std.proofs.Common.{◌≡◌, ◌↔◌, ℕ, ◌<◌, ◌≤◌, Bool, true, false, ◌&&◌, IsTrue, IfSome, is_some, Result, Ok, Err, List, length, Option, None, Some, get_or, slice_set, get_or-set_same, refl, sym, ◌∙◌, ap, subst, arith, inl}
 use Rattle.std.specs.Borrow.{Bor}
-use Rattle.std.proofs.lemmas.List.{get_or_default}
 use Rattle.bsc_frame.specs.declared.message.Message.{Message}
 use Rattle.bsc_frame.specs.declared.message.Message.TheVariants as m
 use Rattle.bsc_frame.specs.declared.message.Heard.{Heard}

@@ -13,7 +13,7 @@ use Rattle.bsc_text.specs.declared.reply.Reply.TheVariants.{Ack0, Ack1, Nak, Wac
 use Rattle.bsc_text.specs.Reply.{message_of, reply_heard, ack}
 use Rattle.bsc_text.specs.Receiver.{Rooms, replied, is_wack}
 use Rattle.bsc_text.specs.Sender.{SenderStep, reply_step}
-use Rattle.bsc_text.specs.Fair.{IsFairlyHeard, IsCallCutShort}
+use Rattle.bsc_text.specs.Fair.{IsFairlyHeard}
 use Rattle.bsc_text.specs.Agreement.{Flight, Back, InBid, IsResting}
 use Rattle.bsc_text.proofs.Answering.{reply_not_cut}
 use Rattle.bsc_text.specs.EachStep.{SenderAgrees}

@@ -14,7 +14,7 @@ use Rattle.bsc_text.specs.Agreement.{Flight, Outward, InBid, IsResting, reply_fl
 use Rattle.bsc_text.specs.EachStep.{ReceiverAgrees}
 use Rattle.bsc_tributary.specs.declared.mode.Mode.{Mode}
 use Rattle.bsc_tributary.specs.declared.mode.Mode.TheVariants.{Control, Receiving, Sending}
-use Rattle.bsc_tributary.specs.Tributary.{TributaryValue, TributaryStep, Hears, hear_step, mode_step, receive_step, rooms_after, spool_at, empty_spool}
+use Rattle.bsc_tributary.specs.Tributary.{TributaryValue, TributaryStep, Hears, mode_step, receive_step, rooms_after, spool_at, empty_spool}
 use Rattle.bsc_tributary.specs.Kept.{AfterHearing, IsNoCall, SuitsMode}
 use Rattle.bsc_control.specs.declared.way.Way.{Way}
 use Rattle.bsc_control.specs.declared.way.Way.TheVariants.{ToTerminal}
