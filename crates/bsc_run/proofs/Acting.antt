@@ -1,10 +1,9 @@
 -- How an event of a script is answered.
-use Rattle.std.proofs.Common.{◌≡◌, ◌≢◌, ℕ, List, length, map, Option, None, Some, Result, Ok, Err, refl, sym, ◌∙◌, ap, subst}
+use Rattle.std.proofs.Common.{◌≡◌, ℕ, List, map, Option, Some, Result, Ok, Err, refl, sym, subst}
 use Rattle.std.specs.Borrow.{Bor}
 use Rattle.bsc_frame.specs.declared.message.Message.{Message}
 use Rattle.bsc_carrier.specs.Cable.{CableValue}
 use Rattle.bsc_line_model.specs.declared.error.LineError.{LineError}
-use Rattle.bsc_line_model.specs.declared.error.LineError.TheVariants as why
 use Rattle.bsc_line_model.specs.declared.event.Event.{Event}
 use Rattle.bsc_line_model.specs.declared.event.Event.TheVariants as event
 use Rattle.bsc_line_model.specs.Hearing.{octets_in}
@@ -17,9 +16,8 @@ use Rattle.bsc_run.specs.Crossing.{connection_count, ItemsCross}
 use Rattle.bsc_run.specs.declared.error.StepError.{StepError}
 use Rattle.bsc_run.specs.declared.error.StepError.TheVariants as step
 use Rattle.bsc_run.specs.Faults.{told, IsFault}
-use Rattle.bsc_run.specs.Hearing.{IsRefusedEach}
 use Rattle.bsc_run.specs.Speaking.{Fits}
-use Rattle.bsc_run.specs.Steps.{MayBe, Refuses, Sends, HearsOctets, Crossing, Acts}
+use Rattle.bsc_run.specs.Steps.{MayBe, Sends, HearsOctets, Crossing, Acts}
 use Rattle.bsc_run.proofs.Speaking.{fits_after}
 
 module _ {S : Type 0} (contents remaining : S → Option (List ℕ)) where

@@ -1,5 +1,4 @@
 pub mod Appending
-pub mod Pending
 pub mod Items
 pub mod Speaking
 pub mod Acting

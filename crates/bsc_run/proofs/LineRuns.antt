@@ -1,5 +1,5 @@
 -- A run of a script is a run of the line, of the events that were done.
-use Rattle.std.proofs.Common.{◌≡◌, ℕ, ◌+◌, List, [], ◌∷◌, length, map, inl, inr, Option, None, Some, Result, Ok, Err, refl, sym, ◌∙◌, ap}
+use Rattle.std.proofs.Common.{◌≡◌, ℕ, ◌+◌, List, [], ◌∷◌, length, map, inl, inr, Option, None, Some, Result, Ok, Err, refl, ◌∙◌, ap}
 use Rattle.std.proofs.lemmas.List.{length-map}
 use Rattle.std.specs.Borrow.{Bor}
 use Rattle.bsc_carrier.specs.Cable.{CableValue}
@@ -12,9 +12,8 @@ use Rattle.bsc_line_model.specs.Runs.{Does, RunsFrom}
 use Rattle.bsc_script.specs.Actions.{NumberedEvent}
 use Rattle.bsc_script.specs.Events.{Event as Asked, offer_at, offer_for, carry, lose, heard, heard_each, silence, ready, urgent_at, urgent_for, release}
 use Rattle.bsc_run.specs.declared.error.RunError.{RunError}
-use Rattle.bsc_run.specs.declared.error.RunError.TheVariants.{Refused}
-use Rattle.bsc_run.specs.LineRuns.{EndsAlike, RunsLineFrom, RunsLine}
-use Rattle.bsc_run.specs.Plays.{Plays, Runs, WhereWhole}
+use Rattle.bsc_run.specs.LineRuns.{RunsLineFrom, RunsLine}
+use Rattle.bsc_run.specs.Plays.{Plays, Runs}
 use Rattle.bsc_run.specs.Steps.{MayBe}
 
 -- a list, lent

@@ -1,5 +1,5 @@
 -- Who speaks on a line has a connection of its cable (own).
-use Rattle.std.specs.Prelude.{◌≡◌, ◌<◌, Option, None, Some, IfSome}
+use Rattle.std.specs.Prelude.{◌≡◌, ◌<◌, Option, None, Some}
 use Rattle.bsc_carrier.specs.Cable.{CableValue}
 use Rattle.bsc_line_model.specs.declared.transmission.Speaker.{Speaker}
 use Rattle.bsc_line_model.specs.declared.transmission.Speaker.TheVariants.{Control, Terminal}

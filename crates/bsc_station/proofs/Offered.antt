@@ -1,8 +1,7 @@
 -- Records that are offered one after the other at a control station.
-use Rattle.std.proofs.Common.{◌≡◌, ◌<◌, ℕ, List, ◌++◌, ◌∷◌, [], length, sym, ap, subst, ◌∙◌, arith}
+use Rattle.std.proofs.Common.{◌≡◌, ◌<◌, ℕ, List, length, ap, ◌∙◌}
 use Rattle.std.proofs.lemmas.List.{length-set, get_or-set_same}
 use Rattle.bsc_control.specs.Control.{ControlValue, peer_at, with_peer}
-use Rattle.bsc_control.specs.Kept.{outbound_of}
 use Rattle.bsc_control.specs.Peer.{PeerValue, OutboundValue, no_outbound, no_peer, offered_to, outbound_at}
 use Rattle.bsc_station.specs.Offers.{IsOffered}
 

@@ -1,12 +1,11 @@
 -- What a station knows of the channels that end at it (own).
-use Rattle.std.specs.Prelude.{ℕ, ◌<◌, nat_lt, zero, suc, Bool, true, false, not, ◌||◌, ◌&&◌}
-use Rattle.std.specs.Prelude.{if◌then◌else◌, List, length, map}
+use Rattle.std.specs.Prelude.{ℕ, ◌<◌, nat_lt, zero, suc, Bool, false, not, ◌||◌, ◌&&◌}
+use Rattle.std.specs.Prelude.{List, length}
 use Rattle.bsc_control.specs.declared.way.Way.{Way}
 use Rattle.bsc_control.specs.declared.way.Way.TheVariants.{FromTerminal, ToTerminal}
 use Rattle.bsc_control.specs.Control.{ControlValue, peer_at}
 use Rattle.bsc_control.specs.Kept.{outbound_of}
 use Rattle.bsc_spool.specs.Queue.{QueueValue}
-use Rattle.bsc_spool.specs.Spool.{SpoolValue}
 use Rattle.bsc_text.specs.Sender.{is_in_doubt}
 use Rattle.bsc_tributary.specs.Tributary.{TributaryValue, spool_at}
 use Rattle.bsc_station.specs.declared.standing.Standing.{Standing}

@@ -1,5 +1,5 @@
 -- What is printed of a station: the records that arrive, and the report at the end (own).
-use Rattle.std.specs.Prelude.{ℕ, zero, suc, Bool, List, [], ◌∷◌, ◌++◌, length, drop, codes}
+use Rattle.std.specs.Prelude.{ℕ, List, [], ◌++◌, length, drop, codes}
 use Rattle.std.specs.List.{flat_map}
 use Rattle.std.specs.Fmt.{decimal}
 use Rattle.bsc_control.specs.declared.way.Way.{Way}

@@ -1,5 +1,5 @@
 -- The rounds of a poll list, and when there are enough of them (own).
-use Rattle.std.specs.Prelude.{ℕ, ◌+◌, ◌-◌, ◌^◌, nat_lt, nat_le, min, Bool, true, false, not, ◌||◌}
+use Rattle.std.specs.Prelude.{ℕ, ◌+◌, ◌-◌, ◌^◌, nat_lt, nat_le, min, Bool, false, not, ◌||◌}
 use Rattle.std.specs.Prelude.{◌&&◌, if◌then◌else◌, Option, None, Some}
 use Rattle.bsc_station.specs.declared.rounds.Limits.{Limits}
 use Rattle.bsc_station.specs.declared.rounds.Rounds.{Rounds}

@@ -1,7 +1,6 @@
 use Rattle.std.proofs.Common.{ℕ, List}
 use Rattle.bsc_frame.specs.declared.message.Message.{Message}
 use Rattle.bsc_script.specs.Events.{heard}
-use Rattle.bsc_run.specs.Steps.{Sends}
 use Rattle.bsc_run.proofs.Acting.{hears_octets}
 use Rattle.bsc_run.proofs.actions.carry_given.Goals as goal
 

@@ -1,4 +1,4 @@
-use Rattle.std.proofs.Common.{◌≡◌, length, option_map, Err, sym, ◌∙◌, ap, rules}
+use Rattle.std.proofs.Common.{◌≡◌, length, option_map, Err, ◌∙◌, ap, rules}
 use Rattle.bsc_script.specs.Events.{heard_each}
 use Rattle.bsc_run.proofs.Acting.{acts_fault, hears_items}
 use Rattle.bsc_run.proofs.Items.{slices_count}

@@ -1,4 +1,4 @@
-use Rattle.std.proofs.Common.{◌≡◌, option_map, refl, sym, ◌∙◌, arith}
+use Rattle.std.proofs.Common.{option_map, refl, ◌∙◌, arith}
 use Rattle.bsc_run.specs.Crossing.{none}
 use Rattle.bsc_run.proofs.Items.{items_cross_more}
 use Rattle.bsc_run.proofs.crossing.cross_each.Goals as goal

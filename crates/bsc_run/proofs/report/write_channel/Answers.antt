@@ -1,4 +1,3 @@
-use Rattle.std.proofs.Common.{◌∙◌}
 use Rattle.std.specs.List.{flat_map}
 use Rattle.bsc_text.specs.Sender.{is_in_doubt}
 use Rattle.bsc_line_model.specs.Line.{channel_of, phase_of}
