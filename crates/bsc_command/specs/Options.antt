@@ -1,5 +1,5 @@
 -- Arguments and options of the command line, and their values. All of it is own.
-use Rattle.std.specs.Prelude.{List, [], Bool, true, Option, Some, unwrap_or, codes}
+use Rattle.std.specs.Prelude.{List, [], Bool, true, Some, unwrap_or, codes}
 use Rattle.std.specs.Str.{bytes_eq}
 use Rattle.clap.specs.Words.{Row, Rule, Text, first_of, new_rule}
 use Rattle.clap.specs.declared.builder.ArgAction.TheVariants.{Append, Set, SetTrue}

@@ -1,5 +1,5 @@
 -- The words of `station`: what `clap` reads of them, and what they ask for. All of it is own.
-use Rattle.std.specs.Prelude.{List, [], Bool, Option, Some, codes, map, option_map, string_bytes}
+use Rattle.std.specs.Prelude.{List, [], Bool, Option, codes, map, option_map, string_bytes}
 use Rattle.std.specs.Prelude.{unwrap_or}
 use Rattle.clap.specs.Words.{App, Row, Text, all_of, first_of, new_app, with_rule}
 use Rattle.bsc_command.specs.Options.{flag, is_true_text, option, required, value_at, value_list}

@@ -100,8 +100,8 @@ impl<A: Allocator> Station for LineTerminal<A> {
     }
 
     ghost ignores_noise = { λ old new sent h. (
-        ap₂ line_terminal_of h.number (h.hearing.after.noise refl).0,
-        (h.hearing.after.noise refl).1
+      ap₂ line_terminal_of h.number (h.hearing.after.noise refl).0,
+      (h.hearing.after.noise refl).1,
     ) };
 }
 

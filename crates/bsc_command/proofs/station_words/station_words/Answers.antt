@@ -1,5 +1,5 @@
-use Rattle.std.proofs.Common.{◌≡◌, ◌∙◌, ap, List, [], Option, option_map, unwrap_or, codes}
-use Rattle.clap.specs.Words.{Text, all_of, first_of, first_value, found_of, matched_of, raw_values, rows_of}
+use Rattle.std.proofs.Common.{◌≡◌, ◌∙◌, ap, [], option_map, unwrap_or, codes}
+use Rattle.clap.specs.Words.{Text, all_of, first_value, found_of, matched_of, raw_values, rows_of}
 use Rattle.clap.proofs.WalkLemmas.{first_value-rows, raw_values-rows}
 use Rattle.bsc_command.specs.Options.{is_true_text, value_at}
 use Rattle.bsc_command.specs.StationWords.{given}

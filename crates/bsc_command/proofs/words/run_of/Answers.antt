@@ -1,4 +1,4 @@
-use Rattle.std.proofs.Common.{ap, ◌≡◌, ◌∙◌, List, [], Option, unwrap_or, codes, string_bytes, ℕ}
+use Rattle.std.proofs.Common.{ap, ◌≡◌, ◌∙◌, [], unwrap_or, codes, string_bytes}
 use Rattle.clap.specs.Words.{Text, first_value, found_of, rows_of}
 use Rattle.clap.proofs.WalkLemmas.{first_value-rows}
 use Rattle.bsc_command.specs.CommandLine.{run}
