@@ -1,7 +1,12 @@
 //! The allocator, and the one place where the repository's tests own raw memory.
+ghost use Rattle.std.specs.Prelude.{◌≡◌};
+ghost use Rattle.refusing_alloc.specs.Turns.{new_turns};
+
+use crate::in_turn::InTurn;
 use crate::tally::{Rule, Tally};
 use std::alloc::{AllocError, Allocator, Global};
 use std::cell::Cell;
+use std::ops::Range;
 
 /// Which requests are refused, by a number that a test counts up.
 #[derive(Clone, Copy, Debug, PartialEq, Eq)]
@@ -36,30 +41,36 @@ impl<B: Allocator> Refusing<B> {
     pub fn new(inner: B) -> Refusing<B> {
         Refusing {
             inner,
-            tally: Cell::new(Tally::new(Rule::Nothing)),
+            tally: Cell::new(Tally::new()),
         }
+    }
+
+    fn set(&self, rule: Rule) {
+        let mut tally = self.tally.get();
+        tally.set(rule);
+        self.tally.set(tally);
     }
 
     /// From here on refuses nothing. Counting starts anew.
     pub fn refuse_none(&self) {
-        self.tally.set(Tally::new(Rule::Nothing));
+        self.set(Rule::Nothing);
     }
 
     /// From here on refuses only the request of this number, where 1 is the next one. Counting
     /// starts anew.
     pub fn refuse_nth(&self, request: usize) {
-        self.tally.set(Tally::new(Rule::Nth { request }));
+        self.set(Rule::Nth { request });
     }
 
     /// From here on refuses the request of this number and each later one, where 1 is the next
     /// one. Counting starts anew.
     pub fn refuse_from(&self, request: usize) {
-        self.tally.set(Tally::new(Rule::From { request }));
+        self.set(Rule::From { request });
     }
 
     /// From here on refuses each request of more than `size` octets. Counting starts anew.
     pub fn refuse_larger(&self, size: usize) {
-        self.tally.set(Tally::new(Rule::LargerThan { size }));
+        self.set(Rule::LargerThan { size });
     }
 
     /// From here on refuses the requests that the number names. Counting starts anew.
@@ -71,6 +82,27 @@ impl<B: Allocator> Refusing<B> {
         }
     }
 
+    /// Refuses by each number in turn, from 1 on, until a run meets no refusal. A test does one run
+    /// for each number that it is given:
+    ///
+    /// ```text
+    /// for number in alloc.in_turn(Refusal::Nth, 4..50) {
+    ///     let number = number?;
+    ///     let answer = make(&alloc);
+    ///     ..
+    /// }
+    /// ```
+    ///
+    /// `refused` says whether a run met a refusal, and `refuse` may begin its counting later. How
+    /// many runs meet a refusal has to be in this range, and at least 1: else the last item is an
+    /// error. After the last item nothing is refused.
+    pub fn in_turn(&self, refusal: Refusal, runs: Range<usize>) -> InTurn<'_, B>
+        ensures turns { result.turns ≡ new_turns runs.start runs.end }
+        ensures refusal { result.refusal ≡ refusal }
+    {
+        InTurn::new(self, refusal, runs)
+    }
+
     /// How many requests there were since counting began, refused or not.
     pub fn requests(&self) -> usize {
         self.tally.get().requests
@@ -80,6 +112,11 @@ impl<B: Allocator> Refusing<B> {
     /// is not among them.
     pub fn refused(&self) -> usize {
         self.tally.get().refused
+    }
+
+    /// How many requests this allocator ever refused.
+    pub(crate) fn ever_refused(&self) -> usize {
+        self.tally.get().ever_refused
     }
 }
 

@@ -12,24 +12,42 @@ pub(crate) enum Rule {
     LargerThan { size: usize },
 }
 
-/// A rule, how many requests were made since it was set, and how many of them were refused.
+/// A rule, how many requests were made since it was set, how many of them were refused, and how
+/// many were ever refused.
 #[derive(Clone, Copy, Debug, PartialEq, Eq)]
 pub(crate) struct Tally {
     pub(crate) rule: Rule,
     pub(crate) requests: usize,
     pub(crate) refused: usize,
+    pub(crate) ever_refused: usize,
 }
 
 impl Tally {
-    /// A rule under which nothing was asked yet.
-    pub(crate) fn new(rule: Rule) -> Tally
-        ensures { result ≡ record { rule = rule; requests = 0; refused = 0 } }
+    /// No rule, and nothing was asked yet.
+    pub(crate) fn new() -> Tally
+        ensures { result
+            ≡ record { rule = Rule.Nothing; requests = 0; refused = 0; ever_refused = 0 } }
     {
         Tally {
-            rule,
+            rule: Rule::Nothing,
             requests: 0,
             refused: 0,
+            ever_refused: 0,
         }
+    }
+
+    /// From here on this rule. Counting starts anew, but for what was ever refused.
+    pub(crate) fn set(&mut self, rule: Rule)
+        ensures { self.new ≡ record {
+          rule = rule;
+          requests = 0;
+          refused = 0;
+          ever_refused = self.old.ever_refused;
+        } }
+    {
+        self.rule = rule;
+        self.requests = 0;
+        self.refused = 0;
     }
 
     /// Counts one more request, of `size` octets, and says whether it is refused. A count that is
@@ -40,6 +58,7 @@ impl Tally {
         ensures rule { self.new.rule ≡ self.old.rule }
         ensures requests { self.new.requests ≡ next_count self.old.requests }
         ensures refused { self.new.refused ≡ count_if result self.old.refused }
+        ensures ever { self.new.ever_refused ≡ count_if result self.old.ever_refused }
     {
         self.requests = self.requests.saturating_add(1);
         let refuses = match self.rule {
@@ -50,6 +69,7 @@ impl Tally {
         };
         if refuses {
             self.refused = self.refused.saturating_add(1);
+            self.ever_refused = self.ever_refused.saturating_add(1);
         }
         refuses
     }

@@ -1,7 +1,8 @@
-use crate::{Refusal, Refusing};
+use crate::{Refusal, Refusing, TurnError};
 use linked_list_allocator::LocalHeap;
 use std::alloc::{AllocError, Allocator, Global};
 use std::collections::BTreeMap;
+use std::ops::Range;
 use std::test::Fail;
 
 const VALUES: u8 = 100;
@@ -79,17 +80,18 @@ fn growths_above_a_size_are_refused(rt: HostRuntime) -> Result<(), Fail> {
 fn each_collection_meets_each_refusal(rt: HostRuntime) -> Result<(), Fail> {
     let heap = LocalHeap::new(rt.alloc(), 1 << 15)?;
     let alloc = Refusing::new(&heap);
-    for request in 1..2000 {
-        alloc.refuse_nth(request);
+    for request in alloc.in_turn(Refusal::Nth, 1..2000) {
+        let request = request?;
         let filled = fill(&alloc);
         assert_eq!(rt; filled.is_err(), alloc.refused() == 1);
         if let Ok(count) = filled {
-            assert_eq!(rt; (count, alloc.requests()), (300, request - 1));
-            return Ok(());
+            assert_eq!(rt; count, 300);
+            assert_eq!(rt; alloc.requests().saturating_add(1), request);
+        } else {
+            assert_eq!(rt; (alloc.requests(), heap.used()), (request, 0));
         }
-        assert_eq!(rt; (alloc.requests(), heap.used()), (request, 0));
     }
-    Err(Fail::new("no end of requests"))
+    Ok(())
 }
 
 /// Three hundred records, under their places, with a text beside them.
@@ -158,6 +160,53 @@ fn refusals_by_a_number(rt: HostRuntime) -> Result<(), Fail> {
             assert_eq!(rt; asked.is_ok(), *is_granted);
         }
         assert_eq!(rt; alloc.requests(), 5);
+    }
+    Ok(())
+}
+
+/// The runs of a test that asks for 1 to 5 octets: their numbers, and the error at the end.
+fn runs(
+    global: Global,
+    alloc: &Refusing,
+    refusal: Refusal,
+    range: Range<usize>,
+) -> Result<(Vec<usize>, Option<TurnError>), AllocError> {
+    let (mut numbers, mut wrong) = (Vec::new(global), None);
+    for number in alloc.in_turn(refusal, range) {
+        match number {
+            Ok(number) => numbers.push(number)?,
+            Err(error) => wrong = Some(error),
+        }
+        for size in 1..6 {
+            drop(Vec::<u8, &Refusing>::with_capacity(alloc, size));
+        }
+    }
+    Ok((numbers, wrong))
+}
+
+#[test]
+fn runs_go_on_until_one_meets_no_refusal(rt: HostRuntime) -> Result<(), Fail> {
+    let alloc = Refusing::new(rt.alloc());
+    let octets = Refusal::Above { octets: 1 };
+    for (refusal, range, count, error) in [
+        (Refusal::Nth, 5..6, 6, None),
+        (Refusal::From, 0..100, 6, None),
+        (octets, 4..5, 5, None),
+        (
+            Refusal::Above { octets: 5 },
+            0..9,
+            1,
+            Some(TurnError::TooFew),
+        ),
+        (octets, 5..6, 5, Some(TurnError::TooFew)),
+        (octets, 0..4, 4, Some(TurnError::NoEnd)),
+        (Refusal::From, 0..0, 0, Some(TurnError::NoEnd)),
+    ] {
+        alloc.refuse_from(1);
+        let (numbers, wrong) = runs(rt.alloc(), &alloc, refusal, range)?;
+        assert!(rt; numbers.iter().copied().eq(1..=count));
+        assert_eq!(rt; wrong, error);
+        assert_eq!(rt; alloc.refused(), 0);
     }
     Ok(())
 }
