@@ -2,7 +2,6 @@
 
 use bsc_command::{Fault, names};
 use refusing_alloc::{Refusal, Refusing};
-use std::alloc::Global;
 use std::test::Fail;
 
 /// Four transmissions, of which one is noise.
@@ -24,30 +23,16 @@ fn is_due(printed: &[u8], answer: Result<(), Fault>, is_refused: bool) -> bool {
     }
 }
 
-/// Prints the names until no growth is refused: how often one was; None where the answer was not
-/// due.
-fn refusals(alloc: Global, refusal: Refusal) -> Result<Option<usize>, Fail> {
-    let refusing = Refusing::new(alloc);
-    for number in 1..100usize {
-        refusing.refuse(refusal, number);
-        let mut out = Vec::new(alloc);
-        let answer = names(&refusing, INPUT, &mut out);
-        let is_refused = refusing.refused() > 0;
-        if !is_due(&out, answer, is_refused) {
-            return Ok(None);
-        }
-        if !is_refused {
-            return Ok(Some(number - 1));
-        }
-    }
-    Err("no end of growths".into())
-}
-
 #[test]
 fn each_growth_of_names_is_refused(rt: HostRuntime) -> Result<(), Fail> {
+    let refusing = Refusing::new(rt.alloc());
     for refusal in [Refusal::Nth, Refusal::From, Refusal::Above { octets: 1 }] {
-        let refused = refusals(rt.alloc(), refusal)?.ok_or("not as expected")?;
-        assert!(rt; refused > 3);
+        for number in refusing.in_turn(refusal, 4..99) {
+            number?;
+            let mut out = Vec::new(rt.alloc());
+            let answer = names(&refusing, INPUT, &mut out);
+            assert!(rt; is_due(&out, answer, refusing.refused() > 0));
+        }
     }
     Ok(())
 }

@@ -1,7 +1,7 @@
 //! What no contract says: calls that succeed, a writer that fails, and growths that are refused.
 use crate::{Detail, PrintError, write_chars, write_name, write_shown};
 use bsc_frame::{Heard, Message, decode};
-use refusing_alloc::Refusing;
+use refusing_alloc::{Refusal, Refusing};
 use std::io;
 use std::io::{Error, ErrorKind, Write};
 use std::test::Fail;
@@ -113,9 +113,8 @@ fn failing_write(rt: HostRuntime) -> Result<(), Fail> {
 fn each_growth(rt: HostRuntime) -> Result<(), Fail> {
     let shown = b"TEXT ETX 2\nunit 4849 EM\nunit - EM\n".as_slice();
     let alloc = Refusing::new(rt.alloc());
-    let mut refused = 0;
-    for request in 1..20 {
-        alloc.refuse_nth(request);
+    for request in alloc.in_turn(Refusal::Nth, 1..19) {
+        request?;
         let mut out = Vec::new(rt.alloc());
         let answer = write_shown(&alloc, Detail::Units, &decode(TEXT), &mut out);
         if alloc.refused() == 0 {
@@ -124,9 +123,7 @@ fn each_growth(rt: HostRuntime) -> Result<(), Fail> {
         } else {
             assert!(rt; answer == Err(PrintError::Memory));
             assert!(rt; out.len() < shown.len() && shown.starts_with(&out));
-            refused = request;
         }
     }
-    assert!(rt; 0 < refused && refused < 19);
     Ok(())
 }

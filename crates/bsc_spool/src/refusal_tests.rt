@@ -4,7 +4,7 @@ ghost use Rattle.std.specs.Prelude.{◌≡◌, ◌≤◌, IfOk, length};
 use crate::{Queue, Spool};
 use bsc_block::{Format, Record, RecordError, unpack};
 use bsc_frame::Text;
-use refusing_alloc::Refusing;
+use refusing_alloc::{Refusal, Refusing};
 use std::alloc::{Allocator, Global};
 use std::process::Abort;
 use std::test::Fail;
@@ -74,20 +74,16 @@ fn refused_offers<A: Allocator>(
 #[test]
 fn each_offer_is_refused_in_turn(rt: HostRuntime) -> Result<(), Fail> {
     let alloc = Refusing::new(rt.alloc());
-    for request in 1..100 {
-        alloc.refuse_nth(request);
+    for request in alloc.in_turn(Refusal::Nth, 5..99) {
+        request?;
         let mut queue = Queue::new(&alloc, Format::new(80, 400)?);
         assert_eq!(rt; alloc.requests(), 0);
         let refused = refused_offers(&rt, &mut queue, RECORDS)?;
         assert_eq!(rt; refused, alloc.refused());
         assert_eq!(rt; queue.offered().len(), RECORDS);
         assert!(rt; are_in_order(queue.offered()));
-        if refused == 0 {
-            assert!(rt; request > 5);
-            return Ok(());
-        }
     }
-    Err(Fail::new("no end of growths"))
+    Ok(())
 }
 
 #[test]
@@ -154,8 +150,8 @@ fn refused_rooms<A: Allocator>(
 #[test]
 fn each_room_is_refused_in_turn(rt: HostRuntime) -> Result<(), Fail> {
     let alloc = Refusing::new(rt.alloc());
-    for request in 1..100 {
-        alloc.refuse_nth(request);
+    for request in alloc.in_turn(Refusal::Nth, 5..99) {
+        request?;
         let mut queue = filled(&rt, RECORDS)?;
         let mut spool = Spool::new(&alloc);
         assert_eq!(rt; alloc.requests(), 0);
@@ -163,12 +159,8 @@ fn each_room_is_refused_in_turn(rt: HostRuntime) -> Result<(), Fail> {
         assert_eq!(rt; refused, alloc.refused());
         assert_eq!(rt; (queue.known(), spool.records().len()), (RECORDS, RECORDS));
         assert!(rt; are_in_order(spool.records()));
-        if refused == 0 {
-            assert!(rt; request > 5);
-            return Ok(());
-        }
     }
-    Err(Fail::new("no end of growths"))
+    Ok(())
 }
 
 #[test]

@@ -8,7 +8,7 @@ use crate::tests::bidder::Bidder;
 use crate::{Act, Receiver, ReleaseError, Reply, SettingError, Setup};
 use bsc_frame::{End, Heard, Message, decode};
 use bsc_spool::Spool;
-use refusing_alloc::Refusing;
+use refusing_alloc::{Refusal, Refusing};
 use std::alloc::Allocator;
 use std::test::Fail;
 
@@ -357,14 +357,11 @@ fn take_texts<A: Allocator>(alloc: A, texts: usize) -> Result<(usize, usize), Fa
 #[test]
 fn each_refused_growth_delays_and_loses_nothing(rt: HostRuntime) -> Result<(), Fail> {
     let alloc = Refusing::new(rt.alloc());
-    for request in 1..100 {
-        alloc.refuse_nth(request);
+    for request in alloc.in_turn(Refusal::Nth, 1..99) {
+        let request = request?;
         let (naks, wacks) = take_texts(&alloc, 300)?;
         assert_eq!(rt; naks.saturating_add(wacks), alloc.refused());
         assert_eq!(rt; naks == 1, request == 1);
-        if alloc.refused() == 0 {
-            return Ok(());
-        }
     }
-    Err("no end of growths")?
+    Ok(())
 }

@@ -1,6 +1,6 @@
 use super::streams::Drip;
 use crate::{InputError, read_input, read_octets};
-use refusing_alloc::Refusing;
+use refusing_alloc::{Refusal, Refusing};
 use std::alloc::AllocError;
 use std::test::Fail;
 
@@ -8,9 +8,8 @@ use std::test::Fail;
 #[test]
 fn each_growth_of_an_input(rt: HostRuntime) -> Result<(), Fail> {
     let alloc = Refusing::new(rt.alloc());
-    let mut refused = 0;
-    for request in 1..20 {
-        alloc.refuse_nth(request);
+    for request in alloc.in_turn(Refusal::Nth, 4..19) {
+        request?;
         let mut drip = Drip {
             left: 1000,
             reads: 0,
@@ -20,10 +19,8 @@ fn each_growth_of_an_input(rt: HostRuntime) -> Result<(), Fail> {
             assert_eq!(rt; answer?.len(), 1000);
         } else {
             assert!(rt; answer.err() == Some(InputError::Memory));
-            refused = request;
         }
     }
-    assert!(rt; 3 < refused && refused < 19);
     Ok(())
 }
 
@@ -31,18 +28,15 @@ fn each_growth_of_an_input(rt: HostRuntime) -> Result<(), Fail> {
 #[test]
 fn each_growth_of_octets(rt: HostRuntime) -> Result<(), Fail> {
     let alloc = Refusing::new(rt.alloc());
-    let mut refused = 0;
-    for request in 1..20 {
-        alloc.refuse_nth(request);
+    for request in alloc.in_turn(Refusal::Nth, 2..19) {
+        request?;
         let answer = read_octets(&alloc, b"16 16 10 B0 FF 16 16 10 B0 FF");
         if alloc.refused() == 0 {
             let octets = answer?.ok_or("no octets")?;
             assert_eq!(rt; octets.len(), 10);
         } else {
             assert!(rt; answer.err() == Some(AllocError));
-            refused = request;
         }
     }
-    assert!(rt; 1 < refused && refused < 19);
     Ok(())
 }

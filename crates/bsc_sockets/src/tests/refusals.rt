@@ -2,27 +2,24 @@
 
 use super::*;
 use bsc_live::{Awaited, Wait, Waiter};
-use refusing_alloc::Refusing;
+use refusing_alloc::{Refusal, Refusing};
 use std::test::Fail;
 
 // A refused growth is told as such, and without one there is a connection.
 #[test]
 fn each_growth_at_the_one_that_listens(rt: HostRuntime) -> Result<(), Fail> {
     let alloc = Refusing::new(rt.alloc());
-    let mut refused = 0;
-    for request in 1..12 {
+    for request in alloc.in_turn(Refusal::Nth, 5..11) {
+        request?;
         let (listening, address) = bound(&rt)?;
         let _far = peer(&rt, address)?;
-        alloc.refuse_nth(request);
         let begun = listen(&rt, &alloc, listening, 1, patience(), true, settings());
         if alloc.refused() == 0 {
             assert_eq!(rt; begun?.connections.len(), 1);
         } else {
             assert_eq!(rt; begun.err(), Some(SocketsError::Memory));
-            refused = request;
         }
     }
-    assert!(rt; 4 < refused && refused < 11);
     Ok(())
 }
 
@@ -32,18 +29,15 @@ fn each_growth_at_the_one_that_connects(rt: HostRuntime) -> Result<(), Fail> {
     let alloc = Refusing::new(rt.alloc());
     let (_listening, address) = bound(&rt)?;
     let text = format!(in rt.alloc(); "{address}")?;
-    let mut refused = 0;
-    for request in 1..16 {
-        alloc.refuse_nth(request);
+    for request in alloc.in_turn(Refusal::Nth, 7..15) {
+        request?;
         let begun = connect(&rt, &alloc, text.as_str(), patience(), settings());
         if alloc.refused() == 0 {
             assert_eq!(rt; begun?.connections.len(), 1);
         } else {
             assert_eq!(rt; begun.err(), Some(SocketsError::Memory));
-            refused = request;
         }
     }
-    assert!(rt; 6 < refused && refused < 15);
     Ok(())
 }
 
