@@ -4,12 +4,17 @@ mod station;
 
 use crate::tests::station::{
     control_of, given_back, has_spooled, in_doubt, known, offer, offer_empty, refusal, sent_after,
-    setup, terminal, two_terminals,
+    terminal,
 };
 use crate::{Control, SetupError, Way};
+use bsc_fixtures::lines::{setup, two_terminals, two_terminals_by_three};
+use bsc_fixtures::octets::{
+    ACK0, ACK1, CALL_POLL_A, CALL_POLL_B, CALL_SELECT_A, CALL_SELECT_B, CALL_SELECT_C, ENQ, EOT,
+    NAK, RVI, TEXT_EMPTY, TEXT_FIRST_SEVEN, TEXT_HI, TEXT_LAST_SEVEN, WACK,
+};
 use bsc_frame::Address;
 use bsc_text::{ReleaseError, Station};
-use refusing_alloc::Refusing;
+use refusing_alloc::{Refusal, Refusing};
 use std::test::Fail;
 
 /// No octets stand for a silence, and for no answer.
@@ -17,52 +22,10 @@ const SILENCE: &[u8] = &[];
 
 const QUIET: &[u8] = &[];
 
-const CALL_POLL_A: &[u8] = &[0x16, 0x16, 0x04, 0xff, 0x16, 0x16, 0xc1, 0x85, 0xff];
-
-const CALL_POLL_B: &[u8] = &[0x16, 0x16, 0x04, 0xff, 0x16, 0x16, 0xc2, 0x85, 0xff];
-
-const CALL_SELECT_A: &[u8] = &[0x16, 0x16, 0x04, 0xff, 0x16, 0x16, 0x61, 0x85, 0xff];
-
-const CALL_SELECT_B: &[u8] = &[0x16, 0x16, 0x04, 0xff, 0x16, 0x16, 0x62, 0x85, 0xff];
-
-const CALL_SELECT_C: &[u8] = &[0x16, 0x16, 0x04, 0xff, 0x16, 0x16, 0xe3, 0x85, 0xff];
-
-const EOT: &[u8] = &[0x16, 0x16, 0x04, 0xff];
-
-const ENQ: &[u8] = &[0x16, 0x16, 0x85, 0xff];
-
-const NAK: &[u8] = &[0x16, 0x16, 0x15, 0xff];
-
-const ACK0: &[u8] = &[0x16, 0x16, 0x10, 0xb0, 0xff];
-
-const ACK1: &[u8] = &[0x16, 0x16, 0x10, 0x31, 0xff];
-
-const WACK: &[u8] = &[0x16, 0x16, 0x10, 0x3b, 0xff];
-
-const RVI: &[u8] = &[0x16, 0x16, 0x10, 0xbc, 0xff];
-
-/// The text of the record HI.
-const TEXT_HI: &[u8] = &[0x16, 0x16, 0x02, 0xc8, 0x49, 0x19, 0x83, 0x9b, 0xff];
-
-/// The text of one empty record.
-const TEXT_EMPTY: &[u8] = &[0x16, 0x16, 0x02, 0x19, 0x83, 0x1a, 0xff];
-
-/// The text of seven empty records that ends with ETX.
-const TEXT_SEVEN: &[u8] = &[
-    0x16, 0x16, 0x02, 0x19, 0x1f, 0x86, 0x19, 0x1f, 0x86, 0x19, 0x1f, 0x86, 0x19, 0x1f, 0x86, 0x19,
-    0x1f, 0x86, 0x19, 0x1f, 0x86, 0x19, 0x83, 0x1a, 0xff,
-];
-
-/// The text of seven empty records that ends with ETB.
-const TEXT_SEVEN_MORE: &[u8] = &[
-    0x16, 0x16, 0x02, 0x19, 0x1f, 0x86, 0x19, 0x1f, 0x86, 0x19, 0x1f, 0x86, 0x19, 0x1f, 0x86, 0x19,
-    0x1f, 0x86, 0x19, 0x1f, 0x86, 0x19, 0x97, 0x0e, 0xff,
-];
-
 #[test]
 fn setups_are_refused_in_order(rt: HostRuntime) -> Result<(), Fail> {
     let alloc = rt.alloc();
-    let two = two_terminals()?;
+    let two = two_terminals();
     let many = [two[0]; 65];
     let same = [terminal(b"A", &[Address::read(b"A")?])?];
     let shared = [
@@ -95,11 +58,7 @@ fn setups_are_refused_in_order(rt: HostRuntime) -> Result<(), Fail> {
 
 #[test]
 fn an_address_is_found_by_its_terminal_and_way(rt: HostRuntime) -> Result<(), Fail> {
-    let terminals = [
-        terminal(b"A", &[Address::read(b"a")?, Address::read(b"c")?])?,
-        terminal(b"B", &[Address::read(b"b")?])?,
-    ];
-    let control = control_of(rt.alloc(), &terminals, &[0, 1], 3)?;
+    let control = control_of(rt.alloc(), &two_terminals_by_three(), &[0, 1], 3)?;
     for (address, owner) in [
         (b"A", Some((0, Way::FromTerminal))),
         (b"a", Some((0, Way::ToTerminal(0)))),
@@ -118,22 +77,22 @@ fn an_address_is_found_by_its_terminal_and_way(rt: HostRuntime) -> Result<(), Fa
 fn each_growth_of_a_new_station_is_refused_in_turn(rt: HostRuntime) -> Result<(), Fail> {
     let alloc = Refusing::new(rt.alloc());
     let setup = setup(3)?;
-    let terminals = two_terminals()?;
-    for request in 1..100 {
-        alloc.refuse_nth(request);
+    let terminals = two_terminals();
+    for request in alloc.in_turn(Refusal::Nth, 1..99) {
+        request?;
         let made = Control::new(&alloc, setup, &terminals, &[0, 1]);
         if alloc.refused() == 0 {
             assert_eq!(rt; made?.terminals(), 2);
-            return Ok(());
+        } else {
+            assert_eq!(rt; made.err(), Some(SetupError::Memory));
         }
-        assert_eq!(rt; made.err(), Some(SetupError::Memory));
     }
-    Err("no end of growths".into())
+    Ok(())
 }
 
 #[test]
 fn the_poll_list_is_gone_through(rt: HostRuntime) -> Result<(), Fail> {
-    let mut control = control_of(rt.alloc(), &two_terminals()?, &[0, 1], 3)?;
+    let mut control = control_of(rt.alloc(), &two_terminals(), &[0, 1], 3)?;
     for (heard, answer) in [
         (ACK0, QUIET),
         (SILENCE, CALL_POLL_A),
@@ -150,7 +109,7 @@ fn the_poll_list_is_gone_through(rt: HostRuntime) -> Result<(), Fail> {
 
 #[test]
 fn an_urgent_station_polls_the_same_entry_again(rt: HostRuntime) -> Result<(), Fail> {
-    let mut control = control_of(rt.alloc(), &two_terminals()?, &[0, 1], 3)?;
+    let mut control = control_of(rt.alloc(), &two_terminals(), &[0, 1], 3)?;
     if control.terminals() != 2 {
         return Err("another number of terminals".into());
     }
@@ -170,11 +129,11 @@ fn an_urgent_station_polls_the_same_entry_again(rt: HostRuntime) -> Result<(), F
 
 #[test]
 fn seven_records_go_in_one_block(rt: HostRuntime) -> Result<(), Fail> {
-    let mut control = control_of(rt.alloc(), &two_terminals()?, &[0, 1], 3)?;
+    let mut control = control_of(rt.alloc(), &two_terminals(), &[0, 1], 3)?;
     offer_empty(&mut control, 7)?;
     for (heard, answer) in [
         (SILENCE, CALL_SELECT_A),
-        (ACK0, TEXT_SEVEN),
+        (ACK0, TEXT_LAST_SEVEN),
         (ACK1, CALL_POLL_A),
     ] {
         assert_eq!(rt; sent_after(&mut control, heard).as_slice(), answer);
@@ -185,11 +144,11 @@ fn seven_records_go_in_one_block(rt: HostRuntime) -> Result<(), Fail> {
 
 #[test]
 fn an_eighth_record_goes_in_a_second_block(rt: HostRuntime) -> Result<(), Fail> {
-    let mut control = control_of(rt.alloc(), &two_terminals()?, &[0, 1], 3)?;
+    let mut control = control_of(rt.alloc(), &two_terminals(), &[0, 1], 3)?;
     offer_empty(&mut control, 8)?;
     for (heard, answer) in [
         (SILENCE, CALL_SELECT_A),
-        (ACK0, TEXT_SEVEN_MORE),
+        (ACK0, TEXT_FIRST_SEVEN),
         (ACK1, TEXT_EMPTY),
         (ACK0, CALL_POLL_A),
     ] {
@@ -201,11 +160,11 @@ fn an_eighth_record_goes_in_a_second_block(rt: HostRuntime) -> Result<(), Fail> 
 
 #[test]
 fn a_bid_that_is_interrupted_goes_on_in_the_next_round(rt: HostRuntime) -> Result<(), Fail> {
-    let mut control = control_of(rt.alloc(), &two_terminals()?, &[0, 1], 3)?;
+    let mut control = control_of(rt.alloc(), &two_terminals(), &[0, 1], 3)?;
     offer_empty(&mut control, 8)?;
     for (heard, answer) in [
         (SILENCE, CALL_SELECT_A),
-        (ACK0, TEXT_SEVEN_MORE),
+        (ACK0, TEXT_FIRST_SEVEN),
         (RVI, CALL_POLL_A),
         (TEXT_HI, ACK1),
         (EOT, CALL_POLL_B),
@@ -221,7 +180,7 @@ fn a_bid_that_is_interrupted_goes_on_in_the_next_round(rt: HostRuntime) -> Resul
 
 #[test]
 fn a_terminal_that_does_not_answer_is_left(rt: HostRuntime) -> Result<(), Fail> {
-    let mut control = control_of(rt.alloc(), &two_terminals()?, &[1, 0], 1)?;
+    let mut control = control_of(rt.alloc(), &two_terminals(), &[1, 0], 1)?;
     offer(&mut control, 1, 0, b"HI")?;
     offer(&mut control, 0, 0, b"HI")?;
     for (heard, answer) in [
@@ -241,7 +200,7 @@ fn a_terminal_that_does_not_answer_is_left(rt: HostRuntime) -> Result<(), Fail> 
 
 #[test]
 fn a_refused_selection_leaves_no_doubt(rt: HostRuntime) -> Result<(), Fail> {
-    let mut control = control_of(rt.alloc(), &two_terminals()?, &[0, 1], 3)?;
+    let mut control = control_of(rt.alloc(), &two_terminals(), &[0, 1], 3)?;
     offer(&mut control, 0, 0, b"HI")?;
     for (heard, answer) in [
         (SILENCE, CALL_SELECT_A),
@@ -257,7 +216,7 @@ fn a_refused_selection_leaves_no_doubt(rt: HostRuntime) -> Result<(), Fail> {
 
 #[test]
 fn a_selection_waits_for_room(rt: HostRuntime) -> Result<(), Fail> {
-    let mut control = control_of(rt.alloc(), &two_terminals()?, &[0, 1], 3)?;
+    let mut control = control_of(rt.alloc(), &two_terminals(), &[0, 1], 3)?;
     offer(&mut control, 0, 0, b"HI")?;
     for (heard, answer) in [
         (SILENCE, CALL_SELECT_A),
@@ -272,11 +231,7 @@ fn a_selection_waits_for_room(rt: HostRuntime) -> Result<(), Fail> {
 
 #[test]
 fn each_selection_address_is_called_in_turn(rt: HostRuntime) -> Result<(), Fail> {
-    let terminals = [
-        terminal(b"A", &[Address::read(b"a")?, Address::read(b"c")?])?,
-        terminal(b"B", &[Address::read(b"b")?])?,
-    ];
-    let mut control = control_of(rt.alloc(), &terminals, &[0, 1], 3)?;
+    let mut control = control_of(rt.alloc(), &two_terminals_by_three(), &[0, 1], 3)?;
     offer(&mut control, 0, 0, b"HI")?;
     offer(&mut control, 0, 1, b"")?;
     for (heard, answer) in [
@@ -295,7 +250,7 @@ fn each_selection_address_is_called_in_turn(rt: HostRuntime) -> Result<(), Fail>
 
 #[test]
 fn a_repeated_selection_keeps_the_urgent_flag(rt: HostRuntime) -> Result<(), Fail> {
-    let mut control = control_of(rt.alloc(), &two_terminals()?, &[0, 1], 3)?;
+    let mut control = control_of(rt.alloc(), &two_terminals(), &[0, 1], 3)?;
     offer(&mut control, 0, 0, b"HI")?;
     assert_eq!(rt; sent_after(&mut control, SILENCE).as_slice(), CALL_SELECT_A);
     if control.terminals() != 2 {
@@ -315,7 +270,7 @@ fn a_repeated_selection_keeps_the_urgent_flag(rt: HostRuntime) -> Result<(), Fai
 
 #[test]
 fn a_doubtful_block_waits_for_its_release(rt: HostRuntime) -> Result<(), Fail> {
-    let mut control = control_of(rt.alloc(), &two_terminals()?, &[0, 1], 1)?;
+    let mut control = control_of(rt.alloc(), &two_terminals(), &[0, 1], 1)?;
     offer(&mut control, 0, 0, b"HI")?;
     for (heard, answer) in [
         (SILENCE, CALL_SELECT_A),
@@ -345,7 +300,7 @@ fn a_doubtful_block_waits_for_its_release(rt: HostRuntime) -> Result<(), Fail> {
 #[test]
 fn a_refused_growth_delays_a_text(rt: HostRuntime) -> Result<(), Fail> {
     let alloc = Refusing::new(rt.alloc());
-    let mut control = control_of(&alloc, &two_terminals()?, &[0, 1], 3)?;
+    let mut control = control_of(&alloc, &two_terminals(), &[0, 1], 3)?;
     alloc.refuse_nth(1);
     for (heard, answer) in [
         (SILENCE, CALL_POLL_A),
@@ -363,7 +318,7 @@ fn a_refused_growth_delays_a_text(rt: HostRuntime) -> Result<(), Fail> {
 #[test]
 fn an_offer_without_memory_changes_nothing(rt: HostRuntime) -> Result<(), Fail> {
     let alloc = Refusing::new(rt.alloc());
-    let mut control = control_of(&alloc, &two_terminals()?, &[0, 1], 3)?;
+    let mut control = control_of(&alloc, &two_terminals(), &[0, 1], 3)?;
     alloc.refuse_nth(1);
     assert_eq!(rt; given_back(&mut control, b"HI")?, Some(true));
     assert_eq!(rt; alloc.refused(), 1);

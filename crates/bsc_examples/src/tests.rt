@@ -3,23 +3,20 @@
 mod errors;
 
 use crate::{deliver, run_terminal};
+use bsc_fixtures::octets::{CALL_POLL_A, CALL_SELECT_A, EOT, TEXT_HI};
 use std::test::Fail;
-
-/// The call that polls terminal A, and the one that selects it.
-const POLL: &[u8] = &[0x16, 0x16, 0x04, 0xff, 0x16, 0x16, 0xc1, 0x85, 0xff];
-
-const SELECT: &[u8] = &[0x16, 0x16, 0x04, 0xff, 0x16, 0x16, 0x61, 0x85, 0xff];
-
-/// The text of the record HI, and EOT.
-const TEXT: &[u8] = &[0x16, 0x16, 0x02, 0xc8, 0x49, 0x19, 0x83, 0x9b, 0xff];
-
-const EOT: &[u8] = &[0x16, 0x16, 0x04, 0xff];
 
 #[test]
 fn a_terminal_that_is_selected_prints_the_record(rt: HostRuntime) -> Result<(), Fail> {
     let mut line = Vec::new(rt.alloc());
     let mut printer = Vec::new(rt.alloc());
-    let heard = [Some(POLL), Some(SELECT), Some(TEXT), None, Some(EOT)];
+    let heard = [
+        Some(CALL_POLL_A),
+        Some(CALL_SELECT_A),
+        Some(TEXT_HI),
+        None,
+        Some(EOT),
+    ];
     run_terminal(rt.alloc(), &heard, &mut line, &mut printer)?;
 
     // It has nothing to send: EOT. Then ACK0 to the selection, and ACK1 to the text.

@@ -5,31 +5,18 @@ ghost use Rattle.bsc_line_model.specs.Line.{IsChannel};
 
 use crate::{Line, Speaker};
 use bsc_control::Way;
-use bsc_frame::Address;
-use bsc_text::{Setup, Terminal};
+use bsc_fixtures::lines::{setup, two_terminals_by_three};
+use bsc_fixtures::octets::{CALL_POLL_A, CALL_SELECT_A};
 use std::alloc::Allocator;
 use std::process::Abort;
 use std::test::Fail;
 
-const CALL_POLL_A: &[u8] = &[0x16, 0x16, 0x04, 0xff, 0x16, 0x16, 0xc1, 0x85, 0xff];
-
-const CALL_SELECT_A: &[u8] = &[0x16, 0x16, 0x04, 0xff, 0x16, 0x16, 0x61, 0x85, 0xff];
-
 const TO_FIRST: Way = Way::ToTerminal(0);
-
-/// A terminal with this polling address and these selection addresses.
-fn terminal_of(poll: &[u8], selects: &[Address]) -> Result<Terminal, Fail> {
-    Ok(Terminal::new(Address::read(poll)?, selects)?)
-}
 
 /// A line with this poll list: terminal 0 is polled by A and selected by a and c, terminal 1 is
 /// polled by B and selected by b.
 fn line_of<A: Allocator + Copy>(alloc: A, poll_list: &[u8]) -> Result<Line<A>, Fail> {
-    let terminals = [
-        terminal_of(b"A", &[Address::read(b"a")?, Address::read(b"c")?])?,
-        terminal_of(b"B", &[Address::read(b"b")?])?,
-    ];
-    Ok(Line::new(alloc, Setup::new(80, 400, 3, 10)?, &terminals, poll_list)?)
+    Ok(Line::new(alloc, setup(3)?, &two_terminals_by_three(), poll_list)?)
 }
 
 /// Offers this many empty records for the first selection address of terminal 0.

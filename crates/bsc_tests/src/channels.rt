@@ -4,8 +4,8 @@ ghost use Rattle.std.specs.Prelude.{◌<◌, IsTrue};
 ghost use Rattle.bsc_line_model.specs.Line.{IsChannel, terminal_count};
 
 use crate::events::NONE;
-use bsc_block::Record;
 use bsc_control::Way;
+use bsc_fixtures::records::{are_front, are_records};
 use bsc_line::Line;
 use std::alloc::Allocator;
 use std::process::Abort;
@@ -91,20 +91,6 @@ pub(crate) fn is_channel<A: Allocator>(line: &Line<A>, terminal: usize, way: Way
         }
 }
 
-/// Whether these are the records of the first of these characters.
-fn are_front(records: &[Record], expected: &[&[u8]]) -> bool {
-    records.len() <= expected.len()
-        && records
-            .iter()
-            .zip(expected)
-            .all(|(record, chars)| record.chars() == *chars)
-}
-
-/// Whether these are exactly the records of these characters.
-fn are_exactly(records: &[Record], expected: &[&[u8]]) -> bool {
-    records.len() == expected.len() && are_front(records, expected)
-}
-
 /// How many records were offered on a channel; 0 where the line has no such channel.
 pub(crate) fn offered_count<A: Allocator>(line: &Line<A>, terminal: usize, way: Way) -> usize {
     if is_channel(line, terminal, way) {
@@ -134,9 +120,9 @@ pub(crate) fn has_left<A: Allocator>(
 ) -> bool {
     let ends = expected.ends();
     is_channel(line, terminal, way)
-        && are_exactly(line.offered(terminal, way), ends.offered)
+        && are_records(line.offered(terminal, way), ends.offered)
         && line.known(terminal, way) == ends.known
-        && are_exactly(line.spooled(terminal, way), ends.spooled)
+        && are_records(line.spooled(terminal, way), ends.spooled)
         && line.in_doubt(terminal, way) == ends.in_doubt
 }
 

@@ -2,13 +2,14 @@
 
 use crate::channels::Has::{Arrived, Delivered, InDoubt, Waiting};
 use crate::events::{HI, LOSE, NONE, OFFER_AT, OFFER_FOR, RELEASE_FROM, RELEASE_TO};
-use crate::fixtures::{line_of, line_of_two, two_terminals};
-use crate::octets::{
-    ACK0, ACK1, BROKEN_TEXT, CALL_POLL_A, CALL_POLL_B, CALL_SELECT_A, ENQ, EOT, NAK, TEXT_HI,
-};
+use crate::fixtures::{line_of, line_of_two};
 use crate::play::Then::{Done, Quiet, Refused, Sent};
 use crate::play::{Left, Part, passes};
 use bsc_control::Way::{FromTerminal, ToTerminal};
+use bsc_fixtures::lines::two_terminals;
+use bsc_fixtures::octets::{
+    ACK0, ACK1, BROKEN_TEXT, CALL_POLL_A, CALL_POLL_B, CALL_SELECT_A, ENQ, EOT, NAK, TEXT_HI,
+};
 use bsc_line::Event::{CarrySent, Silence};
 use bsc_line::Speaker::{Control, Terminal};
 use bsc_line::{Event, LineError};
@@ -72,7 +73,7 @@ fn a_block_without_an_answer_waits_for_its_release(rt: HostRuntime) -> Result<()
             left: &[(0, FromTerminal, Delivered(HI))],
         },
     ];
-    let line = line_of(rt.alloc(), &two_terminals()?, &[0, 1], 1);
+    let line = line_of(rt.alloc(), &two_terminals(), &[0, 1], 1);
     passes(&rt, line, EXCHANGE)
 }
 
@@ -284,6 +285,6 @@ fn a_released_block_that_never_arrived_is_sent_again(rt: HostRuntime) -> Result<
             left: &[(0, ToTerminal(0), Delivered(HI))],
         },
     ];
-    let line = line_of(rt.alloc(), &two_terminals()?, &[0, 1], 1);
+    let line = line_of(rt.alloc(), &two_terminals(), &[0, 1], 1);
     passes(&rt, line, EXCHANGE)
 }

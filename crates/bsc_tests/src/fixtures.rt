@@ -1,17 +1,12 @@
 //! The lines of the worked exchanges.
 
 use bsc_control::SetupError;
+use bsc_fixtures::lines::{setup, two_terminals};
 use bsc_frame::Address;
 use bsc_line::Line;
-use bsc_text::{SettingError, Setup, Terminal};
+use bsc_text::Terminal;
 use std::alloc::{Allocator, Global};
 use std::test::Fail;
-
-/// Blocks of up to 400 characters of records of up to 80, and this many failures in a row are
-/// borne.
-pub(crate) fn setup(tries: u8) -> Result<Setup, SettingError> {
-    Setup::new(80, 400, tries, 10)
-}
 
 /// A terminal with this polling address and these selection addresses.
 pub(crate) fn terminal_of(poll: &[u8], selects: &[Address]) -> Result<Terminal, Fail> {
@@ -43,23 +38,6 @@ pub(crate) fn terminals_of(alloc: Global, codes: &[Codes<'_>]) -> Result<Vec<Ter
         terminals.push(terminal_of(poll, &addresses_of(alloc, selects)?)?)?;
     }
     Ok(terminals)
-}
-
-/// Terminal 0, which is polled by A and selected by a, and terminal 1, polled by B and selected by
-/// b.
-pub(crate) fn two_terminals() -> Result<[Terminal; 2], Fail> {
-    Ok([
-        terminal_of(b"A", &[Address::read(b"a")?])?,
-        terminal_of(b"B", &[Address::read(b"b")?])?,
-    ])
-}
-
-/// The same two terminals, but terminal 0 is also selected by c.
-pub(crate) fn two_terminals_by_three() -> Result<[Terminal; 2], Fail> {
-    Ok([
-        terminal_of(b"A", &[Address::read(b"a")?, Address::read(b"c")?])?,
-        terminal_of(b"B", &[Address::read(b"b")?])?,
-    ])
 }
 
 /// The code by which the addresses of the first of many terminals are told apart from those of the
@@ -100,12 +78,12 @@ pub(crate) fn line_of<A: Allocator + Copy>(
 
 /// A new line with terminals 0 and 1 polled in turn, and the default of three tries.
 pub(crate) fn line_of_two<A: Allocator + Copy>(alloc: A) -> Result<Line<A>, Fail> {
-    line_of(alloc, &two_terminals()?, &[0, 1], 3)
+    line_of(alloc, &two_terminals(), &[0, 1], 3)
 }
 
 /// A new line, as `line_of_two` makes it; None where it is out of memory.
 pub(crate) fn line_within<A: Allocator + Copy>(alloc: A) -> Result<Option<Line<A>>, Fail> {
-    let (setup, terminals) = (setup(3)?, two_terminals()?);
+    let (setup, terminals) = (setup(3)?, two_terminals());
     match Line::new(alloc, setup, &terminals, &[0, 1]) {
         Ok(line) => Ok(Some(line)),
         Err(SetupError::Memory) => Ok(None),

@@ -5,12 +5,13 @@ use crate::channels::{are_sound, has_front_of, offered_count};
 use crate::events::{EIGHT, HI, NONE, SEVEN};
 use crate::fixtures::{line_of_two, refusal, terminals_of};
 use crate::limits::go_on;
-use crate::octets::{NAK, WACK};
 use crate::play::{Left, wrong_left};
 use crate::refusals::{SETTINGS, Setting};
 use bsc_control::Way::{FromTerminal, ToTerminal};
 use bsc_control::{SetupError, Way};
+use bsc_fixtures::octets::{NAK, WACK};
 use bsc_line::{Line, LineError};
+use bsc_text::Terminal;
 use refusing_alloc::{Refusal, Refusing};
 use std::alloc::{Allocator, Global};
 use std::process::Abort;
@@ -254,17 +255,13 @@ fn refused_in_turn(
     exchange: &Exchange<'_>,
 ) -> Result<Refused, Fail> {
     let (mut offers, mut rooms) = (false, false);
-    for number in 1..1000 {
-        match refused_in(alloc, which, number, exchange)? {
-            None => return Err("not as expected".into()),
-            Some((false, false)) => return Ok((offers, rooms)),
-            Some((offer, room)) => {
-                offers |= offer;
-                rooms |= room;
-            }
-        }
+    for number in alloc.in_turn(which, 1..999) {
+        let refused = refused_in(alloc, which, number?, exchange)?;
+        let (offer, room) = refused.ok_or("not as expected")?;
+        offers |= offer;
+        rooms |= room;
     }
-    Err("no end of growths".into())
+    Ok((offers, rooms))
 }
 
 /// Asserts that in each exchange an offer and a spool are refused a growth, and that all is as
@@ -292,36 +289,47 @@ fn all_growths_of_an_exchange_are_refused_above_each_size(rt: HostRuntime) -> Re
     passes_each(&rt, ABOVE)
 }
 
-/// Asks for a line until nothing is refused a growth, and it is answered as is due: how often it
-/// was asked for. None where it was answered otherwise, or otherwise than by out of memory where a
-/// growth was refused.
-fn refusals_of(
+/// Asks for a line: whether it is answered as is due, which is out of memory where a growth is
+/// refused.
+fn is_answered(
+    alloc: &Refusing,
+    terminals: &[Terminal],
+    (_, poll_list, expected): &Setting<'_>,
+) -> Result<bool, Fail> {
+    let answer = refusal(alloc, terminals, poll_list)?;
+    Ok(if alloc.refused() > 0 {
+        answer == Some(SetupError::Memory)
+    } else {
+        answer == *expected
+    })
+}
+
+/// Asks for a line until nothing is refused a growth: whether each answer is as is due.
+fn are_answered(
     global: Global,
     alloc: &Refusing,
     which: Refusal,
-    (codes, poll_list, expected): &Setting<'_>,
-) -> Result<Option<usize>, Fail> {
-    let terminals = terminals_of(global, codes)?;
-    for number in 1..1000usize {
-        alloc.refuse(which, number);
-        let answer = refusal(alloc, &terminals, poll_list)?;
-        if alloc.refused() == 0 {
-            return Ok((answer == *expected).then_some(number));
-        }
-        if answer != Some(SetupError::Memory) {
-            return Ok(None);
+    setting: &Setting<'_>,
+) -> Result<bool, Fail> {
+    let terminals = terminals_of(global, setting.0)?;
+    for number in alloc.in_turn(which, 1..999) {
+        number?;
+        if !is_answered(alloc, &terminals, setting)? {
+            return Ok(false);
         }
     }
-    Err("no end of growths".into())
+    Ok(true)
 }
 
-/// Asserts that each setting is answered as it is where no growth is refused, or is out of memory
-/// where one is. The numbers of terminals are looked at before memory is asked for.
+/// Asserts that each setting is answered as is due, whichever growth is refused. The first two are
+/// wrong numbers of terminals, which are told before memory is asked for.
 fn asks_for_each(rt: &(impl Abort + AllocGlobal), which: Refusal) -> Result<(), Fail> {
     let alloc = Refusing::new(rt.alloc());
-    for (place, setting) in SETTINGS.iter().enumerate() {
-        let runs = refusals_of(rt.alloc(), &alloc, which, setting)?;
-        assert_eq!(rt; runs.map(|runs| runs > 1), Some(place > 1), "at {place}");
+    for (place, setting) in SETTINGS.iter().enumerate().skip(2) {
+        assert!(rt;
+            are_answered(rt.alloc(), &alloc, which, setting)?,
+            "at {place}"
+        );
     }
     Ok(())
 }

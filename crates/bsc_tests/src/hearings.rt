@@ -3,12 +3,12 @@
 use crate::channels::Has::{Arrived, Delivered};
 use crate::events::{HI, NONE, OFFER_AT, OFFER_FOR};
 use crate::fixtures::line_of_two;
-use crate::octets::{
-    ACK0, ACK1, BROKEN_TEXT, CALL_POLL_A, CALL_POLL_B, CALL_SELECT_A, EOT, NAK, NOISE, TEXT_HI,
-};
 use crate::play::Then::{Done, Quiet, Sent};
 use crate::play::{Part, passes};
 use bsc_control::Way::{FromTerminal, ToTerminal};
+use bsc_fixtures::octets::{
+    ACK0, ACK1, BROKEN_TEXT, CALL_POLL_A, CALL_POLL_B, CALL_SELECT_A, EOT, NAK, NOISE, TEXT_HI,
+};
 use bsc_line::Event;
 use bsc_line::Event::{CarrySent, Silence};
 use bsc_line::Speaker::{Control, Terminal};

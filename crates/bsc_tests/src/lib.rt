@@ -19,8 +19,6 @@ mod limits;
 #[cfg(test)]
 mod memory;
 #[cfg(test)]
-mod octets;
-#[cfg(test)]
 mod play;
 #[cfg(test)]
 mod polling;

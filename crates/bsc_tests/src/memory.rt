@@ -5,20 +5,21 @@ ghost use Rattle.std.specs.Prelude.{◌<◌, length};
 use crate::channels::Has::{Delivered, Waiting};
 use crate::channels::{are_sound, has_left};
 use crate::events::{HI, NONE, OFFER_AT, SEVEN};
-use crate::fixtures::{line_of_two, setup, two_terminals};
-use crate::octets::{
-    ACK0, ACK1, CALL_POLL_A, CALL_SELECT_A, ENQ, EOT, NAK, TEXT_HI, TEXT_LAST_SEVEN, WACK,
-};
+use crate::fixtures::line_of_two;
 use crate::play::Then::{Done, Sent};
 use crate::play::{Left, Part, Wrong, play, wrong_left};
 use crate::runs::{Run, wrong_run};
 use crate::selecting::SEVEN_OFFERED;
 use bsc_control::Way::{FromTerminal, ToTerminal};
 use bsc_control::{SetupError, Way};
+use bsc_fixtures::lines::{setup, two_terminals};
+use bsc_fixtures::octets::{
+    ACK0, ACK1, CALL_POLL_A, CALL_SELECT_A, ENQ, EOT, NAK, TEXT_HI, TEXT_LAST_SEVEN, WACK,
+};
 use bsc_line::Event::{CarrySent, Silence};
 use bsc_line::Speaker::{Control, Terminal};
 use bsc_line::{Line, LineError, Stopped};
-use refusing_alloc::Refusing;
+use refusing_alloc::{Refusal, Refusing};
 use std::alloc::{AllocError, Allocator, Global};
 use std::test::Fail;
 
@@ -85,30 +86,27 @@ fn offers_each(
 }
 
 /// Offers HI a hundred times on this way of a new line, of whose requests for memory the one of
-/// this number is refused: whether each offer was made good, and how many requests were refused.
-fn refusals_of_offers(
+/// this number is refused: whether each offer was made good.
+fn are_made_good(
     alloc: &Refusing,
     way: Way,
     request: usize,
     hundred: &[&[u8]],
-) -> Result<(bool, usize), Fail> {
+) -> Result<bool, Fail> {
     alloc.refuse_none();
     let mut line = line_of_two(alloc)?;
     line.silence()?;
     alloc.refuse_nth(request);
-    let is_good = offers_each(alloc, &mut line, way, hundred)?;
-    Ok((is_good, alloc.refused()))
+    Ok(offers_each(alloc, &mut line, way, hundred)?)
 }
 
 #[test]
 fn each_growth_of_an_offer_is_refused_in_turn(rt: HostRuntime) -> Result<(), Fail> {
-    const CASES: &[(usize, usize)] = &[(1, 1), (2, 1), (3, 1), (4, 1), (5, 1), (20, 0)];
     let alloc = Refusing::new(rt.alloc());
     let hundred = repeated(rt.alloc(), 100)?;
     for way in [FromTerminal, ToTerminal(0)] {
-        for (request, refusals) in CASES {
-            let refused = refusals_of_offers(&alloc, way, *request, &hundred)?;
-            assert_eq!(rt; refused, (true, *refusals));
+        for request in alloc.in_turn(Refusal::Nth, 5..20) {
+            assert!(rt; are_made_good(&alloc, way, request?, &hundred)?);
         }
     }
     Ok(())

@@ -3,10 +3,10 @@
 use crate::channels::Has::Delivered;
 use crate::events::{HI, LOSE, NONE, OFFER_AT};
 use crate::fixtures::line_of_two;
-use crate::octets::{ACK0, ACK1, CALL_POLL_A, CALL_POLL_B, ENQ, EOT, TEXT_HI};
 use crate::play::Then::{Done, Quiet, Sent};
 use crate::play::{Left, Part, passes};
 use bsc_control::Way::{FromTerminal, ToTerminal};
+use bsc_fixtures::octets::{ACK0, ACK1, CALL_POLL_A, CALL_POLL_B, ENQ, EOT, TEXT_HI};
 use bsc_line::Event::{CarrySent, Silence};
 use bsc_line::Speaker::{Control, Terminal};
 use std::test::Fail;

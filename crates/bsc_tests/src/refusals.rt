@@ -4,14 +4,14 @@ use crate::channels::Has::Delivered;
 use crate::events::{LOSE, NONE, OFFER_AT, OFFER_FOR, RELEASE_FROM, RELEASE_TO};
 use crate::fixtures::{
     Codes, FIRST, SECOND, line_of, line_of_two, most_terminals, refusal, terminals_of,
-    two_terminals, two_terminals_by_three,
 };
-use crate::octets::{CALL_POLL_A, EOT, TEXT_HI};
 use crate::play::Then::{Done, Refused, Sent};
 use crate::play::{Part, Then, passes};
 use bsc_block::RecordError;
 use bsc_control::SetupError;
 use bsc_control::Way::{FromTerminal, ToTerminal};
+use bsc_fixtures::lines::{two_terminals, two_terminals_by_three};
+use bsc_fixtures::octets::{CALL_POLL_A, EOT, TEXT_HI};
 use bsc_frame::Address;
 use bsc_line::Event::{CarrySent, Silence};
 use bsc_line::Speaker::{Control, Terminal};
@@ -69,7 +69,7 @@ fn a_line_is_refused_for_the_first_reason(rt: HostRuntime) -> Result<(), Fail> {
 fn a_wrong_number_of_terminals_is_told_without_memory(rt: HostRuntime) -> Result<(), Fail> {
     let alloc = Refusing::new(rt.alloc());
     alloc.refuse_from(1);
-    let many = [two_terminals()?[0]; 65];
+    let many = [two_terminals()[0]; 65];
     let refusals = (
         refusal(&alloc, &many[..0], &[])?,
         refusal(&alloc, &many, &[])?,
@@ -307,7 +307,7 @@ fn what_names_no_address_is_refused_next(rt: HostRuntime) -> Result<(), Fail> {
             ],
         },
     ];
-    let line = line_of(rt.alloc(), &two_terminals_by_three()?, &[0, 1], 3);
+    let line = line_of(rt.alloc(), &two_terminals_by_three(), &[0, 1], 3);
     passes(&rt, line, EXCHANGE)
 }
 

@@ -3,9 +3,9 @@
 use crate::channels::Has::{Delivered, Waiting};
 use crate::events::{HI, LOSE, OFFER_AT, OFFER_FOR, RELEASE_FROM, URGENT_AT, URGENT_FOR};
 use crate::fixtures::line_of_two;
-use crate::octets::{CALL_POLL_A, CALL_SELECT_A, ENQ, EOT, RVI, TEXT_HI};
 use crate::play::{Left, Pending, wrong_left};
 use bsc_control::Way::{FromTerminal, ToTerminal};
+use bsc_fixtures::octets::{CALL_POLL_A, CALL_SELECT_A, ENQ, EOT, RVI, TEXT_HI};
 use bsc_line::Event::{CarrySent, Silence};
 use bsc_line::Speaker::{Control, Terminal};
 use bsc_line::{Event, Line, LineError, Stopped};

@@ -4,14 +4,15 @@ use crate::channels::Has::{Arrived, Delivered, Waiting};
 use crate::events::{
     EIGHT, HI, LOSE, NONE, OFFER_AT, OFFER_EMPTY, OFFER_FOR, SEVEN, URGENT_AT, URGENT_FOR,
 };
-use crate::fixtures::{line_of, line_of_two, two_terminals, two_terminals_by_three};
-use crate::octets::{
-    ACK0, ACK1, CALL_POLL_A, CALL_POLL_B, CALL_SELECT_A, CALL_SELECT_B, CALL_SELECT_C, EOT, NAK,
-    RVI, TEXT_EMPTY, TEXT_FIRST_SEVEN, TEXT_HI, TEXT_LAST_SEVEN,
-};
+use crate::fixtures::{line_of, line_of_two};
 use crate::play::Then::{Done, Quiet, Sent};
 use crate::play::{Part, passes};
 use bsc_control::Way::{FromTerminal, ToTerminal};
+use bsc_fixtures::lines::{two_terminals, two_terminals_by_three};
+use bsc_fixtures::octets::{
+    ACK0, ACK1, CALL_POLL_A, CALL_POLL_B, CALL_SELECT_A, CALL_SELECT_B, CALL_SELECT_C, EOT, NAK,
+    RVI, TEXT_EMPTY, TEXT_FIRST_SEVEN, TEXT_HI, TEXT_LAST_SEVEN,
+};
 use bsc_line::Event;
 use bsc_line::Event::{CarrySent, Silence};
 use bsc_line::Speaker::{Control, Terminal};
@@ -178,7 +179,7 @@ fn a_terminal_that_does_not_answer_is_left(rt: HostRuntime) -> Result<(), Fail> 
             (0, ToTerminal(0), Delivered(HI)),
         ],
     }];
-    let line = line_of(rt.alloc(), &two_terminals()?, &[1, 0], 1);
+    let line = line_of(rt.alloc(), &two_terminals(), &[1, 0], 1);
     passes(&rt, line, EXCHANGE)
 }
 
@@ -242,6 +243,6 @@ fn each_selection_address_has_its_own_bid_and_spool(rt: HostRuntime) -> Result<(
             (1, ToTerminal(0), Delivered(NONE)),
         ],
     }];
-    let line = line_of(rt.alloc(), &two_terminals_by_three()?, &[0, 1], 3);
+    let line = line_of(rt.alloc(), &two_terminals_by_three(), &[0, 1], 3);
     passes(&rt, line, EXCHANGE)
 }

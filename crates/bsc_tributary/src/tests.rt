@@ -3,47 +3,14 @@
 mod exchange;
 
 use crate::tests::exchange::{answer_to, has_spooled, hi, sent_at_silence, terminal_a};
+use bsc_fixtures::octets::{
+    ACK0, ACK1, BROKEN_TEXT, CALL_POLL_A, CALL_SELECT_A, CALL_SELECT_B, CALL_SELECT_C, ENQ, EOT,
+    NAK, RVI, TEXT_EMPTY, TEXT_HI, TEXT_LAST_SEVEN, WACK,
+};
 use bsc_frame::Address;
 use bsc_text::{ReleaseError, Station};
 use refusing_alloc::Refusing;
 use std::test::Fail;
-
-const CALL_POLL_A: &[u8] = &[0x16, 0x16, 0x04, 0xff, 0x16, 0x16, 0xc1, 0x85, 0xff];
-
-const CALL_SELECT_A: &[u8] = &[0x16, 0x16, 0x04, 0xff, 0x16, 0x16, 0x61, 0x85, 0xff];
-
-const CALL_SELECT_B: &[u8] = &[0x16, 0x16, 0x04, 0xff, 0x16, 0x16, 0x62, 0x85, 0xff];
-
-const CALL_SELECT_C: &[u8] = &[0x16, 0x16, 0x04, 0xff, 0x16, 0x16, 0xe3, 0x85, 0xff];
-
-const EOT: &[u8] = &[0x16, 0x16, 0x04, 0xff];
-
-const ENQ: &[u8] = &[0x16, 0x16, 0x85, 0xff];
-
-const NAK: &[u8] = &[0x16, 0x16, 0x15, 0xff];
-
-const ACK0: &[u8] = &[0x16, 0x16, 0x10, 0xb0, 0xff];
-
-const ACK1: &[u8] = &[0x16, 0x16, 0x10, 0x31, 0xff];
-
-const WACK: &[u8] = &[0x16, 0x16, 0x10, 0x3b, 0xff];
-
-const RVI: &[u8] = &[0x16, 0x16, 0x10, 0xbc, 0xff];
-
-/// A text that ENQ breaks off.
-const BROKEN: &[u8] = &[0x16, 0x16, 0x02, 0x85, 0xff];
-
-/// The text of the record HI.
-const TEXT_HI: &[u8] = &[0x16, 0x16, 0x02, 0xc8, 0x49, 0x19, 0x83, 0x9b, 0xff];
-
-/// The text of one empty record.
-const TEXT_EMPTY: &[u8] = &[0x16, 0x16, 0x02, 0x19, 0x83, 0x1a, 0xff];
-
-/// The text of seven empty records.
-const TEXT_SEVEN: &[u8] = &[
-    0x16, 0x16, 0x02, 0x19, 0x1f, 0x86, 0x19, 0x1f, 0x86, 0x19, 0x1f, 0x86, 0x19, 0x1f, 0x86, 0x19,
-    0x1f, 0x86, 0x19, 0x1f, 0x86, 0x19, 0x83, 0x1a, 0xff,
-];
 
 /// No answer.
 const QUIET: &[u8] = &[];
@@ -60,7 +27,7 @@ fn a_terminal_is_polled_and_then_selected(rt: HostRuntime) -> Result<(), Fail> {
     for (heard, answer) in [
         (CALL_POLL_A, EOT),
         (CALL_SELECT_A, ACK0),
-        (BROKEN, NAK),
+        (BROKEN_TEXT, NAK),
         (TEXT_HI, ACK1),
         (CALL_SELECT_B, QUIET),
         (ENQ, QUIET),
@@ -76,11 +43,11 @@ fn a_terminal_is_polled_and_then_selected(rt: HostRuntime) -> Result<(), Fail> {
 fn a_broken_text_is_refused_only_while_receiving(rt: HostRuntime) -> Result<(), Fail> {
     let mut tributary = terminal_a(rt.alloc(), &[Address::read(b"a")?], 3)?;
     for (heard, answer) in [
-        (BROKEN, QUIET),
+        (BROKEN_TEXT, QUIET),
         (CALL_SELECT_A, ACK0),
-        (BROKEN, NAK),
+        (BROKEN_TEXT, NAK),
         (EOT, QUIET),
-        (BROKEN, QUIET),
+        (BROKEN_TEXT, QUIET),
     ] {
         assert_eq!(rt; answer_to(&mut tributary, heard).as_slice(), answer);
     }
@@ -106,7 +73,7 @@ fn a_refused_growth_delays_a_selection(rt: HostRuntime) -> Result<(), Fail> {
     let mut tributary = terminal_a(&alloc, &[Address::read(b"a")?], 3)?;
     assert_eq!(rt; alloc.requests(), 0);
     alloc.refuse_nth(1);
-    for (heard, answer) in [(CALL_SELECT_A, WACK), (ENQ, ACK0), (TEXT_SEVEN, ACK1)] {
+    for (heard, answer) in [(CALL_SELECT_A, WACK), (ENQ, ACK0), (TEXT_LAST_SEVEN, ACK1)] {
         assert_eq!(rt; answer_to(&mut tributary, heard).as_slice(), answer);
     }
     assert_eq!(rt; alloc.refused(), 1);

@@ -1,5 +1,6 @@
-use super::streams::{Full, NoHost};
+use super::streams::NoHost;
 use crate::{Fault, command};
+use bsc_fixtures::Full;
 use std::io::BufWriter;
 use std::test::Fail;
 

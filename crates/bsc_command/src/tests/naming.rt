@@ -1,5 +1,6 @@
-use super::streams::{Full, NoHost};
+use super::streams::NoHost;
 use crate::{Fault, Work, name, names, perform, show};
+use bsc_fixtures::Full;
 use std::test::Fail;
 
 /// Each name, from the octets of worked transmissions.

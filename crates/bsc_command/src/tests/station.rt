@@ -4,6 +4,7 @@
 use super::streams::{NoTimer, Nothing};
 use crate::{Asked, Host, InputError, Opened, Place, command};
 use bsc_carrier::Cable;
+use bsc_fixtures::configurations::TWO_TERMINALS;
 use bsc_live::{Awaited, LiveError, Wait, Waiter};
 use bsc_loopback::LoopbackError;
 use bsc_sockets::SocketsError;
@@ -11,18 +12,6 @@ use std::alloc::Global;
 use std::io;
 use std::io::{BufWriter, Read};
 use std::test::Fail;
-
-const LINE: &str = "version = 1
-poll_list = [0, 1]
-
-[[terminals]]
-poll = \"A\"
-select = \"a\"
-
-[[terminals]]
-poll = \"B\"
-select = \"b\"
-";
 
 /// What terminal 0 hears: a poll, which it answers by a text; ACK1; a selection; a text; EOT.
 const HEARD: &[&[u8]] = &[
@@ -145,7 +134,7 @@ impl Host for Machine {
         if path != "line.toml" {
             return Err(InputError::Device);
         }
-        match Vec::from_slice(self.alloc, LINE.as_bytes()) {
+        match Vec::from_slice(self.alloc, TWO_TERMINALS.as_bytes()) {
             Ok(text) => Ok(text),
             Err(_) => Err(InputError::Memory),
         }

@@ -1,4 +1,4 @@
-//! A reader and a writer that fail, and a host that has nothing.
+//! A reader that fails, and a host that has nothing.
 use crate::{Asked, Host, InputError, Opened};
 use bsc_carrier::Cable;
 use bsc_live::{Awaited, LiveError, Wait, Waiter};
@@ -20,26 +20,6 @@ impl Read for Broken {
             Some(mut text) => text.read(buffer),
             None => Err(Error::from(ErrorKind::Interrupted)),
         }
-    }
-}
-
-/// Takes this many writes, and fails at the next.
-#[derive(Drop)]
-pub struct Full {
-    pub left: usize,
-}
-
-impl Write for Full {
-    fn write(&mut self, octets: &[u8]) -> io::Result<usize> {
-        if self.left == 0 {
-            return Err(Error::from(ErrorKind::StorageFull));
-        }
-        self.left -= 1;
-        Ok(octets.len())
-    }
-
-    fn flush(&mut self) -> io::Result<()> {
-        Ok(())
     }
 }
 

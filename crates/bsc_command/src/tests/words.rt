@@ -1,5 +1,5 @@
-use super::streams::Full;
 use crate::{Fault, help_or_fault, read_words};
+use bsc_fixtures::Full;
 use std::alloc::Global;
 use std::io::Write;
 use std::test::Fail;

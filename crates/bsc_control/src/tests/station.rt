@@ -4,29 +4,16 @@ ghost use Rattle.std.specs.Prelude.{◌≡◌, IfOk};
 
 use crate::{Control, SetupError, Way};
 use bsc_block::{Record, RecordError};
-use bsc_frame::{Address, AddressError, Wire};
-use bsc_text::{SettingError, Setup, Station, Terminal, TerminalError};
+use bsc_fixtures::lines::setup;
+use bsc_fixtures::records::are_records;
+use bsc_frame::{Address, Wire};
+use bsc_text::{SettingError, Station, Terminal};
 use std::alloc::Allocator;
 use std::test::Fail;
-
-/// Settings that bear this many failures in a row.
-pub(crate) fn setup(tries: u8) -> Result<Setup, SettingError>
-    ensures { IfOk result (λ s. s.format.full ≡ 80) }
-{
-    Setup::new(80, 400, tries, 10)
-}
 
 /// A terminal with a polling address and these selection addresses.
 pub(crate) fn terminal(poll: &[u8], selects: &[Address]) -> Result<Terminal, Fail> {
     Ok(Terminal::new(Address::read(poll)?, selects)?)
-}
-
-/// Terminals A with a, and B with b.
-pub(crate) fn two_terminals() -> Result<[Terminal; 2], Fail> {
-    Ok([
-        terminal(b"A", &[Address::read(b"a")?])?,
-        terminal(b"B", &[Address::read(b"b")?])?,
-    ])
 }
 
 /// The control station of these terminals.
@@ -157,14 +144,5 @@ pub(crate) fn has_spooled<A: Allocator>(
     if terminal >= control.terminals() {
         return false;
     }
-    let records = control.spool(terminal).records();
-    if records.len() != expected.len() {
-        return false;
-    }
-    for (record, chars) in records.iter().zip(expected) {
-        if record.chars() != *chars {
-            return false;
-        }
-    }
-    true
+    are_records(control.spool(terminal).records(), expected)
 }

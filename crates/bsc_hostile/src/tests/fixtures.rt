@@ -2,9 +2,8 @@
 
 use crate::tests::exchanges::Exchange;
 use crate::{Broken, Watch};
-use bsc_frame::Address;
+use bsc_fixtures::lines::{setup, two_terminals};
 use bsc_line::{Event, Line, LineError};
-use bsc_text::{Setup, Terminal};
 use std::alloc::Global;
 use std::test::Fail;
 
@@ -15,17 +14,11 @@ pub(crate) struct Watched {
     watch: Watch,
 }
 
-/// A terminal with these addresses.
-fn terminal(poll: &[u8], select: &[u8]) -> Result<Terminal, Fail> {
-    Ok(Terminal::new(Address::read(poll)?, &[Address::read(select)?])?)
-}
-
 impl Watched {
     /// A new line: terminal 0 is polled by A and selected by a, terminal 1 is polled by B and
     /// selected by b, and they are called in turn.
     pub(crate) fn new(alloc: Global) -> Result<Watched, Fail> {
-        let setup = Setup::new(80, 400, 3, 10)?;
-        let terminals = [terminal(b"A", b"a")?, terminal(b"B", b"b")?];
+        let (setup, terminals) = (setup(3)?, two_terminals());
         let watch = Watch::new(alloc, setup, &terminals)?;
         let line = Line::new(alloc, setup, &terminals, &[0, 1])?;
         Ok(Watched { line, watch })

@@ -7,19 +7,15 @@ use crate::tests::exchanges::{
 };
 use crate::tests::fixtures::Watched;
 use bsc_control::Way;
+use bsc_fixtures::octets::{BROKEN_TEXT, CALL_POLL_A, EOT, TEXT_HI};
 use bsc_line::Event;
 use std::alloc::Global;
 use std::process::Abort;
 use std::test::Fail;
 
-/// The call of A, and the text of HI.
-const CALL_A: &[u8] = &[0x16, 0x16, 0x04, 0xff, 0x16, 0x16, 0xc1, 0x85, 0xff];
-
-const TEXT_HI: &[u8] = &[0x16, 0x16, 0x02, 0xc8, 0x49, 0x19, 0x83, 0x9b, 0xff];
-
 /// A text that failed.
 const AS_FAILED: Event<'static> = Event::Carry {
-    heard: Some(&[0x16, 0x16, 0x02, 0x85, 0xff]),
+    heard: Some(BROKEN_TEXT),
 };
 
 /// What is pending is lost.
@@ -64,7 +60,7 @@ fn eot_is_heard_without_pad_and_after_2047_syn(rt: HostRuntime) -> Result<(), Fa
     let most = late_eot(alloc, 2047)?;
     let too_many = late_eot(alloc, 2048)?;
     for (octets, is_eot) in [
-        ([0x16, 0x16, 0x04, 0xff].as_slice(), true),
+        (EOT, true),
         ([0x16, 0x04].as_slice(), true),
         (most.as_slice(), true),
         (too_many.as_slice(), false),
@@ -78,7 +74,7 @@ fn eot_is_heard_without_pad_and_after_2047_syn(rt: HostRuntime) -> Result<(), Fa
 
 #[test]
 fn every_front_of_a_call_and_of_a_text_is_heard_fairly(rt: HostRuntime) -> Result<(), Fail> {
-    for (place, octets) in [(0, CALL_A), (1, TEXT_HI)] {
+    for (place, octets) in [(0, CALL_POLL_A), (1, TEXT_HI)] {
         for len in 0..=octets.len() {
             let (_, trusted) = outcome(rt.alloc(), &POLLED, place, &octets[..len])?;
             assert!(rt; trusted, "the first {len} of transmission {place}");

@@ -3,11 +3,11 @@
 ghost use Rattle.std.specs.Prelude.{◌≡◌, IfOk};
 ghost use Rattle.bsc_run.specs.Crossing.{connection_count};
 
-use super::fixtures::TWO_TERMINALS;
 use super::streams::MemoryStream;
 use crate::{RunError, run_line};
 use bsc_carrier::Cable;
 use bsc_config::read_config;
+use bsc_fixtures::configurations::TWO_TERMINALS;
 use bsc_script::read_script;
 use std::alloc::Global;
 use std::process::Abort;

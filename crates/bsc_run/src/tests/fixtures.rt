@@ -1,4 +1,4 @@
-//! Configurations, and cables for them.
+//! Cables for lines of two terminals, and runs over them.
 
 use crate::{RunError, run_line};
 use bsc_carrier::Cable;
@@ -8,34 +8,6 @@ use std::alloc::{Allocator, Global};
 use std::net::{Net, TcpListener, TcpStream};
 use std::process::Abort;
 use std::test::Fail;
-
-/// Two terminals that are polled in turn.
-pub(crate) const TWO_TERMINALS: &str = "
-version = 1
-poll_list = [0, 1]
-
-[[terminals]]
-poll = \"A\"
-select = \"a\"
-
-[[terminals]]
-poll = \"B\"
-select = \"b\"
-";
-
-/// The same two, but terminal 0 has two selection addresses.
-pub(crate) const THREE_ADDRESSES: &str = "
-version = 2
-poll_list = [0, 1]
-
-[[terminals]]
-poll = \"A\"
-select = [\"a\", \"c\"]
-
-[[terminals]]
-poll = \"B\"
-select = [\"b\"]
-";
 
 /// Two loopback connections: the control station's ends, and those of the terminals.
 pub(crate) fn two_connections<R: Abort + Net<Listener = TcpListener, Stream = TcpStream>>(

@@ -1,10 +1,11 @@
 //! What a refused growth of a spool changes in the trace of a run, before a text is stored and
 //! after.
 
-use super::fixtures::{TWO_TERMINALS, two_connections};
+use super::fixtures::two_connections;
 use crate::run_on;
 use bsc_carrier::Cable;
 use bsc_config::read_config;
+use bsc_fixtures::configurations::TWO_TERMINALS;
 use bsc_line::Line;
 use bsc_script::read_script;
 use refusing_alloc::Refusing;

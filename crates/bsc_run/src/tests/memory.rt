@@ -72,8 +72,7 @@ fn is_delayed(worked: &Worked<'_>, printed: &[u8]) -> bool {
     false
 }
 
-/// Runs the script while these growths are refused: what is told, or none where no growth was
-/// refused.
+/// Runs the script while the growths of this number are refused: what is told.
 fn try_refusal(
     rt: &impl Abort,
     alloc: Global,
@@ -81,18 +80,16 @@ fn try_refusal(
     case: &Case<'_>,
     refusal: Refusal,
     number: usize,
-) -> Result<Option<Told>, Fail> {
-    refusing.refuse(refusal, number);
+) -> Result<Told, Fail> {
     let watch = Watch::new(NO_TROUBLE);
     let (printed, answer) = case.run(rt, alloc, refusing, &watch)?;
     let refused = refusing.refused();
-    let told = what_is_told(case.worked, &printed, answer, refusal == Refusal::Nth);
-    assert!(rt; told.is_some(), "{refusal:?} {number}");
-    assert!(rt;
-        refused > 0 || told == Some(Told::Whole),
-        "{refusal:?} {number}"
-    );
-    Ok(if refused == 0 { None } else { told })
+    let is_one = refusal == Refusal::Nth;
+    let Some(told) = what_is_told(case.worked, &printed, answer, is_one) else {
+        return Err(Fail::new(format_args!("{refusal:?} {number}")));
+    };
+    assert!(rt; refused > 0 || told == Told::Whole, "{refusal:?} {number}");
+    Ok(told)
 }
 
 /// How often a run was out of memory, refused the offer, and took a text later.
@@ -120,13 +117,11 @@ fn count_told(
     let case = Case::read(alloc, worked)?;
     let refusing = Refusing::new(alloc);
     let mut counts = (0, 0, 0);
-    for number in 1..100_000usize {
-        match try_refusal(rt, alloc, &refusing, &case, refusal, number)? {
-            Some(told) => counts = add(counts, told),
-            None => return Ok(counts),
-        }
+    for number in refusing.in_turn(refusal, 1..99_999) {
+        let told = try_refusal(rt, alloc, &refusing, &case, refusal, number?)?;
+        counts = add(counts, told);
     }
-    Err("no end of growths".into())
+    Ok(counts)
 }
 
 /// Only one growth is that of the offer, and two are those of the spool: before the text comes and
@@ -167,14 +162,13 @@ fn what_arrived_without_memory_is_in_order(rt: HostRuntime) -> Result<(), Fail> 
     for worked in &WORKED {
         let case = Case::read(rt.alloc(), worked)?;
         for refusal in [Refusal::Nth, Refusal::From] {
-            for number in 1..60usize {
-                refusing.refuse(refusal, number);
+            for number in refusing.in_turn(refusal, 1..59) {
+                let number = number?;
                 assert!(rt;
                     case.is_in_order(&rt, rt.alloc(), &refusing, &watch)?,
                     "{refusal:?} {number}"
                 );
             }
-            assert_eq!(rt; refusing.refused(), 0);
         }
     }
     Ok(())

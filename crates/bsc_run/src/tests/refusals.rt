@@ -1,10 +1,11 @@
 //! The refusals of a line, with their texts. Each is the last thing that is done, and the report is
 //! printed.
 
-use super::fixtures::{TWO_TERMINALS, run_two};
+use super::fixtures::run_two;
 use crate::RunError;
+use bsc_fixtures::configurations::TWO_TERMINALS;
 use bsc_line::LineError;
-use refusing_alloc::Refusing;
+use refusing_alloc::{Refusal, Refusing};
 use std::test::Fail;
 
 /// The report of a line on which nothing was offered.
@@ -85,14 +86,12 @@ fn a_terminal_that_is_sending_is_not_heard_by_terminals(rt: HostRuntime) -> Resu
 fn each_growth_refused_in_turn(rt: HostRuntime) -> Result<(), Fail> {
     let alloc = Refusing::new(rt.alloc());
     let (mut offers, mut others) = (0usize, 0usize);
-    for request in 1..40 {
-        alloc.refuse_nth(request);
+    for request in alloc.in_turn(Refusal::Nth, 3..39) {
+        request?;
         let (printed, answer) = run_two(&rt, rt.alloc(), &alloc, TWO_TERMINALS, "offer-at 0 HI\n")?;
         if alloc.refused() == 0 {
             answer?;
-            break;
-        }
-        if answer == Err(RunError::Memory) {
+        } else if answer == Err(RunError::Memory) {
             others = others.wrapping_add(1);
             assert!(rt; !printed.ends_with(b"trusted\n"));
         } else {

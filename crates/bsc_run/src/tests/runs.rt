@@ -1,7 +1,8 @@
 //! Worked runs, with what is printed.
 
-use super::fixtures::{THREE_ADDRESSES, TWO_TERMINALS, run_two};
+use super::fixtures::run_two;
 use crate::RunError;
+use bsc_fixtures::configurations::{THREE_ADDRESSES, TWO_TERMINALS};
 use bsc_line::LineError;
 use std::test::Fail;
 

@@ -4,13 +4,13 @@ ghost use Rattle.std.specs.Prelude.{◌≡◌, None};
 ghost use Rattle.bsc_line_model.specs.Kept.{IsLine};
 ghost use Rattle.bsc_line_model.specs.Line.{terminal_count};
 
-use super::fixtures::TWO_TERMINALS;
 use super::runs::{COUNTED_TWICE, COUNTED_TWICE_PRINTED, HEARD_PRINTED, POLLED, POLLED_PRINTED};
 use super::watched::{Pipes, Watch, watched_cable, watched_writer};
 use crate::{RunError, run_line, run_on};
-use bsc_block::Record;
 use bsc_config::{Config, read_config};
 use bsc_control::Way;
+use bsc_fixtures::configurations::TWO_TERMINALS;
+use bsc_fixtures::records::are_front;
 use bsc_line::{Line, LineError};
 use bsc_script::{Script, read_script};
 use std::alloc::{Allocator, Global};
@@ -166,15 +166,6 @@ impl<'a> Case<'a> {
     }
 }
 
-/// Whether the records are the first of these.
-fn are_first(records: &[Record], all: &[&[u8]]) -> bool {
-    records.len() <= all.len()
-        && records
-            .iter()
-            .zip(all)
-            .all(|(record, chars)| record.chars() == *chars)
-}
-
 /// Whether what arrived on each channel of two terminals is the first of what arrives where nothing
 /// goes wrong, in order and each record once.
 fn has_arrived_in_order<A: Allocator>(line: &Line<A>, worked: &Worked<'_>) -> bool {
@@ -185,7 +176,7 @@ fn has_arrived_in_order<A: Allocator>(line: &Line<A>, worked: &Worked<'_>) -> bo
         for way in [Way::FromTerminal, Way::ToTerminal(0)] {
             let arrived = line.spooled(terminal, way);
             let is_right = if terminal == 0 && way == worked.way {
-                are_first(arrived, worked.arrived)
+                are_front(arrived, worked.arrived)
             } else {
                 arrived.is_empty()
             };

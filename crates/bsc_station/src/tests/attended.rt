@@ -9,23 +9,10 @@ use crate::{
 use bsc_carrier::CarrierError;
 use bsc_config::read_config;
 use bsc_control::Control;
+use bsc_fixtures::configurations::TWO_TERMINALS;
 use bsc_live::{Connection, SocketRecords, attend};
 use std::alloc::Global;
 use std::test::Fail;
-
-/// Two terminals that are polled in turn.
-pub(crate) const TWO_TERMINALS: &[u8] = b"
-version = 1
-poll_list = [0, 1]
-
-[[terminals]]
-poll = \"A\"
-select = \"a\"
-
-[[terminals]]
-poll = \"B\"
-select = \"b\"
-";
 
 /// What a control station sends to a terminal: a poll, which is answered by a text; ACK1; a
 /// selection; a text; EOT.
@@ -103,7 +90,7 @@ fn attended_terminal(
     octets: &'static [u8],
 ) -> Result<Seen, Fail> {
     let alloc = rt.alloc();
-    let config = read_config(alloc, TWO_TERMINALS)?;
+    let config = read_config(alloc, TWO_TERMINALS.as_bytes())?;
     if config.terminals() == 0 {
         return Err(Fail::new("no terminal"));
     }
@@ -196,7 +183,7 @@ fn attended_control(
     steps: &'static [u8],
 ) -> Result<(Seen, Standing), Fail> {
     let alloc = rt.alloc();
-    let config = read_config(alloc, TWO_TERMINALS)?;
+    let config = read_config(alloc, TWO_TERMINALS.as_bytes())?;
     let mut control: Control<Global> = new_control(alloc, &config)?;
     if control.terminals() == 0 || control.addresses(0) == 0 {
         return Err(Fail::new("no terminal"));

@@ -1,9 +1,9 @@
-//! A connection that is scripted, a clock that counts, and a writer that fails.
+//! A connection that is scripted, and a clock that counts.
 
 use crate::Timer;
 use bsc_live::{Awaited, LiveError, Wait, Waiter};
 use std::io;
-use std::io::{Error, ErrorKind, Read, Write};
+use std::io::{Read, Write};
 
 /// Gives these octets, and then the end.
 #[derive(Drop)]
@@ -26,26 +26,6 @@ pub(crate) struct Taking;
 
 impl Write for Taking {
     fn write(&mut self, octets: &[u8]) -> io::Result<usize> {
-        Ok(octets.len())
-    }
-
-    fn flush(&mut self) -> io::Result<()> {
-        Ok(())
-    }
-}
-
-/// Takes this many writes, and fails at the next.
-#[derive(Drop)]
-pub(crate) struct Full {
-    pub(crate) left: usize,
-}
-
-impl Write for Full {
-    fn write(&mut self, octets: &[u8]) -> io::Result<usize> {
-        if self.left == 0 {
-            return Err(Error::from(ErrorKind::StorageFull));
-        }
-        self.left -= 1;
         Ok(octets.len())
     }
 

@@ -2,6 +2,7 @@
 
 use crate::{OfferError, read_records};
 use bsc_block::RecordError;
+use bsc_fixtures::records::are_records;
 use std::test::Fail;
 
 #[test]
@@ -17,10 +18,7 @@ fn lines_become_records(rt: HostRuntime) -> Result<(), Fail> {
     ];
     for (text, wanted) in table {
         let records = read_records(rt.alloc(), text, 80)?;
-        assert_eq!(rt; records.len(), wanted.len());
-        for (record, chars) in records.iter().zip(wanted) {
-            assert_eq!(rt; record.chars(), *chars);
-        }
+        assert!(rt; are_records(&records, wanted), "{text:?}");
     }
     Ok(())
 }

@@ -1,15 +1,15 @@
 //! Growths that are refused and writes that fail.
 
-use crate::tests::attended::TWO_TERMINALS;
-use crate::tests::fakes::Full;
 use crate::{
     Deed, OfferError, Who, new_control, read_records, write_closed, write_joined, write_report,
     write_silence, write_transmission,
 };
 use bsc_carrier::CarrierError;
 use bsc_config::read_config;
+use bsc_fixtures::Full;
+use bsc_fixtures::configurations::TWO_TERMINALS;
 use bsc_names::PrintError;
-use refusing_alloc::Refusing;
+use refusing_alloc::{Refusal, Refusing};
 use std::test::Fail;
 
 /// Each growth of reading two lines is refused in turn: out of memory is told, and in the end they
@@ -17,35 +17,29 @@ use std::test::Fail;
 #[test]
 fn each_growth_of_reading(rt: HostRuntime) -> Result<(), Fail> {
     let alloc = Refusing::new(rt.alloc());
-    for request in 1..9 {
-        alloc.refuse_nth(request);
+    for request in alloc.in_turn(Refusal::Nth, 1..8) {
+        request?;
         match read_records(&alloc, b"HI\nHO\n", 80) {
-            Ok(records) => {
-                assert_eq!(rt; (alloc.refused(), records.len()), (0, 2));
-                assert!(rt; request > 1);
-                return Ok(());
-            }
-            Err(error) => assert_eq!(rt; error, OfferError::Memory),
+            Ok(records) => assert_eq!(rt; (alloc.refused(), records.len()), (0, 2)),
+            Err(error) => assert_eq!(rt; (alloc.refused(), error), (1, OfferError::Memory)),
         }
     }
-    Err(Fail::new("no end of growths"))
+    Ok(())
 }
 
 /// Each growth of a control station is refused in turn.
 #[test]
 fn each_growth_of_a_control_station(rt: HostRuntime) -> Result<(), Fail> {
-    let config = read_config(rt.alloc(), TWO_TERMINALS)?;
+    let config = read_config(rt.alloc(), TWO_TERMINALS.as_bytes())?;
     let alloc = Refusing::new(rt.alloc());
-    for request in 1..30 {
-        alloc.refuse_nth(request);
-        if let Ok(control) = new_control(&alloc, &config) {
-            assert_eq!(rt; (alloc.refused(), control.terminals()), (0, 2));
-            assert!(rt; request > 1);
-            return Ok(());
+    for request in alloc.in_turn(Refusal::Nth, 1..29) {
+        request?;
+        match new_control(&alloc, &config) {
+            Ok(control) => assert_eq!(rt; (alloc.refused(), control.terminals()), (0, 2)),
+            Err(_) => assert_eq!(rt; alloc.refused(), 1),
         }
-        assert_eq!(rt; alloc.refused(), 1);
     }
-    Err(Fail::new("no end of growths"))
+    Ok(())
 }
 
 /// A line of a trace that is not taken at any write is told.
@@ -89,7 +83,7 @@ fn lines_of_a_trace(rt: HostRuntime) -> Result<(), Fail> {
 /// A report that is not taken at any write is told.
 #[test]
 fn failing_report(rt: HostRuntime) -> Result<(), Fail> {
-    let config = read_config(rt.alloc(), TWO_TERMINALS)?;
+    let config = read_config(rt.alloc(), TWO_TERMINALS.as_bytes())?;
     let control = new_control(rt.alloc(), &config)?;
     let mut whole = false;
     for left in 0..40 {

@@ -4,17 +4,12 @@ ghost use Rattle.std.specs.Prelude.{◌≡◌, ◌≤◌, ◌<◌, length, IfOk}
 
 use crate::{Tributary, addresses_differ};
 use bsc_block::{Record, RecordError};
+use bsc_fixtures::lines::setup;
+use bsc_fixtures::records::are_records;
 use bsc_frame::{Address, Wire};
-use bsc_text::{SettingError, Setup, Station, Terminal};
+use bsc_text::{Station, Terminal};
 use std::alloc::Allocator;
 use std::test::Fail;
-
-/// Settings that bear this many failures in a row.
-fn setup(tries: u8) -> Result<Setup, SettingError>
-    ensures { IfOk result (λ s. s.format.full ≡ 80) }
-{
-    Setup::new(80, 400, tries, 10)
-}
 
 /// A terminal that is polled by A and selected by these addresses.
 pub(crate) fn terminal_a<A: Allocator + Copy>(
@@ -83,14 +78,5 @@ pub(crate) fn has_spooled<A: Allocator>(
 ) -> bool
     requires { select < length tributary.now.terminal.selects }
 {
-    let records = tributary.spool(select).records();
-    if records.len() != expected.len() {
-        return false;
-    }
-    for (record, chars) in records.iter().zip(expected) {
-        if record.chars() != *chars {
-            return false;
-        }
-    }
-    true
+    are_records(tributary.spool(select).records(), expected)
 }

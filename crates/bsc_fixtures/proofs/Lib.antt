@@ -1,0 +1,2 @@
+-- Records and the fronts of lists.
+mod Fronts

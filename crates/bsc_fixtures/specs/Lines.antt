@@ -1,0 +1,23 @@
+-- The terminals of the line that the tests play on (own: tests).
+use Rattle.std.specs.Prelude.{ℕ, List, [], ◌∷◌}
+use Rattle.bsc_text.specs.Terminal.{TerminalValue}
+
+-- polled by the first address, selected by each of the others
+abbrev pub terminal_value : List ℕ → List (List ℕ) → TerminalValue
+terminal_value poll selects = record { poll = poll; selects = selects }
+
+-- the address of one code
+abbrev pub one : ℕ → List ℕ
+one code = code ∷ []
+
+-- polled by B and selected by b
+abbrev pub terminal_b : TerminalValue
+terminal_b = terminal_value (one 0x42) (one 0x62 ∷ [])
+
+-- polled by A and selected by a, and that one
+abbrev pub two : List TerminalValue
+two = terminal_value (one 0x41) (one 0x61 ∷ []) ∷ terminal_b ∷ []
+
+-- the same, but the first is also selected by c
+abbrev pub two_by_three : List TerminalValue
+two_by_three = terminal_value (one 0x41) (one 0x61 ∷ one 0x63 ∷ []) ∷ terminal_b ∷ []

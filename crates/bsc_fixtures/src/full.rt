@@ -1,0 +1,25 @@
+//! A writer that fails.
+
+use std::io;
+use std::io::{Error, ErrorKind, Write};
+
+/// Takes this many writes whole, and fails at each one after them as a full device does.
+#[derive(Drop)]
+pub struct Full {
+    /// How many writes it still takes.
+    pub left: usize,
+}
+
+impl Write for Full {
+    fn write(&mut self, octets: &[u8]) -> io::Result<usize> {
+        if self.left == 0 {
+            return Err(Error::from(ErrorKind::StorageFull));
+        }
+        self.left -= 1;
+        Ok(octets.len())
+    }
+
+    fn flush(&mut self) -> io::Result<()> {
+        Ok(())
+    }
+}
