@@ -26,7 +26,8 @@ const QUIET: &[u8] = &[];
 fn setups_are_refused_in_order(rt: HostRuntime) -> Result<(), Fail> {
     let alloc = rt.alloc();
     let two = two_terminals();
-    let many = [two[0]; 65];
+    let [first, _] = two;
+    let many = [first; 65];
     let same = [terminal(b"A", &[Address::read(b"A")?])?];
     let shared = [
         terminal(b"A", &[Address::read(b"a")?, Address::read(b"c")?])?,

@@ -87,10 +87,11 @@ fn settings_and_terminals(rt: HostRuntime) -> Result<(), Fail> {
         (setup.format().full(), setup.tries(), setup.waits()),
         (80, 3, 10)
     );
-    let (two, three) = (two_terminals(), two_terminals_by_three());
-    assert_eq!(rt; two[0].poll(), Address::read(b"A")?);
-    assert_eq!(rt; (two[0].selects(), three[0].selects()), (1, 2));
-    assert_eq!(rt; two[1], three[1]);
+    let [first, second] = two_terminals();
+    let [first_by_two, same] = two_terminals_by_three();
+    assert_eq!(rt; first.poll(), Address::read(b"A")?);
+    assert_eq!(rt; (first.selects(), first_by_two.selects()), (1, 2));
+    assert_eq!(rt; second, same);
     Ok(())
 }
 

@@ -69,7 +69,8 @@ fn a_line_is_refused_for_the_first_reason(rt: HostRuntime) -> Result<(), Fail> {
 fn a_wrong_number_of_terminals_is_told_without_memory(rt: HostRuntime) -> Result<(), Fail> {
     let alloc = Refusing::new(rt.alloc());
     alloc.refuse_from(1);
-    let many = [two_terminals()[0]; 65];
+    let [first, _] = two_terminals();
+    let many = [first; 65];
     let refusals = (
         refusal(&alloc, &many[..0], &[])?,
         refusal(&alloc, &many, &[])?,
