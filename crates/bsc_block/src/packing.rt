@@ -1,5 +1,5 @@
 //! How waiting records are cut into blocks, and the text of a block.
-ghost use Rattle.std.specs.Prelude.{◌≡◌, ◌≤◌, ◌<◌, ◌≢◌, [], length};
+ghost use Rattle.std.specs.Prelude.{◌≡◌, ◌≤◌, ◌<◌, ◌≢◌, [], length, Some};
 ghost use Rattle.bsc_frame.specs.Texts.{IsUnit};
 ghost use Rattle.bsc_frame.specs.Units.{text_unit};
 ghost use Rattle.bsc_block.specs.Blocks.{unit_of, cost as cost_of, taken, AreShort, IsTaken};
@@ -8,7 +8,7 @@ ghost use Rattle.bsc_block.specs.Blocks.{block_text};
 use crate::limits::MIN_BLOCK_CHARS;
 use crate::{Format, Record};
 use bsc_frame::limits::MAX_UNITS;
-use bsc_frame::{End, Text, Unit};
+use bsc_frame::{End, Message, Text, Unit};
 
 /// How many of these records, which wait, go into the next block: as many from the front as fit its
 /// limit, and at most seven. 0 where no record waits. No record is longer than the full length.
@@ -51,12 +51,13 @@ fn unit(record: &Record, format: Format) -> Unit<'_>
     }
 }
 
-/// The text of 1 to 7 records, with this end. No record is longer than the full length.
-pub fn build(records: &[Record], format: Format, end: End) -> Text
+/// Leaves the text of 1 to 7 records, with this end, in `message`, whatever that had. No record is
+/// longer than the full length.
+pub fn build(records: &[Record], format: Format, end: End, message: &mut Option<Message>)
     requires some { 1 ≤ length records.now }
     requires few { length records.now ≤ MAX_UNITS }
     requires short { AreShort format.full records.now }
-    ensures { result ≡ block_text format records.now end }
+    ensures { message.new ≡ Some (Message.Text (block_text format records.now end)) }
 {
     let mut units = [Unit {
         chars: &[],
@@ -65,5 +66,5 @@ pub fn build(records: &[Record], format: Format, end: End) -> Text
     for (place, record) in records.iter().enumerate() {
         units[place] = unit(record, format);
     }
-    Text::of(&units[..records.len()], end)
+    *message = Some(Message::Text(Text::of(&units[..records.len()], end)));
 }

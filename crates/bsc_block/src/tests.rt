@@ -1,8 +1,10 @@
 //! Records and blocks by hand.
 ghost use Rattle.std.specs.Prelude.{◌≡◌, ◌≤◌, IfOk, length};
+ghost use Rattle.bsc_block.specs.Blocks.{AreShort};
 
 use crate::{Format, FormatError, Record, RecordError, build, pack, unpack};
-use bsc_frame::{End, Heard, Message, Text, Wire, decode, encode};
+use bsc_frame::limits::MAX_UNITS;
+use bsc_frame::{End, Heard, Message, Wire, decode, encode};
 use std::test::Fail;
 
 // A record of `count` letters A.
@@ -80,10 +82,18 @@ fn a_block_takes_what_counts_400(rt: HostRuntime) -> Result<(), Fail> {
     Ok(())
 }
 
-// What is sent for the text.
-fn wire_of(text: Text) -> Wire {
+// What is sent for the text of the records.
+fn wire_of(records: &[Record], format: Format) -> Wire
+    requires some { 1 ≤ length records.now }
+    requires few { length records.now ≤ MAX_UNITS }
+    requires short { AreShort format.full records.now }
+{
+    let mut message = None;
+    build(records, format, End::Etx, &mut message);
     let mut wire = Wire::new();
-    encode(&Message::Text(text), &mut wire);
+    if let Some(message) = &message {
+        encode(message, &mut wire);
+    }
     wire
 }
 
@@ -92,7 +102,7 @@ fn records_are_built_and_sent(rt: HostRuntime) -> Result<(), Fail> {
     let format = Format::new(80, 400)?;
     let two = [Record::read(b"HI", 80)?, Record::read(b"", 80)?];
     assert_eq!(rt;
-        wire_of(build(&two, format, End::Etx)).as_slice(),
+        wire_of(&two, format).as_slice(),
         [
             0x16, 0x16, 0x02, 0xc8, 0x49, 0x19, 0x1f, 0x07, 0x19, 0x83, 0x1a, 0xff
         ]
@@ -102,7 +112,7 @@ fn records_are_built_and_sent(rt: HostRuntime) -> Result<(), Fail> {
     // The check of a form feed is the octet of SYN.
     let form_feed = [Record::read(&[0x0c], 80)?];
     assert_eq!(rt;
-        wire_of(build(&form_feed, format, End::Etx)).as_slice(),
+        wire_of(&form_feed, format).as_slice(),
         [0x16, 0x16, 0x02, 0x8c, 0x19, 0x83, 0x16, 0xff].as_slice()
     );
     Ok(())
@@ -111,9 +121,8 @@ fn records_are_built_and_sent(rt: HostRuntime) -> Result<(), Fail> {
 #[test]
 fn a_full_record_has_no_em(rt: HostRuntime) -> Result<(), Fail> {
     let format = Format::new(2, 400)?;
-    let text = build(&[Record::read(b"HI", 2)?], format, End::Etx);
     assert_eq!(rt;
-        wire_of(text).as_slice(),
+        wire_of(&[Record::read(b"HI", 2)?], format).as_slice(),
         [0x16, 0x16, 0x02, 0xc8, 0x49, 0x83, 0x02, 0xff].as_slice()
     );
     Ok(())

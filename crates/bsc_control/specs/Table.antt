@@ -7,11 +7,11 @@ use Rattle.bsc_frame.specs.declared.message.Message.{Message}
 use Rattle.bsc_frame.specs.declared.message.Message.TheVariants as m
 use Rattle.bsc_frame.specs.declared.message.Heard.{Heard}
 use Rattle.bsc_frame.specs.declared.message.Heard.TheVariants.{Whole}
-use Rattle.bsc_text.specs.declared.act.Act.{Act}
-use Rattle.bsc_text.specs.declared.act.Act.TheVariants as a
+use Rattle.bsc_text.specs.declared.outcome.Outcome.{Outcome}
+use Rattle.bsc_text.specs.declared.outcome.Outcome.TheVariants as o
 use Rattle.bsc_text.specs.declared.reply.Reply.{Reply}
 use Rattle.bsc_text.specs.declared.reply.Reply.TheVariants.{Ack0, Nak, Wack, Rvi}
-use Rattle.bsc_text.specs.Act.{message_for}
+use Rattle.bsc_text.specs.Act.{Act, message_for, outcome_of}
 use Rattle.bsc_text.specs.Terminal.{TerminalValue}
 use Rattle.bsc_text.specs.Reply.{message_of, reply_heard}
 use Rattle.bsc_text.specs.Receiver.{ReceiverStep, Rooms, new_receiver, heard_step, rooms_left}
@@ -80,12 +80,17 @@ make_call_step c call = way_call_step c call.place call.way
 abbrev pub next_call_step : ControlValue → After → ControlStep
 next_call_step c after = make_call_step c (next_call c after)
 
--- the sender acts; after the bid the next call is made
+-- what becomes of the bid by a call of the sender, which left this message; after the bid the next
+-- call is made
+abbrev pub performed : ControlValue → ℕ → Outcome → Option Message → After → ControlStep
+performed c s o.Sends message after =
+    record { control = record c { task = Sending s }; sent = message }
+performed c s o.Over message after = next_call_step c after
+performed c s o.Quiet message after = record { control = c; sent = message }
+
+-- the sender acts
 abbrev pub perform_step : ControlValue → ℕ → Act → After → ControlStep
-perform_step c s a.Over after = next_call_step c after
-perform_step c s a.Quiet after = quiet c
-perform_step c s act after =
-    record { control = record c { task = Sending s }; sent = message_for act }
+perform_step c s act after = performed c s (outcome_of act) (message_for act) after
 
 abbrev pub bid_step : ControlValue → ℕ → SenderStep → After → ControlStep
 bid_step c s step after =

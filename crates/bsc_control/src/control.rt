@@ -232,12 +232,12 @@ impl<A: Allocator> Station for Control<A> {
 
     ghost holds = { λ _. false };
 
-    fn answer(&mut self, heard: &Heard) -> Option<Message> {
-        self.procedure.hear(heard)
+    fn answer(&mut self, heard: &Heard, sent: &mut Option<Message>) {
+        self.procedure.hear(heard, sent);
     }
 
-    fn act(&mut self) -> Option<Message> {
-        self.procedure.act_on_silence()
+    fn act(&mut self, sent: &mut Option<Message>) {
+        self.procedure.act_on_silence(sent);
     }
 
     /// Whether the control station acts on a silence before a terminal does: it doesn't.

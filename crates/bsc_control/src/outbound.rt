@@ -3,15 +3,16 @@
 ghost use Rattle.std.specs.Prelude.{◌≡◌, ◌≤◌, ◌++◌, [], ◌∷◌, length, OnOk, OnErr, IfErr};
 ghost use Rattle.bsc_spool.specs.Queue.{waiting};
 ghost use Rattle.bsc_text.specs.declared.phase.Phase.TheVariants.{Idle};
+ghost use Rattle.bsc_text.specs.Act.{message_for, outcome_of};
 ghost use Rattle.bsc_text.specs.Reply.{reply_heard};
 ghost use Rattle.bsc_text.specs.Sender.{begin_step, reply_step, silence_step, release_step};
 ghost use Rattle.bsc_control.specs.Peer.{OutboundValue, IsOutbound, outbound_after, new_outbound};
 ghost use Rattle.bsc_control.specs.Peer.{outbound_released, is_selectable};
 
 use bsc_block::Record;
-use bsc_frame::Heard;
+use bsc_frame::{Heard, Message};
 use bsc_spool::Queue;
-use bsc_text::{Act, ReleaseError, Sender, Setup};
+use bsc_text::{Outcome, ReleaseError, Sender, Setup};
 use std::alloc::Allocator;
 use std::marker::Model;
 
@@ -56,34 +57,42 @@ impl<A: Allocator> Outbound<A> {
     }
 
     /// Begins a bid.
-    pub(crate) fn begin(&mut self) -> Act
+    pub(crate) fn begin(&mut self, sent: &mut Option<Message>) -> Outcome
         requires idle { self.old.sender.phase ≡ Idle }
         requires some { 1 ≤ length (waiting self.old.queue) }
         ensures state { self.new ≡ outbound_after (begin_step self.old.sender self.old.queue) }
-        ensures act { result ≡ (begin_step self.old.sender self.old.queue).act }
+        ensures outcome { result
+            ≡ outcome_of (begin_step self.old.sender self.old.queue).act }
+        ensures sent { sent.new
+            ≡ message_for (begin_step self.old.sender self.old.queue).act }
         ensures outbound { IsOutbound self.new }
     {
-        self.sender.begin(&self.queue)
+        self.sender.begin(&self.queue, sent)
     }
 
     /// Hears a transmission during a bid.
-    pub(crate) fn reply(&mut self, heard: &Heard) -> Act
+    pub(crate) fn reply(&mut self, heard: &Heard, sent: &mut Option<Message>) -> Outcome
         ensures state { self.new
             ≡ outbound_after (reply_step self.old.sender self.old.queue (reply_heard heard.now)) }
-        ensures act { result
-            ≡ (reply_step self.old.sender self.old.queue (reply_heard heard.now)).act }
+        ensures outcome { result ≡ outcome_of
+            (reply_step self.old.sender self.old.queue (reply_heard heard.now)).act }
+        ensures sent { sent.new ≡ message_for
+            (reply_step self.old.sender self.old.queue (reply_heard heard.now)).act }
         ensures outbound { IsOutbound self.new }
     {
-        self.sender.reply(heard, &mut self.queue)
+        self.sender.reply(heard, &mut self.queue, sent)
     }
 
     /// Nothing was heard during a bid.
-    pub(crate) fn silence(&mut self) -> Act
+    pub(crate) fn silence(&mut self, sent: &mut Option<Message>) -> Outcome
         ensures state { self.new ≡ outbound_after (silence_step self.old.sender self.old.queue) }
-        ensures act { result ≡ (silence_step self.old.sender self.old.queue).act }
+        ensures outcome { result
+            ≡ outcome_of (silence_step self.old.sender self.old.queue).act }
+        ensures sent { sent.new
+            ≡ message_for (silence_step self.old.sender self.old.queue).act }
         ensures outbound { IsOutbound self.new }
     {
-        self.sender.silence()
+        self.sender.silence(sent)
     }
 
     /// Adds a record that is not longer than the full length. It comes back where there is no

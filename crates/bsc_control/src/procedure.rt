@@ -119,31 +119,31 @@ impl<A: Allocator> Procedure<A> {
         self.terminal_of(self.place)
     }
 
-    /// Hears what octets were decoded as, and gives the message to send.
-    pub(crate) fn hear(&mut self, heard: &Heard) -> Option<Message>
+    /// Hears what octets were decoded as, and leaves the message to send, or none, in `sent`.
+    pub(crate) fn hear(&mut self, heard: &Heard, sent: &mut Option<Message>)
         requires { SuitsTask self.old.task (peer self.old) }
-        ensures row { Hears self.old heard.now self.new result }
+        ensures row { Hears self.old heard.now self.new sent.new }
         ensures entries { HasEntries self.new }
     {
         match self.task {
-            Task::AtRest => None,
-            Task::Selecting { select, .. } => self.hear_selecting(select, heard),
-            Task::Sending { select } => self.hear_sending(select, heard),
-            Task::Polling { replied } => self.hear_polling(replied, heard),
+            Task::AtRest => *sent = None,
+            Task::Selecting { select, .. } => self.hear_selecting(select, heard, sent),
+            Task::Sending { select } => self.hear_sending(select, heard, sent),
+            Task::Polling { replied } => self.hear_polling(replied, heard, sent),
         }
     }
 
-    /// Nothing was heard; gives the message to send.
-    pub(crate) fn act_on_silence(&mut self) -> Option<Message>
+    /// Nothing was heard; leaves the message to send, or none, in `sent`.
+    pub(crate) fn act_on_silence(&mut self, sent: &mut Option<Message>)
         requires { SuitsTask self.old.task (peer self.old) }
-        ensures row { ActsOnSilence self.old self.new result }
+        ensures row { ActsOnSilence self.old self.new sent.new }
         ensures entries { HasEntries self.new }
     {
         match self.task {
-            Task::AtRest => self.call_first(),
-            Task::Selecting { select, enquired } => self.fail_selection(select, enquired),
-            Task::Sending { select } => self.send_on(select),
-            Task::Polling { replied } => self.fail_poll(replied),
+            Task::AtRest => self.call_first(sent),
+            Task::Selecting { select, enquired } => self.fail_selection(select, enquired, sent),
+            Task::Sending { select } => self.send_on(select, sent),
+            Task::Polling { replied } => self.fail_poll(replied, sent),
         }
     }
 }

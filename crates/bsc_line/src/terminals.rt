@@ -44,7 +44,8 @@ fn hear_apart<A: Allocator>(
     ensures first { first.new ≡ or_first first.old
         (sent_by (Speaker.Terminal place) (answer terminal.old heard.now terminal.new)) }
 {
-    let answer = terminal.answer(heard);
+    let mut answer = None;
+    terminal.answer(heard, &mut answer);
     keep_first(first, place, answer);
 }
 

@@ -9,7 +9,7 @@ use Rattle.bsc_frame.specs.declared.message.Heard.{Heard}
 use Rattle.bsc_frame.specs.declared.message.Heard.TheVariants.{Whole, Failed, Noise}
 use Rattle.bsc_spool.specs.Queue.{waiting}
 use Rattle.bsc_spool.specs.Spool.{SpoolValue, room_asked}
-use Rattle.bsc_text.specs.declared.act.Act.TheVariants as a
+use Rattle.bsc_text.specs.Act as a
 use Rattle.bsc_text.specs.declared.phase.Phase.{Phase}
 use Rattle.bsc_text.specs.declared.phase.Phase.TheVariants.{Idle, Unanswered, Held, InDoubt}
 use Rattle.bsc_text.specs.Ready.{IsAtRest, FitsAct}
@@ -17,7 +17,7 @@ use Rattle.bsc_text.specs.Receiver.{ReceiverValue, new_receiver, first_reply}
 use Rattle.bsc_text.specs.Reply.{message_of}
 use Rattle.bsc_text.specs.declared.alternation.Alternation.TheVariants.{Even}
 use Rattle.bsc_text.specs.declared.reply.Reply.TheVariants.{Ack0}
-use Rattle.bsc_text.specs.declared.act.Act.{Act}
+use Rattle.bsc_text.specs.Act.{Act}
 use Rattle.bsc_text.specs.Sender.{SenderStep, begin_step, cut_phase, is_in_doubt}
 use Rattle.bsc_text.specs.Terminal.{TerminalValue}
 use Rattle.bsc_text.specs.Agreement.{IsResting, Continues, sent_flight}

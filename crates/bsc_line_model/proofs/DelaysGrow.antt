@@ -8,8 +8,8 @@ use Rattle.bsc_frame.specs.declared.message.Heard.TheVariants.{Whole, Failed, No
 use Rattle.bsc_frame.specs.Texts.{TextValue}
 use Rattle.bsc_spool.specs.Queue.{waiting}
 use Rattle.bsc_spool.specs.Spool.{SpoolValue, with_delay, room_asked}
-use Rattle.bsc_text.specs.declared.act.Act.{Act}
-use Rattle.bsc_text.specs.declared.act.Act.TheVariants as a
+use Rattle.bsc_text.specs.Act.{Act}
+use Rattle.bsc_text.specs.Act as a
 use Rattle.bsc_text.specs.declared.reply.Reply.{Reply}
 use Rattle.bsc_text.specs.declared.reply.Reply.TheVariants.{Ack0, Ack1, Nak, Wack, Rvi}
 use Rattle.bsc_text.specs.Reply.{reply_heard}

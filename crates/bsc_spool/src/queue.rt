@@ -1,6 +1,6 @@
 //! The sending end of a channel. A record stays in its queue after it was delivered, so that what
 //! was offered can be compared with what was spooled.
-ghost use Rattle.std.specs.Prelude.{◌≡◌, ◌≤◌, [], length, take, nat_eq, not, IsTrue, ◌↔◌};
+ghost use Rattle.std.specs.Prelude.{◌≡◌, ◌≤◌, [], length, take, nat_eq, not, IsTrue, ◌↔◌, Some};
 ghost use Rattle.std.specs.Prelude.{IfSome, IfErr, OnOk, OnErr};
 ghost use Rattle.bsc_block.specs.Blocks.{block_text, blocks};
 ghost use Rattle.bsc_spool.specs.Queue.{waiting, next_block, queue_of, with_offered, with_known};
@@ -9,7 +9,7 @@ ghost use Rattle.bsc_spool.specs.Queue.{IsQueue, IsNext};
 use bsc_block::laws::cut_into_blocks;
 use bsc_block::{Format, Record, build, pack};
 use bsc_frame::limits::MAX_UNITS;
-use bsc_frame::{End, Text};
+use bsc_frame::{End, Message};
 use std::alloc::Allocator;
 use std::marker::Model;
 
@@ -130,19 +130,22 @@ impl<A: Allocator> Queue<A> {
         count
     }
 
-    /// The text of the first `count` waiting records, with this end: 1 to 7 records, not more than
-    /// wait.
-    pub fn text(&self, count: usize, end: End) -> Text
+    /// Leaves the text of the first `count` waiting records, with this end, in `message`, whatever
+    /// that had: 1 to 7 records, not more than wait.
+    pub fn text(&self, count: usize, end: End, message: &mut Option<Message>)
         requires some { 1 ≤ count }
         requires few { count ≤ MAX_UNITS }
         requires wait { count ≤ length (waiting self.now) }
-        ensures { result ≡ block_text self.now.format (take count (waiting self.now)) end }
+        ensures { message.new
+            ≡ Some (Message.Text
+            (block_text self.now.format (take count (waiting self.now)) end)) }
     {
         build(
             &self.records[self.known..self.known + count],
             self.format,
             end,
-        )
+            message,
+        );
     }
 
     /// Counts the first `count` waiting records as delivered. They are not more than wait.

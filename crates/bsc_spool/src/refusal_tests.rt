@@ -3,7 +3,7 @@ ghost use Rattle.std.specs.Prelude.{◌≡◌, ◌≤◌, IfOk, length};
 
 use crate::{Queue, Spool};
 use bsc_block::{Format, Record, RecordError, unpack};
-use bsc_frame::Text;
+use bsc_frame::{Message, Text};
 use refusing_alloc::{Refusal, Refusing};
 use std::alloc::{Allocator, Global};
 use std::process::Abort;
@@ -137,8 +137,12 @@ fn refused_rooms<A: Allocator>(
         let Some(next) = queue.next() else {
             return refused;
         };
-        let text = queue.text(next.count, next.end);
-        if is_stored(rt, alloc, spool, &text) {
+        let mut message = None;
+        queue.text(next.count, next.end, &mut message);
+        let Some(Message::Text(text)) = &message else {
+            return refused;
+        };
+        if is_stored(rt, alloc, spool, text) {
             queue.mark(next.count);
         } else {
             refused += 1;
@@ -213,12 +217,16 @@ fn room_that_is_there_takes_no_memory(rt: HostRuntime) -> Result<(), Fail> {
 fn storing_takes_no_memory(rt: HostRuntime) -> Result<(), Fail> {
     let queue = filled(&rt, 7)?;
     let next = queue.next().ok_or("no record waits")?;
-    let text = queue.text(next.count, next.end);
+    let mut message = None;
+    queue.text(next.count, next.end, &mut message);
+    let Some(Message::Text(text)) = &message else {
+        return Err("no text")?;
+    };
     let alloc = Refusing::new(rt.alloc());
     let mut spool = Spool::new(&alloc);
     assert!(rt; spool.make_room());
     alloc.refuse_from(1);
-    spool.store(&unpack(&text));
+    spool.store(&unpack(text));
     assert_eq!(rt; alloc.requests(), 0);
     assert!(rt; are_in_order(spool.records()));
     assert_eq!(rt; spool.records().len(), 7);

@@ -61,7 +61,11 @@ fn five_full_records_go_in_two_blocks(rt: HostRuntime) -> Result<(), Fail> {
             end: End::Etx
         })
     );
-    let text = queue.text(2, End::Etx);
+    let mut message = None;
+    queue.text(2, End::Etx, &mut message);
+    let Some(Message::Text(text)) = &message else {
+        return Err("no text")?;
+    };
     assert_eq!(rt; text.count(), 2);
     queue.mark(2);
     assert_eq!(rt; queue.known(), 6);

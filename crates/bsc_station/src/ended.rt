@@ -25,12 +25,12 @@ impl Station for Ended {
 
     ghost holds = { λ _. false };
 
-    fn answer(&mut self, _heard: &Heard) -> Option<Message> {
-        None
+    fn answer(&mut self, _heard: &Heard, sent: &mut Option<Message>) {
+        *sent = None;
     }
 
-    fn act(&mut self) -> Option<Message> {
-        None
+    fn act(&mut self, sent: &mut Option<Message>) {
+        *sent = None;
     }
 
     fn holds_line(&self) -> bool {

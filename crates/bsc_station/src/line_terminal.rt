@@ -85,12 +85,12 @@ impl<A: Allocator> Station for LineTerminal<A> {
 
     ghost holds = { λ l. holds l.tributary.mode };
 
-    fn answer(&mut self, heard: &Heard) -> Option<Message> {
-        self.tributary.answer(heard)
+    fn answer(&mut self, heard: &Heard, sent: &mut Option<Message>) {
+        self.tributary.answer(heard, sent);
     }
 
-    fn act(&mut self) -> Option<Message> {
-        self.tributary.act()
+    fn act(&mut self, sent: &mut Option<Message>) {
+        self.tributary.act(sent);
     }
 
     fn holds_line(&self) -> bool {

@@ -10,5 +10,6 @@ pub mod ReadyLemmas
 pub mod ReceiverSteps
 pub mod SelectLemmas
 pub mod StepLemmas
+pub mod Telling
 pub mod TurnCount
 pub mod Turning

@@ -4,8 +4,8 @@ use Rattle.bsc_frame.specs.declared.message.Message.{Message}
 use Rattle.bsc_frame.specs.declared.message.Heard.{Heard}
 use Rattle.bsc_spool.specs.Queue.{QueueValue, with_offered, IsQueue, waiting}
 use Rattle.bsc_spool.specs.Spool.{SpoolValue}
-use Rattle.bsc_text.specs.declared.act.Act.{Act}
-use Rattle.bsc_text.specs.declared.act.Act.TheVariants as a
+use Rattle.bsc_text.specs.Act.{Act}
+use Rattle.bsc_text.specs.Act as a
 use Rattle.bsc_text.specs.declared.reply.Reply.{Reply}
 use Rattle.bsc_text.specs.declared.phase.Phase.TheVariants.{Idle}
 use Rattle.bsc_text.specs.Act.{message_for}

@@ -5,8 +5,9 @@ use Rattle.bsc_frame.specs.declared.limits.TheConstants.{MAX_UNITS}
 use Rattle.bsc_frame.specs.declared.text.End.{End}
 use Rattle.bsc_frame.specs.declared.text.End.TheVariants.{Etb, Etx}
 use Rattle.bsc_spool.specs.Queue.{QueueValue, IsQueue, waiting}
-use Rattle.bsc_text.specs.declared.act.Act.{Act}
-use Rattle.bsc_text.specs.declared.act.Act.TheVariants as a
+use Rattle.bsc_text.specs.declared.outcome.Outcome.{Outcome}
+use Rattle.bsc_text.specs.declared.outcome.Outcome.TheVariants as o
+use Rattle.bsc_text.specs.Act.{Act, outcome_of}
 use Rattle.bsc_text.specs.declared.phase.Phase.{Phase}
 use Rattle.bsc_text.specs.declared.phase.Phase.TheVariants.{Idle, Unanswered, Held, InDoubt}
 use Rattle.bsc_text.specs.Setup.{SetupValue}
@@ -59,10 +60,13 @@ IsAtRest (InDoubt k) = Unit {0}
 IsAtRest (Unanswered b) = ⊥
 IsAtRest (Held end alternation) = ⊥
 
--- the phase that an act leaves: a bid goes on where something is sent, none goes on where it is
--- over, and nothing changes where the sender keeps quiet
+-- the phase that a call of a sender leaves: a bid goes on where something is sent, none goes on
+-- where it is over, and nothing changes where the sender keeps quiet
+abbrev pub FitsOutcome : Outcome → Phase → Phase → Type 0
+FitsOutcome o.Sends old new = IsGoing new
+FitsOutcome o.Over old new = IsAtRest new
+FitsOutcome o.Quiet old new = new ≡ old
+
+-- the phase that an act leaves
 abbrev pub FitsAct : Act → Phase → Phase → Type 0
-FitsAct (a.Send t) old new = IsGoing new
-FitsAct a.Enq old new = IsGoing new
-FitsAct a.Over old new = IsAtRest new
-FitsAct a.Quiet old new = new ≡ old
+FitsAct act old new = FitsOutcome (outcome_of act) old new

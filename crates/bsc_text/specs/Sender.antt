@@ -1,7 +1,7 @@
 -- The sender's table (GA27-3004: acknowledgements, NAK, WACK, RVI and time-outs; limits, doubt and
 -- release are own). Every counter is raised first and compared afterwards. What no line lists
 -- changes nothing.
-use Rattle.std.specs.Prelude.{ℕ, ◌+◌, nat_lt, Bool, true, false, ◌==◌, ◌||◌, take, Option, None}
+use Rattle.std.specs.Prelude.{◌≡◌, ℕ, ◌+◌, nat_lt, Bool, true, false, ◌==◌, ◌||◌, take, Option, None}
 use Rattle.std.specs.Prelude.{Some, Result, Ok, Err, if◌then◌else◌}
 use Rattle.bsc_frame.specs.declared.text.End.{End}
 use Rattle.bsc_frame.specs.declared.text.End.TheVariants.{Etb, Etx}
@@ -9,8 +9,10 @@ use Rattle.bsc_frame.specs.Texts.{TextValue}
 use Rattle.bsc_block.specs.Blocks.{block_text}
 use Rattle.bsc_spool.specs.declared.Next.{Next}
 use Rattle.bsc_spool.specs.Queue.{QueueValue, queue_of, with_known, waiting, next_block}
-use Rattle.bsc_text.specs.declared.act.Act.{Act}
-use Rattle.bsc_text.specs.declared.act.Act.TheVariants as a
+use Rattle.bsc_frame.specs.declared.message.Message.{Message}
+use Rattle.bsc_text.specs.Act.{Act, message_for, outcome_of}
+use Rattle.bsc_text.specs.Act as a
+use Rattle.bsc_text.specs.declared.outcome.Outcome.{Outcome}
 use Rattle.bsc_text.specs.declared.alternation.Alternation.{Alternation}
 use Rattle.bsc_text.specs.declared.alternation.Alternation.TheVariants.{Odd}
 use Rattle.bsc_text.specs.declared.phase.SentBlock.{SentBlock}
@@ -38,6 +40,28 @@ pub record SenderStep : Type 0 where
   pub sender : SenderValue
   pub queue : QueueValue
   pub act : Act
+
+-- what a call of a sender leaves, what becomes of the bid, and the message that is left to send
+pub record SenderAnswer : Type 0 where
+  pub sender : SenderValue
+  pub queue : QueueValue
+  pub outcome : Outcome
+  pub sent : Option Message
+
+-- how a call tells what the sender does
+abbrev pub told : SenderStep → SenderAnswer
+told step =
+    record {
+      sender = step.sender;
+      queue = step.queue;
+      outcome = outcome_of step.act;
+      sent = message_for step.act;
+    }
+
+-- the call leaves and tells what this step says
+abbrev pub Tells : SenderValue → QueueValue → Outcome → Option Message → SenderStep → Type 0
+Tells s q outcome sent step =
+    record { sender = s; queue = q; outcome = outcome; sent = sent } ≡ told step
 
 -- the sender with another phase
 abbrev pub with_phase : SenderValue → Phase → SenderValue

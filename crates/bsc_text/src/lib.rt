@@ -5,10 +5,10 @@
 //! stations share: their settings, a terminal's addresses, and the trait of a station of the line.
 #![tactic(auto)]
 
-mod act;
 mod alternation;
 pub mod laws;
 pub mod limits;
+mod outcome;
 mod phase;
 mod receiver;
 mod reply;
@@ -17,7 +17,7 @@ mod setup;
 mod station;
 mod terminal;
 
-pub use act::Act;
+pub use outcome::Outcome;
 pub use receiver::Receiver;
 pub use reply::Reply;
 pub use sender::{ReleaseError, Sender};

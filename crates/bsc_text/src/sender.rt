@@ -1,20 +1,24 @@
 //! The sender of one bid.
 
 ghost use Rattle.std.specs.Prelude.{◌≡◌, ◌+◌, ◌<◌, ◌≤◌, true, false, nat_lt, length, OnOk, OnErr};
+ghost use Rattle.std.specs.Prelude.{None};
 ghost use Rattle.std.specs.Prelude.{IsTrue};
 ghost use Rattle.bsc_spool.specs.Queue.{QueueValue, IsQueue, waiting, next_block};
-ghost use Rattle.bsc_text.specs.Ready.{AreWaiting, CountsOn, IsReady, IsGoing, IsAtRest, FitsAct};
+ghost use Rattle.bsc_text.specs.Ready.{AreWaiting, CountsOn, IsReady, IsGoing, IsAtRest};
+ghost use Rattle.bsc_text.specs.Ready.{FitsOutcome};
 ghost use Rattle.bsc_text.specs.Reply.{reply_heard};
+ghost use Rattle.bsc_text.specs.Act.{Enq};
 ghost use Rattle.bsc_text.specs.Sender.{with_phase, with_counts, begin_step, sent_next, accepted};
+ghost use Rattle.bsc_text.specs.Sender.{Tells};
 ghost use Rattle.bsc_text.specs.Sender.{failed, delayed, unanswered_step, held_step, reply_step};
 ghost use Rattle.bsc_text.specs.Sender.{silence_step, cut_phase, is_in_doubt, release_step};
 
-use crate::act::Act;
 use crate::alternation::Alternation;
+use crate::outcome::Outcome;
 use crate::phase::{Phase, SentBlock};
 use crate::reply::{Answer, Reply};
 use crate::setup::Setup;
-use bsc_frame::{End, Heard};
+use bsc_frame::{End, Heard, Message};
 use bsc_spool::Queue;
 use std::alloc::Allocator;
 use std::marker::Model;
@@ -79,59 +83,69 @@ impl Sender {
         }
     }
 
-    /// Begins a bid: sends the first block of the waiting records. Condition: the sender is idle,
-    /// without a doubt, and records wait. (GA27-3004, transmission of blocks.)
+    /// Begins a bid: leaves the text of the first block of the waiting records in `sent`. Condition:
+    /// the sender is idle, without a doubt, and records wait. (GA27-3004, transmission of blocks.)
     #[tactic(auto, using(crate::proofs::ReadyLemmas::going_begin))]
-    pub fn begin<A: Allocator>(&mut self, queue: &Queue<A>) -> Act
+    pub fn begin<A: Allocator>(&mut self, queue: &Queue<A>, sent: &mut Option<Message>) -> Outcome
         requires idle { self.old.phase ≡ Phase.Idle }
         requires some { 1 ≤ length (waiting queue.now) }
-        ensures row { record { sender = self.new; queue = queue.now; act = result }
-            ≡ begin_step self.old queue.now }
+        ensures row { Tells self.new queue.now result sent.new
+            (begin_step self.old queue.now) }
         ensures going { IsGoing self.new.phase }
         ensures ready { IsReady self.old queue.now → IsReady self.new queue.now }
     {
-        self.send_next(queue, Alternation::Odd)
+        self.send_next(queue, Alternation::Odd, sent)
     }
 
-    /// Hears a transmission. A reply is acted on; anything else changes nothing. Condition: while
-    /// a bid goes on, in the queue wait the records of the unanswered block, after ETB one more,
-    /// and while held after ETB at least one. (GA27-3004, ACK0, ACK1, NAK, WACK and RVI; the limits
-    /// are own.)
-    pub fn reply<A: Allocator>(&mut self, heard: &Heard, queue: &mut Queue<A>) -> Act
+    /// Hears a transmission. A reply is acted on; anything else changes nothing. The message to send
+    /// is left in `sent`, or none. Condition: while a bid goes on, in the queue wait the records of
+    /// the unanswered block, after ETB one more, and while held after ETB at least one. (GA27-3004,
+    /// ACK0, ACK1, NAK, WACK and RVI; the limits are own.)
+    pub fn reply<A: Allocator>(
+        &mut self,
+        heard: &Heard,
+        queue: &mut Queue<A>,
+        sent: &mut Option<Message>,
+    ) -> Outcome
         requires { IsGoing self.old.phase
             → CountsOn self.old.phase (length (waiting queue.old)) }
-        ensures row { record { sender = self.new; queue = queue.new; act = result }
-            ≡ reply_step self.old queue.old (reply_heard heard.now) }
+        ensures row { Tells self.new queue.new result sent.new
+            (reply_step self.old queue.old (reply_heard heard.now)) }
         ensures ready { IsReady self.old queue.old → IsReady self.new queue.new }
-        ensures fits { FitsAct result self.old.phase self.new.phase }
+        ensures fits { FitsOutcome result self.old.phase self.new.phase }
     {
         let Some(reply) = Reply::heard(heard) else {
-            return Act::Quiet;
+            return keep_quiet(sent);
         };
         match self.phase {
-            Phase::Idle | Phase::InDoubt { .. } => Act::Quiet,
+            Phase::Idle | Phase::InDoubt { .. } => keep_quiet(sent),
             Phase::Unanswered { block } => {
-                self.answer_unanswered(queue, block, reply.answer(block.alternation))
+                let answer = reply.answer(block.alternation);
+                self.answer_unanswered(queue, block, answer, sent)
             }
             Phase::Held { end, alternation } => {
-                self.answer_held(queue, end, alternation, reply.answer(alternation))
+                let answer = reply.answer(alternation);
+                self.answer_held(queue, end, alternation, answer, sent)
             }
         }
     }
 
-    /// Nothing was heard for the time of a time-out. (GA27-3004, time-outs; the limit and the doubt
-    /// are own.)
+    /// Nothing was heard for the time of a time-out. The message to send is left in `sent`, or none.
+    /// (GA27-3004, time-outs; the limit and the doubt are own.)
     #[tactic(auto, using(crate::proofs::ReadyLemmas::all_waiting))]
-    pub fn silence(&mut self) -> Act
+    pub fn silence(&mut self, sent: &mut Option<Message>) -> Outcome
         ensures row { (q : QueueValue)
-            → record { sender = self.new; queue = q; act = result } ≡ silence_step self.old q }
+            → Tells self.new q result sent.new
+            (silence_step self.old q) }
         ensures ready { (q : QueueValue) → IsReady self.old q → IsReady self.new q }
-        ensures fits { FitsAct result self.old.phase self.new.phase }
+        ensures fits { FitsOutcome result self.old.phase self.new.phase }
     {
         match self.phase {
-            Phase::Idle | Phase::InDoubt { .. } => Act::Quiet,
-            Phase::Unanswered { block } => self.ask_again(Phase::InDoubt { count: block.count }),
-            Phase::Held { .. } => self.ask_again(Phase::Idle),
+            Phase::Idle | Phase::InDoubt { .. } => keep_quiet(sent),
+            Phase::Unanswered { block } => {
+                self.ask_again(Phase::InDoubt { count: block.count }, sent)
+            }
+            Phase::Held { .. } => self.ask_again(Phase::Idle, sent),
         }
     }
 
@@ -185,26 +199,32 @@ impl Sender {
     }
 
     /// Ends the bid, with no doubt.
-    fn end(&mut self) -> Act
+    fn end(&mut self, sent: &mut Option<Message>) -> Outcome
         ensures state { self.new ≡ with_phase self.old Phase.Idle }
-        ensures act { result ≡ Act.Over }
+        ensures over { result ≡ Outcome.Over }
+        ensures nothing { sent.new ≡ None }
     {
         self.phase = Phase::Idle;
-        Act::Over
+        *sent = None;
+        Outcome::Over
     }
 
     /// Sends the next block.
     #[tactic(auto, using(crate::proofs::ReadyLemmas::counts_next))]
-    fn send_next<A: Allocator>(&mut self, queue: &Queue<A>, alternation: Alternation) -> Act
-        ensures row { record { sender = self.new; queue = queue.now; act = result }
-            ≡ sent_next self.old queue.now alternation (next_block queue.now) }
+    fn send_next<A: Allocator>(
+        &mut self,
+        queue: &Queue<A>,
+        alternation: Alternation,
+        sent: &mut Option<Message>,
+    ) -> Outcome
+        ensures row { Tells self.new queue.now result sent.new
+            (sent_next self.old queue.now alternation (next_block queue.now)) }
         ensures ready { IsQueue queue.now → IsReady self.new queue.now }
     {
         self.failures = 0;
         self.wacks = 0;
         let Some(next) = queue.next() else {
-            self.phase = Phase::Idle;
-            return Act::Over;
+            return self.end(sent);
         };
         self.phase = Phase::Unanswered {
             block: SentBlock {
@@ -213,22 +233,29 @@ impl Sender {
                 alternation,
             },
         };
-        Act::Send(queue.text(next.count, next.end))
+        queue.text(next.count, next.end, sent);
+        Outcome::Sends
     }
 
     /// The expected acknowledgement of a block with this end came.
-    fn accept<A: Allocator>(&mut self, queue: &Queue<A>, end: End, alternation: Alternation) -> Act
-        ensures row { record { sender = self.new; queue = queue.now; act = result }
-            ≡ accepted self.old queue.now end alternation }
+    fn accept<A: Allocator>(
+        &mut self,
+        queue: &Queue<A>,
+        end: End,
+        alternation: Alternation,
+        sent: &mut Option<Message>,
+    ) -> Outcome
+        ensures row { Tells self.new queue.now result sent.new
+            (accepted self.old queue.now end alternation) }
         ensures ready { IsQueue queue.now → IsReady self.new queue.now }
     {
         match end {
             End::Etx => {
                 self.failures = 0;
                 self.wacks = 0;
-                self.end()
+                self.end(sent)
             }
-            End::Etb => self.send_next(queue, alternation.other()),
+            End::Etb => self.send_next(queue, alternation.other(), sent),
         }
     }
 
@@ -255,25 +282,30 @@ impl Sender {
 
     /// One more failure in a row, on which the last reply is asked for again, unless the bid is
     /// over.
-    fn ask_again(&mut self, left: Phase) -> Act
+    fn ask_again(&mut self, left: Phase, sent: &mut Option<Message>) -> Outcome
         requires going { IsGoing self.old.phase }
         requires left { IsAtRest left }
         ensures row { (q : QueueValue)
-            → record { sender = self.new; queue = q; act = result }
-            ≡ failed self.old q left Act.Enq }
+            → Tells self.new q result sent.new
+            (failed self.old q left Enq) }
         ensures ready { (q : QueueValue) → IsReady self.old q
             → CountsOn left (length (waiting q)) → IsReady self.new q }
-        ensures fits { FitsAct result self.old.phase self.new.phase }
+        ensures fits { FitsOutcome result self.old.phase self.new.phase }
     {
-        if self.fail(left) { Act::Over } else { Act::Enq }
+        if self.fail(left) {
+            *sent = None;
+            return Outcome::Over;
+        }
+        *sent = Some(Message::Enq);
+        Outcome::Sends
     }
 
     /// One more WACK, to a block with this end.
-    fn delay(&mut self, end: End, alternation: Alternation) -> Act
+    fn delay(&mut self, end: End, alternation: Alternation, sent: &mut Option<Message>) -> Outcome
         requires { IsGoing self.old.phase }
         ensures row { (q : QueueValue)
-            → record { sender = self.new; queue = q; act = result }
-            ≡ delayed self.old q end alternation }
+            → Tells self.new q result sent.new
+            (delayed self.old q end alternation) }
         ensures ready { (q : QueueValue) → IsQueue q → AreWaiting 0 end (length (waiting q))
             → IsReady self.new q }
     {
@@ -281,10 +313,12 @@ impl Sender {
         self.wacks += 1;
         if self.wacks > u16::from(self.setup.waits()) {
             self.phase = Phase::Idle;
-            return Act::Over;
+            *sent = None;
+            return Outcome::Over;
         }
         self.phase = Phase::Held { end, alternation };
-        Act::Enq
+        *sent = Some(Message::Enq);
+        Outcome::Sends
     }
 
     /// A reply while a block is unanswered.
@@ -294,34 +328,36 @@ impl Sender {
         queue: &mut Queue<A>,
         block: SentBlock,
         answer: Answer,
-    ) -> Act
+        sent: &mut Option<Message>,
+    ) -> Outcome
         requires phase { self.old.phase ≡ Phase.Unanswered block }
         requires counts { CountsOn self.old.phase (length (waiting queue.old)) }
-        ensures row { record { sender = self.new; queue = queue.new; act = result }
-            ≡ unanswered_step self.old queue.old block answer }
+        ensures row { Tells self.new queue.new result sent.new
+            (unanswered_step self.old queue.old block answer) }
         ensures ready { IsReady self.old queue.old → IsReady self.new queue.new }
     {
         match answer {
             Answer::Accepted => {
                 queue.mark(block.count);
-                self.accept(queue, block.end, block.alternation)
+                self.accept(queue, block.end, block.alternation, sent)
             }
             Answer::Refused => {
                 // A field is read, so that the range of the block's records is known here.
                 let _ = &self.phase;
                 if self.fail(Phase::Idle) {
-                    Act::Over
-                } else {
-                    Act::Send(queue.text(block.count, block.end))
+                    *sent = None;
+                    return Outcome::Over;
                 }
+                queue.text(block.count, block.end, sent);
+                Outcome::Sends
             }
             Answer::Delayed => {
                 queue.mark(block.count);
-                self.delay(block.end, block.alternation)
+                self.delay(block.end, block.alternation, sent)
             }
             Answer::Interrupted => {
                 queue.mark(block.count);
-                self.end()
+                self.end(sent)
             }
         }
     }
@@ -333,17 +369,27 @@ impl Sender {
         end: End,
         alternation: Alternation,
         answer: Answer,
-    ) -> Act
+        sent: &mut Option<Message>,
+    ) -> Outcome
         requires { self.old.phase ≡ Phase.Held end alternation }
-        ensures row { record { sender = self.new; queue = queue.now; act = result }
-            ≡ held_step self.old queue.now end alternation answer }
+        ensures row { Tells self.new queue.now result sent.new
+            (held_step self.old queue.now end alternation answer) }
         ensures ready { IsReady self.old queue.now → IsReady self.new queue.now }
     {
         match answer {
-            Answer::Accepted => self.accept(queue, end, alternation),
-            Answer::Refused => self.ask_again(Phase::Idle),
-            Answer::Delayed => self.delay(end, alternation),
-            Answer::Interrupted => self.end(),
+            Answer::Accepted => self.accept(queue, end, alternation, sent),
+            Answer::Refused => self.ask_again(Phase::Idle, sent),
+            Answer::Delayed => self.delay(end, alternation, sent),
+            Answer::Interrupted => self.end(sent),
         }
     }
+}
+
+/// Leaves no message.
+fn keep_quiet(sent: &mut Option<Message>) -> Outcome
+    ensures quiet { result ≡ Outcome.Quiet }
+    ensures nothing { sent.new ≡ None }
+{
+    *sent = None;
+    Outcome::Quiet
 }

@@ -22,14 +22,15 @@ pub trait Station {
     /// Whether it acts on a silence before the control station does.
     ghost holds: { Self → Bool };
 
-    /// Hears what octets were decoded as, and gives the message to send. It may try to reserve
-    /// memory; a refusal changes only a reply.
-    fn answer(&mut self, heard: &Heard) -> Option<Message>
-        ensures { hears self.old heard.now self.new result };
+    /// Hears what octets were decoded as, and leaves the message to send, or none, in `sent`,
+    /// whatever that had. It may try to reserve memory; a refusal changes only a reply.
+    fn answer(&mut self, heard: &Heard, sent: &mut Option<Message>)
+        ensures { hears self.old heard.now self.new sent.new };
 
-    /// Nothing was heard for the time of a time-out; gives the message to send.
-    fn act(&mut self) -> Option<Message>
-        ensures { acts self.old self.new result };
+    /// Nothing was heard for the time of a time-out; leaves the message to send, or none, in
+    /// `sent`, whatever that had.
+    fn act(&mut self, sent: &mut Option<Message>)
+        ensures { acts self.old self.new sent.new };
 
     /// Hears what octets were decoded as. True: the wire holds the one message to send. False: the
     /// wire is empty. It may try to reserve memory; a refusal changes only a reply.
@@ -37,7 +38,9 @@ pub trait Station {
         ensures { (sent : Option MessageValue) × hears self.old heard.now self.new sent
             × IsSent sent result wire.new.items }
     {
-        transmit(self.answer(heard), wire)
+        let mut sent = None;
+        self.answer(heard, &mut sent);
+        transmit(&sent, wire)
     }
 
     /// Hears octets. True: the wire holds the one message to send. False: the wire is empty. It may
@@ -56,7 +59,9 @@ pub trait Station {
         ensures { (sent : Option MessageValue) × acts self.old self.new sent
             × IsSent sent result wire.new.items }
     {
-        transmit(self.act(), wire)
+        let mut sent = None;
+        self.act(&mut sent);
+        transmit(&sent, wire)
     }
 
     /// Whether it acts on a silence before the control station does.
@@ -70,10 +75,10 @@ pub trait Station {
 
 /// Puts the octets of the message into the wire, in place of what it had, and nothing where there
 /// is no message. True where there is one.
-pub fn transmit(message: Option<Message>, wire: &mut Wire) -> bool
-    ensures { IsSent message result wire.new.items }
+pub fn transmit(message: &Option<Message>, wire: &mut Wire) -> bool
+    ensures { IsSent message.now result wire.new.items }
 {
-    match &message {
+    match message {
         Some(message) => {
             encode(message, wire);
             true

@@ -4,8 +4,8 @@ mod bidder;
 mod stations;
 mod turns;
 
-use crate::tests::bidder::Bidder;
-use crate::{Act, Receiver, ReleaseError, Reply, SettingError, Setup};
+use crate::tests::bidder::{Act, Bidder};
+use crate::{Receiver, ReleaseError, Reply, SettingError, Setup};
 use bsc_frame::{End, Heard, Message, decode};
 use bsc_spool::Spool;
 use refusing_alloc::{Refusal, Refusing};
@@ -26,37 +26,13 @@ fn setup(tries: u8, waits: u8) -> Result<Setup, SettingError> {
     Setup::new(80, 400, tries, waits)
 }
 
-/// Whether a sender sends a text of this many units with this end.
-fn sends(act: &Act, count: usize, end: End) -> bool {
-    match act {
-        Act::Send(text) => text.count() == count && text.end() == end,
-        _ => false,
-    }
-}
-
-/// Whether both acts send the same text.
-fn send_the_same(first: &Act, second: &Act) -> bool {
-    match (first, second) {
-        (Act::Send(text), Act::Send(other)) => text == other,
-        _ => false,
-    }
-}
-
-/// What is heard of an act where nothing is spoiled; noise where nothing was sent.
-fn carried(act: Act) -> Heard {
-    match act.message() {
-        Some(message) => Heard::Whole(message),
-        None => Heard::Noise,
-    }
-}
-
 /// The reply to an act that is carried, without the urgent flag.
 fn reply_to<A: Allocator>(
     receiver: &mut Receiver,
     spool: &mut Spool<A>,
     act: Act,
 ) -> Option<Reply> {
-    receiver.heard(&carried(act), false, spool)
+    receiver.heard(&act.carried(), false, spool)
 }
 
 /// A reply that is carried.
@@ -107,14 +83,14 @@ fn a_lost_acknowledgement_is_asked_for_again(rt: HostRuntime) -> Result<(), Fail
     let mut spool = Spool::new(rt.alloc());
     bidder.offer_empty(8)?;
     let first = bidder.begin()?;
-    assert!(rt; sends(&first, 7, End::Etb));
+    assert!(rt; first.sends_text(7, End::Etb));
     assert_eq!(rt; receiver.begin(true), Reply::Ack0);
     assert_eq!(rt;
         reply_to(&mut receiver, &mut spool, first),
         Some(Reply::Ack1)
     );
     let last = bidder.reply(&whole(Reply::Ack1));
-    assert!(rt; sends(&last, 1, End::Etx));
+    assert!(rt; last.sends_text(1, End::Etx));
     assert_eq!(rt; bidder.known(), 7);
     assert_eq!(rt;
         reply_to(&mut receiver, &mut spool, last),
@@ -123,12 +99,12 @@ fn a_lost_acknowledgement_is_asked_for_again(rt: HostRuntime) -> Result<(), Fail
 
     // That reply is lost.
     let again = bidder.silence();
-    assert!(rt; matches!(&again, Act::Enq));
+    assert!(rt; again.enquires());
     assert_eq!(rt;
         reply_to(&mut receiver, &mut spool, again),
         Some(Reply::Ack0)
     );
-    assert!(rt; matches!(&bidder.reply(&whole(Reply::Ack0)), Act::Over));
+    assert!(rt; bidder.reply(&whole(Reply::Ack0)).is_over());
     assert_eq!(rt; (bidder.known(), spool.records().len()), (8, 8));
     Ok(())
 }
@@ -141,18 +117,18 @@ fn a_lost_text_is_sent_again(rt: HostRuntime) -> Result<(), Fail> {
         let mut spool = Spool::new(rt.alloc());
         bidder.offer_empty(count)?;
         let first = bidder.begin()?;
-        assert!(rt; sends(&first, 7, end));
+        assert!(rt; first.sends_text(7, end));
 
         // It is lost, and another record is offered.
         bidder.offer_empty(1)?;
         let again = bidder.silence();
-        assert!(rt; matches!(&again, Act::Enq));
+        assert!(rt; again.enquires());
         assert_eq!(rt;
             reply_to(&mut receiver, &mut spool, again),
             Some(Reply::Ack0)
         );
         let again = bidder.reply(&whole(Reply::Ack0));
-        assert!(rt; send_the_same(&first, &again));
+        assert!(rt; again.sends_the_text_of(&first));
         assert_eq!(rt; (bidder.known(), spool.records().len()), (0, 0));
         assert_eq!(rt;
             reply_to(&mut receiver, &mut spool, again),
@@ -170,17 +146,17 @@ fn nak_asks_for_the_block_again(rt: HostRuntime) -> Result<(), Fail> {
     let first = bidder.begin()?;
     for _ in 0..3u8 {
         let again = bidder.reply(&whole(Reply::Nak));
-        assert!(rt; send_the_same(&first, &again));
+        assert!(rt; again.sends_the_text_of(&first));
     }
-    assert!(rt; matches!(&bidder.reply(&whole(Reply::Nak)), Act::Over));
+    assert!(rt; bidder.reply(&whole(Reply::Nak)).is_over());
     assert!(rt; !bidder.in_doubt());
     assert_eq!(rt; bidder.known(), 0);
 
     // The next bid begins with the same block; ACK1 for it ends what NAK counted.
     let next = bidder.begin()?;
-    assert!(rt; send_the_same(&first, &next));
-    assert!(rt; send_the_same(&first, &bidder.reply(&whole(Reply::Nak))));
-    assert!(rt; sends(&bidder.reply(&whole(Reply::Ack1)), 1, End::Etx));
+    assert!(rt; next.sends_the_text_of(&first));
+    assert!(rt; bidder.reply(&whole(Reply::Nak)).sends_the_text_of(&first));
+    assert!(rt; bidder.reply(&whole(Reply::Ack1)).sends_text(1, End::Etx));
     assert_eq!(rt; bidder.known(), 7);
     Ok(())
 }
@@ -190,9 +166,9 @@ fn nak_to_a_held_sender_asks_for_nothing(rt: HostRuntime) -> Result<(), Fail> {
     let mut bidder = Bidder::new(rt.alloc(), setup(1, 10)?);
     bidder.offer_empty(1)?;
     bidder.begin()?;
-    assert!(rt; matches!(&bidder.reply(&whole(Reply::Wack)), Act::Enq));
-    assert!(rt; matches!(&bidder.reply(&whole(Reply::Nak)), Act::Enq));
-    assert!(rt; matches!(&bidder.reply(&whole(Reply::Nak)), Act::Over));
+    assert!(rt; bidder.reply(&whole(Reply::Wack)).enquires());
+    assert!(rt; bidder.reply(&whole(Reply::Nak)).enquires());
+    assert!(rt; bidder.reply(&whole(Reply::Nak)).is_over());
     assert!(rt; !bidder.in_doubt());
     assert_eq!(rt; bidder.known(), 1);
     Ok(())
@@ -203,9 +179,9 @@ fn a_doubt_is_released_by_the_count_of_the_other_end(rt: HostRuntime) -> Result<
     let mut bidder = Bidder::new(rt.alloc(), setup(1, 10)?);
     bidder.offer_empty(1)?;
     bidder.begin()?;
-    assert!(rt; matches!(&bidder.silence(), Act::Enq));
+    assert!(rt; bidder.silence().enquires());
     assert!(rt; !bidder.in_doubt());
-    assert!(rt; matches!(&bidder.silence(), Act::Over));
+    assert!(rt; bidder.silence().is_over());
     assert!(rt; bidder.in_doubt());
     assert_eq!(rt; bidder.release(2), Err(ReleaseError::CountMismatch));
     assert_eq!(rt; bidder.release(1), Ok(()));
@@ -231,10 +207,10 @@ fn waits_are_limited(rt: HostRuntime) -> Result<(), Fail> {
         bidder.offer_empty(1)?;
         bidder.begin()?;
         for _ in 0..waits {
-            assert!(rt; matches!(&bidder.reply(&whole(Reply::Wack)), Act::Enq));
+            assert!(rt; bidder.reply(&whole(Reply::Wack)).enquires());
             assert_eq!(rt; bidder.known(), 1);
         }
-        assert!(rt; matches!(&bidder.reply(&whole(Reply::Wack)), Act::Over));
+        assert!(rt; bidder.reply(&whole(Reply::Wack)).is_over());
         assert!(rt; !bidder.in_doubt());
     }
     Ok(())
@@ -248,7 +224,7 @@ fn transmissions<A: Allocator>(
 ) -> Result<Option<usize>, Fail> {
     let mut act = bidder.begin()?;
     for (place, reply) in heard.iter().enumerate() {
-        if !matches!(&act, Act::Send(_) | Act::Enq) {
+        if !matches!(&act, Act::Sends(_)) {
             return Ok(Some(place));
         }
         act = match reply {
@@ -274,10 +250,10 @@ fn a_held_sender_gives_up_without_doubt(rt: HostRuntime) -> Result<(), Fail> {
 fn an_interrupt_ends_the_bid(rt: HostRuntime) -> Result<(), Fail> {
     let mut bidder = Bidder::new(rt.alloc(), setup(3, 10)?);
     bidder.offer_empty(8)?;
-    assert!(rt; sends(&bidder.begin()?, 7, End::Etb));
-    assert!(rt; matches!(&bidder.reply(&whole(Reply::Rvi)), Act::Over));
+    assert!(rt; bidder.begin()?.sends_text(7, End::Etb));
+    assert!(rt; bidder.reply(&whole(Reply::Rvi)).is_over());
     assert_eq!(rt; bidder.known(), 7);
-    assert!(rt; sends(&bidder.begin()?, 1, End::Etx));
+    assert!(rt; bidder.begin()?.sends_text(1, End::Etx));
     Ok(())
 }
 

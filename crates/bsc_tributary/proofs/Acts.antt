@@ -1,10 +1,12 @@
 -- What each act of a terminal's sender makes of its mode, and what it does not change.
-use Rattle.std.proofs.Common.{◌≡◌, ◌⊎◌, inl, inr, ℕ, List, Option, None, Some, refl, sym, subst}
+use Rattle.std.proofs.Common.{◌≡◌, ◌⊎◌, inl, inr, ℕ, List, Option, None, Some, refl, sym, ◌∙◌, ap, subst}
 use Rattle.bsc_block.specs.Format.{FormatValue}
 use Rattle.bsc_spool.specs.declared.queue.Next.{Next}
 use Rattle.bsc_spool.specs.Queue.{QueueValue}
-use Rattle.bsc_text.specs.declared.act.Act.{Act}
-use Rattle.bsc_text.specs.declared.act.Act.TheVariants as a
+use Rattle.bsc_text.specs.Act.{Act}
+use Rattle.bsc_text.specs.Act as a
+use Rattle.bsc_text.specs.declared.outcome.Outcome.{Outcome}
+use Rattle.bsc_frame.specs.declared.message.Message.{Message}
 use Rattle.bsc_text.specs.declared.alternation.Alternation.{Alternation}
 use Rattle.bsc_text.specs.declared.phase.Phase.{Phase}
 use Rattle.bsc_text.specs.declared.phase.Phase.TheVariants.{Idle, Unanswered, Held, InDoubt}
@@ -12,12 +14,13 @@ use Rattle.bsc_text.specs.declared.reply.Reply.{Reply}
 use Rattle.bsc_text.specs.EachStep.{StepKeeps}
 use Rattle.bsc_text.specs.Ready.{IsGoing, IsAtRest, FitsAct}
 use Rattle.bsc_text.specs.Setup.{SetupValue}
-use Rattle.bsc_text.specs.Sender.{SenderValue, SenderStep, sent_next, reply_step, silence_step, cut_phase}
+use Rattle.bsc_text.specs.Sender.{SenderValue, SenderStep, SenderAnswer, Tells, sent_next}
+use Rattle.bsc_text.specs.Sender.{reply_step, silence_step, cut_phase}
 use Rattle.bsc_text.proofs.FitLemmas.{fits_reply, fits_silence}
 use Rattle.bsc_text.proofs.KeepLemmas.{keeps_reply, keeps_silence}
 use Rattle.bsc_tributary.specs.declared.mode.Mode.{Mode}
 use Rattle.bsc_tributary.specs.declared.mode.Mode.TheVariants.{Control, Receiving, Sending}
-use Rattle.bsc_tributary.specs.Tributary.{mode_after}
+use Rattle.bsc_tributary.specs.Tributary.{mode_left, mode_after, message_left, message_of_act}
 use Rattle.bsc_tributary.specs.Kept.{SuitsMode}
 
 -- no bid goes on once it is cut off
@@ -26,6 +29,20 @@ IsAtRest-cut_phase Idle = tt
 IsAtRest-cut_phase (Unanswered b) = tt
 IsAtRest-cut_phase (Held end alternation) = tt
 IsAtRest-cut_phase (InDoubt count) = tt
+
+-- what becomes of the mode by what a call of the sender tells is what its act makes of it
+pub mode_told : (mode left : Mode) (s : SenderValue) (q : QueueValue) (outcome : Outcome)
+    (sent : Option Message) (step : SenderStep) → Tells s q outcome sent step
+    → left ≡ mode_left outcome mode → left ≡ mode_after step.act mode
+mode_told mode left s q outcome sent step h e =
+    e ∙ ap (λ (x : SenderAnswer). mode_left x.outcome mode) h
+
+-- and what is sent is the message of its act
+pub sent_told : (last : Option Message) (s : SenderValue) (q : QueueValue) (outcome : Outcome)
+    (sent : Option Message) (step : SenderStep) → Tells s q outcome sent step
+    → last ≡ message_left outcome sent → last ≡ message_of_act step.act
+sent_told last s q outcome sent step h e =
+    e ∙ ap (λ (x : SenderAnswer). message_left x.outcome x.sent) h
 
 -- an act of a sending terminal leaves it sending or in control mode
 pub mode_after-Sending : (act : Act) → (mode_after act Sending ≡ Control) ⊎ (mode_after act Sending ≡ Sending)

@@ -9,9 +9,9 @@ use Rattle.bsc_frame.specs.declared.message.Heard.{Heard}
 use Rattle.bsc_frame.specs.declared.message.Heard.TheVariants.{Whole}
 use Rattle.bsc_spool.specs.Queue.{QueueValue, waiting}
 use Rattle.bsc_spool.specs.Spool.{SpoolValue, room_asked}
-use Rattle.bsc_text.specs.declared.act.Act.{Act}
-use Rattle.bsc_text.specs.declared.act.Act.TheVariants as a
-use Rattle.bsc_text.specs.Act.{message_for}
+use Rattle.bsc_text.specs.declared.outcome.Outcome.{Outcome}
+use Rattle.bsc_text.specs.declared.outcome.Outcome.TheVariants as o
+use Rattle.bsc_text.specs.Act.{Act, message_for, outcome_of}
 use Rattle.bsc_text.specs.Terminal.{TerminalValue}
 use Rattle.bsc_text.specs.Reply.{message_of, reply_heard}
 use Rattle.bsc_text.specs.Receiver.{ReceiverValue, ReceiverStep, Rooms, new_receiver, first_reply}
@@ -75,17 +75,25 @@ abbrev pub without_line : TributaryValue → TributaryValue
 without_line t =
     record t { mode = Control; sender = with_phase t.sender (cut_phase t.sender.phase) }
 
+-- what becomes of the mode with the bid
+abbrev pub mode_left : Outcome → Mode → Mode
+mode_left o.Sends mode = Sending
+mode_left o.Over mode = Control
+mode_left o.Quiet mode = mode
+
+-- the message that is sent where the sender left this one: a bid that is over is ended by EOT
+abbrev pub message_left : Outcome → Option Message → Option Message
+message_left o.Over message = Some m.Eot
+message_left o.Sends message = message
+message_left o.Quiet message = message
+
 -- what the sender's act makes of the mode
 abbrev pub mode_after : Act → Mode → Mode
-mode_after (a.Send text) mode = Sending
-mode_after a.Enq mode = Sending
-mode_after a.Over mode = Control
-mode_after a.Quiet mode = mode
+mode_after act mode = mode_left (outcome_of act) mode
 
--- a bid that is over is ended by EOT
+-- the message of the sender's act
 abbrev pub message_of_act : Act → Option Message
-message_of_act a.Over = Some m.Eot
-message_of_act act = message_for act
+message_of_act act = message_left (outcome_of act) (message_for act)
 
 -- the sender acts
 abbrev pub act_step : TributaryValue → SenderStep → TributaryStep

@@ -8,7 +8,7 @@ ghost use Rattle.bsc_text.specs.Reply.{message_of};
 ghost use Rattle.bsc_text.specs.Terminal.{HasDistinctAddresses};
 ghost use Rattle.bsc_text.specs.Sender.{release_step, is_in_doubt};
 ghost use Rattle.bsc_tributary.specs.Tributary.{without_line, poll_step, selection_step};
-ghost use Rattle.bsc_tributary.specs.Tributary.{mode_after, message_of_act, after_release, holds};
+ghost use Rattle.bsc_tributary.specs.Tributary.{mode_left, message_left, after_release, holds};
 ghost use Rattle.bsc_tributary.specs.Tributary.{spool_at};
 ghost use Rattle.bsc_tributary.specs.Kept.{IsTributary, IsNewTerminal, KeepsSetupAndMode};
 ghost use Rattle.bsc_tributary.specs.Kept.{IsHearing, IsNoCall};
@@ -19,7 +19,7 @@ use crate::spools::Spools;
 use bsc_block::Record;
 use bsc_frame::{Address, Heard, Message};
 use bsc_spool::{Queue, Spool};
-use bsc_text::{Act, Receiver, ReleaseError, Reply, Sender, Setup, Station, Terminal};
+use bsc_text::{Outcome, Receiver, ReleaseError, Reply, Sender, Setup, Station, Terminal};
 use std::alloc::Allocator;
 use std::marker::Model;
 
@@ -163,68 +163,72 @@ impl<A: Allocator> Tributary<A> {
     }
 
     /// A call of the polling address.
-    fn answer_poll(&mut self) -> Option<Message>
-        ensures row { record { tributary = self.new; sent = result } ≡ poll_step self.old }
+    fn answer_poll(&mut self, sent: &mut Option<Message>)
+        ensures row { record { tributary = self.new; sent = sent.new } ≡ poll_step self.old }
         ensures tributary { IsTributary self.new }
     {
         self.drop_line();
         self.urgent = false;
         if self.sender.in_doubt() || !self.queue.has_waiting() {
-            return Some(Message::Eot);
+            *sent = Some(Message::Eot);
+            return;
         }
-        let act = self.sender.begin(&self.queue);
-        perform(act, &mut self.mode)
+        let outcome = self.sender.begin(&self.queue, sent);
+        perform(outcome, &mut self.mode, sent);
     }
 
     /// A call of the selection address of this number.
-    fn answer_selection(&mut self, select: usize) -> Option<Message>
+    fn answer_selection(&mut self, select: usize, sent: &mut Option<Message>)
         requires { select < length self.old.terminal.selects }
         ensures row { let room = (spool_at self.new.spools select).room in
-            record { tributary = self.new; sent = result } ≡ selection_step self.old select room }
+            record { tributary = self.new; sent = sent.new }
+            ≡ selection_step self.old select room }
         ensures room { (spool_at self.old.spools select).room ≡ true
             → (spool_at self.new.spools select).room ≡ true }
         ensures tributary { IsTributary self.new }
     {
         self.drop_line();
         if !self.ready {
-            return Some(Message::Nak);
+            *sent = Some(Message::Nak);
+            return;
         }
         self.mode = Mode::Receiving { select };
         let room = self.spools.make_room(select);
-        Some(self.receiver.begin(room).message())
+        let reply = self.receiver.begin(room);
+        *sent = Some(reply.message());
     }
 
     /// A call.
-    fn hear_call(&mut self, address: &Address) -> Option<Message>
-        ensures { IsHearing self.old (Heard.Whole (Message.Call address.now)) self.new result }
+    fn hear_call(&mut self, address: &Address, sent: &mut Option<Message>)
+        ensures { IsHearing self.old (Heard.Whole (Message.Call address.now)) self.new sent.new }
     {
         match called_address(&self.terminal, address) {
-            Called::Polling => self.answer_poll(),
-            Called::Selection { select } => self.answer_selection(select),
+            Called::Polling => self.answer_poll(sent),
+            Called::Selection { select } => self.answer_selection(select, sent),
             Called::Other => {
                 self.drop_line();
-                None
+                *sent = None;
             }
         }
     }
 
     /// What is no call and no EOT.
-    fn hear_in_mode(&mut self, heard: &Heard) -> Option<Message>
+    fn hear_in_mode(&mut self, heard: &Heard, sent: &mut Option<Message>)
         requires { IsNoCall heard.now }
-        ensures { IsHearing self.old heard.now self.new result }
+        ensures { IsHearing self.old heard.now self.new sent.new }
     {
         match self.mode {
-            Mode::Control => None,
+            Mode::Control => *sent = None,
             Mode::Receiving { select } => {
                 let reply = self
                     .spools
                     .receive(select, &mut self.receiver, heard, self.urgent);
                 self.urgent = still_urgent(self.urgent, reply);
-                message_of(reply)
+                leave_reply(reply, sent);
             }
             Mode::Sending => {
-                let act = self.sender.reply(heard, &mut self.queue);
-                perform(act, &mut self.mode)
+                let outcome = self.sender.reply(heard, &mut self.queue, sent);
+                perform(outcome, &mut self.mode, sent);
             }
         }
     }
@@ -288,23 +292,23 @@ impl<A: Allocator> Station for Tributary<A> {
 
     ghost holds = { λ t. holds t.mode };
 
-    fn answer(&mut self, heard: &Heard) -> Option<Message> {
+    fn answer(&mut self, heard: &Heard, sent: &mut Option<Message>) {
         match heard {
             Heard::Whole(Message::Eot) => {
                 self.drop_line();
-                None
+                *sent = None;
             }
-            Heard::Whole(Message::Call(address)) => self.hear_call(address),
-            _ => self.hear_in_mode(heard),
+            Heard::Whole(Message::Call(address)) => self.hear_call(address, sent),
+            _ => self.hear_in_mode(heard, sent),
         }
     }
 
-    fn act(&mut self) -> Option<Message> {
+    fn act(&mut self, sent: &mut Option<Message>) {
         match self.mode {
-            Mode::Control | Mode::Receiving { .. } => None,
+            Mode::Control | Mode::Receiving { .. } => *sent = None,
             Mode::Sending => {
-                let act = self.sender.silence();
-                perform(act, &mut self.mode)
+                let outcome = self.sender.silence(sent);
+                perform(outcome, &mut self.mode, sent);
             }
         }
     }
@@ -330,26 +334,28 @@ fn still_urgent(urgent: bool, reply: Option<Reply>) -> bool
     }
 }
 
-/// The message that carries the reply, if there is one.
-fn message_of(reply: Option<Reply>) -> Option<Message>
-    ensures { result ≡ option_map message_of reply }
+/// Leaves the message that carries the reply, or none where there is no reply.
+fn leave_reply(reply: Option<Reply>, sent: &mut Option<Message>)
+    ensures { sent.new ≡ option_map message_of reply }
 {
-    reply.map(Reply::message)
+    match reply {
+        Some(reply) => *sent = Some(reply.message()),
+        None => *sent = None,
+    }
 }
 
-/// Does to the mode what follows from the sender's act, and gives the message for it: EOT where
-/// the bid is over.
-fn perform(act: Act, mode: &mut Mode) -> Option<Message>
-    ensures mode { mode.new ≡ mode_after act mode.old }
-    ensures sent { result ≡ message_of_act act }
+/// Does to the mode what follows from what becomes of the sender's bid. The message that the sender
+/// left stays, and EOT takes its place where the bid is over.
+fn perform(outcome: Outcome, mode: &mut Mode, sent: &mut Option<Message>)
+    ensures mode { mode.new ≡ mode_left outcome mode.old }
+    ensures sent { sent.new ≡ message_left outcome sent.old }
 {
-    match &act {
-        Act::Send(_) | Act::Enq => *mode = Mode::Sending,
-        Act::Over => {
+    match outcome {
+        Outcome::Sends => *mode = Mode::Sending,
+        Outcome::Over => {
             *mode = Mode::Control;
-            return Some(Message::Eot);
+            *sent = Some(Message::Eot);
         }
-        Act::Quiet => {}
+        Outcome::Quiet => {}
     }
-    act.message()
 }

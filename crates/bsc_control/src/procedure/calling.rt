@@ -12,10 +12,11 @@ use bsc_frame::Message;
 use std::alloc::Allocator;
 
 impl<A: Allocator> Procedure<A> {
-    /// Calls the polling address of an entry, after this many failures.
-    pub(crate) fn poll(&mut self, place: usize, failures: u8) -> Option<Message>
+    /// Calls the polling address of an entry, after this many failures. The call is left in `sent`,
+    /// as by each of these.
+    pub(crate) fn poll(&mut self, place: usize, failures: u8, sent: &mut Option<Message>)
         requires { place < length self.old.poll_list }
-        ensures row { record { control = self.new; sent = result }
+        ensures row { record { control = self.new; sent = sent.new }
             ≡ poll_call_step self.old place failures }
         ensures entries { HasEntries self.new }
     {
@@ -28,15 +29,15 @@ impl<A: Allocator> Procedure<A> {
         self.wacks = 0;
         let peer = &mut self.peers[terminal];
         peer.receiver.begin(true);
-        Some(Message::Call(peer.terminal.poll()))
+        *sent = Some(Message::Call(peer.terminal.poll()));
     }
 
     /// Calls a selection address of an entry.
-    fn select(&mut self, place: usize, select: usize) -> Option<Message>
+    fn select(&mut self, place: usize, select: usize, sent: &mut Option<Message>)
         requires place { place < length self.old.poll_list }
         requires select { select
             < length (peer_at self.old (slice_index self.old.poll_list place)).outbounds }
-        ensures row { record { control = self.new; sent = result }
+        ensures row { record { control = self.new; sent = sent.new }
             ≡ selection_call_step self.old place select }
         ensures entries { HasEntries self.new }
     {
@@ -50,15 +51,15 @@ impl<A: Allocator> Procedure<A> {
         self.wacks = 0;
         let peer = &mut self.peers[terminal];
         peer.urgent = false;
-        Some(Message::Call(peer.terminal.select(select)))
+        *sent = Some(Message::Call(peer.terminal.select(select)));
     }
 
     /// Makes the first call of an entry from this selection address on.
-    fn call_from(&mut self, place: usize, from: usize) -> Option<Message>
+    fn call_from(&mut self, place: usize, from: usize, sent: &mut Option<Message>)
         requires place { place < length self.old.poll_list }
         requires from { from
             ≤ length (peer_at self.old (slice_index self.old.poll_list place)).outbounds }
-        ensures row { record { control = self.new; sent = result }
+        ensures row { record { control = self.new; sent = sent.new }
             ≡ way_call_step self.old place
             (way_from (peer_at self.old (slice_index self.old.poll_list place)) from) }
         ensures entries { HasEntries self.new }
@@ -66,32 +67,32 @@ impl<A: Allocator> Procedure<A> {
         let terminal = self.terminal_of(place);
         let peer = &self.peers[terminal];
         match peer.way_from(from) {
-            Way::FromTerminal => self.poll(place, 0),
-            Way::ToTerminal(select) => self.select(place, select),
+            Way::FromTerminal => self.poll(place, 0, sent),
+            Way::ToTerminal(select) => self.select(place, select, sent),
         }
     }
 
     /// Makes the first call, that of the present entry.
-    pub(crate) fn call_first(&mut self) -> Option<Message>
-        ensures row { record { control = self.new; sent = result } ≡ next_call_step self.old Start }
+    pub(crate) fn call_first(&mut self, sent: &mut Option<Message>)
+        ensures row { record { control = self.new; sent = sent.new } ≡ next_call_step self.old Start }
         ensures entries { HasEntries self.new }
     {
-        self.call_from(self.place, 0)
+        self.call_from(self.place, 0, sent);
     }
 
     /// Makes the call after a selection, or after the bid that it led to.
-    pub(crate) fn call_after_selection(&mut self, select: usize) -> Option<Message>
+    pub(crate) fn call_after_selection(&mut self, select: usize, sent: &mut Option<Message>)
         requires { select < length (peer self.old).outbounds }
-        ensures row { record { control = self.new; sent = result }
+        ensures row { record { control = self.new; sent = sent.new }
             ≡ next_call_step self.old (Selection select) }
         ensures entries { HasEntries self.new }
     {
-        self.call_from(self.place, select + 1)
+        self.call_from(self.place, select + 1, sent);
     }
 
     /// Makes the call after a poll.
-    pub(crate) fn call_after_poll(&mut self, rvi: bool) -> Option<Message>
-        ensures row { record { control = self.new; sent = result }
+    pub(crate) fn call_after_poll(&mut self, rvi: bool, sent: &mut Option<Message>)
+        ensures row { record { control = self.new; sent = sent.new }
             ≡ next_call_step self.old (Poll rvi) }
         ensures entries { HasEntries self.new }
     {
@@ -102,6 +103,6 @@ impl<A: Allocator> Procedure<A> {
         } else {
             self.place + 1
         };
-        self.call_from(place, 0)
+        self.call_from(place, 0, sent);
     }
 }

@@ -7,26 +7,30 @@ ghost use Rattle.bsc_control.specs.Table.{polling_step, silence_in, rooms_after,
 use crate::procedure::Procedure;
 use crate::task::{Replied, Task};
 use bsc_frame::{Heard, Message};
-use bsc_text::Reply;
 use std::alloc::Allocator;
 
 impl<A: Allocator> Procedure<A> {
     /// Something is heard after a poll.
-    pub(crate) fn hear_polling(&mut self, replied: Replied, heard: &Heard) -> Option<Message>
+    pub(crate) fn hear_polling(
+        &mut self,
+        replied: Replied,
+        heard: &Heard,
+        sent: &mut Option<Message>,
+    )
         requires { self.old.task ≡ Task.Polling replied }
-        ensures row { Hears self.old heard.now self.new result }
+        ensures row { Hears self.old heard.now self.new sent.new }
         ensures entries { HasEntries self.new }
     {
         match heard {
-            Heard::Whole(Message::Eot) => self.call_after_poll(replied.has_rvi()),
-            _ => self.receive(replied, heard),
+            Heard::Whole(Message::Eot) => self.call_after_poll(replied.has_rvi(), sent),
+            _ => self.receive(replied, heard, sent),
         }
     }
 
     /// Something but EOT is heard after a poll.
-    fn receive(&mut self, replied: Replied, heard: &Heard) -> Option<Message>
+    fn receive(&mut self, replied: Replied, heard: &Heard, sent: &mut Option<Message>)
         requires { IsReceived (Task.Polling replied) heard.now }
-        ensures row { record { control = self.new; sent = result }
+        ensures row { record { control = self.new; sent = sent.new }
             ≡ polling_step self.old replied heard.now (rooms_after self.old heard.now self.new) }
         ensures entries { HasEntries self.new }
         ensures room { (peer self.old).spool.room ≡ true
@@ -38,20 +42,23 @@ impl<A: Allocator> Procedure<A> {
         self.task = Task::Polling {
             replied: replied.after(reply),
         };
-        reply.map(Reply::message)
+        match reply {
+            Some(reply) => *sent = Some(reply.message()),
+            None => *sent = None,
+        }
     }
 
     /// A silence after a poll.
-    pub(crate) fn fail_poll(&mut self, replied: Replied) -> Option<Message>
-        ensures row { record { control = self.new; sent = result }
+    pub(crate) fn fail_poll(&mut self, replied: Replied, sent: &mut Option<Message>)
+        ensures row { record { control = self.new; sent = sent.new }
             ≡ silence_in self.old (Task.Polling replied) }
         ensures entries { HasEntries self.new }
     {
         match replied {
             Replied::Nothing if self.failures < self.setup.tries() => {
-                self.poll(self.place, self.failures + 1)
+                self.poll(self.place, self.failures + 1, sent)
             }
-            _ => self.call_after_poll(replied.has_rvi()),
+            _ => self.call_after_poll(replied.has_rvi(), sent),
         }
     }
 }

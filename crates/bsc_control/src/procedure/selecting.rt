@@ -14,31 +14,36 @@ use std::alloc::Allocator;
 
 impl<A: Allocator> Procedure<A> {
     /// Something is heard after a selection.
-    pub(crate) fn hear_selecting(&mut self, select: usize, heard: &Heard) -> Option<Message>
+    pub(crate) fn hear_selecting(
+        &mut self,
+        select: usize,
+        heard: &Heard,
+        sent: &mut Option<Message>,
+    )
         requires { IsSelected (peer self.old) select }
-        ensures row { record { control = self.new; sent = result }
+        ensures row { record { control = self.new; sent = sent.new }
             ≡ selecting_step self.old select (reply_heard heard.now) }
         ensures entries { HasEntries self.new }
     {
         // A field is read, so that the invariant is known here.
         let _ = &self.task;
         match Reply::heard(heard) {
-            Some(Reply::Ack0) => self.begin_bid(select),
-            Some(Reply::Nak) => self.call_after_selection(select),
-            Some(Reply::Wack) => self.enquire(select),
-            _ => None,
+            Some(Reply::Ack0) => self.begin_bid(select, sent),
+            Some(Reply::Nak) => self.call_after_selection(select, sent),
+            Some(Reply::Wack) => self.enquire(select, sent),
+            _ => *sent = None,
         }
     }
 
     /// The selected terminal has no room yet.
-    fn enquire(&mut self, select: usize) -> Option<Message>
+    fn enquire(&mut self, select: usize, sent: &mut Option<Message>)
         requires { select < length (peer self.old).outbounds }
-        ensures row { record { control = self.new; sent = result }
+        ensures row { record { control = self.new; sent = sent.new }
             ≡ selecting_step self.old select (Some Reply.Wack) }
         ensures entries { HasEntries self.new }
     {
         if self.wacks >= self.setup.waits() {
-            return self.call_after_selection(select);
+            return self.call_after_selection(select, sent);
         }
         self.task = Task::Selecting {
             select,
@@ -46,25 +51,31 @@ impl<A: Allocator> Procedure<A> {
         };
         self.failures = 0;
         self.wacks += 1;
-        Some(Message::Enq)
+        *sent = Some(Message::Enq);
     }
 
     /// A selection is not answered.
-    pub(crate) fn fail_selection(&mut self, select: usize, enquired: bool) -> Option<Message>
+    pub(crate) fn fail_selection(
+        &mut self,
+        select: usize,
+        enquired: bool,
+        sent: &mut Option<Message>,
+    )
         requires { select < length (peer self.old).outbounds }
-        ensures row { record { control = self.new; sent = result }
+        ensures row { record { control = self.new; sent = sent.new }
             ≡ silence_in self.old (Task.Selecting select enquired) }
         ensures entries { HasEntries self.new }
     {
         if self.failures >= self.setup.tries() {
-            return self.call_after_selection(select);
+            return self.call_after_selection(select, sent);
         }
         self.failures += 1;
         if enquired {
-            return Some(Message::Enq);
+            *sent = Some(Message::Enq);
+            return;
         }
         let terminal = self.current();
         let peer = &self.peers[terminal];
-        Some(Message::Call(peer.terminal.select(select)))
+        *sent = Some(Message::Call(peer.terminal.select(select)));
     }
 }

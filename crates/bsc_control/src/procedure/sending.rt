@@ -7,33 +7,33 @@ ghost use Rattle.bsc_control.specs.CallOrder.{Selection, Interruption};
 ghost use Rattle.bsc_control.specs.Control.{HasEntries, peer};
 ghost use Rattle.bsc_control.specs.Kept.{IsSelected};
 ghost use Rattle.bsc_control.specs.Peer.{outbound_at};
-ghost use Rattle.bsc_control.specs.Table.{perform_step, bid_step, after_bid, selecting_step, silence_in};
+ghost use Rattle.bsc_control.specs.Table.{performed, bid_step, after_bid, selecting_step, silence_in};
 
 use crate::procedure::Procedure;
 use crate::task::Task;
 use bsc_frame::{Heard, Message};
-use bsc_text::{Act, Reply};
+use bsc_text::{Outcome, Reply};
 use std::alloc::Allocator;
 
 impl<A: Allocator> Procedure<A> {
     /// The selected terminal is ready: a bid begins.
-    pub(crate) fn begin_bid(&mut self, select: usize) -> Option<Message>
+    pub(crate) fn begin_bid(&mut self, select: usize, sent: &mut Option<Message>)
         requires { IsSelected (peer self.old) select }
-        ensures row { record { control = self.new; sent = result }
+        ensures row { record { control = self.new; sent = sent.new }
             ≡ selecting_step self.old select (Some Reply.Ack0) }
         ensures entries { HasEntries self.new }
     {
         let terminal = self.current();
         let peer = &mut self.peers[terminal];
         let outbound = &mut peer.outbounds[select];
-        let act = outbound.begin();
-        self.perform(act, select, false)
+        let outcome = outbound.begin(sent);
+        self.perform(outcome, select, false, sent);
     }
 
     /// Something is heard during a bid.
-    pub(crate) fn hear_sending(&mut self, select: usize, heard: &Heard) -> Option<Message>
+    pub(crate) fn hear_sending(&mut self, select: usize, heard: &Heard, sent: &mut Option<Message>)
         requires { select < length (peer self.old).outbounds }
-        ensures row { record { control = self.new; sent = result }
+        ensures row { record { control = self.new; sent = sent.new }
             ≡ bid_step self.old select
             (reply_step (outbound_at (peer self.old) select).sender
             (outbound_at (peer self.old) select).queue (reply_heard heard.now))
@@ -44,40 +44,47 @@ impl<A: Allocator> Procedure<A> {
         let terminal = self.current();
         let peer = &mut self.peers[terminal];
         let outbound = &mut peer.outbounds[select];
-        let act = outbound.reply(heard);
-        self.perform(act, select, interrupted)
+        let outcome = outbound.reply(heard, sent);
+        self.perform(outcome, select, interrupted, sent);
     }
 
     /// A silence during a bid.
-    pub(crate) fn send_on(&mut self, select: usize) -> Option<Message>
+    pub(crate) fn send_on(&mut self, select: usize, sent: &mut Option<Message>)
         requires { select < length (peer self.old).outbounds }
-        ensures row { record { control = self.new; sent = result }
+        ensures row { record { control = self.new; sent = sent.new }
             ≡ silence_in self.old (Task.Sending select) }
         ensures entries { HasEntries self.new }
     {
         let terminal = self.current();
         let peer = &mut self.peers[terminal];
         let outbound = &mut peer.outbounds[select];
-        let act = outbound.silence();
-        self.perform(act, select, false)
+        let outcome = outbound.silence(sent);
+        self.perform(outcome, select, false, sent);
     }
 
-    /// Does what the sender to a selection address says. `interrupted`: RVI was heard.
-    fn perform(&mut self, act: Act, select: usize, interrupted: bool) -> Option<Message>
+    /// Does what follows from what becomes of the bid to a selection address. The message that the
+    /// sender left stays, and the next call takes its place where the bid is over. `interrupted`:
+    /// RVI was heard.
+    fn perform(
+        &mut self,
+        outcome: Outcome,
+        select: usize,
+        interrupted: bool,
+        sent: &mut Option<Message>,
+    )
         requires { select < length (peer self.old).outbounds }
-        ensures row { record { control = self.new; sent = result }
-            ≡ perform_step self.old select act
+        ensures row { record { control = self.new; sent = sent.new }
+            ≡ performed self.old select outcome sent.old
             (if interrupted then Interruption else Selection select) }
         ensures entries { HasEntries self.new }
     {
         // A field is read, so that the invariant is known here.
         let _ = &self.task;
-        match &act {
-            Act::Send(_) | Act::Enq => self.task = Task::Sending { select },
-            Act::Over if interrupted => return self.poll(self.place, 0),
-            Act::Over => return self.call_after_selection(select),
-            Act::Quiet => {}
+        match outcome {
+            Outcome::Sends => self.task = Task::Sending { select },
+            Outcome::Over if interrupted => self.poll(self.place, 0, sent),
+            Outcome::Over => self.call_after_selection(select, sent),
+            Outcome::Quiet => {}
         }
-        act.message()
     }
 }

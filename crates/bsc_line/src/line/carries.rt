@@ -128,7 +128,9 @@ impl<A: Allocator> Line<A> {
     {
         each_event();
         let fair = is_up_fair(&self.sent, heard);
-        self.sent = Transmission::by(Speaker::Control, self.control.answer(heard));
+        let mut answer = None;
+        self.control.answer(heard, &mut answer);
+        self.sent = Transmission::by(Speaker::Control, answer);
         self.trusted = both(self.trusted, fair);
         show(&self.sent, &mut self.wire);
     }
@@ -142,7 +144,9 @@ impl<A: Allocator> Line<A> {
     {
         each_event();
         let heard = take_whole(&mut self.sent);
-        self.sent = Transmission::by(Speaker::Control, self.control.answer(&heard));
+        let mut answer = None;
+        self.control.answer(&heard, &mut answer);
+        self.sent = Transmission::by(Speaker::Control, answer);
         show(&self.sent, &mut self.wire);
     }
 }

@@ -45,7 +45,8 @@ impl<A: Allocator> Line<A> {
     {
         each_event();
         let station = &mut self.terminals[terminal];
-        let answer = station.act();
+        let mut answer = None;
+        station.act(&mut answer);
         self.sent = Transmission::by(Speaker::Terminal(terminal), answer);
         show(&self.sent, &mut self.wire);
     }
@@ -58,7 +59,9 @@ impl<A: Allocator> Line<A> {
         ensures line { IsLine self.new }
     {
         each_event();
-        self.sent = Transmission::by(Speaker::Control, self.control.act());
+        let mut call = None;
+        self.control.act(&mut call);
+        self.sent = Transmission::by(Speaker::Control, call);
         show(&self.sent, &mut self.wire);
     }
 }

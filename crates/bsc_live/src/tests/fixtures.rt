@@ -120,20 +120,20 @@ impl Station for Answers {
 
     ghost holds = { λ _. false };
 
-    fn answer(&mut self, heard: &Heard) -> Option<Message> {
+    fn answer(&mut self, heard: &Heard, sent: &mut Option<Message>) {
         match heard {
-            Heard::Noise => None,
-            Heard::Failed => Some(Message::Nak),
+            Heard::Noise => *sent = None,
+            Heard::Failed => *sent = Some(Message::Nak),
             Heard::Whole(_) => {
                 self.heard = self.heard.wrapping_add(1);
-                Some(Message::Ack0)
+                *sent = Some(Message::Ack0);
             }
         }
     }
 
-    fn act(&mut self) -> Option<Message> {
+    fn act(&mut self, sent: &mut Option<Message>) {
         self.silences = self.silences.wrapping_add(1);
-        Some(Message::Eot)
+        *sent = Some(Message::Eot);
     }
 
     fn holds_line(&self) -> bool {

@@ -2,13 +2,75 @@
 
 ghost use Rattle.std.specs.Prelude.{◌≡◌};
 
-use crate::{Act, ReleaseError, Sender, Setup};
+use crate::{Outcome, ReleaseError, Sender, Setup};
 use bsc_block::Record;
-use bsc_frame::Heard;
+use bsc_frame::{End, Heard, Message};
 use bsc_spool::Queue;
 use std::alloc::Allocator;
 use std::marker::Model;
 use std::test::Fail;
+
+/// What a sender did on a call.
+#[derive(Drop)]
+pub enum Act {
+    /// It left this message to be sent.
+    Sends(Message),
+
+    /// Its bid is over.
+    Over,
+
+    /// It keeps quiet.
+    Quiet,
+
+    /// A message is left where the bid does not go on, or none where it does: no call does this.
+    Wrong,
+}
+
+impl Act {
+    /// What a call did that answered this and left this message.
+    fn of(outcome: Outcome, sent: Option<Message>) -> Act {
+        match (outcome, sent) {
+            (Outcome::Sends, Some(message)) => Act::Sends(message),
+            (Outcome::Over, None) => Act::Over,
+            (Outcome::Quiet, None) => Act::Quiet,
+            _ => Act::Wrong,
+        }
+    }
+
+    /// Whether it sends a text of this many units with this end.
+    pub fn sends_text(&self, count: usize, end: End) -> bool {
+        match self {
+            Act::Sends(Message::Text(text)) => text.count() == count && text.end() == end,
+            _ => false,
+        }
+    }
+
+    /// Whether it sends ENQ.
+    pub fn enquires(&self) -> bool {
+        matches!(self, Act::Sends(Message::Enq))
+    }
+
+    /// Whether the bid is over.
+    pub fn is_over(&self) -> bool {
+        matches!(self, Act::Over)
+    }
+
+    /// Whether both send the same text.
+    pub fn sends_the_text_of(&self, other: &Act) -> bool {
+        match (self, other) {
+            (Act::Sends(Message::Text(text)), Act::Sends(Message::Text(other))) => text == other,
+            _ => false,
+        }
+    }
+
+    /// What is heard of it where nothing is spoiled; noise where nothing was sent.
+    pub fn carried(self) -> Heard {
+        match self {
+            Act::Sends(message) => Heard::Whole(message),
+            Act::Over | Act::Quiet | Act::Wrong => Heard::Noise,
+        }
+    }
+}
 
 #[derive(Drop)]
 pub struct Bidder<A: Allocator> {
@@ -69,27 +131,32 @@ impl<A: Allocator> Bidder<A> {
             return Err("no bid can begin")?;
         }
         self.going = true;
-        Ok(self.sender.begin(&self.queue))
+        let mut sent = None;
+        let outcome = self.sender.begin(&self.queue, &mut sent);
+        Ok(Act::of(outcome, sent))
     }
 
     pub fn reply(&mut self, heard: &Heard) -> Act {
-        let act = self.sender.reply(heard, &mut self.queue);
-        match &act {
-            Act::Over => self.going = false,
-            Act::Send(_) | Act::Enq => self.going = true,
-            Act::Quiet => {}
+        // What was left before must not stay.
+        let mut sent = Some(Message::Eot);
+        let outcome = self.sender.reply(heard, &mut self.queue, &mut sent);
+        match outcome {
+            Outcome::Over => self.going = false,
+            Outcome::Sends => self.going = true,
+            Outcome::Quiet => {}
         }
-        act
+        Act::of(outcome, sent)
     }
 
     pub fn silence(&mut self) -> Act {
-        let act = self.sender.silence();
-        match &act {
-            Act::Over => self.going = false,
-            Act::Send(_) | Act::Enq => self.going = true,
-            Act::Quiet => {}
+        let mut sent = Some(Message::Eot);
+        let outcome = self.sender.silence(&mut sent);
+        match outcome {
+            Outcome::Over => self.going = false,
+            Outcome::Sends => self.going = true,
+            Outcome::Quiet => {}
         }
-        act
+        Act::of(outcome, sent)
     }
 
     pub fn cut_off(&mut self) {

@@ -21,13 +21,13 @@ impl Station for Asking {
 
     ghost holds = { λ station. false };
 
-    fn answer(&mut self, _heard: &Heard) -> Option<Message> {
-        None
+    fn answer(&mut self, _heard: &Heard, sent: &mut Option<Message>) {
+        *sent = None;
     }
 
-    fn act(&mut self) -> Option<Message> {
+    fn act(&mut self, sent: &mut Option<Message>) {
         self.silences = self.silences.saturating_add(1);
-        Some(Message::Enq)
+        *sent = Some(Message::Enq);
     }
 
     fn holds_line(&self) -> bool {

@@ -3,13 +3,15 @@
 ghost use Rattle.std.specs.Prelude.{◌≡◌, length, unwrap_or};
 ghost use Rattle.bsc_frame.specs.declared.message.Heard.TheVariants.{Noise};
 ghost use Rattle.bsc_spool.specs.Queue.{waiting};
+ghost use Rattle.bsc_text.specs.Act.{Quiet};
 ghost use Rattle.bsc_text.specs.Bid.{Bid, Turn, after_turn};
+ghost use Rattle.bsc_text.specs.Sender.{Tells};
 ghost use Rattle.bsc_text.specs.Ready.{CountsOn, IsGoing, IsReady};
 ghost use Rattle.bsc_text.specs.Receiver.{Rooms, rooms_left};
 
-use crate::{Act, Receiver, Reply, Sender, Setup};
+use crate::{Outcome, Receiver, Reply, Sender, Setup};
 use bsc_block::Record;
-use bsc_frame::Heard;
+use bsc_frame::{Heard, Message};
 use bsc_spool::{Queue, Spool};
 use std::alloc::Allocator;
 use std::test::Fail;
@@ -34,7 +36,8 @@ fn turn<A: Allocator>(
     receiver: &mut Receiver,
     spool: &mut Spool<A>,
     hearings: &Hearings,
-) -> Act
+    sent: &mut Option<Message>,
+) -> Outcome
     requires { IsGoing sender.old.phase → CountsOn sender.old.phase (length (waiting queue.old)) }
     ensures law { let heard = unwrap_or hearings.now.there Noise in
         let rooms : Rooms = rooms_left heard receiver.new.last spool.new in
@@ -49,34 +52,31 @@ fn turn<A: Allocator>(
           queue = queue.old;
           receiver = receiver.old;
           spool = spool.old;
-          act = Act.Quiet;
+          act = Quiet;
         } in
-        record {
-          sender = sender.new;
-          queue = queue.new;
-          receiver = receiver.new;
-          spool = spool.new;
-          act = result;
-        } ≡ after_turn old t }
+        let new : Bid = after_turn old t in
+        Tells sender.new queue.new result sent.new
+        (record { sender = new.sender; queue = new.queue; act = new.act })
+        × (receiver.new ≡ new.receiver) × (spool.new ≡ new.spool) }
     ensures ready { IsReady sender.old queue.old → IsReady sender.new queue.new }
 {
     let reply = match &hearings.there {
         Some(heard) => receiver.heard(heard, hearings.urgent, spool),
         None => None,
     };
-    let act = match (reply, &hearings.back) {
-        (Some(_), Some(answer)) => sender.reply(answer, queue),
-        _ => Act::Quiet,
+    let outcome = match (reply, &hearings.back) {
+        (Some(_), Some(answer)) => sender.reply(answer, queue, sent),
+        _ => Outcome::Quiet,
     };
-    match act {
-        Act::Quiet => sender.silence(),
-        act => act,
+    match outcome {
+        Outcome::Quiet => sender.silence(sent),
+        Outcome::Sends | Outcome::Over => outcome,
     }
 }
 
-/// What is heard of the transmission of an act that arrives whole.
-fn whole(act: Act) -> Option<Heard> {
-    act.message().map(Heard::Whole)
+/// What is heard of a message that arrives whole.
+fn whole(sent: Option<Message>) -> Option<Heard> {
+    sent.map(Heard::Whole)
 }
 
 /// A turn in which this is heard of both transmissions, without the urgent flag.
@@ -100,10 +100,20 @@ fn a_bid_of_one_block_takes_one_turn(rt: HostRuntime) -> Result<(), Fail> {
     let mut spool = Spool::new(rt.alloc());
     queue.offer(Record::read(&[], 1)?)?;
     queue.known();
-    let text = sender.begin(&queue);
-    let all = hears(whole(text), Some(Reply::Ack1));
-    let act = turn(&mut sender, &mut queue, &mut receiver, &mut spool, &all);
-    assert!(rt; matches!(&act, Act::Over));
+    let mut sent = None;
+    assert_eq!(rt; sender.begin(&queue, &mut sent), Outcome::Sends);
+    let all = hears(whole(sent), Some(Reply::Ack1));
+    let mut sent = None;
+    let outcome = turn(
+        &mut sender,
+        &mut queue,
+        &mut receiver,
+        &mut spool,
+        &all,
+        &mut sent,
+    );
+    assert_eq!(rt; outcome, Outcome::Over);
+    assert!(rt; sent.is_none());
     assert_eq!(rt; (queue.known(), spool.records().len()), (1, 1));
     Ok(())
 }
@@ -117,40 +127,75 @@ fn a_bid_goes_on_over_what_is_lost_and_spoiled(rt: HostRuntime) -> Result<(), Fa
     let mut spool = Spool::new(rt.alloc());
     queue.offer(Record::read(&[], 1)?)?;
     queue.known();
-    assert!(rt; matches!(&sender.begin(&queue), Act::Send(_)));
+    let mut sent = None;
+    assert_eq!(rt; sender.begin(&queue, &mut sent), Outcome::Sends);
+    assert!(rt; matches!(&sent, Some(Message::Text(_))));
 
     // The text is lost: a silence.
     let lost = hears(None, None);
-    let act = turn(&mut sender, &mut queue, &mut receiver, &mut spool, &lost);
-    assert!(rt; matches!(&act, Act::Enq));
+    turn(
+        &mut sender,
+        &mut queue,
+        &mut receiver,
+        &mut spool,
+        &lost,
+        &mut sent,
+    );
+    assert!(rt; matches!(&sent, Some(Message::Enq)));
 
     // No block came yet, so ENQ is answered by ACK0, and the text is sent again.
-    let asked = hears(whole(act), Some(Reply::Ack0));
-    let act = turn(&mut sender, &mut queue, &mut receiver, &mut spool, &asked);
-    assert!(rt; matches!(&act, Act::Send(_)));
+    let asked = hears(whole(sent), Some(Reply::Ack0));
+    let mut sent = None;
+    turn(
+        &mut sender,
+        &mut queue,
+        &mut receiver,
+        &mut spool,
+        &asked,
+        &mut sent,
+    );
+    assert!(rt; matches!(&sent, Some(Message::Text(_))));
 
     // The text fails its check.
     let failed = hears(Some(Heard::Failed), Some(Reply::Nak));
-    let act = turn(&mut sender, &mut queue, &mut receiver, &mut spool, &failed);
-    assert!(rt; matches!(&act, Act::Send(_)));
+    turn(
+        &mut sender,
+        &mut queue,
+        &mut receiver,
+        &mut spool,
+        &failed,
+        &mut sent,
+    );
+    assert!(rt; matches!(&sent, Some(Message::Text(_))));
     assert!(rt; spool.records().is_empty());
 
     // The text arrives, and ACK1 is lost: a silence.
-    let unacknowledged = hears(whole(act), None);
-    let act = turn(
+    let unacknowledged = hears(whole(sent), None);
+    let mut sent = None;
+    turn(
         &mut sender,
         &mut queue,
         &mut receiver,
         &mut spool,
         &unacknowledged,
+        &mut sent,
     );
-    assert!(rt; matches!(&act, Act::Enq));
+    assert!(rt; matches!(&sent, Some(Message::Enq)));
     assert_eq!(rt; (queue.known(), spool.records().len()), (0, 1));
 
     // ENQ is answered by ACK1 again.
-    let all = hears(whole(act), Some(Reply::Ack1));
-    let act = turn(&mut sender, &mut queue, &mut receiver, &mut spool, &all);
-    assert!(rt; matches!(&act, Act::Over));
+    let all = hears(whole(sent), Some(Reply::Ack1));
+    let mut sent = None;
+    let outcome = turn(
+        &mut sender,
+        &mut queue,
+        &mut receiver,
+        &mut spool,
+        &all,
+        &mut sent,
+    );
+    assert_eq!(rt; outcome, Outcome::Over);
+    assert!(rt; sent.is_none());
     assert_eq!(rt; (queue.known(), spool.records().len()), (1, 1));
     Ok(())
 }

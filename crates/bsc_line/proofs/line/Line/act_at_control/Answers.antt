@@ -11,7 +11,7 @@ acted : (g : given.Over) (c : goal.After-show g) →
     (line_of c.act.new.self c.self.inside.terminals.items c.by-self-inside.result c.self.inside.trusted c.self.inside.addressed)
 acted g c =
     record {
-      sent = c.act.result;
+      sent = c.act.new.sent;
       row = c.act.ensures.row;
       kept = c.act.ensures.after;
       becomes = ap (λ (o : Option Transmission). line_of c.act.new.self c.self.inside.terminals.items o c.self.inside.trusted c.self.inside.addressed) c.by-self-inside.ensures;

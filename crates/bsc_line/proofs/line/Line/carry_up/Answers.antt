@@ -13,7 +13,7 @@ carried : (g : given.Over) (c : goal.After-show g) (s : Transmission) → c.self
     (line_of c.answer.new.self c.self.inside.terminals.items c.by-self-inside.result c.both-self-inside.result c.self.inside.addressed)
 carried g c s e =
     record {
-      sent = c.answer.result;
+      sent = c.answer.new.sent;
       control = c.answer.ensures.row;
       kept = c.answer.ensures.after;
       terminals = refl;

@@ -12,7 +12,7 @@ carried : (g : given.Over) (c : goal.After-show g) (s : Transmission) → c.self
     (line_of c.self.inside.control c.self.inside.terminals.items c.self.inside.sent c.self.inside.trusted c.self.inside.addressed)
     (line_of c.answer.new.self c.self.inside.terminals.items c.by-self-inside.result c.self.inside.trusted c.self.inside.addressed)
 carried g c s e =
-    carried_up_whole s.message c.take_whole-heard.result _ _ c.answer.result
+    carried_up_whole s.message c.take_whole-heard.result _ _ c.answer.new.sent
     (of_some (λ (z : Transmission). c.take_whole-heard.result ≡ Whole z.message) c.self.inside.sent s c.take_whole-heard.ensures.heard e)
     c.answer.ensures.row c.answer.ensures.after refl c.by-self-inside.ensures refl refl
 

@@ -4,17 +4,17 @@ use Rattle.bsc_tributary.proofs.tributary.Tributary.answer_selection.Goals as go
 
 pub invariant_of-self : goal.invariant_of-self
 invariant_of-self g c =
-    stays-selection_step _ c.args.self.now c.args.select c.begin.new.self c.make_room-room.new.self _ c.self.invariant
+    stays-selection_step _ c.args.self.now c.args.select c.begin-reply.new.self c.make_room-room.new.self _ c.self.invariant
     (c.self.view_is ∙ c.drop_line.ensures.state)
     (within-spools _ c.args.self.now c.args.select c.self.invariant
     (c.self.view_is ∙ c.drop_line.ensures.state) c.requires) c.make_room-room.ensures.spool
 
 pub returns-clause-row : goal.returns-clause-row
 returns-clause-row g c =
-    selection_step-ready _ c.args.self.now c.args.select c.make_room-room.result c.begin.new.self c.make_room-room.new.self c.begin.result c.message.result (c.self.view_is ∙ c.drop_line.ensures.state) c.if-not-self.false
+    selection_step-ready _ c.args.self.now c.args.select c.make_room-room.result c.begin-reply.new.self c.make_room-room.new.self c.begin-reply.result c.message.result (c.self.view_is ∙ c.drop_line.ensures.state) c.if-not-self.false
     (within-spools _ c.args.self.now c.args.select c.self.invariant
     (c.self.view_is
-    ∙ c.drop_line.ensures.state) c.requires) c.make_room-room.ensures.spool c.begin.ensures.state c.begin.ensures.reply c.message.ensures
+    ∙ c.drop_line.ensures.state) c.requires) c.make_room-room.ensures.spool c.begin-reply.ensures.state c.begin-reply.ensures.reply c.message.ensures
 
 pub returns-clause-room : goal.returns-clause-room
 returns-clause-room g c =
@@ -26,7 +26,7 @@ returns-clause-room g c =
 
 pub returns-clause-tributary : goal.returns-clause-tributary
 returns-clause-tributary g c =
-    stays-selection_step _ c.args.self.now c.args.select c.begin.new.self c.make_room-room.new.self _ c.self.invariant
+    stays-selection_step _ c.args.self.now c.args.select c.begin-reply.new.self c.make_room-room.new.self _ c.self.invariant
     (c.self.view_is ∙ c.drop_line.ensures.state)
     (within-spools _ c.args.self.now c.args.select c.self.invariant
     (c.self.view_is ∙ c.drop_line.ensures.state) c.requires) c.make_room-room.ensures.spool

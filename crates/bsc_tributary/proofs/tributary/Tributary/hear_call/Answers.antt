@@ -14,8 +14,8 @@ answer_selection-requires g c =
 
 pub returns-in-Polling : goal.returns-in-Polling
 returns-in-Polling g c =
-    let hears : Hears c.args.self.now (Whole (Call c.args.address.now)) c.answer_poll.new.self c.answer_poll.result =
-    hears-polling c.args.self.now c.answer_poll.new.self c.args.address.now c.answer_poll.result
+    let hears : Hears c.args.self.now (Whole (Call c.args.address.now)) c.answer_poll.new.self c.answer_poll.new.sent =
+    hears-polling c.args.self.now c.answer_poll.new.self c.args.address.now c.answer_poll.new.sent
     (called_from _ c.args.self.now _ _ _ c.self.view_is c.in-Polling.is c.called_address.ensures) c.answer_poll.ensures.row in
     record {
       row = hears;
@@ -26,8 +26,8 @@ returns-in-Polling g c =
 pub returns-in-Selection : goal.returns-in-Selection
 returns-in-Selection g c =
     let hears : Hears c.args.self.now (Whole
-    (Call c.args.address.now)) c.answer_selection.new.self c.answer_selection.result =
-    hears-selection c.args.self.now c.answer_selection.new.self c.args.address.now c.in-Selection.select c.answer_selection.result
+    (Call c.args.address.now)) c.answer_selection.new.self c.answer_selection.new.sent =
+    hears-selection c.args.self.now c.answer_selection.new.self c.args.address.now c.in-Selection.select c.answer_selection.new.sent
     (called_from _ c.args.self.now _ _ _ c.self.view_is c.in-Selection.is c.called_address.ensures)
     c.answer_selection.ensures.row c.answer_selection.ensures.room in
     record {

@@ -1,6 +1,8 @@
 use Rattle.std.proofs.Common.{subst, None}
 use Rattle.bsc_tributary.specs.Tributary.{Hears}
 use Rattle.bsc_tributary.specs.Kept.{IsTributary}
+use Rattle.bsc_text.proofs.Telling.{told_step}
+use Rattle.bsc_tributary.proofs.Acts.{mode_told, sent_told}
 use Rattle.bsc_tributary.proofs.Hearing.{after_hearing}
 use Rattle.bsc_tributary.proofs.InMode.{hears-control, hears-receiving, hears-sending, stays-receive_step, stays-replied}
 use Rattle.bsc_tributary.proofs.tributary.Tributary.hear_in_mode.Goals as goal
@@ -12,8 +14,8 @@ invariant_of-self g c =
 
 pub invariant_of-self-in-Sending : goal.invariant_of-self-in-Sending
 invariant_of-self-in-Sending g c =
-    stays-replied _ c.args.heard.now c.perform.new.mode _ c.self.invariant c.in-Sending.is c.reply-act.ensures.row
-    c.perform.ensures.mode (c.reply-act.ensures.ready c.self.invariant.ready)
+    stays-replied _ c.args.heard.now c.perform.new.mode _ c.self.invariant c.in-Sending.is (told_step _ _ _ _ _ c.reply-outcome.ensures.row)
+    (mode_told _ _ _ _ _ _ _ c.reply-outcome.ensures.row c.perform.ensures.mode) (c.reply-outcome.ensures.ready c.self.invariant.ready)
 
 pub returns-in-Control : goal.returns-in-Control
 returns-in-Control g c =
@@ -26,9 +28,9 @@ pub returns-in-Receiving : goal.returns-in-Receiving
 returns-in-Receiving g c =
     let hears =
     hears-receiving _ c.args.self.now c.args.heard.now c.in-Receiving.select c.still_urgent-self-inside.result
-    c.receive-reply.new.receiver c.receive-reply.new.self c.receive-reply.result c.message_of.result c.requires c.self.view_is
+    c.receive-reply.new.receiver c.receive-reply.new.self c.receive-reply.result c.leave_reply.new.sent c.requires c.self.view_is
     c.in-Receiving.is c.receive-reply.ensures.receives c.receive-reply.ensures.spools c.still_urgent-self-inside.ensures
-    c.message_of.ensures in
+    c.leave_reply.ensures in
     record {
       row = hears;
       after = after_hearing _ _ _ _ (subst IsTributary c.self.view_is c.self.invariant)
@@ -39,11 +41,13 @@ returns-in-Receiving g c =
 pub returns-in-Sending : goal.returns-in-Sending
 returns-in-Sending g c =
     let hears =
-    hears-sending _ c.args.self.now c.args.heard.now c.perform.new.mode _ c.perform.result c.requires c.self.view_is
-    c.in-Sending.is c.reply-act.ensures.row c.perform.ensures.mode c.perform.ensures.sent in
+    hears-sending _ c.args.self.now c.args.heard.now c.perform.new.mode _ c.perform.new.sent c.requires c.self.view_is
+    c.in-Sending.is (told_step _ _ _ _ _ c.reply-outcome.ensures.row)
+    (mode_told _ _ _ _ _ _ _ c.reply-outcome.ensures.row c.perform.ensures.mode)
+    (sent_told _ _ _ _ _ _ c.reply-outcome.ensures.row c.perform.ensures.sent) in
     record {
       row = hears;
       after = after_hearing _ _ _ _ (subst IsTributary c.self.view_is c.self.invariant)
-          (stays-replied _ c.args.heard.now c.perform.new.mode _ c.self.invariant c.in-Sending.is c.reply-act.ensures.row
-          c.perform.ensures.mode (c.reply-act.ensures.ready c.self.invariant.ready)) hears;
+          (stays-replied _ c.args.heard.now c.perform.new.mode _ c.self.invariant c.in-Sending.is (told_step _ _ _ _ _ c.reply-outcome.ensures.row)
+    (mode_told _ _ _ _ _ _ _ c.reply-outcome.ensures.row c.perform.ensures.mode) (c.reply-outcome.ensures.ready c.self.invariant.ready)) hears;
     }

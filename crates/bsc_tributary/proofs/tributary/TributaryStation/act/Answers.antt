@@ -1,3 +1,5 @@
+use Rattle.bsc_text.proofs.Telling.{told_step}
+use Rattle.bsc_tributary.proofs.Acts.{mode_told, sent_told}
 use Rattle.bsc_tributary.proofs.Hearing.{after_silence, after_stillness}
 use Rattle.bsc_tributary.proofs.InMode.{silent-sending, silent-still, stays-silent}
 use Rattle.bsc_tributary.proofs.tributary.TributaryStation.act.Goals as goal
@@ -5,8 +7,9 @@ use Rattle.bsc_tributary.proofs.tributary.TributaryStation.act.Goals as goal
 pub invariant_of-self : goal.invariant_of-self
 invariant_of-self g c =
     stays-silent _ c.perform.new.mode _ c.self.invariant c.in-Sending.is
-    (c.silence-act.ensures.row _) c.perform.ensures.mode
-    (c.silence-act.ensures.ready _ c.self.invariant.ready)
+    (told_step _ _ _ _ _ (c.silence-outcome.ensures.row _))
+          (mode_told _ _ _ _ _ _ _ (c.silence-outcome.ensures.row _) c.perform.ensures.mode)
+    (c.silence-outcome.ensures.ready _ c.self.invariant.ready)
 
 pub returns-in-Control : goal.returns-in-Control
 returns-in-Control g c =
@@ -19,11 +22,14 @@ pub returns-in-Sending : goal.returns-in-Sending
 returns-in-Sending g c =
     record {
       row =
-          silent-sending _ c.args.self.now c.perform.new.mode _ c.perform.result c.self.view_is c.in-Sending.is
-          (c.silence-act.ensures.row _) c.perform.ensures.mode c.perform.ensures.sent;
+          silent-sending _ c.args.self.now c.perform.new.mode _ c.perform.new.sent c.self.view_is c.in-Sending.is
+          (told_step _ _ _ _ _ (c.silence-outcome.ensures.row _))
+          (mode_told _ _ _ _ _ _ _ (c.silence-outcome.ensures.row _) c.perform.ensures.mode)
+          (sent_told _ _ _ _ _ _ (c.silence-outcome.ensures.row _) c.perform.ensures.sent);
       after =
-          after_silence _ c.args.self.now c.perform.new.mode _ c.perform.result c.self.view_is c.self.invariant c.in-Sending.is
-          (c.silence-act.ensures.row _) c.perform.ensures.mode
-          (stays-silent _ c.perform.new.mode _ c.self.invariant c.in-Sending.is (c.silence-act.ensures.row _)
-          c.perform.ensures.mode (c.silence-act.ensures.ready _ c.self.invariant.ready));
+          after_silence _ c.args.self.now c.perform.new.mode _ c.perform.new.sent c.self.view_is c.self.invariant c.in-Sending.is
+          (told_step _ _ _ _ _ (c.silence-outcome.ensures.row _))
+          (mode_told _ _ _ _ _ _ _ (c.silence-outcome.ensures.row _) c.perform.ensures.mode)
+          (stays-silent _ c.perform.new.mode _ c.self.invariant c.in-Sending.is (told_step _ _ _ _ _ (c.silence-outcome.ensures.row _))
+          (mode_told _ _ _ _ _ _ _ (c.silence-outcome.ensures.row _) c.perform.ensures.mode) (c.silence-outcome.ensures.ready _ c.self.invariant.ready));
     }
