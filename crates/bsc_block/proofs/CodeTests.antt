@@ -1,5 +1,6 @@
 -- Codes of which none fails a test.
-use Rattle.std.proofs.Common.{◌≡◌, ℕ, ◌+◌, ◌≤◌, Bool, true, false, not, cond, refl, arith, List, [], ◌∷◌}
+use Rattle.std.proofs.Common.{◌≡◌, ℕ, ◌+◌, ◌≤◌, Bool, true, false, not, cond, refl, arith, List, []}
+use Rattle.std.proofs.Common.{◌∷◌}
 use Rattle.std.proofs.Common.{length, Some, None, IsTrue, position, nat_lt}
 use Rattle.std.specs.List.{AllByRecursion, position_or_len}
 use Rattle.std.proofs.lemmas.Bool.Decides.{nat_tests}
@@ -22,4 +23,5 @@ found_none n l e = grind (arith, nat_tests)
 
 pub no_wrong : (p : ℕ → Bool) (codes : List ℕ) → position (λ c. not (p c)) codes ≡ None
     → AllByRecursion (λ c. IsTrue (p c)) codes
-no_wrong p codes e = passes_all p codes (found_none (position_or_len (λ c. not (p c)) codes) (length codes) e)
+no_wrong p codes e =
+    passes_all p codes (found_none (position_or_len (λ c. not (p c)) codes) (length codes) e)

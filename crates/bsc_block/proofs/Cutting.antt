@@ -1,5 +1,6 @@
 -- How waiting records are cut into blocks.
-use Rattle.std.proofs.Common.{◌≡◌, ◌≢◌, ℕ, zero, suc, ◌≤◌, arith, refl, ap, List, [], ◌∷◌, length, take, drop}
+use Rattle.std.proofs.Common.{◌≡◌, ◌≢◌, ℕ, zero, suc, ◌≤◌, arith, refl, ap, List, [], ◌∷◌, length}
+use Rattle.std.proofs.Common.{take, drop}
 use Rattle.std.proofs.Common.{length-drop}
 use Rattle.bsc_block.specs.Format.{FormatValue, IsFormat}
 use Rattle.bsc_block.specs.Blocks.{taken, cut, blocks, AreShort}
@@ -10,13 +11,19 @@ use Rattle.bsc_block.proofs.Taking.{taken-IsTaken, taken-some}
 rest : FormatValue → List (List ℕ) → List (List ℕ)
 rest f rs = drop (taken f rs) rs
 
-length-rest : (f : FormatValue) (r : List ℕ) (rs : List (List ℕ)) → IsFormat f → AreShort f.full (r ∷ rs)
+length-rest : (f : FormatValue) (r : List ℕ) (rs : List (List ℕ)) → IsFormat f
+    → AreShort f.full (r ∷ rs)
     → length (rest f (r ∷ rs)) ≤ length rs
 unfolding rest
 length-rest f r rs i s =
-    omega (arith, length-drop (taken f (r ∷ rs)) (r ∷ rs), taken-some f (r ∷ rs) (taken f (r ∷ rs)) i s (taken-IsTaken f (r ∷ rs)) (λ e. cc))
+    omega (
+      arith,
+      length-drop (taken f (r ∷ rs)) (r ∷ rs),
+      taken-some f (r ∷ rs) (taken f (r ∷ rs)) i s (taken-IsTaken f (r ∷ rs)) (λ e. cc),
+    )
 
-short-rest : (f : FormatValue) (rs : List (List ℕ)) → AreShort f.full rs → AreShort f.full (rest f rs)
+short-rest : (f : FormatValue) (rs : List (List ℕ)) → AreShort f.full rs
+    → AreShort f.full (rest f rs)
 unfolding rest
 short-rest f rs s = all-drop (λ r. length r ≤ f.full) (taken f rs) rs s
 
@@ -32,7 +39,8 @@ cut-length (suc n) zero f (r ∷ rs) i s l k = absurd (omega arith)
 cut-length (suc n) (suc m) f [] i s l k = refl
 cut-length (suc n) (suc m) f (r ∷ rs) i s l k =
     let shorter : length (rest f (r ∷ rs)) ≤ length rs = length-rest f r rs i s in
-    ap (λ bs. take (taken f (r ∷ rs)) (r ∷ rs) ∷ bs) (cut-length n m f (rest f (r ∷ rs)) i (short-rest f (r ∷ rs) s) (omega arith) (omega arith))
+    ap (λ bs. take (taken f (r ∷ rs)) (r ∷ rs) ∷ bs)
+    (cut-length n m f (rest f (r ∷ rs)) i (short-rest f (r ∷ rs) s) (omega arith) (omega arith))
 
 pub blocks-next : (f : FormatValue) (rs : List (List ℕ)) → IsFormat f → AreShort f.full rs → rs ≢ []
     → blocks f rs ≡ take (taken f rs) rs ∷ blocks f (drop (taken f rs) rs)
@@ -41,4 +49,5 @@ blocks-next f [] i s n = absurd (n refl)
 blocks-next f (r ∷ rs) i s n =
     let shorter : length (rest f (r ∷ rs)) ≤ length rs = length-rest f r rs i s in
     ap (λ bs. take (taken f (r ∷ rs)) (r ∷ rs) ∷ bs)
-    (cut-length (length rs) (length (rest f (r ∷ rs))) f (rest f (r ∷ rs)) i (short-rest f (r ∷ rs) s) (omega arith) (omega arith))
+    (cut-length (length rs) (length (rest f (r ∷ rs))) f (rest f (r ∷ rs)) i
+    (short-rest f (r ∷ rs) s) (omega arith) (omega arith))

@@ -2,7 +2,8 @@
 use Rattle.std.proofs.Common.{◌≡◌, ℕ, zero, suc, List, [], ◌∷◌, ◌++◌, drop, slice_get, Some}
 use Rattle.std.specs.List.{AllByRecursion}
 
-pub all-append : {A : Type 0} (P : A → Type 0) (xs ys : List A) → AllByRecursion P xs → AllByRecursion P ys
+pub all-append : {A : Type 0} (P : A → Type 0) (xs ys : List A) → AllByRecursion P xs
+    → AllByRecursion P ys
     → AllByRecursion P (xs ++ ys)
 all-append P [] ys h k = k
 all-append P (x ∷ xs) ys h k = (h.0, all-append P xs ys h.1 k)
@@ -14,7 +15,8 @@ all-drop P (suc n) [] h = tt
 all-drop P (suc n) (x ∷ xs) h = all-drop P n xs h.1
 
 -- the element that a list has at a place
-pub all-slice_get : {A : Type 0} (P : A → Type 0) (xs : List A) (i : ℕ) (x : A) → AllByRecursion P xs
+pub all-slice_get : {A : Type 0} (P : A → Type 0) (xs : List A) (i : ℕ) (x : A)
+    → AllByRecursion P xs
     → slice_get xs i ≡ Some x → P x
 all-slice_get P [] i x h e = absurd (cc)
 all-slice_get P (y ∷ xs) zero x h e = let same : y ≡ x = cc in rw (← same) h.0

@@ -1,5 +1,6 @@
 -- The records that units hold.
-use Rattle.std.proofs.Common.{◌≡◌, ℕ, ◌+◌, ◌≤◌, ◌∙◌, arith, refl, ap, List, [], ◌∷◌, ◌++◌, take, map, true}
+use Rattle.std.proofs.Common.{◌≡◌, ℕ, ◌+◌, ◌≤◌, ◌∙◌, arith, refl, ap, List, [], ◌∷◌, ◌++◌, take}
+use Rattle.std.proofs.Common.{map, true}
 use Rattle.std.proofs.Common.{false, slice_get, Some}
 use Rattle.std.proofs.lemmas.List.{append-nil, map-append, take_more}
 use Rattle.std.proofs.lemmas.Option.{slice_get_within, get_or_from_slice_get}
@@ -11,7 +12,8 @@ use Rattle.bsc_block.specs.Records.{IsRecord}
 use Rattle.bsc_block.proofs.Elements.{all-slice_get}
 use Rattle.bsc_block.specs.Blocks.{unit_of, holds_record, records_in}
 
-pub records_in-append : (us vs : List TextUnit) → records_in (us ++ vs) ≡ records_in us ++ records_in vs
+pub records_in-append : (us vs : List TextUnit) → records_in (us ++ vs) ≡ records_in us
+    ++ records_in vs
 records_in-append us vs = rw (filter-append holds_record us vs, map-append) refl
 
 -- a unit that is built for a record holds it
@@ -19,22 +21,27 @@ held : (full : ℕ) (r : List ℕ) → 1 ≤ full → holds_record (unit_of full
 held full [] l = grind (arith, nat_tests)
 held full (c ∷ r) l = grind (arith, nat_tests)
 
-pub records_in-units : (full : ℕ) (rs : List (List ℕ)) → 1 ≤ full → records_in (map (unit_of full) rs) ≡ rs
+pub records_in-units : (full : ℕ) (rs : List (List ℕ)) → 1 ≤ full
+    → records_in (map (unit_of full) rs) ≡ rs
 records_in-units full [] l = refl
-records_in-units full (r ∷ rs) l = rw (held full r l) (ap (λ rest. r ∷ rest) (records_in-units full rs l))
+records_in-units full (r ∷ rs) l =
+    rw (held full r l) (ap (λ rest. r ∷ rest) (records_in-units full rs l))
 
 -- one unit more
 more : (us : List TextUnit) (i : ℕ) (u : TextUnit) → slice_get us i ≡ Some u
     → records_in (take (i + 1) us) ≡ records_in (take i us) ++ records_in (u ∷ [])
 more us i u e =
     let front : take (i + 1) us ≡ take i us ++ u ∷ [] =
-    take_more us i u (slice_get_within us i u e) ∙ ap (λ v. take i us ++ v ∷ []) (get_or_from_slice_get us i u u e) in
+    take_more us i u (slice_get_within us i u e)
+    ∙ ap (λ v. take i us ++ v ∷ []) (get_or_from_slice_get us i u u e) in
     rw front (records_in-append (take i us) (u ∷ []))
 
-pub records_in-held : (us : List TextUnit) (i : ℕ) (u : TextUnit) → slice_get us i ≡ Some u → holds_record u ≡ true → records_in (take (i + 1) us) ≡ records_in (take i us) ++ u.chars ∷ []
+pub records_in-held : (us : List TextUnit) (i : ℕ) (u : TextUnit) → slice_get us i ≡ Some u
+    → holds_record u ≡ true → records_in (take (i + 1) us) ≡ records_in (take i us) ++ u.chars ∷ []
 records_in-held us i u e h = rw (more us i u e, h) refl
 
-pub records_in-empty : (us : List TextUnit) (i : ℕ) (u : TextUnit) → slice_get us i ≡ Some u → holds_record u ≡ false → records_in (take (i + 1) us) ≡ records_in (take i us)
+pub records_in-empty : (us : List TextUnit) (i : ℕ) (u : TextUnit) → slice_get us i ≡ Some u
+    → holds_record u ≡ false → records_in (take (i + 1) us) ≡ records_in (take i us)
 records_in-empty us i u e h = rw (more us i u e, h) (append-nil (records_in (take i us)))
 
 -- the characters of a unit of a text are those of a record

@@ -1,5 +1,7 @@
--- An assembler takes octets twice of a piece: up to the end of the length, and then up to the end of the record.
-use Rattle.std.proofs.Common.{◌≡◌, ℕ, ◌+◌, ◌-◌, ◌<◌, ◌≤◌, min, List, ◌++◌, length, take, drop, inl, inr, sym, ap, ◌∙◌, subst, append_assoc, arith, length-append}
+-- An assembler takes octets twice of a piece: up to the end of the length, and then up to the end
+-- of the record.
+use Rattle.std.proofs.Common.{◌≡◌, ℕ, ◌+◌, ◌-◌, ◌<◌, ◌≤◌, min, List, ◌++◌, length, take, drop, inl}
+use Rattle.std.proofs.Common.{inr, sym, ap, ◌∙◌, subst, append_assoc, arith, length-append}
 use Rattle.std.proofs.lemmas.List.{length-take, length-drop}
 use Rattle.std.proofs.lemmas.Bool.{cases_lt}
 use Rattle.std.proofs.Math.Seq.{take-add, take-append-add}
@@ -7,9 +9,11 @@ use Rattle.bsc_carrier.specs.Record.{IsLength, IsWrongLength}
 use Rattle.bsc_carrier.specs.Front.{stated_length, IsPartial, HasWrongLength}
 use Rattle.bsc_carrier.specs.Assembler.{wanted_after, IsBegun}
 use Rattle.bsc_carrier.proofs.Fronts.{not_wrong_and_right}
-use Rattle.bsc_carrier.proofs.Wanted.{stated_length-append, wanted_after-short, wanted_after-right, wanted_after-wrong}
+use Rattle.bsc_carrier.proofs.Wanted.{stated_length-append, wanted_after-short, wanted_after-right}
+use Rattle.bsc_carrier.proofs.Wanted.{wanted_after-wrong}
 
--- of the piece `head` octets and then `body` octets were taken, each time as many as were wanted and there
+-- of the piece `head` octets and then `body` octets were taken, each time as many as were wanted
+-- and there
 pub record TakesTwice (begun piece rest mid new : List ℕ) (head body : ℕ) : Type 0 where
   pub head_is : head ≡ min (wanted_after begun) (length piece)
   pub mid_is : mid ≡ begun ++ take head piece
@@ -17,10 +21,14 @@ pub record TakesTwice (begun piece rest mid new : List ℕ) (head body : ℕ) : 
   pub body_is : body ≡ min (wanted_after mid) (length rest)
   pub new_is : new ≡ mid ++ take body rest
 
-module _ {begun piece rest mid new : List ℕ} {head body : ℕ} (took : TakesTwice begun piece rest mid new head body) where
+module _ {begun piece rest mid new : List ℕ} {head body : ℕ}
+    (took : TakesTwice begun piece rest mid new head body) where
   -- both together are one front of the piece
   pub joined : new ≡ begun ++ take (head + body) piece
-  joined = took.new_is ∙ ap (λ l. mid ++ take body l) took.rest_is ∙ ap (λ l. l ++ take body (drop head piece)) took.mid_is ∙ append_assoc begun (take head piece) (take body (drop head piece)) ∙ ap (λ l. begun ++ l) (sym (take-add head body piece))
+  joined = took.new_is ∙ ap (λ l. mid ++ take body l) took.rest_is
+      ∙ ap (λ l. l ++ take body (drop head piece)) took.mid_is
+      ∙ append_assoc begun (take head piece) (take body (drop head piece))
+      ∙ ap (λ l. begun ++ l) (sym (take-add head body piece))
 
   rest_length : length rest ≡ length piece - head
   rest_length = ap length took.rest_is ∙ length-drop head piece
@@ -47,34 +55,68 @@ module _ {begun piece rest mid new : List ℕ} {head body : ℕ} (took : TakesTw
       omega (arith, wanted, rest_length, new_length)
 
   alone_at : length begun + (head + body) ≡ 2 → new ≡ take 2 (begun ++ piece)
-  alone_at two = joined ∙ sym (take-append-add begun piece (head + body)) ∙ ap (λ n. take n (begun ++ piece)) two
+  alone_at two = joined ∙ sym (take-append-add begun piece (head + body))
+      ∙ ap (λ n. take n (begun ++ piece)) two
 
   -- what is begun states a length that a record may have, and the same one after
-  right_goes_on : 2 ≤ length begun → IsPartial begun → (IsLength (stated_length new)) × (length new ≤ 2 + stated_length new) × (length new < 2 + stated_length new → head + body ≡ length piece)
+  right_goes_on : 2 ≤ length begun → IsPartial begun → (IsLength (stated_length new))
+      × (length new ≤ 2 + stated_length new)
+      × (length new < 2 + stated_length new → head + body ≡ length piece)
   right_goes_on two partial =
       let right = partial two in
       let wanted = wanted_after-right begun two right.0 in
       let two_mid : 2 ≤ length mid = omega (arith, mid_length) in
       let same_mid = stated_mid two in
       let same_new = stated_new two_mid in
-      let right_mid : IsLength (stated_length mid) = (omega (arith, same_mid, right.0.0), omega (arith, same_mid, right.0.1)) in
-      let wanted_mid = wanted_after-right mid two_mid right_mid in
-      ((omega (arith, same_mid, same_new, right.0.0), omega (arith, same_mid, same_new, right.0.1)), omega (arith, same_mid, same_new, wanted, wanted_mid, mid_length, new_length, rest_length, right.1), λ less. omega (arith, same_mid, same_new, wanted, wanted_mid, mid_length, new_length, rest_length, right.1, less))
+      let right_mid : IsLength (stated_length mid) =
+      (omega (arith, same_mid, right.0.0), omega (arith, same_mid, right.0.1)) in
+      let wanted_mid = wanted_after-right mid two_mid right_mid in (
+        (omega (arith, same_mid, same_new, right.0.0), omega (arith, same_mid, same_new, right.0.1)),
+        omega (
+          arith,
+          same_mid,
+          same_new,
+          wanted,
+          wanted_mid,
+          mid_length,
+          new_length,
+          rest_length,
+          right.1,
+        ),
+        λ less. omega (
+          arith,
+          same_mid,
+          same_new,
+          wanted,
+          wanted_mid,
+          mid_length,
+          new_length,
+          rest_length,
+          right.1,
+          less,
+        ),
+      )
 
   -- what is begun has no whole length, and the new octets complete it
-  length_ends : length begun < 2 → 2 ≤ length new → (length mid ≡ 2) × (stated_length new ≡ stated_length mid)
+  length_ends : length begun < 2 → 2 ≤ length new → (length mid ≡ 2)
+      × (stated_length new ≡ stated_length mid)
   length_ends short two =
       let wanted = wanted_after-short begun short in
       let two_mid : length mid ≡ 2 = omega (arith, wanted, mid_length, new_length, rest_length) in
       (two_mid, stated_new (omega (arith, two_mid)))
 
   -- what is begun has a wrong length, and nothing is taken
-  stopped_stays : HasWrongLength begun × (length begun ≡ 2) → (head + body ≡ 0) × (stated_length new ≡ stated_length begun)
+  stopped_stays : HasWrongLength begun × (length begun ≡ 2) → (head + body ≡ 0)
+      × (stated_length new ≡ stated_length begun)
   stopped_stays stopped =
       let two : 2 ≤ length begun = omega (arith, stopped.1) in
       let none = wanted_after-wrong begun stopped.0 in
       let two_mid : 2 ≤ length mid = omega (arith, mid_length, two) in
-      let none_mid = wanted_after-wrong mid (two_mid, subst IsWrongLength (sym (stated_mid two)) stopped.0.1) in
+      let none_mid =
+      wanted_after-wrong mid (
+        two_mid,
+        subst IsWrongLength (sym (stated_mid two)) stopped.0.1,
+      ) in
       (omega (arith, none, none_mid), stated_new two_mid ∙ stated_mid two)
 
   -- a wrong length ends what is taken
@@ -87,11 +129,13 @@ module _ {begun piece rest mid new : List ℕ} {head body : ℕ} (took : TakesTw
             let two_mid : 2 ≤ length mid = omega (arith, ends.0) in
             let none_mid = wanted_after-wrong mid (two_mid, subst IsWrongLength ends.1 wrong.1) in
             alone_at (omega (arith, ends.0, none_mid, mid_length))
-        | inr two ↦ absurd (not_wrong_and_right (stated_length new) wrong.1 (right_goes_on two partial).0)
+        | inr two ↦ absurd (not_wrong_and_right (stated_length new) wrong.1
+            (right_goes_on two partial).0)
       ]
 
   -- no more is taken than the record has
-  pub bounded : IsBegun begun → 2 ≤ length new → IsLength (stated_length new) → length new ≤ 2 + stated_length new
+  pub bounded : IsBegun begun → 2 ≤ length new → IsLength (stated_length new) → length new ≤ 2
+      + stated_length new
   bounded (inr stopped) two right = omega (arith, (stopped_stays stopped).0, stopped.1, new_length)
   bounded (inl partial) two right =
       elim (cases_lt (length begun) 2) [
@@ -104,14 +148,27 @@ module _ {begun piece rest mid new : List ℕ} {head body : ℕ} (took : TakesTw
       ]
 
   -- where the record lacks an octet, none is left in the piece
-  pub exhausted : IsBegun begun → 2 ≤ length new → IsLength (stated_length new) → length new < 2 + stated_length new → head + body ≡ length piece
-  exhausted (inr stopped) two right less = absurd (not_wrong_and_right (stated_length new) (subst IsWrongLength (sym (stopped_stays stopped).1) stopped.0.1) right)
+  pub exhausted : IsBegun begun → 2 ≤ length new → IsLength (stated_length new) → length new < 2
+      + stated_length new → head + body ≡ length piece
+  exhausted (inr stopped) two right less =
+      absurd (not_wrong_and_right (stated_length new)
+      (subst IsWrongLength (sym (stopped_stays stopped).1) stopped.0.1) right)
   exhausted (inl partial) two right less =
       elim (cases_lt (length begun) 2) [
         | inl short ↦
             let ends = length_ends short two in
             let right_mid : IsLength (stated_length mid) = subst IsLength ends.1 right in
             let wanted_mid = wanted_after-right mid (omega (arith, ends.0)) right_mid in
-            omega (arith, ends.0, ends.1, wanted_mid, mid_length, new_length, rest_length, within, less)
+            omega (
+              arith,
+              ends.0,
+              ends.1,
+              wanted_mid,
+              mid_length,
+              new_length,
+              rest_length,
+              within,
+              less,
+            )
         | inr whole ↦ (right_goes_on whole partial).2 less
       ]

@@ -1,5 +1,6 @@
 -- One place of a list of ends, or every place of it.
-use Rattle.std.proofs.Common.{◌≡◌, ℕ, zero, suc, ◌-◌, ◌<◌, ◌≤◌, List, [], ◌∷◌, ◌++◌, length, get_or, take, drop, set, refl, sym, ap, ◌∙◌, subst, append-nil, arith}
+use Rattle.std.proofs.Common.{◌≡◌, ℕ, zero, suc, ◌-◌, ◌<◌, ◌≤◌, List, [], ◌∷◌, ◌++◌, length, get_or}
+use Rattle.std.proofs.Common.{take, drop, set, refl, sym, ap, ◌∙◌, subst, append-nil, arith}
 use Rattle.std.proofs.lemmas.List.{take_rest, drop_all}
 use Rattle.std.proofs.lemmas.Result.{IfOk-from_err}
 use Rattle.std.specs.List.{AllZip, Any}
@@ -9,7 +10,8 @@ use Rattle.bsc_carrier.specs.Cable.{ChangesAt}
 
 module _ {S : Type 0} where
   -- an end that stays as it is
-  pub stays_at : (P : S → S → Type 0) → ((end : S) → P end end) → (ends : List S) (t : ℕ) → t < length ends → ChangesAt t P ends ends
+  pub stays_at : (P : S → S → Type 0) → ((end : S) → P end end) → (ends : List S) (t : ℕ) → t
+      < length ends → ChangesAt t P ends ends
   stays_at P same [] t there = absurd (omega (arith, there))
   stays_at P same (end ∷ ends) zero there = (end, end, refl, refl, same end)
   stays_at P same (end ∷ ends) (suc t) there =
@@ -17,37 +19,48 @@ module _ {S : Type 0} where
       (before, after, here, ap (λ l. end ∷ l) set_is, holds)
 
   -- what holds at each place holds all along
-  pub AllZip-from_places : (R : S → S → Type 0) (old new : List S) → length new ≡ length old → ((i : ℕ) (d : S) → i < length old → R (get_or old i d) (get_or new i d)) → AllZip R old new
+  pub AllZip-from_places : (R : S → S → Type 0) (old new : List S) → length new ≡ length old
+      → ((i : ℕ) (d : S) → i < length old → R (get_or old i d) (get_or new i d)) → AllZip R old new
   AllZip-from_places R [] [] long each = tt
   AllZip-from_places R [] (y ∷ new) long each = absurd (omega (arith, long))
   AllZip-from_places R (x ∷ old) [] long each = absurd (omega (arith, long))
-  AllZip-from_places R (x ∷ old) (y ∷ new) long each =
-      (each 0 x (omega arith), AllZip-from_places R old new (omega (arith, long)) (λ i d below. each (suc i) d (omega (arith, below))))
+  AllZip-from_places R (x ∷ old) (y ∷ new) long each = (
+    each 0 x (omega arith),
+    AllZip-from_places R old new (omega (arith, long))
+        (λ i d below. each (suc i) d (omega (arith, below))),
+  )
 
   -- the ends after the first, when the first has changed
-  pub ends_after : (ends : List S) (first : S) → take (length (set ends 0 first) - 1) (drop 1 (set ends 0 first)) ≡ drop 1 ends
+  pub ends_after : (ends : List S) (first : S)
+      → take (length (set ends 0 first) - 1) (drop 1 (set ends 0 first)) ≡ drop 1 ends
   ends_after [] first = refl
   ends_after (end ∷ ends) first = take_rest (first ∷ ends) 1
 
   -- what holds of an end after the first holds of one of all
   pub Any-later : (P : S → Type 0) (ends : List S) → Any P (drop 1 ends) → Any P ends
   Any-later P [] any = any
-  Any-later P (end ∷ ends) (place, found, below, is, holds) = (suc place, found, omega (arith, below), is, holds)
+  Any-later P (end ∷ ends) (place, found, below, is, holds) =
+      (suc place, found, omega (arith, below), is, holds)
 
-  pub Any-first : (P : S → Type 0) (ends : List S) (d : S) → 1 ≤ length ends → P (get_or ends 0 d) → Any P ends
+  pub Any-first : (P : S → Type 0) (ends : List S) (d : S) → 1 ≤ length ends → P (get_or ends 0 d)
+      → Any P ends
   Any-first P [] d some holds = absurd (omega (arith, some))
   Any-first P (end ∷ ends) d some holds = (0, end, omega arith, refl, holds)
 
   -- the first end, and those after it
-  pub AllZip-first_and_later : (R : S → S → Type 0) (old later : List S) (first d : S) → 1 ≤ length old → R (get_or old 0 d) first → AllZip R (drop 1 old) later
+  pub AllZip-first_and_later : (R : S → S → Type 0) (old later : List S) (first d : S) → 1
+      ≤ length old → R (get_or old 0 d) first → AllZip R (drop 1 old) later
       → AllZip R old (put_mid 1 (length (set old 0 first) - 1) (set old 0 first) later)
   AllZip-first_and_later R [] later first d some one more = absurd (omega (arith, some))
   AllZip-first_and_later R (end ∷ old) later first d some one more =
-      let none : drop (length (first ∷ old) - 1) old ≡ [] = drop_all (length (first ∷ old) - 1) old (omega arith) in
+      let none : drop (length (first ∷ old) - 1) old ≡ [] =
+      drop_all (length (first ∷ old) - 1) old (omega arith) in
       (one, subst (AllZip R old) (sym (append-nil later) ∙ ap (λ l. later ++ l) (sym none)) more)
 
   -- where a call failed, the end stays as it is
-  pub stays_after_error : {T E : Type 0} (result : Result T E) (P : S → S → Type 0) (ends : List S) (t : ℕ) → t < length ends → IsErr result
+  pub stays_after_error : {T E : Type 0} (result : Result T E) (P : S → S → Type 0) (ends : List S)
+      (t : ℕ) → t < length ends → IsErr result
       → ChangesAt t (λ before after. OnOk result (P before after)) ends ends
   stays_after_error result P ends t there failed =
-      stays_at (λ before after. OnOk result (P before after)) (λ end. IfOk-from_err result (λ _. P end end) failed) ends t there
+      stays_at (λ before after. OnOk result (P before after))
+      (λ end. IfOk-from_err result (λ _. P end end) failed) ends t there

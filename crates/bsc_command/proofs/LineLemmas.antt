@@ -1,5 +1,7 @@
 -- What has been printed of the lines so far.
-use Rattle.std.proofs.Common.{◌≡◌, ℕ, ◌+◌, map, List, [], ◌∷◌, ◌++◌, true, false, Option, Some, None, length, refl, sym, ap, subst, ◌∙◌, append_assoc, append-nil, length-append}
+use Rattle.std.proofs.Common.{◌≡◌, ℕ, ◌+◌, map, List, [], ◌∷◌, ◌++◌, true, false, Option, Some}
+use Rattle.std.proofs.Common.{None, length, refl, sym, ap, subst, ◌∙◌, append_assoc, append-nil}
+use Rattle.std.proofs.Common.{length-append}
 use Rattle.std.proofs.Math.Seq.{take-append_seam}
 use Rattle.std.specs.Prelude.{IfSome, if◌then◌else◌}
 use Rattle.std.specs.Option.{option_to_list}
@@ -10,49 +12,67 @@ use Rattle.bsc_frame.specs.declared.message.Heard.{Heard}
 use Rattle.bsc_names.specs.Names.{Prints}
 use Rattle.bsc_input.specs.Lines.{is_blank, lines_of, parts_of}
 use Rattle.bsc_input.specs.Parts.{parts_at}
-use Rattle.bsc_command.specs.Lines.{AreShown, PrintsInput, PrintsLines, StopsAt, digits, given, is_traced, is_wrong, last_part, transmission}
+use Rattle.bsc_command.specs.Lines.{AreShown, PrintsInput, PrintsLines, StopsAt, digits, given}
+use Rattle.bsc_command.specs.Lines.{is_traced, is_wrong, last_part, transmission}
 use Rattle.bsc_input.specs.Hexadecimal.{octets_of}
-use Rattle.bsc_command.proofs.ListLemmas.{NonePasses, NonePasses-more, position-append, position-none}
+use Rattle.bsc_command.proofs.ListLemmas.{NonePasses, NonePasses-more, position-append}
+use Rattle.bsc_command.proofs.ListLemmas.{position-none}
 
-AreShown-append : (show : Heard → List ℕ) (xs ys : List (List ℕ)) (t u : List ℕ) → AreShown show xs t → AreShown show ys u → AreShown show (xs ++ ys) (t ++ u)
+AreShown-append : (show : Heard → List ℕ) (xs ys : List (List ℕ)) (t u : List ℕ)
+    → AreShown show xs t → AreShown show ys u → AreShown show (xs ++ ys) (t ++ u)
 AreShown-append show [] ys t u h k = rw h k
-AreShown-append show (x ∷ xs) ys t u (heard, rest, is_heard, e, more) k =
-    (heard, rest ++ u, is_heard, rw e (append_assoc (show heard) rest u), AreShown-append show xs ys rest u more k)
+AreShown-append show (x ∷ xs) ys t u (heard, rest, is_heard, e, more) k = (
+  heard,
+  rest ++ u,
+  is_heard,
+  rw e (append_assoc (show heard) rest u),
+  AreShown-append show xs ys rest u more k,
+)
 
-flat_map-append : {X Y : Type 0} (f : X → List Y) (xs ys : List X) → flat_map f (xs ++ ys) ≡ flat_map f xs ++ flat_map f ys
+flat_map-append : {X Y : Type 0} (f : X → List Y) (xs ys : List X) → flat_map f (xs ++ ys)
+    ≡ flat_map f xs ++ flat_map f ys
 flat_map-append f [] ys = refl
-flat_map-append f (x ∷ xs) ys = ap (λ l. f x ++ l) (flat_map-append f xs ys) ∙ sym (append_assoc (f x) (flat_map f xs) (flat_map f ys))
+flat_map-append f (x ∷ xs) ys = ap (λ l. f x ++ l) (flat_map-append f xs ys)
+    ∙ sym (append_assoc (f x) (flat_map f xs) (flat_map f ys))
 
 PrintsLines-nil : (show : Heard → List ℕ) (a : Option (List ℕ)) → PrintsLines show [] a a
 PrintsLines-nil show a = record { text = []; shown = refl; appended = Appends-nil a }
 
-PrintsLines-append : (show : Heard → List ℕ) (xs ys : List (List ℕ)) (a b c : Option (List ℕ)) → PrintsLines show xs a b → PrintsLines show ys b c → PrintsLines show (xs ++ ys) a c
+PrintsLines-append : (show : Heard → List ℕ) (xs ys : List (List ℕ)) (a b c : Option (List ℕ))
+    → PrintsLines show xs a b → PrintsLines show ys b c → PrintsLines show (xs ++ ys) a c
 PrintsLines-append show xs ys a b c p q = record {
   text = p.text ++ q.text;
-  shown = rw (flat_map-append transmission xs ys) (AreShown-append show _ _ p.text q.text p.shown q.shown);
+  shown =
+      rw (flat_map-append transmission xs ys)
+      (AreShown-append show _ _ p.text q.text p.shown q.shown);
   appended = Appends-trans a b c p.text q.text p.appended q.appended;
 }
 
 -- a line that gives a transmission
-pub PrintsLines-one : (show : Heard → List ℕ) (line text octets : List ℕ) (a b : Option (List ℕ)) → digits line ≡ text → is_blank text ≡ false
+pub PrintsLines-one : (show : Heard → List ℕ) (line text octets : List ℕ) (a b : Option (List ℕ))
+    → digits line ≡ text → is_blank text ≡ false
     → octets_of text ≡ Some octets → Prints show octets a b → PrintsLines show (line ∷ []) a b
 PrintsLines-one show line text octets a b same blank e p =
     let P : List ℕ → Type 0 = λ t. AreShown show (given t ++ []) (show p.heard) in
     record {
       text = show p.heard;
-      shown = subst P (sym same) (rw (blank, e) (p.heard, [], p.is_heard, sym (append-nil (show p.heard)), refl));
+      shown =
+          subst P (sym same) (rw (blank, e)
+          (p.heard, [], p.is_heard, sym (append-nil (show p.heard)), refl));
       appended = p.appended;
     }
 
 -- a line that gives none
-pub PrintsLines-skip : (show : Heard → List ℕ) (line text : List ℕ) (a : Option (List ℕ)) → digits line ≡ text → given text ≡ []
+pub PrintsLines-skip : (show : Heard → List ℕ) (line text : List ℕ) (a : Option (List ℕ))
+    → digits line ≡ text → given text ≡ []
     → PrintsLines show (line ∷ []) a a
 PrintsLines-skip show line text a same e =
     let P : List (List ℕ) → Type 0 = λ ts. AreShown show (ts ++ []) [] in
     record { text = []; shown = subst P (sym (ap given same ∙ e)) refl; appended = Appends-nil a }
 
 -- the hexadecimal text of a line, where it is one of a trace or is not
-pub digits-traced : (line : List ℕ) → is_traced line ≡ true → digits line ≡ last_part (parts_at 32 line)
+pub digits-traced : (line : List ℕ) → is_traced line ≡ true → digits line
+    ≡ last_part (parts_at 32 line)
 digits-traced line e = ap (λ b. if b then last_part (parts_at 32 line) else line) e
 
 pub digits-plain : (line : List ℕ) → is_traced line ≡ false → digits line ≡ line
@@ -67,13 +87,17 @@ given-wrong text blank e =
     ap (λ b. if b then [] else option_to_list (octets_of text)) blank ∙ ap option_to_list e
 
 -- what a text's first line leaves
-pub lines_left : {B : Type 0} (now : B → List ℕ) (rest : Option B) (text line : List ℕ) → (rest ≡ None → parts_of text ≡ line ∷ [])
-    → IfSome rest (λ r. parts_of text ≡ line ∷ parts_of (now r)) → (left : List (List ℕ)) × (lines_of text ≡ strip_carriage_return line ∷ left)
+pub lines_left : {B : Type 0} (now : B → List ℕ) (rest : Option B) (text line : List ℕ)
+    → (rest ≡ None → parts_of text ≡ line ∷ [])
+    → IfSome rest (λ r. parts_of text ≡ line ∷ parts_of (now r)) → (left : List (List ℕ))
+    × (lines_of text ≡ strip_carriage_return line ∷ left)
 lines_left now None text line last more = ([], ap (map strip_carriage_return) (last refl))
-lines_left now (Some r) text line last more = (lines_of (now r), ap (map strip_carriage_return) more)
+lines_left now (Some r) text line last more =
+    (lines_of (now r), ap (map strip_carriage_return) more)
 
 -- of all lines, the first ones are not wrong and were printed, and these are left
-pub record HasPrinted (show : Heard → List ℕ) (all left : List (List ℕ)) (before : ℕ) (old new : Option (List ℕ)) : Type 0 where
+pub record HasPrinted (show : Heard → List ℕ) (all left : List (List ℕ)) (before : ℕ)
+    (old new : Option (List ℕ)) : Type 0 where
   pub done : List (List ℕ)
   pub whole : all ≡ done ++ left
   pub count : length done ≡ before
@@ -82,9 +106,12 @@ pub record HasPrinted (show : Heard → List ℕ) (all left : List (List ℕ)) (
 
 module _ {show : Heard → List ℕ} {all : List (List ℕ)} where
   pub has_printed_none : (a : Option (List ℕ)) → HasPrinted show all all 0 a a
-  has_printed_none a = record { done = []; whole = refl; count = refl; right = tt; printed = PrintsLines-nil show a }
+  has_printed_none a =
+      record { done = []; whole = refl; count = refl; right = tt; printed = PrintsLines-nil show a }
 
-  pub has_printed_more : {n : ℕ} {a b : Option (List ℕ)} (x : List ℕ) (left : List (List ℕ)) (c : Option (List ℕ)) → HasPrinted show all (x ∷ left) n a b → is_wrong x ≡ false → PrintsLines show (x ∷ []) b c
+  pub has_printed_more : {n : ℕ} {a b : Option (List ℕ)} (x : List ℕ) (left : List (List ℕ))
+      (c : Option (List ℕ)) → HasPrinted show all (x ∷ left) n a b → is_wrong x ≡ false
+      → PrintsLines show (x ∷ []) b c
       → HasPrinted show all left (n + 1) a c
   has_printed_more {n} {a} {b} x left c h e p = record {
     done = h.done ++ x ∷ [];
@@ -99,10 +126,16 @@ module _ {show : Heard → List ℕ} {input : List ℕ} {n : ℕ} {a b : Option 
   pub has_printed_all : HasPrinted show (lines_of input) [] n a b → PrintsInput show input a b
   has_printed_all h =
       let all_done : lines_of input ≡ h.done = h.whole ∙ append-nil h.done in
-      record { right = rw all_done (position-none is_wrong h.done h.right); printed = rw all_done h.printed }
+      record {
+        right = rw all_done (position-none is_wrong h.done h.right);
+        printed =
+            rw all_done h.printed;
+      }
 
   -- the next line is wrong
-  pub has_printed_wrong : (x : List ℕ) (left : List (List ℕ)) → HasPrinted show (lines_of input) (x ∷ left) n a b → is_wrong x ≡ true → StopsAt show (n + 1) input a b
+  pub has_printed_wrong : (x : List ℕ) (left : List (List ℕ))
+      → HasPrinted show (lines_of input) (x ∷ left) n a b → is_wrong x ≡ true
+      → StopsAt show (n + 1) input a b
   has_printed_wrong x left h e = record {
     place = n;
     counted = refl;

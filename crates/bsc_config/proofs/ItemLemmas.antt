@@ -1,5 +1,6 @@
 -- Values one after another, and what they are read as.
-use Rattle.std.proofs.Common.{◌≡◌, ℕ, ◌+◌, ◌<◌, List, [], ◌∷◌, ◌++◌, Option, Some, None, length, drop, get_or, refl, ap, sym, ◌∙◌, append_assoc}
+use Rattle.std.proofs.Common.{◌≡◌, ℕ, ◌+◌, ◌<◌, List, [], ◌∷◌, ◌++◌, Option, Some, None, length}
+use Rattle.std.proofs.Common.{drop, get_or, refl, ap, sym, ◌∙◌, append_assoc}
 use Rattle.std.specs.Option.{option_map, option_and_then}
 use Rattle.toml.specs.declared.value.Value.{Value}
 use Rattle.toml.specs.Data.{Data, item}
@@ -8,26 +9,35 @@ use Rattle.toml.proofs.Views.{items_view-drop}
 use Rattle.bsc_config.specs.Values.{read_each}
 
 -- the values from a place on are the one there and those after it
-pub next_item : (vs : List Value) (i : ℕ) (v : Value) → i < length vs → v ≡ get_or vs i v → items_view (drop i vs) ≡ item (view v) (items_view (drop (i + 1) vs))
-next_item vs i v below is = items_view-drop vs i v below ∙ ap (λ x. item (view x) (items_view (drop (i + 1) vs))) (sym is)
+pub next_item : (vs : List Value) (i : ℕ) (v : Value) → i < length vs → v ≡ get_or vs i v
+    → items_view (drop i vs) ≡ item (view v) (items_view (drop (i + 1) vs))
+next_item vs i v below is = items_view-drop vs i v below
+    ∙ ap (λ x. item (view x) (items_view (drop (i + 1) vs))) (sym is)
 
 -- where one more value was read, the readings of those after it follow
-after_one : {V : Type 0} (done : List V) (x : V) (o : Option (List V)) → option_map (λ xs. done ++ xs) (option_map (λ xs. x ∷ xs) o) ≡ option_map (λ xs. (done ++ x ∷ []) ++ xs) o
+after_one : {V : Type 0} (done : List V) (x : V) (o : Option (List V))
+    → option_map (λ xs. done ++ xs) (option_map (λ xs. x ∷ xs) o)
+    ≡ option_map (λ xs. (done ++ x ∷ []) ++ xs) o
 after_one done x None = refl
 after_one done x (Some xs) = ap Some (sym (append_assoc done (x ∷ []) xs))
 
-pub read_each-next : {V : Type 0} (read : Data → Option V) (vs : List Value) (done : List V) (i : ℕ) (v : Value) (x : V) → i < length vs → v ≡ get_or vs i v → read (view v) ≡ Some x
-    → option_map (λ xs. done ++ xs) (read_each read (items_view (drop i vs))) ≡ option_map (λ xs. (done ++ x ∷ []) ++ xs) (read_each read (items_view (drop (i + 1) vs)))
+pub read_each-next : {V : Type 0} (read : Data → Option V) (vs : List Value) (done : List V) (i : ℕ)
+    (v : Value) (x : V) → i < length vs → v ≡ get_or vs i v → read (view v) ≡ Some x
+    → option_map (λ xs. done ++ xs) (read_each read (items_view (drop i vs)))
+    ≡ option_map (λ xs. (done ++ x ∷ []) ++ xs) (read_each read (items_view (drop (i + 1) vs)))
 read_each-next read vs done i v x below is reads =
     let rest = read_each read (items_view (drop (i + 1) vs)) in
     ap (λ items. option_map (λ xs. done ++ xs) (read_each read items)) (next_item vs i v below is)
-    ∙ ap (λ o. option_map (λ xs. done ++ xs) (option_and_then (λ value. option_map (λ values. value ∷ values) rest) o)) reads
+    ∙ ap (λ o. option_map (λ xs. done ++ xs)
+    (option_and_then (λ value. option_map (λ values. value ∷ values) rest) o)) reads
     ∙ after_one done x rest
 
 -- where a value can't be read, all of them can't
-pub read_each-stop : {V : Type 0} (read : Data → Option V) (vs : List Value) (done : List V) (i : ℕ) (v : Value) → i < length vs → v ≡ get_or vs i v → read (view v) ≡ None
+pub read_each-stop : {V : Type 0} (read : Data → Option V) (vs : List Value) (done : List V) (i : ℕ)
+    (v : Value) → i < length vs → v ≡ get_or vs i v → read (view v) ≡ None
     → option_map (λ xs. done ++ xs) (read_each read (items_view (drop i vs))) ≡ None
 read_each-stop read vs done i v below is reads =
     let rest = read_each read (items_view (drop (i + 1) vs)) in
     ap (λ items. option_map (λ xs. done ++ xs) (read_each read items)) (next_item vs i v below is)
-    ∙ ap (λ o. option_map (λ xs. done ++ xs) (option_and_then (λ value. option_map (λ values. value ∷ values) rest) o)) reads
+    ∙ ap (λ o. option_map (λ xs. done ++ xs)
+    (option_and_then (λ value. option_map (λ values. value ∷ values) rest) o)) reads

@@ -1,5 +1,6 @@
 -- The names of the keys of a table, one after another.
-use Rattle.std.proofs.Common.{◌≡◌, ℕ, List, [], ◌∷◌, Option, Some, None, String, string_bytes, cond, refl, ap}
+use Rattle.std.proofs.Common.{◌≡◌, ℕ, List, [], ◌∷◌, Option, Some, None, String, string_bytes, cond}
+use Rattle.std.proofs.Common.{refl, ap}
 use Rattle.std.specs.declared.alloc.Global.{Global}
 use Rattle.std.specs.Map.{keys_of}
 use Rattle.toml.specs.declared.value.Value.{Value}
@@ -11,9 +12,13 @@ use Rattle.bsc_config.specs.Checks.{first_unknown}
 -- the first of these names that such a table may not have
 abbrev pub first_in : Owner → List (String Global) → Option (List ℕ)
 first_in owner [] = None
-first_in owner (k ∷ ks) = cond (is_known owner (string_bytes k)) (first_in owner ks) (Some (string_bytes k))
+first_in owner (k ∷ ks) =
+    cond (is_known owner (string_bytes k)) (first_in owner ks) (Some (string_bytes k))
 
 -- it is that of the table with these entries
-pub first_in-keys : (owner : Owner) (es : List (String Global × Value)) → first_unknown owner (members_view es) ≡ first_in owner (keys_of es)
+pub first_in-keys : (owner : Owner) (es : List (String Global × Value))
+    → first_unknown owner (members_view es) ≡ first_in owner (keys_of es)
 first_in-keys owner [] = refl
-first_in-keys owner (e ∷ es) = ap (λ o. cond (is_known owner (string_bytes e.0)) o (Some (string_bytes e.0))) (first_in-keys owner es)
+first_in-keys owner (e ∷ es) =
+    ap (λ o. cond (is_known owner (string_bytes e.0)) o (Some (string_bytes e.0)))
+    (first_in-keys owner es)

@@ -1,5 +1,6 @@
 -- What a step of a sender keeps.
-use Rattle.std.proofs.Common.{◌≡◌, ◌⊎◌, inl, inr, ℕ, ◌+◌, ◌<◌, List, length, drop, Some, refl, sym, ◌∙◌, ap, subst, arith}
+use Rattle.std.proofs.Common.{◌≡◌, ◌⊎◌, inl, inr, ℕ, ◌+◌, ◌<◌, List, length, drop, Some, refl, sym}
+use Rattle.std.proofs.Common.{◌∙◌, ap, subst, arith}
 use Rattle.std.proofs.lemmas.List.{length-set, get_or-set_same, drop-set-lt}
 use Rattle.std.specs.List.{position}
 use Rattle.bsc_frame.specs.declared.message.Message.TheVariants as m
@@ -11,16 +12,20 @@ use Rattle.bsc_text.specs.Sender.{SenderStep}
 use Rattle.bsc_control.specs.declared.task.Task.{Task}
 use Rattle.bsc_control.specs.declared.task.Task.TheVariants.{Sending}
 use Rattle.bsc_control.specs.CallOrder.{Call, After, Selection, Interruption, way_at, next_call}
-use Rattle.bsc_control.specs.Control.{ControlValue, HasEntries, peer_at, peer, current, terminal_of_entry}
+use Rattle.bsc_control.specs.Control.{ControlValue, HasEntries, peer_at, peer, current}
+use Rattle.bsc_control.specs.Control.{terminal_of_entry}
 use Rattle.bsc_control.specs.Kept.{outbound_of, phase_of, HasSettings, Keeps, IsCalled}
-use Rattle.bsc_control.specs.Peer.{OutboundValue, PeerValue, no_outbound, no_peer, outbound_at, with_outbound, outbound_after, is_selectable}
+use Rattle.bsc_control.specs.Peer.{OutboundValue, PeerValue, no_outbound, no_peer, outbound_at}
+use Rattle.bsc_control.specs.Peer.{with_outbound, outbound_after, is_selectable}
 use Rattle.bsc_control.specs.Table.{perform_step, bid_step, next_call_step}
-use Rattle.bsc_control.proofs.Calls.{IsCalm, KeepsSpools, HasShape, shape, entry_within, keeps_spools-next_call_step, next_is_called}
+use Rattle.bsc_control.proofs.Calls.{IsCalm, KeepsSpools, HasShape, shape, entry_within}
+use Rattle.bsc_control.proofs.Calls.{keeps_spools-next_call_step, next_is_called}
 use Rattle.bsc_control.proofs.PeerLists.{same_at, same_map, holds_at}
 use Rattle.bsc_control.proofs.Replacing.{replaced, same_of, same_lengths, settings-replaced}
 use Rattle.bsc_control.proofs.SenderSteps.{LeavesPhase, StepKeeps}
 
--- the station once the sender to a selection address of the present terminal, and its queue, are these
+-- the station once the sender to a selection address of the present terminal, and its queue, are
+-- these
 abbrev pub stepped : ControlValue → ℕ → OutboundValue → ControlValue
 stepped c s o = replaced c (current c) s o
 
@@ -30,37 +35,54 @@ pub record OutboundKeeps (old new : OutboundValue) : Type 0 where
   pub format : new.queue.format ≡ old.queue.format
   pub offered : new.queue.offered ≡ old.queue.offered
 
-pub same_spools : (c : ControlValue) (s : ℕ) (o : OutboundValue) (t : ℕ) → (peer_at (stepped c s o) t).spool ≡ (peer_at c t).spool
-same_spools c s o t = same_at (λ (p : PeerValue). p.spool) c.peers (current c) t (with_outbound (peer c) s o) no_peer refl
+pub same_spools : (c : ControlValue) (s : ℕ) (o : OutboundValue) (t : ℕ)
+    → (peer_at (stepped c s o) t).spool ≡ (peer_at c t).spool
+same_spools c s o t =
+    same_at (λ (p : PeerValue). p.spool) c.peers (current c) t (with_outbound (peer c) s o) no_peer
+    refl
 
-pub keeps-stepped : (c : ControlValue) (s : ℕ) (o : OutboundValue) → OutboundKeeps (outbound_of c (current c) s) o → Keeps c (stepped c s o)
+pub keeps-stepped : (c : ControlValue) (s : ℕ) (o : OutboundValue)
+    → OutboundKeeps (outbound_of c (current c) s) o → Keeps c (stepped c s o)
 keeps-stepped c s o k =
     record {
       setup = refl;
       poll_list = refl;
-      terminals = same_map (λ (p : PeerValue). p.terminal) c.peers (current c) (with_outbound (peer c) s o) no_peer refl;
+      terminals =
+          same_map (λ (p : PeerValue). p.terminal) c.peers (current c) (with_outbound (peer c) s o)
+          no_peer refl;
       peers = length-set c.peers (current c) (with_outbound (peer c) s o);
       outbounds = same_lengths c (current c) s o;
       offered = same_of (λ (x : OutboundValue). x.queue.offered) c (current c) s o k.offered;
     }
 
-settings-stepped : (c : ControlValue) (s : ℕ) (o : OutboundValue) → OutboundKeeps (outbound_of c (current c) s) o
+settings-stepped : (c : ControlValue) (s : ℕ) (o : OutboundValue)
+    → OutboundKeeps (outbound_of c (current c) s) o
     → ((t k : ℕ) → k < length (peer_at c t).outbounds → HasSettings c (outbound_of c t k))
-    → (t k : ℕ) → k < length (peer_at (stepped c s o) t).outbounds → HasSettings (stepped c s o) (outbound_of (stepped c s o) t k)
+    → (t k : ℕ) → k < length (peer_at (stepped c s o) t).outbounds
+    → HasSettings (stepped c s o) (outbound_of (stepped c s o) t k)
 settings-stepped c s o keeps h = settings-replaced c (current c) s o keeps.setup keeps.format h
 
 -- the outbound that was replaced is the new one
-outbound-stepped : (c : ControlValue) (s : ℕ) (o : OutboundValue) → current c < length c.peers → s < length (peer c).outbounds → outbound_of (stepped c s o) (current c) s ≡ o
+outbound-stepped : (c : ControlValue) (s : ℕ) (o : OutboundValue) → current c < length c.peers → s
+    < length (peer c).outbounds → outbound_of (stepped c s o) (current c) s ≡ o
 outbound-stepped c s o within there =
-    ap (λ (p : PeerValue). outbound_at p s) (get_or-set_same c.peers (current c) (with_outbound (peer c) s o) no_peer within) ∙ get_or-set_same (peer c).outbounds s o no_outbound there
+    ap (λ (p : PeerValue). outbound_at p s)
+    (get_or-set_same c.peers (current c) (with_outbound (peer c) s o) no_peer within)
+    ∙ get_or-set_same (peer c).outbounds s o no_outbound there
 
--- a fact about all phases but the one that is replaced holds of all phases once it holds of the new one
-phases-stepped : (P : ℕ → ℕ → Phase → Type 0) (c : ControlValue) (s : ℕ) (o : OutboundValue) → current c < length c.peers → s < length (peer c).outbounds
-    → P (current c) s o.sender.phase → ((t k : ℕ) → ((t ≡ current c) × (k ≡ s) → ⊥) → P t k (phase_of c t k))
+-- a fact about all phases but the one that is replaced holds of all phases once it holds of the new
+-- one
+phases-stepped : (P : ℕ → ℕ → Phase → Type 0) (c : ControlValue) (s : ℕ) (o : OutboundValue)
+    → current c < length c.peers → s < length (peer c).outbounds
+    → P (current c) s o.sender.phase
+    → ((t k : ℕ) → ((t ≡ current c) × (k ≡ s) → ⊥) → P t k (phase_of c t k))
     → (t k : ℕ) → P t k (phase_of (stepped c s o) t k)
 phases-stepped P c s o within there new others t k =
-    holds_at (λ (j : ℕ) (p : PeerValue). (i : ℕ) → P j i (outbound_at p i).sender.phase) c.peers (current c) (with_outbound (peer c) s o) no_peer
-    (holds_at (λ (i : ℕ) (x : OutboundValue). P (current c) i x.sender.phase) (peer c).outbounds s o no_outbound new (λ le. absurd (omega (arith, le, there))) (λ i ne. others (current c) i (λ e. ne e.1)))
+    holds_at (λ (j : ℕ) (p : PeerValue). (i : ℕ) → P j i (outbound_at p i).sender.phase) c.peers
+    (current c) (with_outbound (peer c) s o) no_peer
+    (holds_at (λ (i : ℕ) (x : OutboundValue). P (current c) i x.sender.phase) (peer c).outbounds s o
+    no_outbound new (λ le. absurd (omega (arith, le, there)))
+    (λ i ne. others (current c) i (λ e. ne e.1)))
     (λ le. absurd (omega (arith, le, within)))
     (λ j ne i. others j i (λ e. ne e.0))
     t k
@@ -76,42 +98,63 @@ current_within : (c : ControlValue) → HasEntries c → current c < length c.pe
 current_within c h = entry_within c c.place h h.place
 
 -- the sender has ended its bid
-pub calm-stepped : (c : ControlValue) (s : ℕ) (o : OutboundValue) → OthersRest c s → OutboundKeeps (outbound_of c (current c) s) o → IsAtRest o.sender.phase → IsCalm (stepped c s o)
+pub calm-stepped : (c : ControlValue) (s : ℕ) (o : OutboundValue) → OthersRest c s
+    → OutboundKeeps (outbound_of c (current c) s) o → IsAtRest o.sender.phase
+    → IsCalm (stepped c s o)
 calm-stepped c s o h keeps rests =
     record {
-      rests = phases-stepped (λ (t k : ℕ) (phase : Phase). IsAtRest phase) c s o (current_within c h.entries) h.there rests h.rests;
+      rests =
+          phases-stepped (λ (t k : ℕ) (phase : Phase). IsAtRest phase) c s o
+          (current_within c h.entries) h.there rests h.rests;
       settings = settings-stepped c s o keeps h.settings;
     }
 
 -- the sender goes on
-pub keeps_spools-goes_on : (c : ControlValue) (s : ℕ) (o : OutboundValue) → OthersRest c s → OutboundKeeps (outbound_of c (current c) s) o → IsGoing o.sender.phase → KeepsSpools c (record (stepped c s o) { task = Sending s })
+pub keeps_spools-goes_on : (c : ControlValue) (s : ℕ) (o : OutboundValue) → OthersRest c s
+    → OutboundKeeps (outbound_of c (current c) s) o → IsGoing o.sender.phase
+    → KeepsSpools c (record (stepped c s o) { task = Sending s })
 keeps_spools-goes_on c s o h keeps goes =
     let within = current_within c h.entries in
     let kept : Keeps c (stepped c s o) = keeps-stepped c s o keeps in
     record {
-      keeps = record { setup = kept.setup; poll_list = kept.poll_list; terminals = kept.terminals; peers = kept.peers; outbounds = kept.outbounds; offered = kept.offered };
+      keeps =
+          record {
+            setup = kept.setup;
+            poll_list = kept.poll_list;
+            terminals = kept.terminals;
+            peers = kept.peers;
+            outbounds = kept.outbounds;
+            offered = kept.offered;
+          };
       orderly =
           record {
             suits =
                 record {
-                  there = subst (λ (n : ℕ). s < n) (sym (same_lengths c (current c) s o (current c))) h.there;
-                  going = subst (λ (x : OutboundValue). IsGoing x.sender.phase) (sym (outbound-stepped c s o within h.there)) goes;
+                  there =
+                      subst (λ (n : ℕ). s < n) (sym (same_lengths c (current c) s o (current c)))
+                      h.there;
+                  going =
+                      subst (λ (x : OutboundValue). IsGoing x.sender.phase)
+                      (sym (outbound-stepped c s o within h.there)) goes;
                 };
             rests =
                 λ t k unused.
-                phases-stepped (λ (j i : ℕ) (phase : Phase). ((j ≡ current c) × (i ≡ s) → ⊥) → IsAtRest phase) c s o within h.there
+                phases-stepped (λ (j i : ℕ) (phase : Phase). ((j ≡ current c) × (i ≡ s) → ⊥)
+                → IsAtRest phase) c s o within h.there
                 (λ used. absurd (used (refl, refl)))
                 (λ j i other used. h.rests j i used)
                 t k (λ e. unused (e.0, ap Sending (sym e.1)));
             settings =
                 λ t k there.
-                let was : HasSettings (stepped c s o) (outbound_of (stepped c s o) t k) = settings-stepped c s o keeps h.settings t k there in
+                let was : HasSettings (stepped c s o) (outbound_of (stepped c s o) t k) =
+                settings-stepped c s o keeps h.settings t k there in
                 record { setup = was.setup; format = was.format };
           };
       spools = same_spools c s o;
     }
 
-pub keeps_spools_after : (a b c : ControlValue) → Keeps a b → ((t : ℕ) → (peer_at b t).spool ≡ (peer_at a t).spool) → KeepsSpools b c → KeepsSpools a c
+pub keeps_spools_after : (a b c : ControlValue) → Keeps a b
+    → ((t : ℕ) → (peer_at b t).spool ≡ (peer_at a t).spool) → KeepsSpools b c → KeepsSpools a c
 keeps_spools_after a b c k spools f =
     let l : Keeps b c = f.keeps in
     record {
@@ -129,57 +172,93 @@ keeps_spools_after a b c k spools f =
     }
 
 -- the sender acts, and after the bid the next call is made
-keeps_spools-perform_step : (c : ControlValue) (s : ℕ) (o : OutboundValue) (act : Act) (after : After) → OthersRest c s → OutboundKeeps (outbound_of c (current c) s) o → LeavesPhase act o.sender.phase
-    → (act ≡ a.Quiet → c.task ≡ Sending s) → KeepsSpools c (perform_step (stepped c s o) s act after).control
-keeps_spools-perform_step c s o (a.Send text) after h keeps phase quiet = keeps_spools-goes_on c s o h keeps phase
-keeps_spools-perform_step c s o a.Enq after h keeps phase quiet = keeps_spools-goes_on c s o h keeps phase
+keeps_spools-perform_step : (c : ControlValue) (s : ℕ) (o : OutboundValue) (act : Act)
+    (after : After) → OthersRest c s → OutboundKeeps (outbound_of c (current c) s) o
+    → LeavesPhase act o.sender.phase
+    → (act ≡ a.Quiet → c.task ≡ Sending s)
+    → KeepsSpools c (perform_step (stepped c s o) s act after).control
+keeps_spools-perform_step c s o (a.Send text) after h keeps phase quiet =
+    keeps_spools-goes_on c s o h keeps phase
+keeps_spools-perform_step c s o a.Enq after h keeps phase quiet =
+    keeps_spools-goes_on c s o h keeps phase
 keeps_spools-perform_step c s o a.Over after h keeps phase quiet =
-    keeps_spools_after c (stepped c s o) (perform_step (stepped c s o) s a.Over after).control (keeps-stepped c s o keeps) (same_spools c s o) (keeps_spools-next_call_step (stepped c s o) after (calm-stepped c s o h keeps phase))
+    keeps_spools_after c (stepped c s o) (perform_step (stepped c s o) s a.Over after).control
+    (keeps-stepped c s o keeps) (same_spools c s o)
+    (keeps_spools-next_call_step (stepped c s o) after (calm-stepped c s o h keeps phase))
 keeps_spools-perform_step c s o a.Quiet after h keeps phase quiet =
-    subst (λ (task : Task). KeepsSpools c (record (stepped c s o) { task = task })) (sym (quiet refl)) (keeps_spools-goes_on c s o h keeps phase)
+    subst (λ (task : Task). KeepsSpools c (record (stepped c s o) { task = task }))
+    (sym (quiet refl)) (keeps_spools-goes_on c s o h keeps phase)
 
-pub outbound_keeps : (o : OutboundValue) (step : SenderStep) → StepKeeps o.sender o.queue step → OutboundKeeps o (outbound_after step)
+pub outbound_keeps : (o : OutboundValue) (step : SenderStep) → StepKeeps o.sender o.queue step
+    → OutboundKeeps o (outbound_after step)
 outbound_keeps o step k = record { setup = k.setup; format = k.format; offered = k.offered }
 
-pub keeps_spools-bid_step : (c : ControlValue) (s : ℕ) (step : SenderStep) (after : After) → OthersRest c s → StepKeeps (outbound_of c (current c) s).sender (outbound_of c (current c) s).queue step
+pub keeps_spools-bid_step : (c : ControlValue) (s : ℕ) (step : SenderStep) (after : After)
+    → OthersRest c s
+    → StepKeeps (outbound_of c (current c) s).sender (outbound_of c (current c) s).queue step
     → (step.act ≡ a.Quiet → c.task ≡ Sending s) → KeepsSpools c (bid_step c s step after).control
-keeps_spools-bid_step c s step after h keeps quiet = keeps_spools-perform_step c s (outbound_after step) step.act after h (outbound_keeps (outbound_of c (current c) s) step keeps) keeps.phase quiet
+keeps_spools-bid_step c s step after h keeps quiet =
+    keeps_spools-perform_step c s (outbound_after step) step.act after h
+    (outbound_keeps (outbound_of c (current c) s) step keeps) keeps.phase quiet
 
-shape-stepped : (c : ControlValue) (s : ℕ) (o : OutboundValue) → HasShape c → HasShape (stepped c s o)
+shape-stepped : (c : ControlValue) (s : ℕ) (o : OutboundValue) → HasShape c
+    → HasShape (stepped c s o)
 shape-stepped c s o h =
-    let lengths : length (stepped c s o).peers ≡ length c.peers = length-set c.peers (current c) (with_outbound (peer c) s o) in
+    let lengths : length (stepped c s o).peers ≡ length c.peers =
+    length-set c.peers (current c) (with_outbound (peer c) s o) in
     record {
       place = h.place;
-      within = λ place within. subst (λ (n : ℕ). terminal_of_entry c place < n) (sym lengths) (h.within place within);
+      within =
+          λ place within. subst (λ (n : ℕ). terminal_of_entry c place < n) (sym lengths)
+          (h.within place within);
       lengths =
           λ t within.
           same_lengths c (current c) s o t ∙ h.lengths t (subst (λ (n : ℕ). t < n) lengths within)
-          ∙ sym (same_at (λ (p : PeerValue). length p.terminal.selects) c.peers (current c) t (with_outbound (peer c) s o) no_peer refl);
+          ∙ sym (same_at (λ (p : PeerValue). length p.terminal.selects) c.peers (current c) t
+          (with_outbound (peer c) s o) no_peer refl);
     }
 
 -- a bid to selection address s changes nothing of the addresses above it
-next-stepped : (c : ControlValue) (s : ℕ) (o : OutboundValue) (after : After) → (after ≡ Selection s) ⊎ (after ≡ Interruption) → next_call (stepped c s o) after ≡ next_call c after
+next-stepped : (c : ControlValue) (s : ℕ) (o : OutboundValue) (after : After)
+    → (after ≡ Selection s) ⊎ (after ≡ Interruption) → next_call (stepped c s o) after
+    ≡ next_call c after
 next-stepped c s o after (inl e) =
     let above : drop (s + 1) (peer (stepped c s o)).outbounds ≡ drop (s + 1) (peer c).outbounds =
-    same_at (λ (p : PeerValue). drop (s + 1) p.outbounds) c.peers (current c) (current c) (with_outbound (peer c) s o) no_peer (drop-set-lt (s + 1) (peer c).outbounds s o (omega arith)) in
+    same_at (λ (p : PeerValue). drop (s + 1) p.outbounds) c.peers (current c) (current c)
+    (with_outbound (peer c) s o) no_peer
+    (drop-set-lt (s + 1) (peer c).outbounds s o (omega arith)) in
     let same : next_call (stepped c s o) (Selection s) ≡ next_call c (Selection s) =
-    ap (λ (os : List OutboundValue). record { place = c.place; way = way_at (s + 1) (position is_selectable os) }) above in
+    ap (λ (os : List OutboundValue). record {
+      place = c.place;
+      way =
+          way_at (s + 1) (position is_selectable os);
+    }) above in
     subst (λ (x : After). next_call (stepped c s o) x ≡ next_call c x) (sym e) same
-next-stepped c s o after (inr e) = subst (λ (x : After). next_call (stepped c s o) x ≡ next_call c x) (sym e) refl
+next-stepped c s o after (inr e) =
+    subst (λ (x : After). next_call (stepped c s o) x ≡ next_call c x) (sym e) refl
 
 -- a call after a bid is the next one
-calls-perform_step : (c : ControlValue) (s : ℕ) (o : OutboundValue) (act : Act) (after : After) (address : List ℕ) → OthersRest c s → OutboundKeeps (outbound_of c (current c) s) o → LeavesPhase act o.sender.phase
+calls-perform_step : (c : ControlValue) (s : ℕ) (o : OutboundValue) (act : Act) (after : After)
+    (address : List ℕ) → OthersRest c s → OutboundKeeps (outbound_of c (current c) s) o
+    → LeavesPhase act o.sender.phase
     → (after ≡ Selection s) ⊎ (after ≡ Interruption)
-    → (perform_step (stepped c s o) s act after).sent ≡ Some (m.Call address) → IsCalled (perform_step (stepped c s o) s act after).control (next_call c after) address
+    → (perform_step (stepped c s o) s act after).sent ≡ Some (m.Call address)
+    → IsCalled (perform_step (stepped c s o) s act after).control (next_call c after) address
 calls-perform_step c s o (a.Send text) after address h keeps phase which sent = absurd (cc)
 calls-perform_step c s o a.Enq after address h keeps phase which sent = absurd (cc)
 calls-perform_step c s o a.Over after address h keeps phase which sent =
-    subst (λ (call : Call). IsCalled (next_call_step (stepped c s o) after).control call address) (next-stepped c s o after which)
-    (next_is_called (stepped c s o) after address (shape-stepped c s o (shape c h.entries)) (calm-stepped c s o h keeps phase) sent)
+    subst (λ (call : Call). IsCalled (next_call_step (stepped c s o) after).control call address)
+    (next-stepped c s o after which)
+    (next_is_called (stepped c s o) after address (shape-stepped c s o (shape c h.entries))
+    (calm-stepped c s o h keeps phase) sent)
 calls-perform_step c s o a.Quiet after address h keeps phase which sent = absurd (cc)
 
-pub calls-bid_step : (c : ControlValue) (s : ℕ) (step : SenderStep) (after : After) (address : List ℕ) → OthersRest c s
-    → StepKeeps (outbound_of c (current c) s).sender (outbound_of c (current c) s).queue step → (after ≡ Selection s) ⊎ (after ≡ Interruption)
-    → (bid_step c s step after).sent ≡ Some (m.Call address) → IsCalled (bid_step c s step after).control (next_call c after) address
+pub calls-bid_step : (c : ControlValue) (s : ℕ) (step : SenderStep) (after : After)
+    (address : List ℕ) → OthersRest c s
+    → StepKeeps (outbound_of c (current c) s).sender (outbound_of c (current c) s).queue step
+    → (after ≡ Selection s) ⊎ (after ≡ Interruption)
+    → (bid_step c s step after).sent ≡ Some (m.Call address)
+    → IsCalled (bid_step c s step after).control (next_call c after) address
 calls-bid_step c s step after address h keeps which sent =
-    calls-perform_step c s (outbound_after step) step.act after address h (outbound_keeps (outbound_of c (current c) s) step keeps) keeps.phase which sent
+    calls-perform_step c s (outbound_after step) step.act after address h
+    (outbound_keeps (outbound_of c (current c) s) step keeps) keeps.phase which sent

@@ -1,5 +1,7 @@
 -- What a call keeps, and that it is the next one.
-use Rattle.std.proofs.Common.{◌≡◌, ◌≢◌, ℕ, zero, suc, ◌+◌, ◌≤◌, ◌<◌, Bool, true, false, not, nat_eq, List, length, drop, get_or, set, Option, option_map, None, Some, refl, sym, ◌∙◌, ap, subst, arith, length-drop, if◌then◌else◌}
+use Rattle.std.proofs.Common.{◌≡◌, ◌≢◌, ℕ, zero, suc, ◌+◌, ◌≤◌, ◌<◌, Bool, true, false, not, nat_eq}
+use Rattle.std.proofs.Common.{List, length, drop, get_or, set, Option, option_map, None, Some, refl}
+use Rattle.std.proofs.Common.{sym, ◌∙◌, ap, subst, arith, length-drop, if◌then◌else◌}
 use Rattle.std.proofs.lemmas.List.{length-set, get_or-drop}
 use Rattle.std.proofs.lemmas.List.Quantifiers.{position-Some}
 use Rattle.std.proofs.lemmas.Bool.{eqb-false}
@@ -18,11 +20,16 @@ use Rattle.bsc_control.specs.declared.task.Task.{Task}
 use Rattle.bsc_control.specs.declared.task.Task.TheVariants.{Selecting, Polling}
 use Rattle.bsc_control.specs.declared.way.Way.{Way}
 use Rattle.bsc_control.specs.declared.way.Way.TheVariants.{FromTerminal, ToTerminal}
-use Rattle.bsc_control.specs.CallOrder.{After, Start, Selection, Interruption, Poll, way_at, way_from, next_place, next_call}
-use Rattle.bsc_control.specs.Control.{ControlValue, HasEntries, terminals, peer_at, current, terminal_of_entry, with_peer}
-use Rattle.bsc_control.specs.Kept.{IsSelected, outbound_of, phase_of, HasSettings, IsOrderly, Keeps, IsCalled}
-use Rattle.bsc_control.specs.Peer.{OutboundValue, PeerValue, no_outbound, no_peer, outbound_at, is_selectable}
-use Rattle.bsc_control.specs.Table.{poll_call_step, selection_call_step, select_address, way_call_step, next_call_step}
+use Rattle.bsc_control.specs.CallOrder.{After, Start, Selection, Interruption, Poll, way_at}
+use Rattle.bsc_control.specs.CallOrder.{way_from, next_place, next_call}
+use Rattle.bsc_control.specs.Control.{ControlValue, HasEntries, terminals, peer_at, current}
+use Rattle.bsc_control.specs.Control.{terminal_of_entry, with_peer}
+use Rattle.bsc_control.specs.Kept.{IsSelected, outbound_of, phase_of, HasSettings, IsOrderly, Keeps}
+use Rattle.bsc_control.specs.Kept.{IsCalled}
+use Rattle.bsc_control.specs.Peer.{OutboundValue, PeerValue, no_outbound, no_peer, outbound_at}
+use Rattle.bsc_control.specs.Peer.{is_selectable}
+use Rattle.bsc_control.specs.Table.{poll_call_step, selection_call_step, select_address}
+use Rattle.bsc_control.specs.Table.{way_call_step, next_call_step}
 use Rattle.bsc_control.proofs.PeerLists.{same_at, same_map, value_at}
 
 -- no bid goes on
@@ -36,19 +43,24 @@ pub record KeepsSpools (old new : ControlValue) : Type 0 where
   pub orderly : IsOrderly new
   pub spools : (t : ℕ) → (peer_at new t).spool ≡ (peer_at old t).spool
 
--- one terminal's part is replaced by one with the same addresses and outbounds, and the station's place, task
+-- one terminal's part is replaced by one with the same addresses and outbounds, and the station's
+-- place, task
 -- and counters change
 abbrev pub moved : ControlValue → ℕ → PeerValue → ℕ → Task → ℕ → ℕ → ControlValue
-moved c t p place task failures wacks = record (with_peer c t p) { place = place; task = task; failures = failures; wacks = wacks }
+moved c t p place task failures wacks =
+    record (with_peer c t p) { place = place; task = task; failures = failures; wacks = wacks }
 
 pub record IsSamePeer (c : ControlValue) (t : ℕ) (p : PeerValue) : Type 0 where
   pub terminal : p.terminal ≡ (peer_at c t).terminal
   pub outbounds : p.outbounds ≡ (peer_at c t).outbounds
 
-pub same_outbounds : (c : ControlValue) (t : ℕ) (p : PeerValue) → IsSamePeer c t p → (j : ℕ) → (get_or (set c.peers t p) j no_peer).outbounds ≡ (peer_at c j).outbounds
-same_outbounds c t p same j = same_at (λ (x : PeerValue). x.outbounds) c.peers t j p no_peer same.outbounds
+pub same_outbounds : (c : ControlValue) (t : ℕ) (p : PeerValue) → IsSamePeer c t p → (j : ℕ)
+    → (get_or (set c.peers t p) j no_peer).outbounds ≡ (peer_at c j).outbounds
+same_outbounds c t p same j =
+    same_at (λ (x : PeerValue). x.outbounds) c.peers t j p no_peer same.outbounds
 
-pub keeps-moved : (c : ControlValue) (t : ℕ) (p : PeerValue) (place : ℕ) (task : Task) (failures wacks : ℕ) → IsSamePeer c t p → Keeps c (moved c t p place task failures wacks)
+pub keeps-moved : (c : ControlValue) (t : ℕ) (p : PeerValue) (place : ℕ) (task : Task)
+    (failures wacks : ℕ) → IsSamePeer c t p → Keeps c (moved c t p place task failures wacks)
 keeps-moved c t p place task failures wacks same =
     record {
       setup = refl;
@@ -56,25 +68,37 @@ keeps-moved c t p place task failures wacks same =
       terminals = same_map (λ (x : PeerValue). x.terminal) c.peers t p no_peer same.terminal;
       peers = length-set c.peers t p;
       outbounds = λ j. ap length (same_outbounds c t p same j);
-      offered = λ j s. ap (λ (os : List OutboundValue). (get_or os s no_outbound).queue.offered) (same_outbounds c t p same j);
+      offered =
+          λ j s. ap (λ (os : List OutboundValue). (get_or os s no_outbound).queue.offered)
+          (same_outbounds c t p same j);
     }
 
-pub rests-moved : (c : ControlValue) (t : ℕ) (p : PeerValue) → IsSamePeer c t p → (j s : ℕ) → IsAtRest (phase_of c j s) → IsAtRest (get_or (get_or (set c.peers t p) j no_peer).outbounds s no_outbound).sender.phase
-rests-moved c t p same j s h = subst (λ (os : List OutboundValue). IsAtRest (get_or os s no_outbound).sender.phase) (sym (same_outbounds c t p same j)) h
+pub rests-moved : (c : ControlValue) (t : ℕ) (p : PeerValue) → IsSamePeer c t p → (j s : ℕ)
+    → IsAtRest (phase_of c j s)
+    → IsAtRest (get_or (get_or (set c.peers t p) j no_peer).outbounds s no_outbound).sender.phase
+rests-moved c t p same j s h =
+    subst (λ (os : List OutboundValue). IsAtRest (get_or os s no_outbound).sender.phase)
+    (sym (same_outbounds c t p same j)) h
 
-pub settings-moved : (c : ControlValue) (t : ℕ) (p : PeerValue) (place : ℕ) (task : Task) (failures wacks : ℕ) → IsSamePeer c t p
+pub settings-moved : (c : ControlValue) (t : ℕ) (p : PeerValue) (place : ℕ) (task : Task)
+    (failures wacks : ℕ) → IsSamePeer c t p
     → ((j s : ℕ) → s < length (peer_at c j).outbounds → HasSettings c (outbound_of c j s))
-    → (j s : ℕ) → s < length (peer_at (moved c t p place task failures wacks) j).outbounds → HasSettings (moved c t p place task failures wacks) (outbound_of (moved c t p place task failures wacks) j s)
+    → (j s : ℕ) → s < length (peer_at (moved c t p place task failures wacks) j).outbounds
+    → HasSettings (moved c t p place task failures wacks)
+    (outbound_of (moved c t p place task failures wacks) j s)
 settings-moved c t p place task failures wacks same h j s there =
     let e = same_outbounds c t p same j in
-    let k : HasSettings c (outbound_of c j s) = h j s (subst (λ (os : List OutboundValue). s < length os) e there) in
+    let k : HasSettings c (outbound_of c j s) =
+    h j s (subst (λ (os : List OutboundValue). s < length os) e there) in
     record {
       setup = ap (λ (os : List OutboundValue). (get_or os s no_outbound).sender.setup) e ∙ k.setup;
-      format = ap (λ (os : List OutboundValue). (get_or os s no_outbound).queue.format) e ∙ k.format;
+      format = ap (λ (os : List OutboundValue). (get_or os s no_outbound).queue.format) e
+          ∙ k.format;
     }
 
 -- a polling address is called
-pub keeps_spools-poll_call_step : (c : ControlValue) (place failures : ℕ) → IsCalm c → KeepsSpools c (poll_call_step c place failures).control
+pub keeps_spools-poll_call_step : (c : ControlValue) (place failures : ℕ) → IsCalm c
+    → KeepsSpools c (poll_call_step c place failures).control
 keeps_spools-poll_call_step c place failures calm =
     let t : ℕ = terminal_of_entry c place in
     let p : PeerValue = record (peer_at c t) { receiver = new_receiver true } in
@@ -91,16 +115,23 @@ keeps_spools-poll_call_step c place failures calm =
     }
 
 -- IsSelected depends only on the outbounds
-selected_in : (p q : PeerValue) (s : ℕ) → q.outbounds ≡ p.outbounds → IsSelected p s → IsSelected q s
+selected_in : (p q : PeerValue) (s : ℕ) → q.outbounds ≡ p.outbounds → IsSelected p s
+    → IsSelected q s
 selected_in p q s e h =
     record {
       there = subst (λ (os : List OutboundValue). s < length os) (sym e) h.there;
-      idle = subst (λ (os : List OutboundValue). (get_or os s no_outbound).sender.phase ≡ Idle) (sym e) h.idle;
-      some = subst (λ (os : List OutboundValue). 1 ≤ length (waiting (get_or os s no_outbound).queue)) (sym e) h.some;
+      idle =
+          subst (λ (os : List OutboundValue). (get_or os s no_outbound).sender.phase ≡ Idle) (sym e)
+          h.idle;
+      some =
+          subst (λ (os : List OutboundValue). 1 ≤ length (waiting (get_or os s no_outbound).queue))
+          (sym e) h.some;
     }
 
 -- a selection address is called for which records wait
-pub keeps_spools-selection_call_step : (c : ControlValue) (place s : ℕ) → IsCalm c → IsSelected (peer_at c (terminal_of_entry c place)) s → KeepsSpools c (selection_call_step c place s).control
+pub keeps_spools-selection_call_step : (c : ControlValue) (place s : ℕ) → IsCalm c
+    → IsSelected (peer_at c (terminal_of_entry c place)) s
+    → KeepsSpools c (selection_call_step c place s).control
 keeps_spools-selection_call_step c place s calm selected =
     let t : ℕ = terminal_of_entry c place in
     let p : PeerValue = record (peer_at c t) { urgent = false } in
@@ -109,7 +140,9 @@ keeps_spools-selection_call_step c place s calm selected =
       keeps = keeps-moved c t p place (Selecting s false) 0 0 same;
       orderly =
           record {
-            suits = selected_in (peer_at c t) (get_or (set c.peers t p) t no_peer) s (same_outbounds c t p same t) selected;
+            suits =
+                selected_in (peer_at c t) (get_or (set c.peers t p) t no_peer) s
+                (same_outbounds c t p same t) selected;
             rests = λ j k unused. rests-moved c t p same j k (calm.rests j k);
             settings = settings-moved c t p place (Selecting s false) 0 0 same calm.settings;
           };
@@ -121,56 +154,87 @@ some_wait : (n : ℕ) → not (nat_eq n 0) ≡ true → 1 ≤ n
 some_wait zero h = absurd (cc)
 some_wait (suc n) h = omega arith
 
-idle_selectable : (o : OutboundValue) (phase : Phase) → IsAtRest phase → (if is_in_doubt phase then false else not (nat_eq (length (waiting o.queue)) 0)) ≡ true → (phase ≡ Idle) × (1 ≤ length (waiting o.queue))
+idle_selectable : (o : OutboundValue) (phase : Phase) → IsAtRest phase
+    → (if is_in_doubt phase then false else not (nat_eq (length (waiting o.queue)) 0)) ≡ true
+    → (phase ≡ Idle) × (1 ≤ length (waiting o.queue))
 idle_selectable o Idle rests h = (refl, some_wait (length (waiting o.queue)) h)
 idle_selectable o (InDoubt count) rests h = absurd (cc)
 idle_selectable o (Unanswered b) rests h = absurd rests
 idle_selectable o (Held end alternation) rests h = absurd rests
 
-selected_place : (p : PeerValue) (from i : ℕ) → ((s : ℕ) → IsAtRest (outbound_at p s).sender.phase) → position is_selectable (drop from p.outbounds) ≡ Some i → IsSelected p (from + i)
+selected_place : (p : PeerValue) (from i : ℕ) → ((s : ℕ) → IsAtRest (outbound_at p s).sender.phase)
+    → position is_selectable (drop from p.outbounds) ≡ Some i → IsSelected p (from + i)
 selected_place p from i rests h =
     let found = position-Some is_selectable (drop from p.outbounds) i no_outbound h in
-    let e : get_or (drop from p.outbounds) i no_outbound ≡ outbound_at p (from + i) = get_or-drop from p.outbounds i no_outbound in
+    let e : get_or (drop from p.outbounds) i no_outbound ≡ outbound_at p (from + i) =
+    get_or-drop from p.outbounds i no_outbound in
     let o : OutboundValue = outbound_at p (from + i) in
-    let w : is_selectable o ≡ true = subst (λ (x : OutboundValue). is_selectable x ≡ true) e found.1 in
+    let w : is_selectable o ≡ true =
+    subst (λ (x : OutboundValue). is_selectable x ≡ true) e found.1 in
     let idle = idle_selectable o o.sender.phase (rests (from + i)) w in
-    record { there = omega (arith, found.0, length-drop from p.outbounds); idle = idle.0; some = idle.1 }
+    record {
+      there = omega (arith, found.0, length-drop from p.outbounds);
+      idle = idle.0;
+      some =
+          idle.1;
+    }
 
-selected_way : (p : PeerValue) (from s : ℕ) (found : Option ℕ) → ((s : ℕ) → IsAtRest (outbound_at p s).sender.phase) → position is_selectable (drop from p.outbounds) ≡ found → way_at from found ≡ ToTerminal s → IsSelected p s
+selected_way : (p : PeerValue) (from s : ℕ) (found : Option ℕ)
+    → ((s : ℕ) → IsAtRest (outbound_at p s).sender.phase)
+    → position is_selectable (drop from p.outbounds) ≡ found → way_at from found ≡ ToTerminal s
+    → IsSelected p s
 selected_way p from s None rests e h = absurd (cc)
 selected_way p from s (Some i) rests e h =
     let at : from + i ≡ s = cc in
     subst (λ (k : ℕ). IsSelected p k) at (selected_place p from i rests e)
 
 -- a call by a way that is the polling address or an address for which records wait
-keeps_spools-way_call_step : (c : ControlValue) (place : ℕ) (way : Way) → IsCalm c → ((s : ℕ) → way ≡ ToTerminal s → IsSelected (peer_at c (terminal_of_entry c place)) s) → KeepsSpools c (way_call_step c place way).control
-keeps_spools-way_call_step c place FromTerminal calm selected = keeps_spools-poll_call_step c place 0 calm
-keeps_spools-way_call_step c place (ToTerminal s) calm selected = keeps_spools-selection_call_step c place s calm (selected s refl)
+keeps_spools-way_call_step : (c : ControlValue) (place : ℕ) (way : Way) → IsCalm c
+    → ((s : ℕ) → way ≡ ToTerminal s → IsSelected (peer_at c (terminal_of_entry c place)) s)
+    → KeepsSpools c (way_call_step c place way).control
+keeps_spools-way_call_step c place FromTerminal calm selected =
+    keeps_spools-poll_call_step c place 0 calm
+keeps_spools-way_call_step c place (ToTerminal s) calm selected =
+    keeps_spools-selection_call_step c place s calm (selected s refl)
 
-selected-from : (c : ControlValue) (t from : ℕ) → IsCalm c → (s : ℕ) → way_from (peer_at c t) from ≡ ToTerminal s → IsSelected (peer_at c t) s
-selected-from c t from calm s h = selected_way (peer_at c t) from s (position is_selectable (drop from (peer_at c t).outbounds)) (calm.rests t) refl h
+selected-from : (c : ControlValue) (t from : ℕ) → IsCalm c → (s : ℕ) → way_from (peer_at c t) from
+    ≡ ToTerminal s → IsSelected (peer_at c t) s
+selected-from c t from calm s h =
+    selected_way (peer_at c t) from s (position is_selectable (drop from (peer_at c t).outbounds))
+    (calm.rests t) refl h
 
--- whatever it comes after, the way of the next call is the polling address or one for which records wait
-pub next-selected : (c : ControlValue) (after : After) → IsCalm c → (s : ℕ) → (next_call c after).way ≡ ToTerminal s → IsSelected (peer_at c (terminal_of_entry c (next_call c after).place)) s
+-- whatever it comes after, the way of the next call is the polling address or one for which records
+-- wait
+pub next-selected : (c : ControlValue) (after : After) → IsCalm c → (s : ℕ)
+    → (next_call c after).way ≡ ToTerminal s
+    → IsSelected (peer_at c (terminal_of_entry c (next_call c after).place)) s
 next-selected c Start calm s h = selected-from c (current c) 0 calm s h
 next-selected c (Selection k) calm s h = selected-from c (current c) (k + 1) calm s h
 next-selected c Interruption calm s h = absurd (cc)
 next-selected c (Poll true) calm s h = selected-from c (current c) 0 calm s h
-next-selected c (Poll false) calm s h = selected-from c (terminal_of_entry c (next_place c)) 0 calm s h
+next-selected c (Poll false) calm s h =
+    selected-from c (terminal_of_entry c (next_place c)) 0 calm s h
 
-pub keeps_spools-next_call_step : (c : ControlValue) (after : After) → IsCalm c → KeepsSpools c (next_call_step c after).control
-keeps_spools-next_call_step c after calm = keeps_spools-way_call_step c (next_call c after).place (next_call c after).way calm (next-selected c after calm)
+pub keeps_spools-next_call_step : (c : ControlValue) (after : After) → IsCalm c
+    → KeepsSpools c (next_call_step c after).control
+keeps_spools-next_call_step c after calm =
+    keeps_spools-way_call_step c (next_call c after).place (next_call c after).way calm
+    (next-selected c after calm)
 
-within_if : (b : Bool) (place n : ℕ) → place < n → nat_eq (place + 1) n ≡ b → (if b then 0 else place + 1) < n
+within_if : (b : Bool) (place n : ℕ) → place < n → nat_eq (place + 1) n ≡ b
+    → (if b then 0 else place + 1) < n
 within_if true place n within e = omega arith
 within_if false place n within e = let ne : place + 1 ≢ n = eqb-false (place + 1) n e in omega arith
 
 -- the entry after the present one is an entry
-pub next_place_within : (c : ControlValue) → c.place < length c.poll_list → next_place c < length c.poll_list
-next_place_within c within = within_if (nat_eq (c.place + 1) (length c.poll_list)) c.place (length c.poll_list) within refl
+pub next_place_within : (c : ControlValue) → c.place < length c.poll_list → next_place c
+    < length c.poll_list
+next_place_within c within =
+    within_if (nat_eq (c.place + 1) (length c.poll_list)) c.place (length c.poll_list) within refl
 
 -- the place of the next call is an entry
-pub next_call_within : (c : ControlValue) (after : After) → c.place < length c.poll_list → (next_call c after).place < length c.poll_list
+pub next_call_within : (c : ControlValue) (after : After) → c.place < length c.poll_list
+    → (next_call c after).place < length c.poll_list
 next_call_within c Start within = within
 next_call_within c (Selection s) within = within
 next_call_within c Interruption within = within
@@ -178,28 +242,41 @@ next_call_within c (Poll true) within = within
 next_call_within c (Poll false) within = next_place_within c within
 
 -- an entry names a terminal
-pub entry_within : (c : ControlValue) (place : ℕ) → HasEntries c → place < length c.poll_list → terminal_of_entry c place < length c.peers
+pub entry_within : (c : ControlValue) (place : ℕ) → HasEntries c → place < length c.poll_list
+    → terminal_of_entry c place < length c.peers
 entry_within c place h within = h.entries place 0 within
 
-pub terminal_there : (c : ControlValue) (t : ℕ) → t < length c.peers → slice_get (terminals c) t ≡ Some (peer_at c t).terminal
-terminal_there c t within = slice_get-map (λ (x : PeerValue). x.terminal) c.peers t ∙ ap (option_map (λ (x : PeerValue). x.terminal)) (slice_get-get_or c.peers t no_peer within)
+pub terminal_there : (c : ControlValue) (t : ℕ) → t < length c.peers → slice_get (terminals c) t
+    ≡ Some (peer_at c t).terminal
+terminal_there c t within = slice_get-map (λ (x : PeerValue). x.terminal) c.peers t
+    ∙ ap (option_map (λ (x : PeerValue). x.terminal)) (slice_get-get_or c.peers t no_peer within)
 
-pub selects_there : (t : TerminalValue) (s : ℕ) → s < length t.selects → slice_get t.selects s ≡ Some (select_address t s)
+pub selects_there : (t : TerminalValue) (s : ℕ) → s < length t.selects → slice_get t.selects s
+    ≡ Some (select_address t s)
 selects_there t s within = slice_get-get_or t.selects s t.poll within
 
 -- each entry names a terminal, and each selection address of a terminal has its outbound
 pub record HasShape (c : ControlValue) : Type 0 where
   pub place : c.place < length c.poll_list
   pub within : (place : ℕ) → place < length c.poll_list → terminal_of_entry c place < length c.peers
-  pub lengths : (t : ℕ) → t < length c.peers → length (peer_at c t).outbounds ≡ length (peer_at c t).terminal.selects
+  pub lengths : (t : ℕ) → t < length c.peers → length (peer_at c t).outbounds
+      ≡ length (peer_at c t).terminal.selects
 
 pub shape : (c : ControlValue) → HasEntries c → HasShape c
-shape c h = record { place = h.place; within = λ place within. entry_within c place h within; lengths = λ t within. (h.peers t no_peer within).outbounds }
+shape c h =
+    record {
+      place = h.place;
+      within = λ place within. entry_within c place h within;
+      lengths =
+          λ t within. (h.peers t no_peer within).outbounds;
+    }
 
 -- a call calls the address that it names
-pub calls_it : (c : ControlValue) (place : ℕ) (way : Way) (address : List ℕ) → HasShape c → place < length c.poll_list
+pub calls_it : (c : ControlValue) (place : ℕ) (way : Way) (address : List ℕ) → HasShape c → place
+    < length c.poll_list
     → ((s : ℕ) → way ≡ ToTerminal s → IsSelected (peer_at c (terminal_of_entry c place)) s)
-    → (way_call_step c place way).sent ≡ Some (m.Call address) → IsCalled (way_call_step c place way).control (record { place = place; way = way }) address
+    → (way_call_step c place way).sent ≡ Some (m.Call address)
+    → IsCalled (way_call_step c place way).control (record { place = place; way = way }) address
 calls_it c place FromTerminal address shaped within selected sent =
     let t : ℕ = terminal_of_entry c place in
     let p : PeerValue = record (peer_at c t) { receiver = new_receiver true } in
@@ -208,7 +285,9 @@ calls_it c place FromTerminal address shaped within selected sent =
       called =
           record {
             terminal = (peer_at c t).terminal;
-            there = rw (same_map (λ (x : PeerValue). x.terminal) c.peers t p no_peer refl) (terminal_there c t (shaped.within place within));
+            there =
+                rw (same_map (λ (x : PeerValue). x.terminal) c.peers t p no_peer refl)
+                (terminal_there c t (shaped.within place within));
             its_own = cc;
           };
       task = refl;
@@ -219,14 +298,19 @@ calls_it c place (ToTerminal s) address shaped within selected sent =
     let t : ℕ = terminal_of_entry c place in
     let p : PeerValue = record (peer_at c t) { urgent = false } in
     let outbound : s < length (peer_at c t).outbounds = (selected s refl).there in
-    let select : s < length (peer_at c t).terminal.selects = subst (λ (n : ℕ). s < n) (shaped.lengths t (shaped.within place within)) outbound in
-    let own : slice_get (peer_at c t).terminal.selects s ≡ Some (select_address (peer_at c t).terminal s) = selects_there (peer_at c t).terminal s select in
+    let select : s < length (peer_at c t).terminal.selects =
+    subst (λ (n : ℕ). s < n) (shaped.lengths t (shaped.within place within)) outbound in
+    let own : slice_get (peer_at c t).terminal.selects s
+    ≡ Some (select_address (peer_at c t).terminal s) =
+    selects_there (peer_at c t).terminal s select in
     record {
       place = refl;
       called =
           record {
             terminal = (peer_at c t).terminal;
-            there = rw (same_map (λ (x : PeerValue). x.terminal) c.peers t p no_peer refl) (terminal_there c t (shaped.within place within));
+            there =
+                rw (same_map (λ (x : PeerValue). x.terminal) c.peers t p no_peer refl)
+                (terminal_there c t (shaped.within place within));
             its_own = cc;
           };
       task = refl;
@@ -235,6 +319,9 @@ calls_it c place (ToTerminal s) address shaped within selected sent =
     }
 
 -- the next call calls the address that it names
-pub next_is_called : (c : ControlValue) (after : After) (address : List ℕ) → HasShape c → IsCalm c → (next_call_step c after).sent ≡ Some (m.Call address) → IsCalled (next_call_step c after).control (next_call c after) address
+pub next_is_called : (c : ControlValue) (after : After) (address : List ℕ) → HasShape c → IsCalm c
+    → (next_call_step c after).sent ≡ Some (m.Call address)
+    → IsCalled (next_call_step c after).control (next_call c after) address
 next_is_called c after address shaped calm sent =
-    calls_it c (next_call c after).place (next_call c after).way address shaped (next_call_within c after shaped.place) (next-selected c after calm) sent
+    calls_it c (next_call c after).place (next_call c after).way address shaped
+    (next_call_within c after shaped.place) (next-selected c after calm) sent

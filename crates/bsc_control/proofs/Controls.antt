@@ -1,5 +1,6 @@
 -- A control station stays one.
-use Rattle.std.proofs.Common.{◌≡◌, ℕ, ◌+◌, ◌≤◌, ◌<◌, ◌==◌, ◌||◌, true, List, [], ◌∷◌, ◌++◌, length, drop, Option, refl, sym, subst, arith, length-drop, length-append}
+use Rattle.std.proofs.Common.{◌≡◌, ℕ, ◌+◌, ◌≤◌, ◌<◌, ◌==◌, ◌||◌, true, List, [], ◌∷◌, ◌++◌, length}
+use Rattle.std.proofs.Common.{drop, Option, refl, sym, subst, arith, length-drop, length-append}
 use Rattle.std.proofs.lemmas.List.{length-set}
 use Rattle.bsc_frame.specs.declared.message.Message.{Message}
 use Rattle.bsc_frame.specs.declared.message.Heard.{Heard}
@@ -15,8 +16,10 @@ use Rattle.bsc_control.specs.declared.way.Way.{Way}
 use Rattle.bsc_control.specs.declared.way.Way.TheVariants.{FromTerminal, ToTerminal}
 use Rattle.bsc_control.specs.Addresses.{AreDistinct}
 use Rattle.bsc_control.specs.Control.{ControlValue, HasEntries, terminals, peer_at, with_peer}
-use Rattle.bsc_control.specs.Kept.{IsOrderly, IsControl, Keeps, AfterHearing, AfterSilence, outbound_of}
-use Rattle.bsc_control.specs.Peer.{OutboundValue, PeerValue, IsOutbound, IsPeer, no_peer, with_outbound, offered, outbound_released}
+use Rattle.bsc_control.specs.Kept.{IsOrderly, IsControl, Keeps, AfterHearing, AfterSilence}
+use Rattle.bsc_control.specs.Kept.{outbound_of}
+use Rattle.bsc_control.specs.Peer.{OutboundValue, PeerValue, IsOutbound, IsPeer, no_peer}
+use Rattle.bsc_control.specs.Peer.{with_outbound, offered, outbound_released}
 use Rattle.bsc_control.specs.Table.{Hears, ActsOnSilence}
 use Rattle.bsc_control.specs.Ways.{IsSelection, select_of}
 use Rattle.bsc_control.proofs.Noise.{noise_changes_nothing}
@@ -32,7 +35,8 @@ pub record KeepsSetup (old new : ControlValue) : Type 0 where
   pub terminals : terminals new ≡ terminals old
   pub peers : length new.peers ≡ length old.peers
 
-pub still_control : (old new : ControlValue) → IsControl old → KeepsSetup old new → HasEntries new → IsOrderly new → IsControl new
+pub still_control : (old new : ControlValue) → IsControl old → KeepsSetup old new → HasEntries new
+    → IsOrderly new → IsControl new
 still_control old new h keeps entries orderly =
     record {
       some = subst (λ (n : ℕ). 1 ≤ n) (sym keeps.peers) h.some;
@@ -47,21 +51,27 @@ setup_kept : (old new : ControlValue) → Keeps old new → KeepsSetup old new
 setup_kept old new k = record { poll_list = k.poll_list; terminals = k.terminals; peers = k.peers }
 
 -- what a control station is once it has heard a transmission
-pub after_hearing_is : (old : ControlValue) (h : Heard) (new : ControlValue) (sent : Option Message) → IsControl old → HasEntries new → Hears old h new sent → AfterHearing old h new sent
+pub after_hearing_is : (old : ControlValue) (h : Heard) (new : ControlValue) (sent : Option Message)
+    → IsControl old → HasEntries new → Hears old h new sent → AfterHearing old h new sent
 after_hearing_is old h new sent is entries heard =
-    let well : HearingKeeps old h (record { control = new; sent = sent }) = hearing_keeps old h new sent is.entries is.orderly heard in
+    let well : HearingKeeps old h (record { control = new; sent = sent }) =
+    hearing_keeps old h new sent is.entries is.orderly heard in
     record {
       control = still_control old new is (setup_kept old new well.keeps) entries well.orderly;
       keeps = well.keeps;
       calls = well.calls;
       spools = well.spools;
-      noise = λ e. noise_changes_nothing old new sent (subst (λ (x : Heard). Hears old x new sent) e heard);
+      noise =
+          λ e. noise_changes_nothing old new sent
+          (subst (λ (x : Heard). Hears old x new sent) e heard);
     }
 
 -- and after a silence
-pub after_silence_is : (old new : ControlValue) (sent : Option Message) → IsControl old → HasEntries new → ActsOnSilence old new sent → AfterSilence old new sent
+pub after_silence_is : (old new : ControlValue) (sent : Option Message) → IsControl old
+    → HasEntries new → ActsOnSilence old new sent → AfterSilence old new sent
 after_silence_is old new sent is entries row =
-    let well : SilenceKeeps old (record { control = new; sent = sent }) = silence_keeps old new sent is.entries is.orderly row in
+    let well : SilenceKeeps old (record { control = new; sent = sent }) =
+    silence_keeps old new sent is.entries is.orderly row in
     record {
       control = still_control old new is (setup_kept old new well.keeps) entries well.orderly;
       keeps = well.keeps;
@@ -69,18 +79,37 @@ after_silence_is old new sent is entries row =
       spools = well.spools;
     }
 
-pub keeps_setup-with_peer : (c : ControlValue) (t : ℕ) (p : PeerValue) → p.terminal ≡ (peer_at c t).terminal → KeepsSetup c (with_peer c t p)
+pub keeps_setup-with_peer : (c : ControlValue) (t : ℕ) (p : PeerValue) → p.terminal
+    ≡ (peer_at c t).terminal → KeepsSetup c (with_peer c t p)
 keeps_setup-with_peer c t p same =
-    record { poll_list = refl; terminals = same_map (λ (x : PeerValue). x.terminal) c.peers t p no_peer same; peers = length-set c.peers t p }
+    record {
+      poll_list = refl;
+      terminals =
+          same_map (λ (x : PeerValue). x.terminal) c.peers t p no_peer same;
+      peers =
+          length-set c.peers t p;
+    }
 
 -- an outbound is replaced by one that follows it
-control-replaced : (c : ControlValue) (t s : ℕ) (o : OutboundValue) → IsControl c → t < length c.peers → s < length (peer_at c t).outbounds → o.sender.setup ≡ (outbound_of c t s).sender.setup → o.queue.format ≡ (outbound_of c t s).queue.format
+control-replaced : (c : ControlValue) (t s : ℕ) (o : OutboundValue) → IsControl c → t
+    < length c.peers → s < length (peer_at c t).outbounds → o.sender.setup
+    ≡ (outbound_of c t s).sender.setup → o.queue.format ≡ (outbound_of c t s).queue.format
     → Follows (outbound_of c t s) o → HasEntries (replaced c t s o) → IsControl (replaced c t s o)
 control-replaced c t s o h within there setup format follows entries =
-    still_control c (replaced c t s o) h (keeps_setup-with_peer c t (with_outbound (peer_at c t) s o) refl) entries (orderly-replaced c t s o within there setup format follows h.orderly)
+    still_control c (replaced c t s o) h
+    (keeps_setup-with_peer c t (with_outbound (peer_at c t) s o) refl) entries
+    (orderly-replaced c t s o within there setup format follows h.orderly)
 
-more_wait : (q : QueueValue) (r : List ℕ) → 1 ≤ length (waiting q) → 1 ≤ length (drop q.known (q.offered ++ r ∷ []))
-more_wait q r h = omega (arith, h, length-drop q.known q.offered, length-drop q.known (q.offered ++ r ∷ []), length-append q.offered (r ∷ []))
+more_wait : (q : QueueValue) (r : List ℕ) → 1 ≤ length (waiting q) → 1
+    ≤ length (drop q.known (q.offered ++ r ∷ []))
+more_wait q r h =
+    omega (
+      arith,
+      h,
+      length-drop q.known q.offered,
+      length-drop q.known (q.offered ++ r ∷ []),
+      length-append q.offered (r ∷ []),
+    )
 
 -- the settings and the format stay, and the task finds what it found
 pub record KeepsOutbound (o x : OutboundValue) : Type 0 where
@@ -89,7 +118,13 @@ pub record KeepsOutbound (o x : OutboundValue) : Type 0 where
   pub follows : Follows o x
 
 unchanged : (o : OutboundValue) → KeepsOutbound o o
-unchanged o = record { setup = refl; format = refl; follows = record { rests = λ x. x; goes = λ x. x; idle = λ x. x; some = λ e x. x } }
+unchanged o =
+    record {
+      setup = refl;
+      format = refl;
+      follows =
+          record { rests = λ x. x; goes = λ x. x; idle = λ x. x; some = λ e x. x };
+    }
 
 -- a record is offered
 keeps_outbound-offered : (o : OutboundValue) (r : List ℕ) → KeepsOutbound o (offered o r)
@@ -97,18 +132,28 @@ keeps_outbound-offered o r =
     record {
       setup = refl;
       format = refl;
-      follows = record { rests = λ x. x; goes = λ x. x; idle = λ x. x; some = λ e x. more_wait o.queue r x };
+      follows =
+          record {
+            rests = λ x. x;
+            goes = λ x. x;
+            idle = λ x. x;
+            some =
+                λ e x. more_wait o.queue r x;
+          };
     }
 
-pub keeps_outbound-offer : {E : Type 0} (answer : Result (Unit {0}) E) (o x : OutboundValue) (r : List ℕ) → OnOk answer (x ≡ offered o r) → OnErr answer (x ≡ o) → KeepsOutbound o x
-keeps_outbound-offer (Ok u) o x r ok err = subst (KeepsOutbound o) (sym ok) (keeps_outbound-offered o r)
+pub keeps_outbound-offer : {E : Type 0} (answer : Result (Unit {0}) E) (o x : OutboundValue)
+    (r : List ℕ) → OnOk answer (x ≡ offered o r) → OnErr answer (x ≡ o) → KeepsOutbound o x
+keeps_outbound-offer (Ok u) o x r ok err =
+    subst (KeepsOutbound o) (sym ok) (keeps_outbound-offered o r)
 keeps_outbound-offer (Err e) o x r ok err = subst (KeepsOutbound o) (sym err) (unchanged o)
 
 -- a release changes only an outbound in doubt
 abbrev pub after_release : ReleaseStep → OutboundValue
 after_release step = record { sender = step.sender; queue = step.queue }
 
-release-in : (o : OutboundValue) (phase : Phase) (count : ℕ) → o.sender.phase ≡ phase → KeepsOutbound o (after_release (release_in o.sender o.queue phase count))
+release-in : (o : OutboundValue) (phase : Phase) (count : ℕ) → o.sender.phase ≡ phase
+    → KeepsOutbound o (after_release (release_in o.sender o.queue phase count))
 release-in o Idle count e = unchanged o
 release-in o (Unanswered b) count e = unchanged o
 release-in o (Held end alternation) count e = unchanged o
@@ -128,8 +173,10 @@ release-in o (InDoubt k) count e =
     })
     (unchanged o)
 
-pub keeps_outbound-release : (o x : OutboundValue) (count : ℕ) → x ≡ outbound_released o count → KeepsOutbound o x
-keeps_outbound-release o x count e = subst (KeepsOutbound o) (sym e) (release-in o o.sender.phase count refl)
+pub keeps_outbound-release : (o x : OutboundValue) (count : ℕ) → x ≡ outbound_released o count
+    → KeepsOutbound o x
+keeps_outbound-release o x count e =
+    subst (KeepsOutbound o) (sym e) (release-in o o.sender.phase count refl)
 
 -- what a call on one terminal leaves: still a control station, with the same addresses
 pub record StaysControl (old new : ControlValue) : Type 0 where
@@ -137,21 +184,36 @@ pub record StaysControl (old new : ControlValue) : Type 0 where
   pub same : terminals new ≡ terminals old
 
 -- the urgent flag of a terminal is set
-pub stays-set_urgent : (c : ControlValue) (t : ℕ) → IsControl c → t < length c.peers → StaysControl c (with_peer c t (record (peer_at c t) { urgent = true }))
+pub stays-set_urgent : (c : ControlValue) (t : ℕ) → IsControl c → t < length c.peers
+    → StaysControl c (with_peer c t (record (peer_at c t) { urgent = true }))
 stays-set_urgent c t h within =
     let p : PeerValue = record (peer_at c t) { urgent = true } in
     let was : IsPeer (peer_at c t) = h.entries.peers t no_peer within in
     let keeps : KeepsSetup c (with_peer c t p) = keeps_setup-with_peer c t p refl in
-    let entries : HasEntries (with_peer c t p) = entries-with_peer c t p (record { terminal = was.terminal; outbounds = was.outbounds; ready = was.ready }) h.entries in
-    record { control = still_control c (with_peer c t p) h keeps entries (orderly-flags c t p refl refl h.orderly); same = keeps.terminals }
+    let entries : HasEntries (with_peer c t p) =
+    entries-with_peer c t p (record {
+      terminal = was.terminal;
+      outbounds = was.outbounds;
+      ready = was.ready;
+    }) h.entries in
+    record {
+      control =
+          still_control c (with_peer c t p) h keeps entries (orderly-flags c t p refl refl h.orderly);
+      same = keeps.terminals;
+    }
 
 -- what is sent to a selection address is replaced
-pub stays-replaced : (c : ControlValue) (t s : ℕ) (x : OutboundValue) → IsControl c → t < length c.peers → s < length (peer_at c t).outbounds → IsOutbound x → KeepsOutbound (outbound_of c t s) x → StaysControl c (replaced c t s x)
+pub stays-replaced : (c : ControlValue) (t s : ℕ) (x : OutboundValue) → IsControl c → t
+    < length c.peers → s < length (peer_at c t).outbounds → IsOutbound x
+    → KeepsOutbound (outbound_of c t s) x → StaysControl c (replaced c t s x)
 stays-replaced c t s x h within there ready keeps =
     let p : PeerValue = with_outbound (peer_at c t) s x in
-    let entries : HasEntries (replaced c t s x) = entries-with_peer c t p (peer-with_outbound (peer_at c t) s x ready (h.entries.peers t no_peer within)) h.entries in
+    let entries : HasEntries (replaced c t s x) =
+    entries-with_peer c t p (peer-with_outbound (peer_at c t) s x ready
+    (h.entries.peers t no_peer within)) h.entries in
     record {
-      control = control-replaced c t s x h within there keeps.setup keeps.format keeps.follows entries;
+      control =
+          control-replaced c t s x h within there keeps.setup keeps.format keeps.follows entries;
       same = (keeps_setup-with_peer c t p refl).terminals;
     }
 

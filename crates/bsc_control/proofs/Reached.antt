@@ -7,7 +7,8 @@ use Rattle.bsc_control.specs.Control.{ControlValue, peer_at, with_peer}
 use Rattle.bsc_control.specs.Kept.{IsControl, outbound_of}
 use Rattle.bsc_control.specs.Peer.{OutboundValue, PeerValue, IsOutbound, no_outbound, no_peer}
 use Rattle.bsc_control.specs.Peer.{outbound_at, with_outbound}
-use Rattle.bsc_control.proofs.Controls.{KeepsOutbound, StaysControl, stays-set_urgent, stays-replaced}
+use Rattle.bsc_control.proofs.Controls.{KeepsOutbound, StaysControl, stays-set_urgent}
+use Rattle.bsc_control.proofs.Controls.{stays-replaced}
 use Rattle.bsc_control.proofs.Replacing.{replaced}
 
 -- the station c has the fields d, and what it keeps for this terminal has the fields p
@@ -30,10 +31,11 @@ peer_reached {c} {d} {t} {p} {q} station within fields read =
     }
 
 -- and what is sent to this selection address is o
-pub record IsReached (c d : ControlValue) (t s : ℕ) (p : PeerValue) (o : OutboundValue) : Type 0 where
-  pub reached : IsPeerReached c d t p
-  pub there : s < length (peer_at c t).outbounds
-  pub outbound : o ≡ outbound_of c t s
+pub record IsReached (c d : ControlValue) (t s : ℕ) (p : PeerValue) (o : OutboundValue) : Type 0
+  where
+    pub reached : IsPeerReached c d t p
+    pub there : s < length (peer_at c t).outbounds
+    pub outbound : o ≡ outbound_of c t s
 
 pub outbound_reached : {c d : ControlValue} {t s : ℕ} {p : PeerValue} {o : OutboundValue}
     → IsPeerReached c d t p → s < length (peer_at c t).outbounds
@@ -60,7 +62,8 @@ pub stays-flag : {c d : ControlValue} {t : ℕ} {p : PeerValue} → IsControl c
     → IsPeerReached c d t p → StaysControl c (with_peer d t (record p { urgent = true }))
 stays-flag {c} {d} {t} {p} h reached =
     let was : PeerValue = peer_at c t in
-    let same : with_peer d t (record p { urgent = true }) ≡ with_peer c t (record was { urgent = true }) =
+    let same : with_peer d t (record p { urgent = true })
+    ≡ with_peer c t (record was { urgent = true }) =
     ap (λ (y : PeerValue). with_peer d t (record y { urgent = true })) reached.peer
     ∙ ap (λ (y : ControlValue). with_peer y t (record was { urgent = true })) reached.station in
     subst (StaysControl c) (sym same) (stays-set_urgent c t h reached.within)
@@ -82,7 +85,8 @@ same_replaced c t s =
     (set-get_or (peer_at c t).outbounds s no_outbound)
     ∙ ap (λ ps. record c { peers = ps }) (set-get_or c.peers t no_peer)
 
-pub unchanged-reached : {E : Type 0} {c d : ControlValue} {t s : ℕ} {p : PeerValue} {o : OutboundValue}
+pub unchanged-reached : {E : Type 0} {c d : ControlValue} {t s : ℕ} {p : PeerValue}
+    {o : OutboundValue}
     (answer : Result (Unit {0}) E) (x : OutboundValue) → IsReached c d t s p o
     → OnErr answer (x ≡ o) → OnErr answer (with_peer d t (with_outbound p s x) ≡ c)
 unchanged-reached (Ok u) x reached err = err

@@ -1,5 +1,6 @@
 -- What stays where the sender and the queue of one selection address are replaced.
-use Rattle.std.proofs.Common.{◌≡◌, ℕ, ◌≤◌, ◌<◌, List, length, get_or, refl, sym, ◌∙◌, ap, subst, arith}
+use Rattle.std.proofs.Common.{◌≡◌, ℕ, ◌≤◌, ◌<◌, List, length, get_or, refl, sym, ◌∙◌, ap, subst}
+use Rattle.std.proofs.Common.{arith}
 use Rattle.std.proofs.lemmas.List.{length-set}
 use Rattle.bsc_spool.specs.Queue.{waiting}
 use Rattle.bsc_text.specs.declared.phase.Phase.TheVariants.{Idle}
@@ -9,7 +10,8 @@ use Rattle.bsc_control.specs.declared.task.Task.{Task}
 use Rattle.bsc_control.specs.declared.task.Task.TheVariants.{AtRest, Selecting, Sending, Polling}
 use Rattle.bsc_control.specs.Control.{ControlValue, peer_at, peer, current, with_peer}
 use Rattle.bsc_control.specs.Kept.{SuitsTask, outbound_of, HasSettings, IsOrderly}
-use Rattle.bsc_control.specs.Peer.{OutboundValue, PeerValue, no_outbound, no_peer, outbound_at, with_outbound}
+use Rattle.bsc_control.specs.Peer.{OutboundValue, PeerValue, no_outbound, no_peer, outbound_at}
+use Rattle.bsc_control.specs.Peer.{with_outbound}
 use Rattle.bsc_control.proofs.PeerLists.{same_at, holds_at}
 
 -- the station once the sender to a selection address of a terminal, and its queue, are these
@@ -17,18 +19,27 @@ abbrev pub replaced : ControlValue → ℕ → ℕ → OutboundValue → Control
 replaced c t s o = with_peer c t (with_outbound (peer_at c t) s o)
 
 -- what is read of an outbound stays everywhere where it stays at the one that is replaced
-pub same_of : {B : Type 0} (f : OutboundValue → B) (c : ControlValue) (t s : ℕ) (o : OutboundValue) → f o ≡ f (outbound_of c t s) → (j k : ℕ) → f (outbound_of (replaced c t s o) j k) ≡ f (outbound_of c j k)
+pub same_of : {B : Type 0} (f : OutboundValue → B) (c : ControlValue) (t s : ℕ) (o : OutboundValue)
+    → f o ≡ f (outbound_of c t s) → (j k : ℕ) → f (outbound_of (replaced c t s o) j k)
+    ≡ f (outbound_of c j k)
 same_of f c t s o same j k =
-    same_at (λ (p : PeerValue). f (outbound_at p k)) c.peers t j (with_outbound (peer_at c t) s o) no_peer (same_at f (peer_at c t).outbounds s k o no_outbound same)
+    same_at (λ (p : PeerValue). f (outbound_at p k)) c.peers t j (with_outbound (peer_at c t) s o)
+    no_peer (same_at f (peer_at c t).outbounds s k o no_outbound same)
 
-pub same_lengths : (c : ControlValue) (t s : ℕ) (o : OutboundValue) (j : ℕ) → length (peer_at (replaced c t s o) j).outbounds ≡ length (peer_at c j).outbounds
-same_lengths c t s o j = same_at (λ (p : PeerValue). length p.outbounds) c.peers t j (with_outbound (peer_at c t) s o) no_peer (length-set (peer_at c t).outbounds s o)
+pub same_lengths : (c : ControlValue) (t s : ℕ) (o : OutboundValue) (j : ℕ)
+    → length (peer_at (replaced c t s o) j).outbounds ≡ length (peer_at c j).outbounds
+same_lengths c t s o j =
+    same_at (λ (p : PeerValue). length p.outbounds) c.peers t j (with_outbound (peer_at c t) s o)
+    no_peer (length-set (peer_at c t).outbounds s o)
 
-pub settings-replaced : (c : ControlValue) (t s : ℕ) (o : OutboundValue) → o.sender.setup ≡ (outbound_of c t s).sender.setup → o.queue.format ≡ (outbound_of c t s).queue.format
+pub settings-replaced : (c : ControlValue) (t s : ℕ) (o : OutboundValue) → o.sender.setup
+    ≡ (outbound_of c t s).sender.setup → o.queue.format ≡ (outbound_of c t s).queue.format
     → ((j k : ℕ) → k < length (peer_at c j).outbounds → HasSettings c (outbound_of c j k))
-    → (j k : ℕ) → k < length (peer_at (replaced c t s o) j).outbounds → HasSettings (replaced c t s o) (outbound_of (replaced c t s o) j k)
+    → (j k : ℕ) → k < length (peer_at (replaced c t s o) j).outbounds
+    → HasSettings (replaced c t s o) (outbound_of (replaced c t s o) j k)
 settings-replaced c t s o setup format h j k there =
-    let was : HasSettings c (outbound_of c j k) = h j k (subst (λ (n : ℕ). k < n) (same_lengths c t s o j) there) in
+    let was : HasSettings c (outbound_of c j k) =
+    h j k (subst (λ (n : ℕ). k < n) (same_lengths c t s o j) there) in
     record {
       setup = same_of (λ (x : OutboundValue). x.sender.setup) c t s o setup j k ∙ was.setup;
       format = same_of (λ (x : OutboundValue). x.queue.format) c t s o format j k ∙ was.format;
@@ -44,16 +55,22 @@ pub record Follows (o x : OutboundValue) : Type 0 where
 follows_same : (o : OutboundValue) → Follows o o
 follows_same o = record { rests = λ h. h; goes = λ h. h; idle = λ h. h; some = λ e h. h }
 
-follows_everywhere : (c : ControlValue) (t s : ℕ) (o : OutboundValue) → t < length c.peers → s < length (peer_at c t).outbounds → Follows (outbound_of c t s) o
+follows_everywhere : (c : ControlValue) (t s : ℕ) (o : OutboundValue) → t < length c.peers → s
+    < length (peer_at c t).outbounds → Follows (outbound_of c t s) o
     → (j k : ℕ) → Follows (outbound_of c j k) (outbound_of (replaced c t s o) j k)
 follows_everywhere c t s o within there follows j k =
-    holds_at (λ (i : ℕ) (p : PeerValue). (n : ℕ) → Follows (outbound_of c i n) (outbound_at p n)) c.peers t (with_outbound (peer_at c t) s o) no_peer
-    (holds_at (λ (n : ℕ) (x : OutboundValue). Follows (outbound_of c t n) x) (peer_at c t).outbounds s o no_outbound follows (λ le. absurd (omega (arith, le, there))) (λ n ne. follows_same (outbound_of c t n)))
+    holds_at (λ (i : ℕ) (p : PeerValue). (n : ℕ) → Follows (outbound_of c i n) (outbound_at p n))
+    c.peers t (with_outbound (peer_at c t) s o) no_peer
+    (holds_at (λ (n : ℕ) (x : OutboundValue). Follows (outbound_of c t n) x) (peer_at c t).outbounds
+    s o no_outbound follows (λ le. absurd (omega (arith, le, there)))
+    (λ n ne. follows_same (outbound_of c t n)))
     (λ le. absurd (omega (arith, le, within)))
     (λ i ne n. follows_same (outbound_of c i n))
     j k
 
-suits_following : (task : Task) (p q : PeerValue) → q.receiver ≡ p.receiver → length q.outbounds ≡ length p.outbounds → ((k : ℕ) → Follows (outbound_at p k) (outbound_at q k)) → SuitsTask task p → SuitsTask task q
+suits_following : (task : Task) (p q : PeerValue) → q.receiver ≡ p.receiver → length q.outbounds
+    ≡ length p.outbounds → ((k : ℕ) → Follows (outbound_at p k) (outbound_at q k))
+    → SuitsTask task p → SuitsTask task q
 suits_following AtRest p q receiver lengths follows suits = tt
 suits_following (Selecting s enquired) p q receiver lengths follows suits =
     record {
@@ -62,20 +79,27 @@ suits_following (Selecting s enquired) p q receiver lengths follows suits =
       some = (follows s).some suits.idle suits.some;
     }
 suits_following (Sending s) p q receiver lengths follows suits =
-    record { there = subst (λ (n : ℕ). s < n) (sym lengths) suits.there; going = (follows s).goes suits.going }
+    record {
+      there = subst (λ (n : ℕ). s < n) (sym lengths) suits.there;
+      going =
+          (follows s).goes suits.going;
+    }
 suits_following (Polling Nothing) p q receiver lengths follows suits = receiver ∙ suits
 suits_following (Polling WithoutRvi) p q receiver lengths follows suits = tt
 suits_following (Polling WithRvi) p q receiver lengths follows suits = tt
 
 -- the station stays in order where one outbound is replaced by one that follows it
-pub orderly-replaced : (c : ControlValue) (t s : ℕ) (o : OutboundValue) → t < length c.peers → s < length (peer_at c t).outbounds → o.sender.setup ≡ (outbound_of c t s).sender.setup → o.queue.format ≡ (outbound_of c t s).queue.format
+pub orderly-replaced : (c : ControlValue) (t s : ℕ) (o : OutboundValue) → t < length c.peers → s
+    < length (peer_at c t).outbounds → o.sender.setup ≡ (outbound_of c t s).sender.setup
+    → o.queue.format ≡ (outbound_of c t s).queue.format
     → Follows (outbound_of c t s) o → IsOrderly c → IsOrderly (replaced c t s o)
 orderly-replaced c t s o within there setup format follows h =
     let all = follows_everywhere c t s o within there follows in
     record {
       suits =
           suits_following c.task (peer c) (peer (replaced c t s o))
-          (same_at (λ (p : PeerValue). p.receiver) c.peers t (current c) (with_outbound (peer_at c t) s o) no_peer refl)
+          (same_at (λ (p : PeerValue). p.receiver) c.peers t (current c)
+          (with_outbound (peer_at c t) s o) no_peer refl)
           (same_lengths c t s o (current c))
           (all (current c))
           h.suits;
@@ -84,10 +108,14 @@ orderly-replaced c t s o within there setup format follows h =
     }
 
 -- and where only flags of a terminal change
-pub orderly-flags : (c : ControlValue) (t : ℕ) (p : PeerValue) → p.receiver ≡ (peer_at c t).receiver → p.outbounds ≡ (peer_at c t).outbounds → IsOrderly c → IsOrderly (with_peer c t p)
+pub orderly-flags : (c : ControlValue) (t : ℕ) (p : PeerValue) → p.receiver ≡ (peer_at c t).receiver
+    → p.outbounds ≡ (peer_at c t).outbounds → IsOrderly c → IsOrderly (with_peer c t p)
 orderly-flags c t p receiver outbounds h =
-    let same = λ (j : ℕ). same_at (λ (x : PeerValue). x.outbounds) c.peers t j p no_peer outbounds in
-    let follows = λ (j k : ℕ). subst (λ (os : List OutboundValue). Follows (outbound_of c j k) (get_or os k no_outbound)) (sym (same j)) (follows_same (outbound_of c j k)) in
+    let same =
+    λ (j : ℕ). same_at (λ (x : PeerValue). x.outbounds) c.peers t j p no_peer outbounds in
+    let follows =
+    λ (j k : ℕ). subst (λ (os : List OutboundValue). Follows (outbound_of c j k)
+    (get_or os k no_outbound)) (sym (same j)) (follows_same (outbound_of c j k)) in
     record {
       suits =
           suits_following c.task (peer c) (peer (with_peer c t p))
@@ -97,9 +125,14 @@ orderly-flags c t p receiver outbounds h =
           h.suits;
       rests = λ j k unused. (follows j k).rests (h.rests j k unused);
       settings = λ j k there.
-          let was : HasSettings c (outbound_of c j k) = h.settings j k (subst (λ (os : List OutboundValue). k < length os) (same j) there) in
+          let was : HasSettings c (outbound_of c j k) =
+          h.settings j k (subst (λ (os : List OutboundValue). k < length os) (same j) there) in
           record {
-            setup = ap (λ (os : List OutboundValue). (get_or os k no_outbound).sender.setup) (same j) ∙ was.setup;
-            format = ap (λ (os : List OutboundValue). (get_or os k no_outbound).queue.format) (same j) ∙ was.format;
+            setup =
+                ap (λ (os : List OutboundValue). (get_or os k no_outbound).sender.setup) (same j)
+                ∙ was.setup;
+            format =
+                ap (λ (os : List OutboundValue). (get_or os k no_outbound).queue.format) (same j)
+                ∙ was.format;
           };
     }

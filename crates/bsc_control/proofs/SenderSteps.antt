@@ -56,7 +56,8 @@ pub no_quiet-begin_step : (s : SenderValue) (q : QueueValue) → (begin_step s q
 no_quiet-begin_step s q = no_quiet-sent_next s q Odd (next_block q)
 
 pub keeps-begin_step : (s : SenderValue) (q : QueueValue) → StepKeeps s q (begin_step s q)
-keeps-begin_step s q = step_keeps s q (begin_step s q) (keeps_begin s q) (begins s q Odd (next_block q))
+keeps-begin_step s q =
+    step_keeps s q (begin_step s q) (keeps_begin s q) (begins s q Odd (next_block q))
 
 pub keeps-reply_step : (s : SenderValue) (q : QueueValue) (r : Option Reply) → IsGoing s.phase
     → StepKeeps s q (reply_step s q r)

@@ -1,5 +1,7 @@
 -- What each row of the table keeps.
-use Rattle.std.proofs.Common.{◌≡◌, ◌⊎◌, inl, inr, ℕ, ◌+◌, ◌<◌, nat_lt, Bool, true, false, List, length, get_or, set, Option, option_map, None, Some, refl, sym, ◌∙◌, ap, subst, arith, if◌then◌else◌}
+use Rattle.std.proofs.Common.{◌≡◌, ◌⊎◌, inl, inr, ℕ, ◌+◌, ◌<◌, nat_lt, Bool, true, false, List}
+use Rattle.std.proofs.Common.{length, get_or, set, Option, option_map, None, Some, refl, sym, ◌∙◌}
+use Rattle.std.proofs.Common.{ap, subst, arith, if◌then◌else◌}
 use Rattle.bsc_frame.specs.declared.message.Message.{Message}
 use Rattle.bsc_frame.specs.declared.message.Message.TheVariants as m
 use Rattle.bsc_frame.specs.declared.message.Heard.{Heard}
@@ -18,40 +20,64 @@ use Rattle.std.specs.List.{slice_get}
 use Rattle.bsc_control.specs.declared.way.Way.TheVariants.{ToTerminal}
 use Rattle.bsc_control.specs.Addresses.{IsAddressOf}
 use Rattle.bsc_control.specs.CallOrder.{After, Start, Selection, Interruption, Poll, next_call}
-use Rattle.bsc_control.specs.Control.{ControlValue, ControlStep, HasEntries, terminals, peer_at, peer, current, quiet, sends}
-use Rattle.bsc_control.specs.Kept.{SuitsTask, IsSelected, IsInBid, outbound_of, IsOrderly, Keeps, IsCalled, IsRepeated, GrowsByText, after_hearing, after_silence, way_of}
+use Rattle.bsc_control.specs.Control.{ControlValue, ControlStep, HasEntries, terminals, peer_at}
+use Rattle.bsc_control.specs.Control.{peer, current, quiet, sends}
+use Rattle.bsc_control.specs.Kept.{SuitsTask, IsSelected, IsInBid, outbound_of, IsOrderly, Keeps}
+use Rattle.bsc_control.specs.Kept.{IsCalled, IsRepeated, GrowsByText, after_hearing, after_silence}
+use Rattle.bsc_control.specs.Kept.{way_of}
 use Rattle.bsc_control.specs.Peer.{PeerValue, no_peer}
-use Rattle.bsc_control.specs.Table.{poll_call_step, next_call_step, bid_step, after_bid, selecting_step, receiving_step, replied_after, has_rvi, polling_step, task_step, repeated, silence_in, rooms_after, Hears, ActsOnSilence, select_address}
+use Rattle.bsc_control.specs.Table.{poll_call_step, next_call_step, bid_step, after_bid}
+use Rattle.bsc_control.specs.Table.{selecting_step, receiving_step, replied_after, has_rvi}
+use Rattle.bsc_control.specs.Table.{polling_step, task_step, repeated, silence_in, rooms_after}
+use Rattle.bsc_control.specs.Table.{Hears, ActsOnSilence, select_address}
 use Rattle.bsc_control.proofs.Bids.{OthersRest, keeps_spools-bid_step, calls-bid_step}
-use Rattle.bsc_control.proofs.Calls.{IsCalm, KeepsSpools, IsSamePeer, shape, entry_within, keeps-moved, rests-moved, settings-moved, keeps_spools-poll_call_step, keeps_spools-next_call_step, next_is_called, terminal_there, selects_there}
+use Rattle.bsc_control.proofs.Calls.{IsCalm, KeepsSpools, IsSamePeer, shape, entry_within}
+use Rattle.bsc_control.proofs.Calls.{keeps-moved, rests-moved, settings-moved}
+use Rattle.bsc_control.proofs.Calls.{keeps_spools-poll_call_step, keeps_spools-next_call_step}
+use Rattle.bsc_control.proofs.Calls.{next_is_called, terminal_there, selects_there}
 use Rattle.bsc_control.proofs.PeerLists.{same_map, value_at, holds_at}
 use Rattle.bsc_text.proofs.ReceiverSteps.{TakesText, Grows, grows-heard_step, silent-heard_step}
 use Rattle.bsc_text.proofs.Choice.{choose}
-use Rattle.bsc_control.proofs.SenderSteps.{StepKeeps, keeps-begin_step, no_quiet-begin_step, keeps-reply_step, keeps-silence_step}
+use Rattle.bsc_control.proofs.SenderSteps.{StepKeeps, keeps-begin_step, no_quiet-begin_step}
+use Rattle.bsc_control.proofs.SenderSteps.{keeps-reply_step, keeps-silence_step}
 
 -- what a transmission that is heard leaves
 pub record HearingKeeps (old : ControlValue) (h : Heard) (step : ControlStep) : Type 0 where
   pub keeps : Keeps old step.control
   pub orderly : IsOrderly step.control
-  pub spools : (t : ℕ) → GrowsByText old h t (peer_at old t).spool.records (peer_at step.control t).spool.records
-  pub calls : (address : List ℕ) → step.sent ≡ Some (m.Call address) → IsCalled step.control (next_call old (after_hearing old.task h)) address
+  pub spools : (t : ℕ)
+      → GrowsByText old h t (peer_at old t).spool.records (peer_at step.control t).spool.records
+  pub calls : (address : List ℕ) → step.sent ≡ Some (m.Call address)
+      → IsCalled step.control (next_call old (after_hearing old.task h)) address
 
 -- what a silence leaves
 pub record SilenceKeeps (old : ControlValue) (step : ControlStep) : Type 0 where
   pub keeps : Keeps old step.control
   pub orderly : IsOrderly step.control
   pub spools : (t : ℕ) → (peer_at step.control t).spool ≡ (peer_at old t).spool
-  pub calls : (address : List ℕ) → step.sent ≡ Some (m.Call address) → IsCalled step.control (next_call old (after_silence old.task)) address ⊎ IsRepeated old step.control address
+  pub calls : (address : List ℕ) → step.sent ≡ Some (m.Call address)
+      → IsCalled step.control (next_call old (after_silence old.task)) address
+      ⊎ IsRepeated old step.control address
 
 keeps_same : (c : ControlValue) → Keeps c c
-keeps_same c = record { setup = refl; poll_list = refl; terminals = refl; peers = refl; outbounds = λ t. refl; offered = λ t s. refl }
+keeps_same c =
+    record {
+      setup = refl;
+      poll_list = refl;
+      terminals = refl;
+      peers = refl;
+      outbounds = λ t. refl;
+      offered = λ t s. refl;
+    }
 
 -- while it calls or polls no bid goes on
 calm_while : (c : ControlValue) → IsOrderly c → ((s : ℕ) → c.task ≡ Sending s → ⊥) → IsCalm c
-calm_while c h idle = record { rests = λ t s. h.rests t s (λ used. idle s used.1); settings = h.settings }
+calm_while c h idle =
+    record { rests = λ t s. h.rests t s (λ used. idle s used.1); settings = h.settings }
 
 -- while it sends only that bid goes on
-others_rest : (c : ControlValue) (s : ℕ) → HasEntries c → IsOrderly c → c.task ≡ Sending s → s < length (peer c).outbounds → OthersRest c s
+others_rest : (c : ControlValue) (s : ℕ) → HasEntries c → IsOrderly c → c.task ≡ Sending s → s
+    < length (peer c).outbounds → OthersRest c s
 others_rest c s entries h e there =
     record {
       entries = entries;
@@ -60,57 +86,114 @@ others_rest c s entries h e there =
       settings = h.settings;
     }
 
-all_rest : (c : ControlValue) (s : ℕ) → HasEntries c → IsCalm c → s < length (peer c).outbounds → OthersRest c s
-all_rest c s entries calm there = record { entries = entries; there = there; rests = λ t k other. calm.rests t k; settings = calm.settings }
+all_rest : (c : ControlValue) (s : ℕ) → HasEntries c → IsCalm c → s < length (peer c).outbounds
+    → OthersRest c s
+all_rest c s entries calm there =
+    record {
+      entries = entries;
+      there = there;
+      rests = λ t k other. calm.rests t k;
+      settings =
+          calm.settings;
+    }
 
 hears-quiet : (c : ControlValue) (h : Heard) → IsOrderly c → HearingKeeps c h (quiet c)
-hears-quiet c h o = record { keeps = keeps_same c; orderly = o; spools = λ t. inl refl; calls = λ address sent. absurd (cc) }
+hears-quiet c h o =
+    record {
+      keeps = keeps_same c;
+      orderly = o;
+      spools = λ t. inl refl;
+      calls =
+          λ address sent. absurd (cc);
+    }
 
 -- the next call is made
-hears-next : (c : ControlValue) (h : Heard) (after : After) → HasEntries c → IsCalm c → after_hearing c.task h ≡ after → HearingKeeps c h (next_call_step c after)
+hears-next : (c : ControlValue) (h : Heard) (after : After) → HasEntries c → IsCalm c
+    → after_hearing c.task h ≡ after → HearingKeeps c h (next_call_step c after)
 hears-next c h after entries calm e =
-    let f : KeepsSpools c (next_call_step c after).control = keeps_spools-next_call_step c after calm in
+    let f : KeepsSpools c (next_call_step c after).control =
+    keeps_spools-next_call_step c after calm in
     record {
       keeps = f.keeps;
       orderly = f.orderly;
       spools = λ t. inl (ap (λ x. x.records) (f.spools t));
-      calls = λ address sent. subst (λ (x : After). IsCalled (next_call_step c after).control (next_call c x) address) (sym e) (next_is_called c after address (shape c entries) calm sent);
+      calls =
+          λ address sent. subst (λ (x : After). IsCalled (next_call_step c after).control
+          (next_call c x) address) (sym e)
+          (next_is_called c after address (shape c entries) calm sent);
     }
 
-silent-next : (c : ControlValue) (after : After) → HasEntries c → IsCalm c → after_silence c.task ≡ after → SilenceKeeps c (next_call_step c after)
+silent-next : (c : ControlValue) (after : After) → HasEntries c → IsCalm c → after_silence c.task
+    ≡ after → SilenceKeeps c (next_call_step c after)
 silent-next c after entries calm e =
-    let f : KeepsSpools c (next_call_step c after).control = keeps_spools-next_call_step c after calm in
+    let f : KeepsSpools c (next_call_step c after).control =
+    keeps_spools-next_call_step c after calm in
     record {
       keeps = f.keeps;
       orderly = f.orderly;
       spools = f.spools;
-      calls = λ address sent. inl (subst (λ (x : After). IsCalled (next_call_step c after).control (next_call c x) address) (sym e) (next_is_called c after address (shape c entries) calm sent));
+      calls =
+          λ address sent. inl
+          (subst (λ (x : After). IsCalled (next_call_step c after).control (next_call c x)
+          address) (sym e) (next_is_called c after address (shape c entries) calm sent));
     }
 
 -- what the sender does
-hears-bid_step : (c : ControlValue) (h : Heard) (s : ℕ) (step : SenderStep) (after : After) → OthersRest c s → StepKeeps (outbound_of c (current c) s).sender (outbound_of c (current c) s).queue step
-    → (step.act ≡ a.Quiet → c.task ≡ Sending s) → (after ≡ Selection s) ⊎ (after ≡ Interruption) → after_hearing c.task h ≡ after → HearingKeeps c h (bid_step c s step after)
+hears-bid_step : (c : ControlValue) (h : Heard) (s : ℕ) (step : SenderStep) (after : After)
+    → OthersRest c s
+    → StepKeeps (outbound_of c (current c) s).sender (outbound_of c (current c) s).queue step
+    → (step.act ≡ a.Quiet → c.task ≡ Sending s) → (after ≡ Selection s) ⊎ (after ≡ Interruption)
+    → after_hearing c.task h ≡ after → HearingKeeps c h (bid_step c s step after)
 hears-bid_step c h s step after others keeps quiet which e =
-    let f : KeepsSpools c (bid_step c s step after).control = keeps_spools-bid_step c s step after others keeps quiet in
+    let f : KeepsSpools c (bid_step c s step after).control =
+    keeps_spools-bid_step c s step after others keeps quiet in
     record {
       keeps = f.keeps;
       orderly = f.orderly;
       spools = λ t. inl (ap (λ x. x.records) (f.spools t));
-      calls = λ address sent. subst (λ (x : After). IsCalled (bid_step c s step after).control (next_call c x) address) (sym e) (calls-bid_step c s step after address others keeps which sent);
+      calls =
+          λ address sent. subst (λ (x : After). IsCalled (bid_step c s step after).control
+          (next_call c x) address) (sym e)
+          (calls-bid_step c s step after address others keeps which sent);
     }
 
 -- a selection is answered
-hears-selecting : (c : ControlValue) (h : Heard) (s : ℕ) (r : Option Reply) → HasEntries c → IsOrderly c → IsCalm c → IsSelected (peer c) s → after_hearing c.task h ≡ Selection s → HearingKeeps c h (selecting_step c s r)
+hears-selecting : (c : ControlValue) (h : Heard) (s : ℕ) (r : Option Reply) → HasEntries c
+    → IsOrderly c → IsCalm c → IsSelected (peer c) s → after_hearing c.task h ≡ Selection s
+    → HearingKeeps c h (selecting_step c s r)
 hears-selecting c h s (Some Ack0) entries o calm selected e =
     let k = outbound_of c (current c) s in
-    hears-bid_step c h s (begin_step k.sender k.queue) (Selection s) (all_rest c s entries calm selected.there) (keeps-begin_step k.sender k.queue) (λ q. absurd (no_quiet-begin_step k.sender k.queue q)) (inl refl) e
-hears-selecting c h s (Some Nak) entries o calm selected e = hears-next c h (Selection s) entries calm e
+    hears-bid_step c h s (begin_step k.sender k.queue) (Selection s)
+    (all_rest c s entries calm selected.there) (keeps-begin_step k.sender k.queue)
+    (λ q. absurd (no_quiet-begin_step k.sender k.queue q)) (inl refl) e
+hears-selecting c h s (Some Nak) entries o calm selected e =
+    hears-next c h (Selection s) entries calm e
 hears-selecting c h s (Some Wack) entries o calm selected e =
-    choose (HearingKeeps c h) (nat_lt c.setup.waits (c.wacks + 1)) (next_call_step c (Selection s)) (sends (record c { task = Selecting s true; failures = 0; wacks = c.wacks + 1 }) m.Enq)
+    choose (HearingKeeps c h) (nat_lt c.setup.waits (c.wacks + 1)) (next_call_step c (Selection s))
+    (sends (record c { task = Selecting s true; failures = 0; wacks = c.wacks + 1 }) m.Enq)
     (hears-next c h (Selection s) entries calm e)
     (record {
-      keeps = record { setup = refl; poll_list = refl; terminals = refl; peers = refl; outbounds = λ t. refl; offered = λ t k. refl };
-      orderly = record { suits = selected; rests = λ t k unused. calm.rests t k; settings = λ t k there. record { setup = (calm.settings t k there).setup; format = (calm.settings t k there).format } };
+      keeps =
+          record {
+            setup = refl;
+            poll_list = refl;
+            terminals = refl;
+            peers = refl;
+            outbounds =
+                λ t. refl;
+            offered = λ t k. refl;
+          };
+      orderly =
+          record {
+            suits = selected;
+            rests = λ t k unused. calm.rests t k;
+            settings =
+                λ t k there. record {
+                  setup = (calm.settings t k there).setup;
+                  format =
+                      (calm.settings t k there).format;
+                };
+          };
       spools = λ t. inl refl;
       calls = λ address sent. absurd (cc);
     })
@@ -118,7 +201,8 @@ hears-selecting c h s (Some Ack1) entries o calm selected e = hears-quiet c h o
 hears-selecting c h s (Some Rvi) entries o calm selected e = hears-quiet c h o
 hears-selecting c h s None entries o calm selected e = hears-quiet c h o
 
-which_after_bid : (s : ℕ) (r : Option Reply) → (after_bid s r ≡ Selection s) ⊎ (after_bid s r ≡ Interruption)
+which_after_bid : (s : ℕ) (r : Option Reply) → (after_bid s r ≡ Selection s)
+    ⊎ (after_bid s r ≡ Interruption)
 which_after_bid s (Some Rvi) = inr refl
 which_after_bid s (Some Ack0) = inl refl
 which_after_bid s (Some Ack1) = inl refl
@@ -127,7 +211,8 @@ which_after_bid s (Some Wack) = inl refl
 which_after_bid s None = inl refl
 
 -- no reply is a call
-no_call : (r : Option Reply) (address : List ℕ) → option_map message_of r ≡ Some (m.Call address) → ⊥
+no_call : (r : Option Reply) (address : List ℕ) → option_map message_of r ≡ Some (m.Call address)
+    → ⊥
 no_call None address e = cc
 no_call (Some Ack0) address e = cc
 no_call (Some Ack1) address e = cc
@@ -136,8 +221,10 @@ no_call (Some Wack) address e = cc
 no_call (Some Rvi) address e = cc
 
 -- while nothing was replied in a poll the receiver is as new
-suits_after : (c : ControlValue) (p : PeerValue) (replied : Replied) (r : Option Reply) → (r ≡ None → p.receiver ≡ (peer c).receiver) → SuitsTask (Polling replied) (peer c)
-    → SuitsTask (Polling (replied_after replied r)) (get_or (set c.peers (current c) p) (current c) no_peer)
+suits_after : (c : ControlValue) (p : PeerValue) (replied : Replied) (r : Option Reply)
+    → (r ≡ None → p.receiver ≡ (peer c).receiver) → SuitsTask (Polling replied) (peer c)
+    → SuitsTask (Polling (replied_after replied r))
+    (get_or (set c.peers (current c) p) (current c) no_peer)
 suits_after c p Nothing None same suits =
     let is : p.receiver ≡ new_receiver true = same refl ∙ suits in
     value_at (λ (x : PeerValue). x.receiver) c.peers (current c) p no_peer (sym is) ∙ is
@@ -159,16 +246,34 @@ suits_after c p WithRvi (Some Nak) same suits = tt
 suits_after c p WithRvi (Some Wack) same suits = tt
 suits_after c p WithRvi (Some Rvi) same suits = tt
 
-stores : (c : ControlValue) (h : Heard) (replied : Replied) (old new : List (List ℕ)) → c.task ≡ Polling replied → (new ≡ old) ⊎ TakesText h old new → GrowsByText c h (current c) old new
+stores : (c : ControlValue) (h : Heard) (replied : Replied) (old new : List (List ℕ)) → c.task
+    ≡ Polling replied → (new ≡ old) ⊎ TakesText h old new → GrowsByText c h (current c) old new
 stores c h replied old new e (inl same) = inl same
-stores c h replied old new e (inr x) = inr (record { text = x.text; heard = x.heard; replied = replied; polling = e; polled = refl; becomes = x.becomes })
+stores c h replied old new e (inr x) =
+    inr (record {
+      text = x.text;
+      heard = x.heard;
+      replied = replied;
+      polling = e;
+      polled = refl;
+      becomes = x.becomes;
+    })
 
 -- the receiver replies
-hears-receiving_step : (c : ControlValue) (h : Heard) (replied : Replied) (step : ReceiverStep) → HasEntries c → IsOrderly c → IsCalm c → c.task ≡ Polling replied → SuitsTask (Polling replied) (peer c)
-    → Grows h (peer c).spool step → (step.reply ≡ None → step.receiver ≡ (peer c).receiver) → HearingKeeps c h (receiving_step c replied step)
+hears-receiving_step : (c : ControlValue) (h : Heard) (replied : Replied) (step : ReceiverStep)
+    → HasEntries c → IsOrderly c → IsCalm c → c.task ≡ Polling replied
+    → SuitsTask (Polling replied) (peer c)
+    → Grows h (peer c).spool step → (step.reply ≡ None → step.receiver ≡ (peer c).receiver)
+    → HearingKeeps c h (receiving_step c replied step)
 hears-receiving_step c h replied step entries o calm e suits grows silent =
     let t : ℕ = current c in
-    let p : PeerValue = record (peer c) { receiver = step.receiver; spool = step.spool; urgent = if sends_rvi step.reply then false else (peer c).urgent } in
+    let p : PeerValue =
+    record (peer c) {
+      receiver = step.receiver;
+      spool = step.spool;
+      urgent =
+          if sends_rvi step.reply then false else (peer c).urgent;
+    } in
     let same : IsSamePeer c t p = record { terminal = refl; outbounds = refl } in
     let task : Task = Polling (replied_after replied step.reply) in
     record {
@@ -180,65 +285,110 @@ hears-receiving_step c h replied step entries o calm e suits grows silent =
             settings = settings-moved c t p c.place task c.failures c.wacks same calm.settings;
           };
       spools =
-          holds_at (λ (j : ℕ) (x : PeerValue). GrowsByText c h j (peer_at c j).spool.records x.spool.records) c.peers t p no_peer
+          holds_at (λ (j : ℕ) (x : PeerValue). GrowsByText c h j (peer_at c j).spool.records
+          x.spool.records) c.peers t p no_peer
           (stores c h replied (peer c).spool.records step.spool.records e grows)
           (λ le. absurd (omega (arith, le, entry_within c c.place entries entries.place)))
           (λ j ne. inl refl);
       calls = λ address sent. absurd (no_call step.reply address sent);
     }
 
-hears-heard : (c : ControlValue) (h : Heard) (replied : Replied) (rooms : Rooms) → HasEntries c → IsOrderly c → IsCalm c → c.task ≡ Polling replied → SuitsTask (Polling replied) (peer c)
-    → HearingKeeps c h (receiving_step c replied (heard_step (peer c).receiver (peer c).spool h (peer c).urgent rooms))
+hears-heard : (c : ControlValue) (h : Heard) (replied : Replied) (rooms : Rooms) → HasEntries c
+    → IsOrderly c → IsCalm c → c.task ≡ Polling replied → SuitsTask (Polling replied) (peer c)
+    → HearingKeeps c h (receiving_step c replied
+    (heard_step (peer c).receiver (peer c).spool h (peer c).urgent rooms))
 hears-heard c h replied rooms entries o calm e suits =
-    hears-receiving_step c h replied (heard_step (peer c).receiver (peer c).spool h (peer c).urgent rooms) entries o calm e suits
+    hears-receiving_step c h replied (heard_step (peer c).receiver (peer c).spool h (peer c).urgent
+    rooms) entries o calm e suits
     (grows-heard_step (peer c).receiver (peer c).spool h (peer c).urgent rooms)
     (silent-heard_step (peer c).receiver (peer c).spool h (peer c).urgent rooms)
 
 -- a poll is answered
-hears-polling : (c : ControlValue) (h : Heard) (replied : Replied) (rooms : Rooms) → HasEntries c → IsOrderly c → IsCalm c → c.task ≡ Polling replied → SuitsTask (Polling replied) (peer c)
+hears-polling : (c : ControlValue) (h : Heard) (replied : Replied) (rooms : Rooms) → HasEntries c
+    → IsOrderly c → IsCalm c → c.task ≡ Polling replied → SuitsTask (Polling replied) (peer c)
     → HearingKeeps c h (polling_step c replied h rooms)
-hears-polling c (Whole m.Eot) replied rooms entries o calm e suits = hears-next c (Whole m.Eot) (Poll (has_rvi replied)) entries calm (ap (λ (task : Task). after_hearing task (Whole m.Eot)) e)
-hears-polling c Noise replied rooms entries o calm e suits = hears-heard c Noise replied rooms entries o calm e suits
-hears-polling c Failed replied rooms entries o calm e suits = hears-heard c Failed replied rooms entries o calm e suits
-hears-polling c (Whole (m.Call x)) replied rooms entries o calm e suits = hears-heard c (Whole (m.Call x)) replied rooms entries o calm e suits
-hears-polling c (Whole m.Enq) replied rooms entries o calm e suits = hears-heard c (Whole m.Enq) replied rooms entries o calm e suits
-hears-polling c (Whole m.Ack0) replied rooms entries o calm e suits = hears-heard c (Whole m.Ack0) replied rooms entries o calm e suits
-hears-polling c (Whole m.Ack1) replied rooms entries o calm e suits = hears-heard c (Whole m.Ack1) replied rooms entries o calm e suits
-hears-polling c (Whole m.Nak) replied rooms entries o calm e suits = hears-heard c (Whole m.Nak) replied rooms entries o calm e suits
-hears-polling c (Whole m.Wack) replied rooms entries o calm e suits = hears-heard c (Whole m.Wack) replied rooms entries o calm e suits
-hears-polling c (Whole m.Rvi) replied rooms entries o calm e suits = hears-heard c (Whole m.Rvi) replied rooms entries o calm e suits
-hears-polling c (Whole (m.Text x)) replied rooms entries o calm e suits = hears-heard c (Whole (m.Text x)) replied rooms entries o calm e suits
+hears-polling c (Whole m.Eot) replied rooms entries o calm e suits =
+    hears-next c (Whole m.Eot) (Poll (has_rvi replied)) entries calm
+    (ap (λ (task : Task). after_hearing task (Whole m.Eot)) e)
+hears-polling c Noise replied rooms entries o calm e suits =
+    hears-heard c Noise replied rooms entries o calm e suits
+hears-polling c Failed replied rooms entries o calm e suits =
+    hears-heard c Failed replied rooms entries o calm e suits
+hears-polling c (Whole (m.Call x)) replied rooms entries o calm e suits =
+    hears-heard c (Whole (m.Call x)) replied rooms entries o calm e suits
+hears-polling c (Whole m.Enq) replied rooms entries o calm e suits =
+    hears-heard c (Whole m.Enq) replied rooms entries o calm e suits
+hears-polling c (Whole m.Ack0) replied rooms entries o calm e suits =
+    hears-heard c (Whole m.Ack0) replied rooms entries o calm e suits
+hears-polling c (Whole m.Ack1) replied rooms entries o calm e suits =
+    hears-heard c (Whole m.Ack1) replied rooms entries o calm e suits
+hears-polling c (Whole m.Nak) replied rooms entries o calm e suits =
+    hears-heard c (Whole m.Nak) replied rooms entries o calm e suits
+hears-polling c (Whole m.Wack) replied rooms entries o calm e suits =
+    hears-heard c (Whole m.Wack) replied rooms entries o calm e suits
+hears-polling c (Whole m.Rvi) replied rooms entries o calm e suits =
+    hears-heard c (Whole m.Rvi) replied rooms entries o calm e suits
+hears-polling c (Whole (m.Text x)) replied rooms entries o calm e suits =
+    hears-heard c (Whole (m.Text x)) replied rooms entries o calm e suits
 
-hears-task : (c : ControlValue) (task : Task) (h : Heard) (rooms : Rooms) → HasEntries c → IsOrderly c → c.task ≡ task → HearingKeeps c h (task_step c task h rooms)
+hears-task : (c : ControlValue) (task : Task) (h : Heard) (rooms : Rooms) → HasEntries c
+    → IsOrderly c → c.task ≡ task → HearingKeeps c h (task_step c task h rooms)
 hears-task c AtRest h rooms entries o e = hears-quiet c h o
 hears-task c (Selecting s enquired) h rooms entries o e =
-    let selected : IsSelected (peer c) s = subst (λ (task : Task). SuitsTask task (peer c)) e o.suits in
-    hears-selecting c h s (reply_heard h) entries o (calm_while c o (λ k used. absurd (cc))) selected (ap (λ (task : Task). after_hearing task h) e)
+    let selected : IsSelected (peer c) s =
+    subst (λ (task : Task). SuitsTask task (peer c)) e o.suits in
+    hears-selecting c h s (reply_heard h) entries o (calm_while c o (λ k used. absurd (cc)))
+    selected (ap (λ (task : Task). after_hearing task h) e)
 hears-task c (Sending s) h rooms entries o e =
     let bid : IsInBid (peer c) s = subst (λ (task : Task). SuitsTask task (peer c)) e o.suits in
     let k = outbound_of c (current c) s in
-    hears-bid_step c h s (reply_step k.sender k.queue (reply_heard h)) (after_bid s (reply_heard h)) (others_rest c s entries o e bid.there) (keeps-reply_step k.sender k.queue (reply_heard h) bid.going) (λ q. e)
+    hears-bid_step c h s (reply_step k.sender k.queue (reply_heard h)) (after_bid s (reply_heard h))
+    (others_rest c s entries o e bid.there)
+    (keeps-reply_step k.sender k.queue (reply_heard h) bid.going) (λ q. e)
     (which_after_bid s (reply_heard h)) (ap (λ (task : Task). after_hearing task h) e)
 hears-task c (Polling replied) h rooms entries o e =
-    hears-polling c h replied rooms entries o (calm_while c o (λ k used. absurd (cc))) e (subst (λ (task : Task). SuitsTask task (peer c)) e o.suits)
+    hears-polling c h replied rooms entries o (calm_while c o (λ k used. absurd (cc))) e
+    (subst (λ (task : Task). SuitsTask task (peer c)) e o.suits)
 
 -- what a control station is once it has heard a transmission
-pub hearing_keeps : (old : ControlValue) (h : Heard) (new : ControlValue) (sent : Option Message) → HasEntries old → IsOrderly old → Hears old h new sent → HearingKeeps old h (record { control = new; sent = sent })
-hearing_keeps old h new sent entries o heard = subst (HearingKeeps old h) (sym heard.row) (hears-task old old.task h (rooms_after old h new) entries o refl)
+pub hearing_keeps : (old : ControlValue) (h : Heard) (new : ControlValue) (sent : Option Message)
+    → HasEntries old → IsOrderly old → Hears old h new sent
+    → HearingKeeps old h (record { control = new; sent = sent })
+hearing_keeps old h new sent entries o heard =
+    subst (HearingKeeps old h) (sym heard.row)
+    (hears-task old old.task h (rooms_after old h new) entries o refl)
 
 -- a selection is called again, or ENQ is sent again
-repeats : (c : ControlValue) (s : ℕ) (enquired : Bool) (address : List ℕ) → HasEntries c → c.task ≡ Selecting s enquired → IsSelected (peer c) s → repeated c s enquired ≡ m.Call address
+repeats : (c : ControlValue) (s : ℕ) (enquired : Bool) (address : List ℕ) → HasEntries c → c.task
+    ≡ Selecting s enquired → IsSelected (peer c) s → repeated c s enquired ≡ m.Call address
     → IsRepeated c (record c { failures = c.failures + 1 }) address
 repeats c s true address entries e selected sent = absurd (cc)
 repeats c s false address entries e selected sent =
     let within = entry_within c c.place entries entries.place in
-    let select : s < length (peer c).terminal.selects = subst (λ (n : ℕ). s < n) (entries.peers (current c) no_peer within).outbounds selected.there in
-    let own : slice_get (peer c).terminal.selects s ≡ Some (select_address (peer c).terminal s) = selects_there (peer c).terminal s select in
+    let select : s < length (peer c).terminal.selects =
+    subst (λ (n : ℕ). s < n) (entries.peers (current c) no_peer within).outbounds
+    selected.there in
+    let own : slice_get (peer c).terminal.selects s ≡ Some (select_address (peer c).terminal s) =
+    selects_there (peer c).terminal s select in
     let called : IsAddressOf (terminals c) (current c) (ToTerminal s) address =
-    record { terminal = (peer c).terminal; there = terminal_there c (current c) within; its_own = cc } in
-    record { place = refl; task = refl; called = subst (λ (task : Task). IsAddressOf (terminals c) (current c) (way_of task) address) (sym e) called; failures = refl }
+    record {
+      terminal = (peer c).terminal;
+      there = terminal_there c (current c) within;
+      its_own =
+          cc;
+    } in
+    record {
+      place = refl;
+      task = refl;
+      called =
+          subst (λ (task : Task). IsAddressOf (terminals c) (current c) (way_of task) address) (sym e)
+          called;
+      failures = refl;
+    }
 
-repeats_poll : (c : ControlValue) (address : List ℕ) → HasEntries c → c.task ≡ Polling Nothing → (poll_call_step c c.place (c.failures + 1)).sent ≡ Some (m.Call address) → IsRepeated c (poll_call_step c c.place (c.failures + 1)).control address
+repeats_poll : (c : ControlValue) (address : List ℕ) → HasEntries c → c.task ≡ Polling Nothing
+    → (poll_call_step c c.place (c.failures + 1)).sent ≡ Some (m.Call address)
+    → IsRepeated c (poll_call_step c c.place (c.failures + 1)).control address
 repeats_poll c address entries e sent =
     let t : ℕ = current c in
     let p : PeerValue = record (peer c) { receiver = new_receiver true } in
@@ -248,50 +398,93 @@ repeats_poll c address entries e sent =
       called =
           record {
             terminal = (peer c).terminal;
-            there = rw (same_map (λ (x : PeerValue). x.terminal) c.peers t p no_peer refl) (terminal_there c t (entry_within c c.place entries entries.place));
+            there =
+                rw (same_map (λ (x : PeerValue). x.terminal) c.peers t p no_peer refl)
+                (terminal_there c t (entry_within c c.place entries entries.place));
             its_own = cc;
           };
       failures = refl;
     }
 
-silent-selecting : (c : ControlValue) (s : ℕ) (enquired : Bool) → HasEntries c → IsOrderly c → IsCalm c → c.task ≡ Selecting s enquired → IsSelected (peer c) s → SilenceKeeps c (silence_in c (Selecting s enquired))
+silent-selecting : (c : ControlValue) (s : ℕ) (enquired : Bool) → HasEntries c → IsOrderly c
+    → IsCalm c → c.task ≡ Selecting s enquired → IsSelected (peer c) s
+    → SilenceKeeps c (silence_in c (Selecting s enquired))
 silent-selecting c s enquired entries o calm e selected =
-    choose (SilenceKeeps c) (nat_lt c.setup.tries (c.failures + 1)) (next_call_step c (Selection s)) (sends (record c { failures = c.failures + 1 }) (repeated c s enquired))
+    choose (SilenceKeeps c) (nat_lt c.setup.tries (c.failures + 1)) (next_call_step c (Selection s))
+    (sends (record c { failures = c.failures + 1 }) (repeated c s enquired))
     (silent-next c (Selection s) entries calm (ap after_silence e))
     (record {
-      keeps = record { setup = refl; poll_list = refl; terminals = refl; peers = refl; outbounds = λ t. refl; offered = λ t k. refl };
-      orderly = record { suits = o.suits; rests = λ t k unused. calm.rests t k; settings = λ t k there. record { setup = (calm.settings t k there).setup; format = (calm.settings t k there).format } };
+      keeps =
+          record {
+            setup = refl;
+            poll_list = refl;
+            terminals = refl;
+            peers = refl;
+            outbounds =
+                λ t. refl;
+            offered = λ t k. refl;
+          };
+      orderly =
+          record {
+            suits = o.suits;
+            rests = λ t k unused. calm.rests t k;
+            settings =
+                λ t k there. record {
+                  setup = (calm.settings t k there).setup;
+                  format =
+                      (calm.settings t k there).format;
+                };
+          };
       spools = λ t. refl;
       calls = λ address sent. inr (repeats c s enquired address entries e selected cc);
     })
 
-silent-task : (c : ControlValue) (task : Task) → HasEntries c → IsOrderly c → c.task ≡ task → SilenceKeeps c (silence_in c task)
-silent-task c AtRest entries o e = silent-next c Start entries (calm_while c o (λ k used. absurd (cc))) (ap after_silence e)
+silent-task : (c : ControlValue) (task : Task) → HasEntries c → IsOrderly c → c.task ≡ task
+    → SilenceKeeps c (silence_in c task)
+silent-task c AtRest entries o e =
+    silent-next c Start entries (calm_while c o (λ k used. absurd (cc))) (ap after_silence e)
 silent-task c (Selecting s enquired) entries o e =
-    silent-selecting c s enquired entries o (calm_while c o (λ k used. absurd (cc))) e (subst (λ (task : Task). SuitsTask task (peer c)) e o.suits)
+    silent-selecting c s enquired entries o (calm_while c o (λ k used. absurd (cc))) e
+    (subst (λ (task : Task). SuitsTask task (peer c)) e o.suits)
 silent-task c (Sending s) entries o e =
     let bid : IsInBid (peer c) s = subst (λ (task : Task). SuitsTask task (peer c)) e o.suits in
     let k = outbound_of c (current c) s in
     let others = others_rest c s entries o e bid.there in
     let step = silence_step k.sender k.queue in
     let keeps = keeps-silence_step k.sender k.queue bid.going in
-    let f : KeepsSpools c (bid_step c s step (Selection s)).control = keeps_spools-bid_step c s step (Selection s) others keeps (λ q. e) in
+    let f : KeepsSpools c (bid_step c s step (Selection s)).control =
+    keeps_spools-bid_step c s step (Selection s) others keeps (λ q. e) in
     record {
       keeps = f.keeps;
       orderly = f.orderly;
       spools = f.spools;
       calls = λ address sent.
-          inl (subst (λ (x : After). IsCalled (bid_step c s step (Selection s)).control (next_call c x) address) (sym (ap after_silence e)) (calls-bid_step c s step (Selection s) address others keeps (inl refl) sent));
+          inl (subst (λ (x : After). IsCalled (bid_step c s step (Selection s)).control
+          (next_call c x) address) (sym (ap after_silence e))
+          (calls-bid_step c s step (Selection s) address others keeps (inl refl) sent));
     }
 silent-task c (Polling Nothing) entries o e =
     let calm = calm_while c o (λ k used. absurd (cc)) in
-    let f : KeepsSpools c (poll_call_step c c.place (c.failures + 1)).control = keeps_spools-poll_call_step c c.place (c.failures + 1) calm in
-    choose (SilenceKeeps c) (nat_lt c.setup.tries (c.failures + 1)) (next_call_step c (Poll false)) (poll_call_step c c.place (c.failures + 1))
+    let f : KeepsSpools c (poll_call_step c c.place (c.failures + 1)).control =
+    keeps_spools-poll_call_step c c.place (c.failures + 1) calm in
+    choose (SilenceKeeps c) (nat_lt c.setup.tries (c.failures + 1)) (next_call_step c (Poll false))
+    (poll_call_step c c.place (c.failures + 1))
     (silent-next c (Poll false) entries calm (ap after_silence e))
-    (record { keeps = f.keeps; orderly = f.orderly; spools = f.spools; calls = λ address sent. inr (repeats_poll c address entries e sent) })
-silent-task c (Polling WithoutRvi) entries o e = silent-next c (Poll false) entries (calm_while c o (λ k used. absurd (cc))) (ap after_silence e)
-silent-task c (Polling WithRvi) entries o e = silent-next c (Poll true) entries (calm_while c o (λ k used. absurd (cc))) (ap after_silence e)
+    (record {
+      keeps = f.keeps;
+      orderly = f.orderly;
+      spools = f.spools;
+      calls =
+          λ address sent. inr (repeats_poll c address entries e sent);
+    })
+silent-task c (Polling WithoutRvi) entries o e =
+    silent-next c (Poll false) entries (calm_while c o (λ k used. absurd (cc))) (ap after_silence e)
+silent-task c (Polling WithRvi) entries o e =
+    silent-next c (Poll true) entries (calm_while c o (λ k used. absurd (cc))) (ap after_silence e)
 
 -- what a control station is after a silence
-pub silence_keeps : (old new : ControlValue) (sent : Option Message) → HasEntries old → IsOrderly old → ActsOnSilence old new sent → SilenceKeeps old (record { control = new; sent = sent })
-silence_keeps old new sent entries o row = subst (SilenceKeeps old) (sym row) (silent-task old old.task entries o refl)
+pub silence_keeps : (old new : ControlValue) (sent : Option Message) → HasEntries old
+    → IsOrderly old → ActsOnSilence old new sent
+    → SilenceKeeps old (record { control = new; sent = sent })
+silence_keeps old new sent entries o row =
+    subst (SilenceKeeps old) (sym row) (silent-task old old.task entries o refl)

@@ -1,5 +1,6 @@
 -- An address in the storage of the caller's.
-use Rattle.std.proofs.Common.{◌≡◌, ℕ, ◌≤◌, true, refl, arith, List, ◌++◌, length, drop, Some, nat_le}
+use Rattle.std.proofs.Common.{◌≡◌, ℕ, ◌≤◌, true, refl, arith, List, ◌++◌, length, drop, Some}
+use Rattle.std.proofs.Common.{nat_le}
 use Rattle.std.proofs.Math.Seq.{take-append_seam}
 use Rattle.std.proofs.lemmas.Bool.Decides.{nat_tests}
 use Rattle.bsc_frame.specs.Addresses.{IsAddress}
@@ -13,7 +14,9 @@ fits n h = grind (arith, nat_tests)
 
 -- the codes at the front and their count hold the address
 pub address_put : (c : Content) (a : List ℕ) → IsAddress a
-    → address_in (record c { address = a ++ drop (length a) c.address; address_len = length a }) ≡ Some a
+    → address_in (record c { address = a ++ drop (length a) c.address; address_len = length a })
+    ≡ Some a
 unfolding address_in
 address_put c a h =
-    rw (take-append_seam a (drop (length a) c.address), fits (length a) h.most, address_read a h) refl
+    rw (take-append_seam a (drop (length a) c.address), fits (length a) h.most, address_read a h)
+    refl

@@ -26,23 +26,36 @@ pub tells : (octets : List ℕ) (h : Heard) (k : Kind) (old new : Content) → I
     → StandsFor h k new → KeepsRestOfHeard h old new → Tells octets k old new
 tells octets (Whole x) k old new w s n = record {
   whole = λ m. (
-    λ q. let r : Some x ≡ Some m = sym s ∙ q in let same : x ≡ m = cc in (w.whole m).0 (ap Whole same),
+    λ q. let r : Some x ≡ Some m = sym s ∙ q in let same : x ≡ m = cc in
+        (w.whole m).0 (ap Whole same),
     λ q. let r : Whole x ≡ Whole m = (w.whole m).1 q in let same : x ≡ m = cc in s ∙ ap Some same,
   );
-  failed = (λ e. absurd (not_failed k new x s e), λ f. let r : Whole x ≡ Failed = w.failed.1 f in cc);
+  failed =
+      (λ e. absurd (not_failed k new x s e), λ f. let r : Whole x ≡ Failed = w.failed.1 f in cc);
   noise = (λ e. absurd (not_noise k new x s e), λ f. let r : Whole x ≡ Noise = w.noise.1 f in cc);
-  kept = λ m q. let r : Whole x ≡ Whole m = (w.whole m).1 q in let same : x ≡ m = cc in subst (λ z. KeepsRest z old new) same n;
+  kept = λ m q. let r : Whole x ≡ Whole m = (w.whole m).1 q in let same : x ≡ m = cc in
+      subst (λ z. KeepsRest z old new) same n;
   unspelled = λ e. absurd (e x ((w.whole x).0 refl));
 }
 tells octets Failed k old new w s n = record {
-  whole = λ m. (λ q. let r : message_as kind.Failed new ≡ Some m = rw s at q in cc, λ q. let r : Failed ≡ Whole m = (w.whole m).1 q in cc);
+  whole =
+      λ m. (
+        λ q. let r : message_as kind.Failed new ≡ Some m = rw s at q in cc,
+        λ q. let r : Failed
+            ≡ Whole m = (w.whole m).1 q in cc,
+      );
   failed = (λ e. w.failed.0 refl, λ f. s);
   noise = (λ e. cc, λ f. let r : Failed ≡ Noise = w.noise.1 f in cc);
   kept = λ m q. let r : Failed ≡ Whole m = (w.whole m).1 q in cc;
   unspelled = λ e. n;
 }
 tells octets Noise k old new w s n = record {
-  whole = λ m. (λ q. let r : message_as kind.Noise new ≡ Some m = rw s at q in cc, λ q. let r : Noise ≡ Whole m = (w.whole m).1 q in cc);
+  whole =
+      λ m. (
+        λ q. let r : message_as kind.Noise new ≡ Some m = rw s at q in cc,
+        λ q. let r : Noise
+            ≡ Whole m = (w.whole m).1 q in cc,
+      );
   failed = (λ e. cc, λ f. let r : Noise ≡ Failed = w.failed.1 f in cc);
   noise = (λ e. w.noise.0 refl, λ f. s);
   kept = λ m q. let r : Noise ≡ Whole m = (w.whole m).1 q in cc;
@@ -55,13 +68,21 @@ pub by_kind : (number : ℕ) (k : Kind) (c : Content) → kind_at number ≡ Som
 unfolding message_in
 by_kind number k c e = rw e refl
 
-pub failed_number : (number : ℕ) (k : Kind) → kind_at number ≡ Some k → (number ≡ 1) ↔ (k ≡ kind.Failed)
-failed_number number k e =
-    (λ n. let r : kind_at 1 ≡ Some k = rw n at e in cc, λ f. let r : kind_at number ≡ Some kind.Failed = rw f at e in grind (arith, nat_tests))
+pub failed_number : (number : ℕ) (k : Kind) → kind_at number ≡ Some k
+    → (number ≡ 1) ↔ (k ≡ kind.Failed)
+failed_number number k e = (
+  λ n. let r : kind_at 1 ≡ Some k = rw n at e in cc,
+  λ f. let r : kind_at number
+      ≡ Some kind.Failed = rw f at e in grind (arith, nat_tests),
+)
 
-pub noise_number : (number : ℕ) (k : Kind) → kind_at number ≡ Some k → (number ≡ 0) ↔ (k ≡ kind.Noise)
-noise_number number k e =
-    (λ n. let r : kind_at 0 ≡ Some k = rw n at e in cc, λ f. let r : kind_at number ≡ Some kind.Noise = rw f at e in grind (arith, nat_tests))
+pub noise_number : (number : ℕ) (k : Kind) → kind_at number ≡ Some k
+    → (number ≡ 0) ↔ (k ≡ kind.Noise)
+noise_number number k e = (
+  λ n. let r : kind_at 0 ≡ Some k = rw n at e in cc,
+  λ f. let r : kind_at number
+      ≡ Some kind.Noise = rw f at e in grind (arith, nat_tests),
+)
 
 -- what begins as a text and spells a message spells a text
 pub only_text : (octets : List ℕ) (m : Message) → BeginsText octets → IsHeard octets (Whole m)
@@ -74,7 +95,8 @@ only_text octets m (inr f) w n =
     cc
 
 -- what a call of the decoder says of its answer is said of what the answer is
-pub heard_is : (octets : List ℕ) (r h : Heard) → r ≡ h → ((m : Message) → (r ≡ Whole m) ↔ Spells octets m)
+pub heard_is : (octets : List ℕ) (r h : Heard) → r ≡ h
+    → ((m : Message) → (r ≡ Whole m) ↔ Spells octets m)
     → (r ≡ Failed) ↔ IsFailed octets → (r ≡ Noise) ↔ IsNoise octets
     → IsHeard octets h
 heard_is octets r h e whole failed noise =

@@ -1,5 +1,6 @@
 -- What of a content is as it was.
-use Rattle.std.proofs.Common.{◌≡◌, ℕ, zero, suc, ◌+◌, ◌<◌, ◌∙◌, refl, sym, ap, arith, List, [], ◌∷◌, length}
+use Rattle.std.proofs.Common.{◌≡◌, ℕ, zero, suc, ◌+◌, ◌<◌, ◌∙◌, refl, sym, ap, arith, List, [], ◌∷◌}
+use Rattle.std.proofs.Common.{length}
 use Rattle.std.proofs.Common.{drop, get_or, set}
 use Rattle.std.proofs.lemmas.List.{drop-set-lt, drop-drop, get_or-drop}
 use Rattle.bsc_embed.specs.Decoded.{KeepCharsAfter}
@@ -10,7 +11,8 @@ keep_same [] = tt
 keep_same (s ∷ ss) = (refl, keep_same ss)
 
 -- a unit is put that keeps the characters after its own
-keep_set : (os ns : List StoredUnit) (i : ℕ) (s d : StoredUnit) → i < length ns → KeepCharsAfter os ns
+keep_set : (os ns : List StoredUnit) (i : ℕ) (s d : StoredUnit) → i < length ns
+    → KeepCharsAfter os ns
     → drop s.len s.chars ≡ drop s.len (get_or os i d).chars → KeepCharsAfter os (set ns i s)
 keep_set [] [] i s d l k e = absurd (omega arith)
 keep_set [] (n ∷ ns) i s d l k e = absurd k
@@ -31,10 +33,14 @@ same_first ss ts i d e =
 pub rest_set : (ss ts : List StoredUnit) (i : ℕ) (s : StoredUnit) → drop i ss ≡ drop i ts
     → drop (i + 1) (set ss i s) ≡ drop (i + 1) ts
 rest_set ss ts i s e =
-    drop-set-lt (i + 1) ss i s (omega arith) ∙ sym (drop-drop 1 i ss) ∙ ap (drop 1) e ∙ drop-drop 1 i ts
+    drop-set-lt (i + 1) ss i s (omega arith) ∙ sym (drop-drop 1 i ss) ∙ ap (drop 1) e
+    ∙ drop-drop 1 i ts
 
--- the same where the unit keeps what was there before, since those from its place on are the first ones
-pub keep_put : (os ns : List StoredUnit) (i : ℕ) (s d : StoredUnit) → i < length ns → KeepCharsAfter os ns
+-- the same where the unit keeps what was there before, since those from its place on are the first
+-- ones
+pub keep_put : (os ns : List StoredUnit) (i : ℕ) (s d : StoredUnit) → i < length ns
+    → KeepCharsAfter os ns
     → drop i ns ≡ drop i os
     → drop s.len s.chars ≡ drop s.len (get_or ns i d).chars → KeepCharsAfter os (set ns i s)
-keep_put os ns i s d l k e h = keep_set os ns i s d l k (h ∙ ap (λ u. drop s.len u.chars) (same_first ns os i d e))
+keep_put os ns i s d l k e h =
+    keep_set os ns i s d l k (h ∙ ap (λ u. drop s.len u.chars) (same_first ns os i d e))

@@ -1,6 +1,8 @@
 -- Units in the storage of the caller's.
-use Rattle.std.proofs.Common.{◌≡◌, ◌⊎◌, inl, inr, ℕ, ◌≤◌, ◌<◌, ◌+◌, zero, suc, ◌&&◌, nat_le, Bool, true}
-use Rattle.std.proofs.Common.{false, refl, arith, List, [], ◌∷◌, ◌++◌, length, take, get_or, set, Option}
+use Rattle.std.proofs.Common.{◌≡◌, ◌⊎◌, inl, inr, ℕ, ◌≤◌, ◌<◌, ◌+◌, zero, suc, ◌&&◌, nat_le, Bool}
+use Rattle.std.proofs.Common.{true}
+use Rattle.std.proofs.Common.{false, refl, arith, List, [], ◌∷◌, ◌++◌, length, take, get_or, set}
+use Rattle.std.proofs.Common.{Option}
 use Rattle.std.proofs.Common.{Some, None, length-take, slice_get, map}
 use Rattle.std.specs.List.{AllByRecursion}
 use Rattle.std.proofs.lemmas.List.{take_more, take_more_set, get_or-take, map-append, take_all}
@@ -18,7 +20,8 @@ use Rattle.bsc_frame.specs.declared.limits.TheConstants.{MAX_UNITS}
 
 push_step : (o : Option TextUnit) (r q : Option (List TextUnit)) (us : List TextUnit) (u : TextUnit)
     → before_unit o r ≡ Some us
-    → ((vs : List TextUnit) → r ≡ Some vs → q ≡ Some (vs ++ u ∷ [])) → before_unit o q ≡ Some (us ++ u ∷ [])
+    → ((vs : List TextUnit) → r ≡ Some vs → q ≡ Some (vs ++ u ∷ [])) → before_unit o q
+    ≡ Some (us ++ u ∷ [])
 push_step None r q us u e f = cc
 push_step (Some v) None q us u e f = cc
 push_step (Some v) (Some vs) q us u e f =
@@ -31,19 +34,22 @@ units_push [] us s u a b =
     let k : us ≡ [] = cc in
     rw (b, k) refl
 units_push (t ∷ ss) us s u a b =
-    push_step (unit_in t) (units_in ss) (units_in (ss ++ s ∷ [])) us u a (λ vs e. units_push ss vs s u e b)
+    push_step (unit_in t) (units_in ss) (units_in (ss ++ s ∷ [])) us u a
+    (λ vs e. units_push ss vs s u e b)
 
 before_none : (o : Option TextUnit) → before_unit o None ≡ None
 before_none None = refl
 before_none (Some u) = refl
 
-units_none : (ss : List StoredUnit) (i : ℕ) (d : StoredUnit) → i < length ss → unit_in (get_or ss i d) ≡ None
+units_none : (ss : List StoredUnit) (i : ℕ) (d : StoredUnit) → i < length ss
+    → unit_in (get_or ss i d) ≡ None
     → units_in ss ≡ None
 units_none [] i d l e = absurd (omega arith)
 units_none (s ∷ ss) zero d l e = rw e refl
 units_none (s ∷ ss) (suc i) d l e = rw (units_none ss i d (omega arith) e) (before_none (unit_in s))
 
-units_step : (s : StoredUnit) (o : Option TextUnit) (r : Option (List TextUnit)) (us : List TextUnit)
+units_step : (s : StoredUnit) (o : Option TextUnit) (r : Option (List TextUnit))
+    (us : List TextUnit)
     → unit_in s ≡ o → before_unit o r ≡ Some us
     → ((vs : List TextUnit) → r ≡ Some vs → AllByRecursion IsUnit vs) → AllByRecursion IsUnit us
 units_step s None r us e h f = cc
@@ -53,7 +59,8 @@ units_step s (Some u) (Some vs) us e h f =
     rw k (unit_is s u e, f vs refl)
 
 -- what is there is units
-pub units_are : (ss : List StoredUnit) (us : List TextUnit) → units_in ss ≡ Some us → AllByRecursion IsUnit us
+pub units_are : (ss : List StoredUnit) (us : List TextUnit) → units_in ss ≡ Some us
+    → AllByRecursion IsUnit us
 units_are [] us e =
     let k : us ≡ [] = cc in
     rw k tt
@@ -64,14 +71,16 @@ within n l m = grind (arith, nat_tests)
 
 outside : (n : ℕ) → (n ≡ 0) ⊎ (MAX_UNITS < n) → (nat_le 1 n && nat_le n MAX_UNITS) ≡ false
 outside n (inl e) = rw e refl
-outside n (inr l) = let t : nat_le n MAX_UNITS ≡ false = grind (arith, nat_tests) in rw t (and_false (nat_le 1 n))
+outside n (inr l) = let t : nat_le n MAX_UNITS ≡ false = grind (arith, nat_tests) in
+    rw t (and_false (nat_le 1 n))
   where
     and_false : (b : Bool) → (b && false) ≡ false
     and_false true = refl
     and_false false = refl
 
 -- the units and the end are the text
-pub text_here : (c : Content) (t : TextValue) → 0 < c.count → c.count ≤ MAX_UNITS → end_at c.end ≡ Some t.end
+pub text_here : (c : Content) (t : TextValue) → 0 < c.count → c.count ≤ MAX_UNITS → end_at c.end
+    ≡ Some t.end
     → units_in (take c.count c.units) ≡ Some t.units
     → text_in c ≡ Some t
 unfolding text_in
@@ -89,13 +98,20 @@ unfolding text_in
 text_not_ended c l m h = rw (within c.count l m, h) refl
 
 -- a unit that is none
-pub text_not_unit : (c : Content) (e : End) (i : ℕ) (d : StoredUnit) → 0 < c.count → c.count ≤ MAX_UNITS
+pub text_not_unit : (c : Content) (e : End) (i : ℕ) (d : StoredUnit) → 0 < c.count → c.count
+    ≤ MAX_UNITS
     → end_at c.end ≡ Some e → i < c.count → c.count ≤ length c.units
     → unit_in (get_or c.units i d) ≡ None → text_in c ≡ None
 unfolding text_in
 text_not_unit c e i d l m h j n k =
-    let at : unit_in (get_or (take c.count c.units) i d) ≡ None = rw (get_or-take c.count c.units i d j) k in
-    rw (within c.count l m, h, units_none (take c.count c.units) i d (omega (arith, length-take c.count c.units)) at) refl
+    let at : unit_in (get_or (take c.count c.units) i d) ≡ None =
+    rw (get_or-take c.count c.units i d j) k in
+    rw (
+      within c.count l m,
+      h,
+      units_none (take c.count c.units) i d
+          (omega (arith, length-take c.count c.units)) at,
+    ) refl
 
 -- one unit more is put at the end
 pub units_put : (ss : List StoredUnit) (us : List TextUnit) (i : ℕ) (s : StoredUnit) (u : TextUnit)
@@ -104,12 +120,15 @@ pub units_put : (ss : List StoredUnit) (us : List TextUnit) (i : ℕ) (s : Store
     → units_in (take (i + 1) (set ss i s)) ≡ Some (take (i + 1) us)
 units_put ss us i s u l h k e =
     let m : i < length us = slice_get_within us i u e in
-    rw (take_more_set ss i s l, take_more us i u m, get_or_from_slice_get us i u u e) (units_push (take i ss) (take i us) s u h k)
+    rw (take_more_set ss i s l, take_more us i u m, get_or_from_slice_get us i u u e)
+    (units_push (take i ss) (take i us) s u h k)
 
 -- one unit more is read
-pub units_taken : (ss : List StoredUnit) (ls : List Lent) (i : ℕ) (d : StoredUnit) (u : Lent) → i < length ss
+pub units_taken : (ss : List StoredUnit) (ls : List Lent) (i : ℕ) (d : StoredUnit) (u : Lent) → i
+    < length ss
     → i < length ls
-    → units_in (take i ss) ≡ Some (map text_unit (take i ls)) → unit_in (get_or ss i d) ≡ Some (text_unit u)
+    → units_in (take i ss) ≡ Some (map text_unit (take i ls)) → unit_in (get_or ss i d)
+    ≡ Some (text_unit u)
     → units_in (take (i + 1) ss) ≡ Some (map text_unit (take (i + 1) (set ls i u)))
 units_taken ss ls i d u l m h k =
     rw (take_more ss i d l, take_more_set ls i u m, map-append text_unit (take i ls) (u ∷ []))

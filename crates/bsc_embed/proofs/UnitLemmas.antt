@@ -1,5 +1,6 @@
 -- A unit in the storage of the caller's.
-use Rattle.std.proofs.Common.{◌≡◌, ℕ, ◌≤◌, ◌&&◌, nat_le, Bool, true, false, cond, refl, arith, List, [], ◌∷◌}
+use Rattle.std.proofs.Common.{◌≡◌, ℕ, ◌≤◌, ◌&&◌, nat_le, Bool, true, false, cond, refl, arith, List}
+use Rattle.std.proofs.Common.{[], ◌∷◌}
 use Rattle.std.proofs.Common.{◌++◌, length, take, drop, Some, None, IsTrue, nat_lt, length-take}
 use mir.Val.{bool_byte}
 use Rattle.std.specs.List.{AllByRecursion, list_all}
@@ -18,7 +19,8 @@ all_pass (c ∷ cs) h = rw (h.0, all_pass cs h.1) refl
 
 pass_step : (c : ℕ) (cs : List ℕ) (b : Bool) → is_record_char c ≡ b
     → (list_all is_record_char cs ≡ true → AllByRecursion (λ c. IsTrue (is_record_char c)) cs)
-    → (b && list_all is_record_char cs) ≡ true → AllByRecursion (λ c. IsTrue (is_record_char c)) (c ∷ cs)
+    → (b && list_all is_record_char cs) ≡ true
+    → AllByRecursion (λ c. IsTrue (is_record_char c)) (c ∷ cs)
 pass_step c cs true e f h = (e, f h)
 pass_step c cs false e f h = cc
 
@@ -39,10 +41,20 @@ em_put false = refl
 
 -- the characters at the front and their count hold the unit
 pub unit_put : (u : TextUnit) (before : List ℕ) → IsUnit u
-    → unit_in (record { chars = u.chars ++ drop (length u.chars) before; len = length u.chars; em = bool_byte u.em }) ≡ Some u
+    → unit_in (record {
+      chars = u.chars ++ drop (length u.chars) before;
+      len = length u.chars;
+      em =
+          bool_byte u.em;
+    }) ≡ Some u
 unfolding unit_in
 unit_put u before h =
-    rw (em_put u.em, take-append_seam u.chars (drop (length u.chars) before), all_pass u.chars h.each, le_true (length u.chars) MAX_CHARS h.most) refl
+    rw (
+      em_put u.em,
+      take-append_seam u.chars (drop (length u.chars) before),
+      all_pass u.chars h.each,
+      le_true (length u.chars) MAX_CHARS h.most,
+    ) refl
 
 kept_unit : (a b : Bool) (v u : TextUnit) → cond (a && b) (Some v) None ≡ Some u
     → (a ≡ true) × (b ≡ true) × (v ≡ u)
@@ -50,13 +62,17 @@ kept_unit true true v u e = (refl, refl, cc)
 kept_unit true false v u e = cc
 kept_unit false b v u e = cc
 
-unit_of_front : (cs : List ℕ) (n : ℕ) (em : Bool) → n ≤ MAX_CHARS → list_all is_record_char (take n cs) ≡ true
+unit_of_front : (cs : List ℕ) (n : ℕ) (em : Bool) → n ≤ MAX_CHARS
+    → list_all is_record_char (take n cs) ≡ true
     → IsUnit (record { chars = take n cs; em = em })
-unit_of_front cs n em l p = record { most = omega (arith, length-take n cs); each = passed_all (take n cs) p }
+unit_of_front cs n em l p =
+    record { most = omega (arith, length-take n cs); each = passed_all (take n cs) p }
 
 -- what is there is a unit
 pub unit_is : (s : StoredUnit) (u : TextUnit) → unit_in s ≡ Some u → IsUnit u
 unfolding unit_in
 unit_is s u e =
-    let k = kept_unit (nat_le s.len MAX_CHARS) (list_all is_record_char (take s.len s.chars)) (record { chars = take s.len s.chars; em = nat_lt 0 s.em }) u e in
+    let k =
+    kept_unit (nat_le s.len MAX_CHARS) (list_all is_record_char (take s.len s.chars))
+    (record { chars = take s.len s.chars; em = nat_lt 0 s.em }) u e in
     rw (← k.2) (unit_of_front s.chars s.len (nat_lt 0 s.em) (le_from s.len MAX_CHARS k.0) k.1)

@@ -9,7 +9,8 @@ ghost use Rattle.bsc_embed.specs.Decoded.{StandsFor, KeepsRest, KeepsRestOfHeard
 use crate::{Content, Kind};
 use bsc_frame::{Heard, Message, Short, decode, decode_short};
 
-/// From how many octets on a call is worth its while. Fewer are decoded by `bsc_frame` one at a time.
+/// From this many octets on the decoding is a call of its own: it takes 32 octets at a time. Fewer
+/// are decoded one at a time, where they arrive.
 const MANY: usize = 32;
 
 /// Puts what the short message holds into the content, and gives its kind.

@@ -13,7 +13,7 @@ fn is_of(own: &Record, chars: &[u8]) -> bool
 }
 
 /// Whether the characters at this place are those of the record.
-#[tactic(auto, using(crate::proofs::Fronts::values_within, crate::proofs::Fronts::values_same, crate::proofs::Fronts::values_past))]
+#[tactic(auto, using(crate::proofs::Fronts::value_steps))]
 fn has_at(expected: &[&[u8]], place: usize, own: &Record) -> bool
     ensures { IsTrue result ↔ (slice_get (values expected.now) place ≡ Some own.now) }
 {

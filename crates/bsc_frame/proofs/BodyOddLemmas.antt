@@ -8,7 +8,8 @@ use Rattle.bsc_frame.specs.Addresses.{is_address_code}
 use Rattle.bsc_frame.specs.Spells.{AreAll, IsBody, IsCall}
 use Rattle.bsc_frame.specs.TurnedBits.{IsBodyOctet}
 use Rattle.bsc_frame.specs.declared.message.Message.{Message}
-use Rattle.bsc_frame.specs.declared.message.Message.TheVariants.{Eot, Call, Enq, Ack0, Ack1, Nak, Wack, Rvi}
+use Rattle.bsc_frame.specs.declared.message.Message.TheVariants.{Eot, Call, Enq, Ack0, Ack1, Nak}
+use Rattle.bsc_frame.specs.declared.message.Message.TheVariants.{Wack, Rvi}
 use Rattle.bsc_frame.specs.declared.message.Message.TheVariants.{Text}
 use Rattle.bsc_frame.proofs.ControlLemmas.{plain}
 use Rattle.bsc_frame.proofs.OddLemmas.{units_odd, fill_odd}
@@ -56,13 +57,16 @@ rvi_odd = IsOdd-odd_octet 0x3c (omega arith)
 pub address_odd : (a : List ℕ) → AllByRecursion (λ c. IsTrue (is_address_code c)) a
     → AllByRecursion IsOdd (map odd_octet a)
 address_odd [] h = tt
-address_odd (c ∷ a) h = let k = plain c h.0 in (IsOdd-odd_octet c (omega (arith, k.high)), address_odd a h.1)
+address_odd (c ∷ a) h = let k = plain c h.0 in
+    (IsOdd-odd_octet c (omega (arith, k.high)), address_odd a h.1)
 
 -- the octets of a call after its EOT and PAD
-pub called_odd : (syns a : List ℕ) → AreAll 0x16 syns → AllByRecursion (λ c. IsTrue (is_address_code c)) a
+pub called_odd : (syns a : List ℕ) → AreAll 0x16 syns
+    → AllByRecursion (λ c. IsTrue (is_address_code c)) a
     → AllByRecursion IsOdd (syns ++ map odd_octet a ++ 0x85 ∷ [])
 called_odd syns a s h =
-    all_both IsOdd (syns ++ map odd_octet a) (0x85 ∷ []) (all_both IsOdd syns (map odd_octet a) (fill_odd syns s) (address_odd a h)) (enq_odd, tt)
+    all_both IsOdd (syns ++ map odd_octet a) (0x85 ∷ [])
+    (all_both IsOdd syns (map odd_octet a) (fill_odd syns s) (address_odd a h)) (enq_odd, tt)
 
 -- ---- all
 
@@ -84,7 +88,8 @@ call_fits a body c =
       inl eot_odd,
       all_both (IsBodyOctet (Call a)) (c.pads ++ c.syns ++ map odd_octet a) (0x85 ∷ [])
           (all_both (IsBodyOctet (Call a)) (c.pads ++ c.syns) (map odd_octet a)
-          (all_both (IsBodyOctet (Call a)) c.pads c.syns (pads_fit a c.pads c.are_pads) (odd_fits (Call a) c.syns (fill_odd c.syns c.are_syns)))
+          (all_both (IsBodyOctet (Call a)) c.pads c.syns (pads_fit a c.pads c.are_pads)
+          (odd_fits (Call a) c.syns (fill_odd c.syns c.are_syns)))
           (odd_fits (Call a) (map odd_octet a) (address_odd a c.address.each)))
           (inl enq_odd, tt),
     )
@@ -100,4 +105,5 @@ body_fits Ack1 body h = rw h (inl dle_odd, (inl ack1_odd, tt))
 body_fits Wack body h = rw h (inl dle_odd, (inl wack_odd, tt))
 body_fits Rvi body h = rw h (inl dle_odd, (inl rvi_odd, tt))
 body_fits (Text t) body h =
-    rw h.whole (odd_fits (Text t) (0x02 ∷ h.rest) (stx_odd, units_odd false t.units t.end h.rest h.units h.text.each))
+    rw h.whole (odd_fits (Text t) (0x02 ∷ h.rest)
+    (stx_odd, units_odd false t.units t.end h.rest h.units h.text.each))

@@ -1,6 +1,8 @@
 -- The address of a call, read octet by octet.
-use Rattle.std.proofs.Common.{◌≡◌, ℕ, ◌+◌, ◌-◌, ◌<◌, ◌≤◌, ◌==◌, Bool, true, false, refl, sym, ap, ◌∙◌, arith}
-use Rattle.std.proofs.Common.{List, [], ◌∷◌, ◌++◌, length, take, drop, set, get_or, replicate, IsTrue, subst}
+use Rattle.std.proofs.Common.{◌≡◌, ℕ, ◌+◌, ◌-◌, ◌<◌, ◌≤◌, ◌==◌, Bool, true, false, refl, sym, ap}
+use Rattle.std.proofs.Common.{◌∙◌, arith}
+use Rattle.std.proofs.Common.{List, [], ◌∷◌, ◌++◌, length, take, drop, set, get_or, replicate}
+use Rattle.std.proofs.Common.{IsTrue, subst}
 use Rattle.std.proofs.Common.{length-take, take-append-drop, length-set, append_assoc, drop-drop}
 use Rattle.std.proofs.Common.{Option, Some, None, Result, Ok, Err, option_and_then}
 use Rattle.std.specs.List.{AllByRecursion}
@@ -14,10 +16,12 @@ use Rattle.bsc_frame.specs.declared.address.AddressError.{AddressError}
 use Rattle.bsc_frame.specs.declared.limits.TheConstants.{MAX_ADDRESS}
 use Rattle.bsc_frame.specs.declared.message.Message.TheVariants.{Call}
 use Rattle.bsc_frame.proofs.ControlLemmas.{address_read, address_reads}
-use Rattle.bsc_frame.proofs.ReadLemmas.{Reads, with_codes, called_end, called_early, called_full, called_wrong}
+use Rattle.bsc_frame.proofs.ReadLemmas.{Reads, with_codes, called_end, called_early, called_full}
+use Rattle.bsc_frame.proofs.ReadLemmas.{called_wrong}
 use Rattle.bsc_frame.proofs.ReadLemmas.{called_more, called_none}
 
--- What the loop keeps: the codes before the place stand at the front of the buffer, may all stand in
+-- What the loop keeps: the codes before the place stand at the front of the buffer, may all stand
+-- in
 -- an address, and zeros follow.
 pub record Called (buffer : List ℕ) (i : ℕ) (s : List ℕ) : Type 0 where
   pub within : i ≤ MAX_ADDRESS
@@ -50,36 +54,43 @@ message : (s : List ℕ) (o : Option (List ℕ)) → o ≡ called MAX_ADDRESS s
 message s o e = ap (option_and_then (λ codes. call_to (read_address codes))) e
 
 -- an ENQ at the end, after codes, ends the call
-pub call_ends : (b : List ℕ) (i : ℕ) (s : List ℕ) → Called b i s → i < length s → get_or s i 0 ≡ 0x85
+pub call_ends : (b : List ℕ) (i : ℕ) (s : List ℕ) → Called b i s → i < length s → get_or s i 0
+    ≡ 0x85
     → 0 < i → i + 1 ≡ length s → Some (Call (take i b)) ≡ call_of s
 call_ends b i s c l e some last =
     sym (ap call_to (address_read (take i b) (front_is b i s c some)))
     ∙ message s (Some (take i b)) (called_end (take i b) i s c.reads l e last)
 
 -- before the end it ends none
-pub call_early : (b : List ℕ) (i : ℕ) (s : List ℕ) → Called b i s → i < length s → get_or s i 0 ≡ 0x85
+pub call_early : (b : List ℕ) (i : ℕ) (s : List ℕ) → Called b i s → i < length s → get_or s i 0
+    ≡ 0x85
     → (i + 1 ≡ length s → ⊥) → None ≡ call_of s
 call_early b i s c l e more = message s None (called_early (take i b) i s c.reads l e more)
 
 -- nor does it before any code
-pub call_empty : (b : List ℕ) (i : ℕ) (s : List ℕ) (last : Bool) → (i + 1 == length s) ≡ last → Called b i s
+pub call_empty : (b : List ℕ) (i : ℕ) (s : List ℕ) (last : Bool) → (i + 1 == length s) ≡ last
+    → Called b i s
     → i < length s → get_or s i 0 ≡ 0x85 → i ≡ 0 → None ≡ call_of s
 call_empty b i s true t c l e none =
     let nothing : [] ≡ take i b = rw none refl in
-    message s (Some []) (ap Some nothing ∙ called_end (take i b) i s c.reads l e (eqb-true (i + 1) (length s) t))
+    message s (Some []) (ap Some nothing
+    ∙ called_end (take i b) i s c.reads l e (eqb-true (i + 1) (length s) t))
 call_empty b i s false t c l e none = call_early b i s c l e (eqb-false (i + 1) (length s) t)
 
 -- more codes than an address has are no address
-pub call_full : (b : List ℕ) (i : ℕ) (s : List ℕ) → Called b i s → i < length s → (get_or s i 0 ≡ 0x85 → ⊥)
+pub call_full : (b : List ℕ) (i : ℕ) (s : List ℕ) → Called b i s → i < length s
+    → (get_or s i 0 ≡ 0x85 → ⊥)
     → i ≡ MAX_ADDRESS → None ≡ call_of s
 call_full b i s c l e full =
     message s None (called_full (take i b) i s c.reads l e (front_long b i s c ∙ full))
 
 -- nor is an octet of even parity in one
-pub call_wrong : (b : List ℕ) (i : ℕ) (s : List ℕ) → Called b i s → i < length s → (get_or s i 0 ≡ 0x85 → ⊥)
+pub call_wrong : (b : List ℕ) (i : ℕ) (s : List ℕ) → Called b i s → i < length s
+    → (get_or s i 0 ≡ 0x85 → ⊥)
     → (i ≡ MAX_ADDRESS → ⊥) → code_of (get_or s i 0) ≡ None → None ≡ call_of s
 call_wrong b i s c l e less k =
-    message s None (called_wrong (take i b) i s c.reads l e (omega (arith, front_long b i s c, c.within)) k)
+    message s None (called_wrong (take i b) i s c.reads l e
+    (omega (arith, front_long b i s c, c.within)) k)
 
 -- and there is no call without ENQ
 pub call_none : (b : List ℕ) (i : ℕ) (s : List ℕ) → Called b i s → length s ≤ i → None ≡ call_of s
@@ -100,10 +111,12 @@ no_call (Ok a) codes e n =
     absurd (n (subst IsAddress (sym k.0) k.1))
 
 with_wrong : (front : List ℕ) (c : ℕ) (x : Option (List ℕ)) → is_address_code c ≡ false
-    → option_and_then (λ codes. call_to (read_address codes)) (with_codes (front ++ c ∷ []) x) ≡ None
+    → option_and_then (λ codes. call_to (read_address codes)) (with_codes (front ++ c ∷ []) x)
+    ≡ None
 with_wrong front c None e = refl
 with_wrong front c (Some cs) e = rw (append_assoc front (c ∷ []) cs)
-    (no_call (read_address (front ++ c ∷ cs)) (front ++ c ∷ cs) refl (λ a. not_all front cs c e a.each))
+    (no_call (read_address (front ++ c ∷ cs)) (front ++ c ∷ cs) refl
+    (λ a. not_all front cs c e a.each))
 
 -- one code more was read
 code_more : (b : List ℕ) (i : ℕ) (s : List ℕ) (k : ℕ) → Called b i s → i < length s

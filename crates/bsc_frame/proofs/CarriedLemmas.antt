@@ -1,5 +1,6 @@
 -- Octets that carry their low seven bits.
-use Rattle.std.proofs.Common.{◌≡◌, ℕ, ◌+◌, ◌%◌, ◌<◌, ◌==◌, Bool, true, false, cond, refl, sym, ap, ◌∙◌, arith}
+use Rattle.std.proofs.Common.{◌≡◌, ℕ, ◌+◌, ◌%◌, ◌<◌, ◌==◌, Bool, true, false, cond, refl, sym, ap}
+use Rattle.std.proofs.Common.{◌∙◌, arith}
 use Rattle.std.proofs.Common.{List, [], ◌∷◌, map, get_or, Some, All, Fits, w8}
 use Rattle.std.specs.List.{AllByRecursion}
 use Rattle.std.specs.Int.{bit_at}
@@ -9,7 +10,8 @@ use Rattle.std.proofs.lemmas.List.Elements.{All-from_get_or, recursion_from_All}
 use Rattle.std.proofs.lemmas.List.Sums.{sum_by-cons}
 use Rattle.bsc_octet.specs.Octet.{IsOdd, odd_octet, code_of, longitudinal_sum, with_bit}
 use Rattle.bsc_octet.proofs.ParityLemmas.{code_of_odd, code_of_some}
-use Rattle.bsc_frame.specs.Reading.{low_bits, is_ending_code, is_ending_octet, after_start, after_check}
+use Rattle.bsc_frame.specs.Reading.{low_bits, is_ending_code, is_ending_octet, after_start}
+use Rattle.bsc_frame.specs.Reading.{after_check}
 
 -- each octet carries its low seven bits
 abbrev pub AreCarried : List ℕ → Type 0
@@ -23,7 +25,9 @@ carried_by (x ∷ s) o f = (code_of_odd x f.0 o.0, carried_by s o.1 f.1)
 -- the same where each one is known to be an octet by its place
 pub carried : (s : List ℕ) → All IsOdd s → ((i : ℕ) → Fits w8 (get_or s i 0)) → AreCarried s
 carried s o f =
-    carried_by s (recursion_from_All IsOdd s o) (recursion_from_All (λ x. x < 256) s (All-from_get_or (λ x. x < 256) s 0 (λ i _. (f i).fits)))
+    carried_by s (recursion_from_All IsOdd s o)
+    (recursion_from_All (λ x. x < 256) s
+    (All-from_get_or (λ x. x < 256) s 0 (λ i _. (f i).fits)))
 
 -- ---- one octet
 
@@ -35,17 +39,23 @@ same_test a b c d f g = grind (arith, nat_tests, f, g)
 low_test : (x k o : ℕ) → code_of x ≡ Some (low_bits x) → odd_octet k ≡ o → o % 128 ≡ k
     → (low_bits x == k) ≡ (x == o)
 low_test x k o c e l =
-    same_test (low_bits x) k x o (λ h. sym (code_of_some x (low_bits x) c).1 ∙ ap odd_octet h ∙ e) (λ h. ap low_bits h ∙ l)
+    same_test (low_bits x) k x o (λ h. sym (code_of_some x (low_bits x) c).1 ∙ ap odd_octet h ∙ e)
+    (λ h. ap low_bits h ∙ l)
 
 -- an octet with the low bits of a code is the one that carries this code
 pub low_is : (x k o : ℕ) → code_of x ≡ Some (low_bits x) → odd_octet k ≡ o → low_bits x ≡ k → x ≡ o
 low_is x k o c e h = sym (code_of_some x (low_bits x) c).1 ∙ ap odd_octet h ∙ e
 
 -- an octet of odd parity carries an ending character where it is one of the three octets
-pub ending_same : (x : ℕ) → code_of x ≡ Some (low_bits x) → is_ending_code (low_bits x) ≡ is_ending_octet x
+pub ending_same : (x : ℕ) → code_of x ≡ Some (low_bits x) → is_ending_code (low_bits x)
+    ≡ is_ending_octet x
 unfolding odd_octet ones
 ending_same x c =
-    rw (low_test x 0x1f 0x1f c refl refl, low_test x 0x17 0x97 c refl refl, low_test x 0x03 0x83 c refl refl) refl
+    rw (
+      low_test x 0x1f 0x1f c refl refl,
+      low_test x 0x17 0x97 c refl refl,
+      low_test x 0x03 0x83 c refl refl,
+    ) refl
 
 -- and STX where it is the octet of STX
 pub stx_same : (x : ℕ) → code_of x ≡ Some (low_bits x) → (low_bits x == 0x02) ≡ (x == 0x02)

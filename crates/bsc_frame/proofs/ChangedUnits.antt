@@ -1,5 +1,6 @@
 -- Units of which one octet is another with odd parity, neither of which is SYN or ends a unit.
-use Rattle.std.proofs.Common.{◌≡◌, ◌≢◌, inl, inr, ℕ, zero, suc, ◌%◌, ◌<◌, ◌≤◌, Bool, true, false, refl, sym}
+use Rattle.std.proofs.Common.{◌≡◌, ◌≢◌, inl, inr, ℕ, zero, suc, ◌%◌, ◌<◌, ◌≤◌, Bool, true, false}
+use Rattle.std.proofs.Common.{refl, sym}
 use Rattle.std.proofs.Common.{ap, subst, ◌∙◌, arith, List, [], ◌∷◌, ◌++◌, length, map, Some, None}
 use Rattle.std.proofs.Common.{append_assoc, append-nil, length-append}
 use Rattle.std.specs.List.{AllByRecursion}
@@ -10,13 +11,15 @@ use Rattle.bsc_octet.proofs.ParityLemmas.{odd_of_low, odd_octet-low, code_of_odd
 use Rattle.bsc_octet.proofs.SumLemmas.{longitudinal_sum-lt}
 use Rattle.bsc_frame.specs.Texts.{TextUnit, IsUnit}
 use Rattle.bsc_frame.specs.Units.{unit_codes, unit_wire, units_wire, ending}
-use Rattle.bsc_frame.specs.Reading.{low_bits, is_ending_code, is_ending_octet, after_check, unit_at, units_at}
+use Rattle.bsc_frame.specs.Reading.{low_bits, is_ending_code, is_ending_octet, after_check, unit_at}
+use Rattle.bsc_frame.specs.Reading.{units_at}
 use Rattle.bsc_frame.specs.TurnedBits.{IsOtherOctet}
 use Rattle.bsc_frame.specs.declared.text.End.{End}
 use Rattle.bsc_frame.proofs.ReadLemmas.{test_false}
 use Rattle.bsc_frame.proofs.CarriedLemmas.{ending_same}
 use Rattle.bsc_frame.proofs.GatherLemmas.{IsOther, IsRun, gathered_read}
-use Rattle.bsc_frame.proofs.UnitLemmas.{unit_at_read, run_unit, length-unit_codes, ending_is, filled_plain}
+use Rattle.bsc_frame.proofs.UnitLemmas.{unit_at_read, run_unit, length-unit_codes, ending_is}
+use Rattle.bsc_frame.proofs.UnitLemmas.{filled_plain}
 use Rattle.bsc_frame.proofs.UnitSteps.{units_stop}
 use Rattle.bsc_frame.proofs.PlaceLemmas.{parted}
 use Rattle.bsc_frame.proofs.SumChanges.{one_changed}
@@ -40,14 +43,16 @@ run_changed : (front : List ℕ) (c d : ℕ) (back : List ℕ) → is_ending_cod
 run_changed [] c d [] was o e r = absurd (not_true (is_ending_code c) was r.1)
 run_changed [] c d (x ∷ back) was o e r = (o, e, r.2)
 run_changed (b ∷ []) c d back was o e r = (r.0, r.1, run_changed [] c d back was o e r.2)
-run_changed (b ∷ k ∷ front) c d back was o e r = (r.0, r.1, run_changed (k ∷ front) c d back was o e r.2)
+run_changed (b ∷ k ∷ front) c d back was o e r =
+    (r.0, r.1, run_changed (k ∷ front) c d back was o e r.2)
 
 -- two codes that are carried by the same octet are the same
 same_odd : (c d : ℕ) → c < 128 → d < 128 → odd_octet c ≡ odd_octet d → c ≡ d
 same_odd c d l k e = sym (odd_octet-low c l) ∙ ap (λ o. o % 128) e ∙ odd_octet-low d k
 
 -- after codes with another check there is no rest
-wrong_check : (codes : List ℕ) (k : ℕ) (rest : List ℕ) → (odd_octet (longitudinal_sum codes) ≡ k → ⊥)
+wrong_check : (codes : List ℕ) (k : ℕ) (rest : List ℕ)
+    → (odd_octet (longitudinal_sum codes) ≡ k → ⊥)
     → after_check codes (k ∷ rest) ≡ None
 wrong_check codes k rest h = rw (test_false (odd_octet (longitudinal_sum codes)) k h) refl
 
@@ -57,19 +62,28 @@ unchecked : (after_us : Bool) (codes : List ℕ) (k : ℕ) (rest : List ℕ) →
     → unit_at after_us (map odd_octet codes ++ k ∷ rest) ≡ None
 unfolding unit_at
 unchecked after_us codes k rest r l h =
-    rw (gathered_read MAX_UNIT_CODES codes (map odd_octet codes) (k ∷ rest) (filled_plain codes) r l, wrong_check codes k rest h) refl
+    rw (
+      gathered_read MAX_UNIT_CODES codes (map odd_octet codes) (k ∷ rest) (filled_plain codes) r
+          l,
+      wrong_check codes k rest h,
+    ) refl
 
 -- a unit with one code changed, and the check of the old codes, is no unit
-changed_code : (after_us : Bool) (front : List ℕ) (c d : ℕ) (back rest : List ℕ) → IsRun (front ++ c ∷ back)
+changed_code : (after_us : Bool) (front : List ℕ) (c d : ℕ) (back rest : List ℕ)
+    → IsRun (front ++ c ∷ back)
     → length (front ++ c ∷ back) ≤ MAX_UNIT_CODES
     → d ≢ c → is_ending_code c ≡ false → IsOther d → is_ending_code d ≡ false
-    → unit_at after_us (map odd_octet (front ++ d ∷ back) ++ odd_octet (longitudinal_sum (front ++ c ∷ back)) ∷ rest) ≡ None
+    → unit_at after_us (map odd_octet (front ++ d ∷ back)
+    ++ odd_octet (longitudinal_sum (front ++ c ∷ back)) ∷ rest) ≡ None
 changed_code after_us front c d back rest r l differs was o e =
     let codes : List ℕ = front ++ d ∷ back in
     let sent : List ℕ = front ++ c ∷ back in
-    unchecked after_us codes (odd_octet (longitudinal_sum sent)) rest (run_changed front c d back was o e r) (omega (arith, l, length-append front (c ∷ back), length-append front (d ∷ back)))
+    unchecked after_us codes (odd_octet (longitudinal_sum sent)) rest
+    (run_changed front c d back was o e r)
+    (omega (arith, l, length-append front (c ∷ back), length-append front (d ∷ back)))
     (λ same. differs (one_changed front d c back o.code (run_member front c back r).code
-    (same_odd (longitudinal_sum codes) (longitudinal_sum sent) (longitudinal_sum-lt codes) (longitudinal_sum-lt sent) same)))
+    (same_odd (longitudinal_sum codes) (longitudinal_sum sent) (longitudinal_sum-lt codes)
+    (longitudinal_sum-lt sent) same)))
 
 -- ---- octets by the codes that they carry
 
@@ -84,14 +98,23 @@ record Mapped (codes before : List ℕ) (o : ℕ) (after : List ℕ) : Type 0 wh
   after_is : map odd_octet back ≡ after
 
 -- each octet of a line of codes stands for one of them
-mapped : (codes before : List ℕ) (o : ℕ) (after : List ℕ) → map odd_octet codes ≡ before ++ o ∷ after
+mapped : (codes before : List ℕ) (o : ℕ) (after : List ℕ) → map odd_octet codes ≡ before ++ o
+    ∷ after
     → Mapped codes before o after
 mapped [] [] o after e = absurd (omega (arith, ap length e))
 mapped [] (x ∷ before) o after e = absurd (omega (arith, ap length e))
 mapped (c ∷ codes) [] o after e =
     let head : odd_octet c ≡ o = cc in
     let tail : map odd_octet codes ≡ after = cc in
-    record { front = []; code = c; back = codes; whole = refl; before_is = refl; octet_is = head; after_is = tail }
+    record {
+      front = [];
+      code = c;
+      back = codes;
+      whole = refl;
+      before_is = refl;
+      octet_is = head;
+      after_is = tail;
+    }
 mapped (c ∷ codes) (x ∷ before) o after e =
     let head : odd_octet c ≡ x = cc in
     let tail : map odd_octet codes ≡ before ++ o ∷ after = cc in
@@ -125,7 +148,12 @@ new_code old new h =
     record {
       code = new % 128;
       carries = carries;
-      other = record { code = omega arith; other = λ e. h.no_fill (sym carries ∙ ap odd_octet e ∙ syn_octet) };
+      other =
+          record {
+            code = omega arith;
+            other =
+                λ e. h.no_fill (sym carries ∙ ap odd_octet e ∙ syn_octet);
+          };
       no_end = ending_same new (code_of_odd new h.octet h.odd) ∙ h.no_end;
     }
 
@@ -135,7 +163,8 @@ old_no_end : (c old : ℕ) → c < 128 → odd_octet c ≡ old → is_ending_oct
 old_no_end c old l e h =
     let carried : code_of (odd_octet c) ≡ Some (low_bits (odd_octet c)) =
     code_of-odd_octet c l ∙ ap Some (sym (odd_octet-low c l)) in
-    ap is_ending_code (sym (odd_octet-low c l)) ∙ ending_same (odd_octet c) carried ∙ ap is_ending_octet e ∙ h
+    ap is_ending_code (sym (odd_octet-low c l)) ∙ ending_same (odd_octet c) carried
+    ∙ ap is_ending_octet e ∙ h
 
 -- ---- a unit
 
@@ -144,24 +173,32 @@ fits : (u : TextUnit) (e : ℕ) → IsUnit u → length (unit_codes u e) ≤ MAX
 fits u e h = omega (arith, h.most, length-unit_codes u e)
 
 -- a change in the octets of the codes of a unit leaves no unit
-in_codes : (after_us : Bool) (u : TextUnit) (e : ℕ) (before : List ℕ) (old new : ℕ) (after rest : List ℕ)
+in_codes : (after_us : Bool) (u : TextUnit) (e : ℕ) (before : List ℕ) (old new : ℕ)
+    (after rest : List ℕ)
     → IsUnit u → is_ending_code e ≡ true → IsOtherOctet old new
     → map odd_octet (unit_codes u e) ≡ before ++ old ∷ after
-    → unit_at after_us (before ++ new ∷ (after ++ odd_octet (longitudinal_sum (unit_codes u e)) ∷ rest)) ≡ None
+    → unit_at after_us (before ++ new ∷ (after ++ odd_octet (longitudinal_sum (unit_codes u e))
+    ∷ rest)) ≡ None
 in_codes after_us u e before old new after rest h k o w =
     let m = mapped (unit_codes u e) before old after w in
     let n = new_code old new o in
     let run : IsRun (m.front ++ m.code ∷ m.back) = subst IsRun m.whole (run_unit u e h k) in
     let short : length (m.front ++ m.code ∷ m.back) ≤ MAX_UNIT_CODES =
     subst (λ z. length z ≤ MAX_UNIT_CODES) m.whole (fits u e h) in
-    let differs : n.code ≢ m.code = λ same. o.differs (sym n.carries ∙ ap odd_octet same ∙ m.octet_is) in
+    let differs : n.code ≢ m.code =
+    λ same. o.differs (sym n.carries ∙ ap odd_octet same ∙ m.octet_is) in
     let was : is_ending_code m.code ≡ false =
     old_no_end m.code old (run_member m.front m.code m.back run).code m.octet_is o.was_no_end in
-    let none = changed_code after_us m.front m.code n.code m.back rest run short differs was n.other n.no_end in
+    let none =
+    changed_code after_us m.front m.code n.code m.back rest run short differs was n.other
+    n.no_end in
     let octets : map odd_octet (m.front ++ n.code ∷ m.back) ≡ before ++ new ∷ after =
-    map-append odd_octet m.front (n.code ∷ m.back) ∙ ap (λ z. z ++ odd_octet n.code ∷ map odd_octet m.back) m.before_is
-    ∙ ap (λ z. before ++ z ∷ map odd_octet m.back) n.carries ∙ ap (λ z. before ++ new ∷ z) m.after_is in
-    let all : map odd_octet (m.front ++ n.code ∷ m.back) ++ odd_octet (longitudinal_sum (m.front ++ m.code ∷ m.back)) ∷ rest
+    map-append odd_octet m.front (n.code ∷ m.back)
+    ∙ ap (λ z. z ++ odd_octet n.code ∷ map odd_octet m.back) m.before_is
+    ∙ ap (λ z. before ++ z ∷ map odd_octet m.back) n.carries
+    ∙ ap (λ z. before ++ new ∷ z) m.after_is in
+    let all : map odd_octet (m.front ++ n.code ∷ m.back)
+    ++ odd_octet (longitudinal_sum (m.front ++ m.code ∷ m.back)) ∷ rest
     ≡ before ++ new ∷ (after ++ odd_octet (longitudinal_sum (unit_codes u e)) ∷ rest) =
     ap (λ z. z ++ odd_octet (longitudinal_sum (m.front ++ m.code ∷ m.back)) ∷ rest) octets
     ∙ ap (λ z. (before ++ new ∷ after) ++ odd_octet (longitudinal_sum z) ∷ rest) (sym m.whole)
@@ -173,36 +210,47 @@ in_check : (after_us : Bool) (u : TextUnit) (e : ℕ) (new : ℕ) (rest : List �
     → is_ending_code e ≡ true → new ≢ odd_octet (longitudinal_sum (unit_codes u e))
     → unit_at after_us (map odd_octet (unit_codes u e) ++ new ∷ rest) ≡ None
 in_check after_us u e new rest h k differs =
-    unchecked after_us (unit_codes u e) new rest (run_unit u e h k) (fits u e h) (λ same. differs (sym same))
+    unchecked after_us (unit_codes u e) new rest (run_unit u e h k) (fits u e h)
+    (λ same. differs (sym same))
 
 -- a list of one element has nothing before or after it
 last_one : (x : ℕ) (more : List ℕ) (o : ℕ) (after : List ℕ) → x ∷ [] ≡ more ++ o ∷ after
     → (more ≡ []) × (x ≡ o) × (after ≡ [])
 last_one x [] o after e = (refl, cc, cc)
-last_one x (y ∷ more) o after e = absurd (omega (arith, ap length e, length-append more (o ∷ after)))
+last_one x (y ∷ more) o after e =
+    absurd (omega (arith, ap length e, length-append more (o ∷ after)))
 
 -- a change anywhere in a unit leaves no unit
-in_unit : (after_us : Bool) (u : TextUnit) (e : ℕ) (before : List ℕ) (old new : ℕ) (after rest : List ℕ)
+in_unit : (after_us : Bool) (u : TextUnit) (e : ℕ) (before : List ℕ) (old new : ℕ)
+    (after rest : List ℕ)
     → IsUnit u → is_ending_code e ≡ true → IsOtherOctet old new
-    → unit_wire u e ≡ before ++ old ∷ after → unit_at after_us (before ++ new ∷ (after ++ rest)) ≡ None
+    → unit_wire u e ≡ before ++ old ∷ after → unit_at after_us (before ++ new ∷ (after ++ rest))
+    ≡ None
 in_unit after_us u e before old new after rest h k o w =
-    elim (parted (map odd_octet (unit_codes u e)) (odd_octet (longitudinal_sum (unit_codes u e)) ∷ []) before old after w) [
+    elim (parted (map odd_octet (unit_codes u e))
+    (odd_octet (longitudinal_sum (unit_codes u e)) ∷ []) before old after w) [
       | inl p ↦
           let check : List ℕ = odd_octet (longitudinal_sum (unit_codes u e)) ∷ [] in
-          let tail : after ++ rest ≡ p.more ++ odd_octet (longitudinal_sum (unit_codes u e)) ∷ rest =
+          let tail : after ++ rest ≡ p.more ++ odd_octet (longitudinal_sum (unit_codes u e))
+          ∷ rest =
           ap (λ z. z ++ rest) p.rest ∙ append_assoc p.more check rest in
-          ap (λ z. unit_at after_us (before ++ new ∷ z)) tail ∙ in_codes after_us u e before old new p.more rest h k o p.first
+          ap (λ z. unit_at after_us (before ++ new ∷ z)) tail
+          ∙ in_codes after_us u e before old new p.more rest h k o p.first
       | inr p ↦
-          let l = last_one (odd_octet (longitudinal_sum (unit_codes u e))) p.more old after p.rest in
+          let l =
+          last_one (odd_octet (longitudinal_sum (unit_codes u e))) p.more old after p.rest in
           let front : before ≡ map odd_octet (unit_codes u e) =
-          p.first ∙ ap (λ z. map odd_octet (unit_codes u e) ++ z) l.0 ∙ append-nil (map odd_octet (unit_codes u e)) in
-          ap (λ z. unit_at after_us (z ++ new ∷ (after ++ rest))) front ∙ in_check after_us u e new (after ++ rest) h k (λ same. o.differs (same ∙ l.1))
+          p.first ∙ ap (λ z. map odd_octet (unit_codes u e) ++ z) l.0
+          ∙ append-nil (map odd_octet (unit_codes u e)) in
+          ap (λ z. unit_at after_us (z ++ new ∷ (after ++ rest))) front
+          ∙ in_check after_us u e new (after ++ rest) h k (λ same. o.differs (same ∙ l.1))
     ]
 
 -- ---- all units
 
 -- a change in a later unit leaves no text, once the first unit is read
-later_unit : (n : ℕ) (after_us : Bool) (u : TextUnit) (us : List TextUnit) (end : End) (before : List ℕ) (old new : ℕ) (after : List ℕ)
+later_unit : (n : ℕ) (after_us : Bool) (u : TextUnit) (us : List TextUnit) (end : End)
+    (before : List ℕ) (old new : ℕ) (after : List ℕ)
     → IsUnit u
     → units_wire us end ≡ before ++ old ∷ after → units_at n true (before ++ new ∷ after) ≡ None
     → units_at (suc n) after_us (unit_wire u (ending us end) ++ (before ++ new ∷ after)) ≡ None
@@ -210,20 +258,25 @@ unfolding units_at
 later_unit n after_us u [] end before old new after h w none =
     absurd (omega (arith, ap length w, length-append before (old ∷ after)))
 later_unit n after_us u (v ∷ us) end before old new after h w none =
-    let first : unit_at after_us (unit_wire u 0x1f ++ (before ++ new ∷ after)) ≡ Some (u, 0x1f, before ++ new ∷ after) =
-    unit_at_read after_us (unit_wire u 0x1f ++ (before ++ new ∷ after)) u 0x1f (before ++ new ∷ after) (record {
+    let first : unit_at after_us (unit_wire u 0x1f ++ (before ++ new ∷ after))
+    ≡ Some (u, 0x1f, before ++ new ∷ after) =
+    unit_at_read after_us (unit_wire u 0x1f ++ (before ++ new ∷ after)) u 0x1f
+    (before ++ new ∷ after) (record {
       start = [];
       front = map odd_octet (unit_codes u 0x1f);
       is_start = inl refl;
       filled = filled_plain (unit_codes u 0x1f);
-      whole = append_assoc (map odd_octet (unit_codes u 0x1f)) (odd_octet (longitudinal_sum (unit_codes u 0x1f)) ∷ []) (before ++ new ∷ after);
+      whole =
+          append_assoc (map odd_octet (unit_codes u 0x1f))
+          (odd_octet (longitudinal_sum (unit_codes u 0x1f)) ∷ []) (before ++ new ∷ after);
       unit = h;
       ends = refl;
     }) in
     rw (first, none) refl
 
 -- a change in any unit leaves no text
-pub changed_units : (n : ℕ) (after_us : Bool) (us : List TextUnit) (end : End) (before : List ℕ) (old new : ℕ) (after : List ℕ)
+pub changed_units : (n : ℕ) (after_us : Bool) (us : List TextUnit) (end : End) (before : List ℕ)
+    (old new : ℕ) (after : List ℕ)
     → AllByRecursion IsUnit us → IsOtherOctet old new
     → units_wire us end ≡ before ++ old ∷ after → units_at n after_us (before ++ new ∷ after) ≡ None
 unfolding units_at
@@ -234,9 +287,15 @@ changed_units (suc n) after_us (u ∷ us) end before old new after h o w =
     elim (parted (unit_wire u (ending us end)) (units_wire us end) before old after w) [
       | inl p ↦
           units_stop (suc n) after_us (before ++ new ∷ after)
-          (ap (λ z. unit_at after_us (before ++ new ∷ z)) p.rest ∙ in_unit after_us u (ending us end) before old new p.more (units_wire us end) h.0 (ending_is us end) o p.first)
+          (ap (λ z. unit_at after_us (before ++ new ∷ z)) p.rest
+          ∙ in_unit after_us u (ending us end) before old new p.more (units_wire us end) h.0
+          (ending_is us end) o p.first)
       | inr p ↦
-          let front : before ++ new ∷ after ≡ unit_wire u (ending us end) ++ (p.more ++ new ∷ after) =
-          ap (λ z. z ++ new ∷ after) p.first ∙ append_assoc (unit_wire u (ending us end)) p.more (new ∷ after) in
-          ap (units_at (suc n) after_us) front ∙ later_unit n after_us u us end p.more old new after h.0 p.rest (changed_units n true us end p.more old new after h.1 o p.rest)
+          let front : before ++ new ∷ after ≡ unit_wire u (ending us end)
+          ++ (p.more ++ new ∷ after) =
+          ap (λ z. z ++ new ∷ after) p.first
+          ∙ append_assoc (unit_wire u (ending us end)) p.more (new ∷ after) in
+          ap (units_at (suc n) after_us) front
+          ∙ later_unit n after_us u us end p.more old new after h.0 p.rest
+          (changed_units n true us end p.more old new after h.1 o p.rest)
     ]

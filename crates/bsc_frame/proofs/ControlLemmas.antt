@@ -1,7 +1,10 @@
 -- Bodies that are no text: what is read is such a body, and such a body is read.
-use Rattle.std.proofs.Common.{◌≡◌, ◌⊎◌, inl, inr, ℕ, suc, ◌-◌, ◌<◌, ◌≤◌, ◌==◌, Bool, true, false, not, cond}
-use Rattle.std.proofs.Common.{refl, sym, ap, subst, ◌∙◌, arith, List, [], ◌∷◌, ◌++◌, length, drop, map}
-use Rattle.std.proofs.Common.{Option, Some, None, Result, Ok, Err, IsTrue, option_and_then, nat_lt, nat_le}
+use Rattle.std.proofs.Common.{◌≡◌, ◌⊎◌, inl, inr, ℕ, suc, ◌-◌, ◌<◌, ◌≤◌, ◌==◌, Bool, true, false}
+use Rattle.std.proofs.Common.{not, cond}
+use Rattle.std.proofs.Common.{refl, sym, ap, subst, ◌∙◌, arith, List, [], ◌∷◌, ◌++◌, length, drop}
+use Rattle.std.proofs.Common.{map}
+use Rattle.std.proofs.Common.{Option, Some, None, Result, Ok, Err, IsTrue, option_and_then, nat_lt}
+use Rattle.std.proofs.Common.{nat_le}
 use Rattle.std.proofs.Common.{◌&&◌, position, append_assoc, length-append}
 use Rattle.std.specs.List.{AllByRecursion, position_or_len}
 use Rattle.std.specs.Str.{bytes_eq}
@@ -13,10 +16,12 @@ use Rattle.bsc_octet.proofs.ParityLemmas.{odd_cases, code_of_some, code_of-odd_o
 use Rattle.bsc_frame.specs.Addresses.{IsAddress, is_address_code}
 use Rattle.bsc_frame.specs.Message.{read_address, first_wrong}
 use Rattle.bsc_frame.specs.Spells.{AreAll, IsCall, IsBody}
-use Rattle.bsc_frame.specs.Reading.{skip, is_octet, begins, called, at_end, with_code, call, call_to, control}
+use Rattle.bsc_frame.specs.Reading.{skip, is_octet, begins, called, at_end, with_code, call}
+use Rattle.bsc_frame.specs.Reading.{call_to, control}
 use Rattle.bsc_frame.specs.declared.address.AddressError.{AddressError}
 use Rattle.bsc_frame.specs.declared.message.Message.{Message}
-use Rattle.bsc_frame.specs.declared.message.Message.TheVariants.{Eot, Call, Enq, Ack0, Ack1, Nak, Wack, Rvi}
+use Rattle.bsc_frame.specs.declared.message.Message.TheVariants.{Eot, Call, Enq, Ack0, Ack1, Nak}
+use Rattle.bsc_frame.specs.declared.message.Message.TheVariants.{Wack, Rvi}
 use Rattle.bsc_frame.specs.declared.message.Message.TheVariants.{Text}
 use Rattle.bsc_frame.proofs.AddressLemmas.{is_address}
 use Rattle.bsc_frame.proofs.ReadLemmas.{test_false}
@@ -46,10 +51,19 @@ pub plain : (c : ℕ) → IsTrue (is_address_code c) → IsPlain c
 plain c h = plain_from c (nat_le 33 c) refl h
 
 -- the octet of a plain code is no ENQ, SYN or PAD
-pub plain_odd : (c o : ℕ) → IsPlain c → (o ≡ 0x85) ⊎ ((o ≡ 0x16) ⊎ (o ≡ 0xff)) → (odd_octet c == o) ≡ false
+pub plain_odd : (c o : ℕ) → IsPlain c → (o ≡ 0x85) ⊎ ((o ≡ 0x16) ⊎ (o ≡ 0xff)) → (odd_octet c == o)
+    ≡ false
 plain_odd c o p h = test_false (odd_octet c) o (λ e. elim (odd_cases c) [
-  | inl k ↦ elim h [ inl u ↦ absurd (omega arith) | inr v ↦ elim v [ inl u ↦ absurd (omega arith) | inr u ↦ absurd (omega arith) ] ]
-  | inr k ↦ elim h [ inl u ↦ absurd (omega arith) | inr v ↦ elim v [ inl u ↦ absurd (omega arith) | inr u ↦ absurd (omega arith) ] ]
+  | inl k ↦ elim h [
+    | inl u ↦ absurd (omega arith)
+    | inr v ↦ elim v
+        [ inl u ↦ absurd (omega arith) | inr u ↦ absurd (omega arith) ]
+  ]
+  | inr k ↦ elim h [
+    | inl u ↦ absurd (omega arith)
+    | inr v ↦ elim v
+        [ inl u ↦ absurd (omega arith) | inr u ↦ absurd (omega arith) ]
+  ]
 ])
 
 -- where there is room for one more, room is not 0
@@ -58,7 +72,8 @@ more_room n room h e = omega arith
 
 -- what is sent for an address and ENQ is read as its codes
 pub called_wire : (room : ℕ) (a : List ℕ) → length a ≤ room
-    → AllByRecursion (λ c. IsTrue (is_address_code c)) a → called room (map odd_octet a ++ 0x85 ∷ []) ≡ Some a
+    → AllByRecursion (λ c. IsTrue (is_address_code c)) a
+    → called room (map odd_octet a ++ 0x85 ∷ []) ≡ Some a
 unfolding called
 called_wire room [] h p = refl
 called_wire room (c ∷ a) h p =
@@ -66,7 +81,8 @@ called_wire room (c ∷ a) h p =
     let no : (odd_octet c == 0x85) ≡ false = plain_odd c 0x85 k (inl refl) in
     let some : (room == 0) ≡ false = test_false room 0 (more_room (length a) room h) in
     let code : code_of (odd_octet c) ≡ Some c = code_of-odd_octet c (omega (arith, k.high)) in
-    let rest : called (room - 1) (map odd_octet a ++ 0x85 ∷ []) ≡ Some a = called_wire (room - 1) a (omega arith) p.1 in
+    let rest : called (room - 1) (map odd_octet a ++ 0x85 ∷ []) ≡ Some a =
+    called_wire (room - 1) a (omega arith) p.1 in
     rw (no, some, code, rest) refl
 
 -- where no octet is left, no code is read
@@ -89,7 +105,8 @@ coded x s codes room (Some c) (Some cs) k q f e =
 -- one code more before codes that are read
 called_step : (room : ℕ) (x : ℕ) (s codes : List ℕ)
     → ((cs : List ℕ) → called (room - 1) s ≡ Some cs → s ≡ map odd_octet cs ++ 0x85 ∷ [])
-    → cond (x == 0x85) (at_end s) (cond (room == 0) None (with_code (code_of x) (called (room - 1) s))) ≡ Some codes
+    → cond (x == 0x85) (at_end s) (cond (room == 0) None
+    (with_code (code_of x) (called (room - 1) s))) ≡ Some codes
     → x ∷ s ≡ map odd_octet codes ++ 0x85 ∷ []
 called_step room x s codes f e = elim (chosen (x == 0x85) _ _ _ e) [
   | inl h ↦
@@ -122,8 +139,11 @@ address_reads codes a e = elim (chosen (length codes == 0) _ _ _ e) [
   | inr h ↦ elim (chosen (nat_lt MAX_ADDRESS (length codes)) _ _ _ h.1) [
     | inl q ↦ cc
     | inr q ↦
-        let k = scanned (position (λ c. not (is_address_code c)) codes) codes a q.1 in
-        (k.1, subst IsAddress k.1 (is_address codes (eqb-false (length codes) 0 h.0) (grind (arith, nat_tests)) k.0))
+        let k = scanned (position (λ c. not (is_address_code c)) codes) codes a q.1 in (
+          k.1,
+          subst IsAddress k.1 (is_address codes (eqb-false (length codes) 0 h.0)
+              (grind (arith, nat_tests)) k.0),
+        )
   ]
 ]
 
@@ -148,8 +168,10 @@ not_empty n h e = omega arith
 -- an address is read from its codes
 pub address_read : (a : List ℕ) → IsAddress a → read_address a ≡ Ok a
 address_read a h =
-    let none : position (λ c. not (is_address_code c)) a ≡ None = not_found _ (length a) (none_wrong a h.each) in
-    rw (test_false (length a) 0 (not_empty (length a) h.some), not_long (length a) h.most, none) refl
+    let none : position (λ c. not (is_address_code c)) a ≡ None =
+    not_found _ (length a) (none_wrong a h.each) in
+    rw (test_false (length a) 0 (not_empty (length a) h.some), not_long (length a) h.most, none)
+    refl
 
 -- ---- a call after its EOT
 
@@ -176,14 +198,18 @@ call_reads rest m e =
     let u = called_to (called MAX_ADDRESS (skip (is_octet 0x16) (skip (is_octet 0xff) rest))) m e in
     let v = to_call (read_address u.0) m u.2 in
     let w = address_reads u.0 v.0 v.1 in
-    let body : skip (is_octet 0x16) (skip (is_octet 0xff) rest) ≡ map odd_octet v.0 ++ 0x85 ∷ [] = called_reads MAX_ADDRESS _ u.0 u.1 ∙ ap (λ x. map odd_octet x ++ 0x85 ∷ []) w.0 in (
+    let body : skip (is_octet 0x16) (skip (is_octet 0xff) rest) ≡ map odd_octet v.0 ++ 0x85 ∷ [] =
+    called_reads MAX_ADDRESS _ u.0 u.1 ∙ ap (λ x. map odd_octet x ++ 0x85 ∷ []) w.0 in (
       v.0,
       v.2,
       record {
         pads = p.front;
         syns = q.front;
-        whole = ap (λ x. 0x04 ∷ x) (p.whole ∙ ap (λ x. p.front ++ x) (q.whole ∙ ap (λ x. q.front ++ x) body)
-            ∙ sym (append_assoc p.front q.front (map odd_octet v.0 ++ 0x85 ∷ [])) ∙ sym (append_assoc (p.front ++ q.front) (map odd_octet v.0) (0x85 ∷ [])));
+        whole =
+            ap (λ x. 0x04 ∷ x) (p.whole ∙ ap (λ x. p.front ++ x)
+            (q.whole ∙ ap (λ x. q.front ++ x) body)
+            ∙ sym (append_assoc p.front q.front (map odd_octet v.0 ++ 0x85 ∷ []))
+            ∙ sym (append_assoc (p.front ++ q.front) (map odd_octet v.0) (0x85 ∷ [])));
         are_pads = pass_are 0xff p.front p.passes;
         are_syns = pass_are 0x16 q.front q.passes;
         address = w.1;
@@ -208,14 +234,22 @@ unfolding call
 call_read rest a c =
     let tail : List ℕ = map odd_octet a ++ 0x85 ∷ [] in
     let grouped : rest ≡ c.pads ++ (c.syns ++ tail) =
-    ap (drop 1) c.whole ∙ append_assoc (c.pads ++ c.syns) (map odd_octet a) (0x85 ∷ []) ∙ append_assoc c.pads c.syns tail in
+    ap (drop 1) c.whole ∙ append_assoc (c.pads ++ c.syns) (map odd_octet a) (0x85 ∷ [])
+    ∙ append_assoc c.pads c.syns tail in
     let first : skip (is_octet 0xff) rest ≡ c.syns ++ tail =
-    ap (skip (is_octet 0xff)) grouped ∙ skip-pass (is_octet 0xff) c.pads (c.syns ++ tail) (are_pass 0xff c.pads c.are_pads)
-    ∙ skip-stays (is_octet 0xff) (c.syns ++ tail) (begins_syns c.syns tail c.are_syns (begins_address 0xff a (inr refl) c.address)) in
+    ap (skip (is_octet 0xff)) grouped ∙ skip-pass (is_octet 0xff) c.pads (c.syns ++ tail)
+    (are_pass 0xff c.pads c.are_pads)
+    ∙ skip-stays (is_octet 0xff) (c.syns ++ tail)
+    (begins_syns c.syns tail c.are_syns (begins_address 0xff a (inr refl) c.address)) in
     let second : skip (is_octet 0x16) (c.syns ++ tail) ≡ tail =
     skip-pass (is_octet 0x16) c.syns tail (are_pass 0x16 c.syns c.are_syns)
     ∙ skip-stays (is_octet 0x16) tail (begins_address 0x16 a (inl refl) c.address) in
-    rw (first, second, called_wire MAX_ADDRESS a c.address.most c.address.each, address_read a c.address) refl
+    rw (
+      first,
+      second,
+      called_wire MAX_ADDRESS a c.address.most c.address.each,
+      address_read a c.address,
+    ) refl
 
 -- ---- all
 
@@ -228,7 +262,8 @@ pub some_is : {A : Type 0} (x y : A) → Some x ≡ Some y → x ≡ y
 some_is x y e = cc
 
 -- a body that begins with EOT and is read as a message is that of a call
-by_eot : (body : List ℕ) (m : Message) → begins (is_octet 0x04) body ≡ true → call (drop 1 body) ≡ Some m
+by_eot : (body : List ℕ) (m : Message) → begins (is_octet 0x04) body ≡ true → call (drop 1 body)
+    ≡ Some m
     → IsBody m body
 by_eot [] m h e = cc
 by_eot (x ∷ rest) m h e =
@@ -268,7 +303,11 @@ control_reads body m e = elim (chosen (bytes_eq body (0x04 ∷ [])) _ _ _ e) [
 call_control : (a rest : List ℕ) → IsCall a (0x04 ∷ rest) → control (0x04 ∷ rest) ≡ Some (Call a)
 unfolding control
 call_control a [] c =
-    absurd (omega (arith, ap length c.whole, length-append (0x04 ∷ c.pads ++ c.syns ++ map odd_octet a) (0x85 ∷ [])))
+    absurd (omega (
+      arith,
+      ap length c.whole,
+      length-append (0x04 ∷ c.pads ++ c.syns ++ map odd_octet a) (0x85 ∷ []),
+    ))
 call_control a (x ∷ xs) c = call_read (x ∷ xs) a c
 
 -- the body of a call is read as it
@@ -291,7 +330,8 @@ IsControl Rvi = Unit {0}
 IsControl (Text t) = ⊥
 
 -- the body of each message without a text is read as it
-pub control_read : (body : List ℕ) (m : Message) → IsControl m → IsBody m body → control body ≡ Some m
+pub control_read : (body : List ℕ) (m : Message) → IsControl m → IsBody m body → control body
+    ≡ Some m
 unfolding control
 control_read body Eot k h = rw h refl
 control_read body (Call a) k h = call_body a body h

@@ -1,16 +1,21 @@
 -- The front up to the first ending octet, without fill, is what is gathered.
-use Rattle.std.proofs.Common.{◌≡◌, ℕ, zero, suc, ◌+◌, ◌-◌, ◌<◌, ◌≤◌, ◌==◌, not, Bool, true, false, cond, refl}
-use Rattle.std.proofs.Common.{◌∙◌, arith, List, [], ◌∷◌, length, take, drop, map, Option, Some, None}
+use Rattle.std.proofs.Common.{◌≡◌, ℕ, zero, suc, ◌+◌, ◌-◌, ◌<◌, ◌≤◌, ◌==◌, not, Bool, true, false}
+use Rattle.std.proofs.Common.{cond, refl}
+use Rattle.std.proofs.Common.{◌∙◌, arith, List, [], ◌∷◌, length, take, drop, map, Option, Some}
+use Rattle.std.proofs.Common.{None}
 use Rattle.std.specs.List.{filter, prefix_len}
 use Rattle.std.proofs.lemmas.Bool.{eqb-true}
 use Rattle.bsc_octet.specs.Octet.{code_of}
-use Rattle.bsc_frame.specs.Reading.{low_bits, is_other, is_before_ending, is_ending_octet, before_gathered}
+use Rattle.bsc_frame.specs.Reading.{low_bits, is_other, is_before_ending, is_ending_octet}
+use Rattle.bsc_frame.specs.Reading.{before_gathered}
 use Rattle.bsc_frame.specs.Reading.{gathered}
 use Rattle.bsc_frame.proofs.CarriedLemmas.{AreCarried, ending_same}
 
 -- gathering goes by three tests: fill, room, an ending octet
 gather_step : (room x : ℕ) (s : List ℕ) → code_of x ≡ Some (low_bits x)
-    → gathered room (x ∷ s) ≡ cond (x == 0x16) (gathered room s) (cond (room == 0) None (cond (is_ending_octet x) (Some (low_bits x ∷ [], s)) (before_gathered (low_bits x) (gathered (room - 1) s))))
+    → gathered room (x ∷ s) ≡ cond (x == 0x16) (gathered room s)
+    (cond (room == 0) None (cond (is_ending_octet x) (Some (low_bits x ∷ [], s))
+    (before_gathered (low_bits x) (gathered (room - 1) s))))
 unfolding gathered
 gather_step room x s c = rw (c, ← ending_same x c) refl
 
@@ -27,17 +32,21 @@ goes_on x n l true e = absurd (omega arith)
 goes_on x n l false e = (refl, omega arith)
 
 -- no codes are read where no octet carries an ending character
-pub gathered_none : (room : ℕ) (s : List ℕ) → AreCarried s → prefix_len is_before_ending s ≡ length s
+pub gathered_none : (room : ℕ) (s : List ℕ) → AreCarried s → prefix_len is_before_ending s
+    ≡ length s
     → gathered room s ≡ None
 unfolding gathered
 gathered_none room [] c e = refl
 gathered_none room (x ∷ s) c e =
     let k = goes_on x (prefix_len is_before_ending s) (length s) (is_ending_octet x) e in
-    gather_step room x s c.0 ∙ rw (gathered_none room s c.1 k.1, gathered_none (room - 1) s c.1 k.1) (no_ending (low_bits x) s (x == 0x16) (room == 0) (is_ending_octet x) (low_bits x ∷ [], s) k.0)
+    gather_step room x s c.0 ∙ rw (gathered_none room s c.1 k.1, gathered_none (room - 1) s c.1 k.1)
+    (no_ending (low_bits x) s (x == 0x16) (room == 0) (is_ending_octet x) (low_bits x ∷ [], s)
+    k.0)
 
 -- one more in front of what is cut
 pub record CutTo (m room : ℕ) (s : List ℕ) : Type 0 where
-  pub fits : length (filter is_other (take m s)) ≤ room → gathered room s ≡ Some (map low_bits (filter is_other (take m s)), drop m s)
+  pub fits : length (filter is_other (take m s)) ≤ room → gathered room s
+      ≡ Some (map low_bits (filter is_other (take m s)), drop m s)
   pub full : room < length (filter is_other (take m s)) → gathered room s ≡ None
 
 -- a SYN at the front changes nothing but the place of the cut
@@ -48,7 +57,8 @@ cut_fill m room s c = record { fits = c.fits; full = c.full }
 -- with room for one code what is read is given, else nothing
 last_room : (room : ℕ) (r : List ℕ × List ℕ) (b : Bool) → (room == 0) ≡ b
     → (1 ≤ room → cond b None (Some r) ≡ Some r) × (room < 1 → cond b None (Some r) ≡ None)
-last_room room r true e = (λ l. let z : room ≡ 0 = eqb-true room 0 e in absurd (omega arith), λ l. refl)
+last_room room r true e =
+    (λ l. let z : room ≡ 0 = eqb-true room 0 e in absurd (omega arith), λ l. refl)
 last_room room r false e =
     (λ l. refl, λ l. let z : room ≡ 0 = omega arith in let t : (room == 0) ≡ true = rw z refl in cc)
 
@@ -65,8 +75,10 @@ cut_last room x s c f e =
 more_room : (x room : ℕ) (n : ℕ) (o : Option (List ℕ × List ℕ)) (r : List ℕ × List ℕ) (b : Bool)
     → (room == 0) ≡ b
     → (n ≤ room - 1 → o ≡ Some r) → (room - 1 < n → o ≡ None)
-    → (suc n ≤ room → cond b None (before_gathered x o) ≡ Some (x ∷ r.0, r.1)) × (room < suc n → cond b None (before_gathered x o) ≡ None)
-more_room x room n o r true e fits full = (λ l. let z : room ≡ 0 = eqb-true room 0 e in absurd (omega arith), λ l. refl)
+    → (suc n ≤ room → cond b None (before_gathered x o) ≡ Some (x ∷ r.0, r.1))
+    × (room < suc n → cond b None (before_gathered x o) ≡ None)
+more_room x room n o r true e fits full =
+    (λ l. let z : room ≡ 0 = eqb-true room 0 e in absurd (omega arith), λ l. refl)
 more_room x room n o r false e fits full = (
   λ l. rw (fits (omega arith)) refl,
   λ l. rw (full (above l)) refl,
@@ -82,26 +94,35 @@ more_room x room n o r false e fits full = (
 cut_code : (m room x : ℕ) (s : List ℕ) → code_of x ≡ Some (low_bits x) → (x == 0x16) ≡ false
     → is_ending_octet x ≡ false → CutTo m (room - 1) s → CutTo (suc m) room (x ∷ s)
 cut_code m room x s c f e k =
-    let step : gathered room (x ∷ s) ≡ cond (room == 0) None (before_gathered (low_bits x) (gathered (room - 1) s)) =
+    let step : gathered room (x ∷ s) ≡ cond (room == 0) None
+    (before_gathered (low_bits x) (gathered (room - 1) s)) =
     gather_step room x s c ∙ rw (f, e) refl in
-    let r = more_room (low_bits x) room (length (filter is_other (take m s))) (gathered (room - 1) s) (map low_bits (filter is_other (take m s)), drop m s) (room == 0) refl k.fits k.full in
+    let r =
+    more_room (low_bits x) room (length (filter is_other (take m s))) (gathered (room - 1) s)
+    (map low_bits (filter is_other (take m s)), drop m s) (room == 0) refl k.fits k.full in
     record { fits = rw f (λ l. step ∙ r.0 l); full = rw f (λ l. step ∙ r.1 l) }
 
 -- the cut one octet further, whatever the octet is
 cut_octet : (m room x : ℕ) (s : List ℕ) (fill ending : Bool) → code_of x ≡ Some (low_bits x)
     → (x == 0x16) ≡ fill → is_ending_octet x ≡ ending
     → suc m ≡ cond (not ending) (1 + prefix_len is_before_ending s) 0 + 1
-    → ((room : ℕ) → m ≡ prefix_len is_before_ending s + 1 → CutTo m room s) → CutTo (suc m) room (x ∷ s)
+    → ((room : ℕ) → m ≡ prefix_len is_before_ending s + 1 → CutTo m room s)
+    → CutTo (suc m) room (x ∷ s)
 cut_octet m room x s true true c f e n more =
     let z : x ≡ 0x16 = eqb-true x 0x16 f in let t : is_ending_octet x ≡ false = rw z refl in cc
-cut_octet m room x s true false c f e n more = rw (eqb-true x 0x16 f) (cut_fill m room s (more room (omega arith)))
-cut_octet m room x s false true c f e n more = let z : m ≡ 0 = omega arith in rw z (cut_last room x s c f e)
-cut_octet m room x s false false c f e n more = cut_code m room x s c f e (more (room - 1) (omega arith))
+cut_octet m room x s true false c f e n more =
+    rw (eqb-true x 0x16 f) (cut_fill m room s (more room (omega arith)))
+cut_octet m room x s false true c f e n more = let z : m ≡ 0 = omega arith in
+    rw z (cut_last room x s c f e)
+cut_octet m room x s false false c f e n more =
+    cut_code m room x s c f e (more (room - 1) (omega arith))
 
 -- the codes that are read are those of the octets up to the first ending octet, without fill
-pub cut : (m room : ℕ) (s : List ℕ) → AreCarried s → m ≡ prefix_len is_before_ending s + 1 → m ≤ length s
+pub cut : (m room : ℕ) (s : List ℕ) → AreCarried s → m ≡ prefix_len is_before_ending s + 1 → m
+    ≤ length s
     → CutTo m room s
 cut zero room s c e l = absurd (omega arith)
 cut (suc m) room [] c e l = absurd (omega arith)
 cut (suc m) room (x ∷ s) c e l =
-    cut_octet m room x s (x == 0x16) (is_ending_octet x) c.0 refl refl e (λ r k. cut m r s c.1 k (omega arith))
+    cut_octet m room x s (x == 0x16) (is_ending_octet x) c.0 refl refl e
+    (λ r k. cut m r s c.1 k (omega arith))

@@ -13,17 +13,25 @@ use Rattle.bsc_frame.proofs.HeardLemmas.{wire_spells}
 is_text : IsMessage (two_chars 0x49 0x48)
 unfolding is_record_char
 is_text =
-    record { some = lit< tt; most = omega arith; each = (record { most = omega arith; each = (refl, (refl, tt)) }, tt) }
+    record {
+      some = lit< tt;
+      most = omega arith;
+      each =
+          (record { most = omega arith; each = (refl, (refl, tt)) }, tt);
+    }
 
 -- what is sent for IH is what is sent for HI with the two ends of both octets turned
-same_wire : wire (two_chars 0x49 0x48) ≡ with_ends_turned 3 (with_ends_turned 4 (wire (two_chars 0x48 0x49)))
+same_wire : wire (two_chars 0x49 0x48)
+    ≡ with_ends_turned 3 (with_ends_turned 4 (wire (two_chars 0x48 0x49)))
 unfolding odd_octet ones longitudinal_sum
 same_wire = refl
 
 -- so the one is read where the other was sent
-pub other_text : Spells (with_ends_turned 3 (with_ends_turned 4 (wire (two_chars 0x48 0x49)))) (two_chars 0x49 0x48)
+pub other_text : Spells (with_ends_turned 3 (with_ends_turned 4 (wire (two_chars 0x48 0x49))))
+    (two_chars 0x49 0x48)
 other_text =
-    subst (λ (octets : List ℕ). Spells octets (two_chars 0x49 0x48)) same_wire (wire_spells (two_chars 0x49 0x48) is_text)
+    subst (λ (octets : List ℕ). Spells octets (two_chars 0x49 0x48)) same_wire
+    (wire_spells (two_chars 0x49 0x48) is_text)
 
 -- ACK1 is read where ACK0 was sent with both ends of its second octet turned
 pub other_reply : Spells (with_ends_turned 3 (wire Ack0)) Ack1

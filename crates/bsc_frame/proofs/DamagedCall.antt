@@ -1,6 +1,9 @@
--- A call of which one octet after its EOT has the other parity is no message, unless that octet is fill.
-use Rattle.std.proofs.Common.{◌≡◌, ◌⊎◌, inl, inr, ℕ, suc, refl, sym, ap, subst, ◌∙◌, arith, List, [], ◌∷◌}
-use Rattle.std.proofs.Common.{◌++◌, length, length-append, append_assoc, append-nil, map, count_ones, IsTrue}
+-- A call of which one octet after its EOT has the other parity is no message, unless that octet is
+-- fill.
+use Rattle.std.proofs.Common.{◌≡◌, ◌⊎◌, inl, inr, ℕ, suc, refl, sym, ap, subst, ◌∙◌, arith, List}
+use Rattle.std.proofs.Common.{[], ◌∷◌}
+use Rattle.std.proofs.Common.{◌++◌, length, length-append, append_assoc, append-nil, map}
+use Rattle.std.proofs.Common.{count_ones, IsTrue}
 use Rattle.std.specs.List.{AllByRecursion}
 use Rattle.std.specs.Int.Count.{ones-ones}
 use Rattle.std.proofs.lemmas.Bool.{eqb-false}
@@ -9,7 +12,8 @@ use Rattle.bsc_frame.specs.Addresses.{IsAddress, is_address_code}
 use Rattle.bsc_frame.specs.Spells.{IsBody, AreAll}
 use Rattle.bsc_frame.specs.TurnedBits.{HaveOtherParity, IsCallFill}
 use Rattle.bsc_frame.specs.declared.message.Message.{Message}
-use Rattle.bsc_frame.specs.declared.message.Message.TheVariants.{Eot, Call, Enq, Ack0, Ack1, Nak, Wack, Rvi}
+use Rattle.bsc_frame.specs.declared.message.Message.TheVariants.{Eot, Call, Enq, Ack0, Ack1, Nak}
+use Rattle.bsc_frame.specs.declared.message.Message.TheVariants.{Wack, Rvi}
 use Rattle.bsc_frame.specs.declared.message.Message.TheVariants.{Text}
 use Rattle.bsc_frame.proofs.ControlLemmas.{plain, plain_odd}
 use Rattle.bsc_frame.proofs.OddLemmas.{syn_odd}
@@ -40,7 +44,8 @@ record Called (rest : List ℕ) : Type 0 where
   are_trail : AreAll 0xff trail
 
 -- after EOT a message goes on as a call, or there is only PAD
-called_or_end : (n : Message) (rest : List ℕ) → AfterFirst 0x04 rest n → Called rest ⊎ AreAll 0xff rest
+called_or_end : (n : Message) (rest : List ℕ) → AfterFirst 0x04 rest n → Called rest
+    ⊎ AreAll 0xff rest
 called_or_end n rest b = by_message n b.is_body
   where
     ended : b.body ≡ [] → AreAll 0xff rest
@@ -53,7 +58,10 @@ called_or_end n rest b = by_message n b.is_body
       syns = h.syns;
       address = a;
       trail = b.trail;
-      whole = b.whole ∙ ap (λ z. z ++ b.trail) (tails h.whole ∙ append_assoc (h.pads ++ h.syns) (map odd_octet a) (0x85 ∷ []) ∙ append_assoc h.pads h.syns (map odd_octet a ++ 0x85 ∷ [])
+      whole =
+          b.whole ∙ ap (λ z. z ++ b.trail)
+          (tails h.whole ∙ append_assoc (h.pads ++ h.syns) (map odd_octet a) (0x85 ∷ [])
+          ∙ append_assoc h.pads h.syns (map odd_octet a ++ 0x85 ∷ [])
           ∙ ap (λ z. h.pads ++ z) (sym (append_assoc h.syns (map odd_octet a) (0x85 ∷ []))))
           ∙ append_assoc h.pads (h.syns ++ map odd_octet a ++ 0x85 ∷ []) b.trail;
       are_pads = h.are_pads;
@@ -79,7 +87,8 @@ first_odd [] (c ∷ a) trail o rest k h e = rw (heads e) (address_odd (c ∷ a) 
 -- there is no ENQ among the octets of an address
 no_enq : (a : List ℕ) → AllByRecursion (λ c. IsTrue (is_address_code c)) a → NoEnq (map odd_octet a)
 no_enq [] h = tt
-no_enq (c ∷ a) h = (eqb-false (odd_octet c) 0x85 (plain_odd c 0x85 (plain c h.0) (inl refl)), no_enq a h.1)
+no_enq (c ∷ a) h =
+    (eqb-false (odd_octet c) 0x85 (plain_odd c 0x85 (plain c h.0) (inl refl)), no_enq a h.1)
 
 -- nor among SYN
 syns_no_enq : (syns : List ℕ) → AreAll 0x16 syns → NoEnq syns
@@ -87,7 +96,8 @@ syns_no_enq [] h = tt
 syns_no_enq (s ∷ syns) h = ((λ e. absurd (omega (arith, h.0, e))), syns_no_enq syns h.1)
 
 -- one ENQ does not stand before another
-one_enq : (xs front more : List ℕ) (o : ℕ) → NoEnq xs → xs ++ 0x85 ∷ [] ≡ front ++ 0x85 ∷ (o ∷ more) → ⊥
+one_enq : (xs front more : List ℕ) (o : ℕ) → NoEnq xs → xs ++ 0x85 ∷ [] ≡ front ++ 0x85 ∷ (o ∷ more)
+    → ⊥
 one_enq xs front more o h e = elim (parted xs (0x85 ∷ []) front 0x85 (o ∷ more) e) [
   | inl p ↦ all_here (λ x. x ≡ 0x85 → ⊥) front 0x85 p.more (rw p.first at h) refl
   | inr p ↦ omega (arith, ap length p.rest, length-append p.more (0x85 ∷ o ∷ more))
@@ -102,30 +112,36 @@ third_syn (s ∷ syns) a trail o rest k h e = heads e ∙ k.0
 third_syn [] [] trail o rest k h e = absurd (omega (arith, h.some))
 third_syn [] (c ∷ []) trail o rest k h e = absurd (omega (arith, heads (tails e)))
 third_syn [] (c ∷ d ∷ a) trail o rest k h e =
-    absurd (eqb-false (odd_octet d) 0x16 (plain_odd d 0x16 (plain d h.each.1.0) (inr (inl refl))) (sym (heads (tails e))))
+    absurd (eqb-false (odd_octet d) 0x16 (plain_odd d 0x16 (plain d h.each.1.0) (inr (inl refl)))
+    (sym (heads (tails e))))
 
 -- the octet after EOT, of other parity than PAD, is SYN where a SYN follows and it is a call
-third_pads : (pads syns a trail : List ℕ) (o : ℕ) (rest : List ℕ) → AreAll 0xff pads → AreAll 0x16 syns
+third_pads : (pads syns a trail : List ℕ) (o : ℕ) (rest : List ℕ) → AreAll 0xff pads
+    → AreAll 0x16 syns
     → IsAddress a → HaveOtherParity o 0xff
     → o ∷ 0x16 ∷ rest ≡ pads ++ ((syns ++ map odd_octet a ++ 0x85 ∷ []) ++ trail) → o ≡ 0x16
 third_pads [] syns a trail o rest p k h other e = third_syn syns a trail o rest k h e
-third_pads (x ∷ pads) syns a trail o rest p k h other e = absurd (not_same o 0xff other (heads e ∙ p.0))
+third_pads (x ∷ pads) syns a trail o rest p k h other e =
+    absurd (not_same o 0xff other (heads e ∙ p.0))
 
 -- the same of whatever message is read
 third : (new : ℕ) (rest : List ℕ) (n : Message) → HaveOtherParity new 0xff
     → AfterFirst 0x04 (new ∷ 0x16 ∷ rest) n → new ≡ 0x16
 third new rest n other b = elim (called_or_end n (new ∷ 0x16 ∷ rest) b) [
-  | inl c ↦ third_pads c.pads c.syns c.address c.trail new rest c.are_pads c.are_syns c.is_address other c.whole
+  | inl c ↦ third_pads c.pads c.syns c.address c.trail new rest c.are_pads c.are_syns c.is_address
+      other c.whole
   | inr e ↦ absurd (omega (arith, e.1.0))
 ]
 
 -- ---- in place of the SYN after that
 
 -- the octet after PAD, of other parity than SYN, is PAD where it is a call
-fourth_pads : (pads syns a trail : List ℕ) (new : ℕ) (rest : List ℕ) → AreAll 0xff pads → AreAll 0x16 syns
+fourth_pads : (pads syns a trail : List ℕ) (new : ℕ) (rest : List ℕ) → AreAll 0xff pads
+    → AreAll 0x16 syns
     → IsAddress a → HaveOtherParity new 0x16
     → 0xff ∷ new ∷ rest ≡ pads ++ ((syns ++ map odd_octet a ++ 0x85 ∷ []) ++ trail) → new ≡ 0xff
-fourth_pads [] syns a trail new rest p k h other e = absurd (pad_even (first_odd syns a trail 0xff (new ∷ rest) k h e))
+fourth_pads [] syns a trail new rest p k h other e =
+    absurd (pad_even (first_odd syns a trail 0xff (new ∷ rest) k h e))
 fourth_pads (x ∷ []) syns a trail new rest p k h other e =
     absurd (not_both_odd new 0x16 other (first_odd syns a trail new rest k h (tails e)) syn_odd)
 fourth_pads (x ∷ y ∷ pads) syns a trail new rest p k h other e = heads (tails e) ∙ p.1.0
@@ -134,17 +150,20 @@ fourth_pads (x ∷ y ∷ pads) syns a trail new rest p k h other e = heads (tail
 fourth : (new : ℕ) (rest : List ℕ) (n : Message) → HaveOtherParity new 0x16
     → AfterFirst 0x04 (0xff ∷ new ∷ 0x16 ∷ rest) n → new ≡ 0xff
 fourth new rest n other b = elim (called_or_end n (0xff ∷ new ∷ 0x16 ∷ rest) b) [
-  | inl c ↦ fourth_pads c.pads c.syns c.address c.trail new (0x16 ∷ rest) c.are_pads c.are_syns c.is_address other c.whole
+  | inl c ↦ fourth_pads c.pads c.syns c.address c.trail new (0x16 ∷ rest) c.are_pads c.are_syns
+      c.is_address other c.whole
   | inr e ↦ absurd (omega (arith, e.1.1.0))
 ]
 
 -- ---- after that
 
 -- one PAD stands before the first SYN
-one_pad : (pads syns a trail : List ℕ) (rest : List ℕ) → AreAll 0xff pads → AreAll 0x16 syns → IsAddress a
+one_pad : (pads syns a trail : List ℕ) (rest : List ℕ) → AreAll 0xff pads → AreAll 0x16 syns
+    → IsAddress a
     → 0xff ∷ 0x16 ∷ rest ≡ pads ++ ((syns ++ map odd_octet a ++ 0x85 ∷ []) ++ trail)
     → 0x16 ∷ rest ≡ (syns ++ map odd_octet a ++ 0x85 ∷ []) ++ trail
-one_pad [] syns a trail rest p k h e = absurd (pad_even (first_odd syns a trail 0xff (0x16 ∷ rest) k h e))
+one_pad [] syns a trail rest p k h e =
+    absurd (pad_even (first_odd syns a trail 0xff (0x16 ∷ rest) k h e))
 one_pad (x ∷ []) syns a trail rest p k h e = tails e
 one_pad (x ∷ y ∷ pads) syns a trail rest p k h e = absurd (omega (arith, heads (tails e), p.1.0))
 
@@ -165,10 +184,15 @@ later_address : (a front : List ℕ) (o : ℕ) (after : List ℕ) (new : ℕ) (m
     → Later a front o after new → HaveOtherParity new o
     → 0x16 ∷ map odd_octet a ≡ front ++ o ∷ more → after ≡ more ++ 0x85 ∷ 0xff ∷ [] → ⊥
 later_address a front o after new more l other first rest =
-    let sent_odd : AllByRecursion IsOdd (0x16 ∷ map odd_octet a) = (syn_odd, address_odd a l.is_address.each) in
-    let was : IsOdd o = all_here IsOdd front o more (subst (λ z. AllByRecursion IsOdd z) first sent_odd) in
-    elim (parted (l.syns ++ map odd_octet l.other_address ++ 0x85 ∷ []) l.trail (0x16 ∷ front) new after l.heard) [
-      | inl q ↦ not_both_odd new o other (all_here IsOdd (0x16 ∷ front) new q.more (rw q.first at (called_odd l.syns l.other_address l.are_syns l.is_other.each))) was
+    let sent_odd : AllByRecursion IsOdd (0x16 ∷ map odd_octet a) =
+    (syn_odd, address_odd a l.is_address.each) in
+    let was : IsOdd o =
+    all_here IsOdd front o more (subst (λ z. AllByRecursion IsOdd z) first sent_odd) in
+    elim (parted (l.syns ++ map odd_octet l.other_address ++ 0x85 ∷ []) l.trail (0x16 ∷ front) new
+    after l.heard) [
+      | inl q ↦ not_both_odd new o other
+          (all_here IsOdd (0x16 ∷ front) new q.more
+          (rw q.first at (called_odd l.syns l.other_address l.are_syns l.is_other.each))) was
       | inr q ↦
           let pads : AreAll 0xff after =
           (all_after (λ x. x ≡ 0xff) q.more (new ∷ after) (rw q.rest at l.are_trail)).1 in
@@ -177,55 +201,69 @@ later_address a front o after new more l other first rest =
 
 -- there is no ENQ before the end of the address of a call
 line_no_enq : (syns a : List ℕ) → AreAll 0x16 syns → IsAddress a → NoEnq (syns ++ map odd_octet a)
-line_no_enq syns a k h = all_both (λ x. x ≡ 0x85 → ⊥) syns (map odd_octet a) (syns_no_enq syns k) (no_enq a h.each)
+line_no_enq syns a k h =
+    all_both (λ x. x ≡ 0x85 → ⊥) syns (map odd_octet a) (syns_no_enq syns k) (no_enq a h.each)
 
 -- the octet was the ENQ
 later_enq : (a front : List ℕ) (after : List ℕ) (new : ℕ) → Later a front 0x85 after new
     → HaveOtherParity new 0x85 → front ≡ 0x16 ∷ map odd_octet a → ⊥
 later_enq a front after new l other first =
-    elim (parted (l.syns ++ map odd_octet l.other_address ++ 0x85 ∷ []) l.trail (0x16 ∷ front) new after l.heard) [
-      | inl q ↦ not_both_odd new 0x85 other (all_here IsOdd (0x16 ∷ front) new q.more (rw q.first at (called_odd l.syns l.other_address l.are_syns l.is_other.each))) enq_odd
+    elim (parted (l.syns ++ map odd_octet l.other_address ++ 0x85 ∷ []) l.trail (0x16 ∷ front) new
+    after l.heard) [
+      | inl q ↦ not_both_odd new 0x85 other
+          (all_here IsOdd (0x16 ∷ front) new q.more
+          (rw q.first at (called_odd l.syns l.other_address l.are_syns l.is_other.each))) enq_odd
       | inr q ↦
           let all : NoEnq (0x16 ∷ 0x16 ∷ map odd_octet a) =
           ((λ e. omega (arith, e)), ((λ e. omega (arith, e)), no_enq a l.is_address.each)) in
           let none : NoEnq (0x16 ∷ front) = subst (λ z. NoEnq (0x16 ∷ z)) (sym first) all in
           let there : 0x16 ∷ front ≡ (l.syns ++ map odd_octet l.other_address) ++ 0x85 ∷ q.more =
           q.first ∙ append_assoc (l.syns ++ map odd_octet l.other_address) (0x85 ∷ []) q.more in
-          all_here (λ x. x ≡ 0x85 → ⊥) (l.syns ++ map odd_octet l.other_address) 0x85 q.more (subst (λ z. NoEnq z) there none) refl
+          all_here (λ x. x ≡ 0x85 → ⊥) (l.syns ++ map odd_octet l.other_address) 0x85 q.more
+          (subst (λ z. NoEnq z) there none) refl
     ]
 
 -- the octet was the PAD at the end
 later_pad : (a front : List ℕ) (after : List ℕ) (new : ℕ) → Later a front 0xff after new
     → HaveOtherParity new 0xff → front ≡ 0x16 ∷ map odd_octet a ++ 0x85 ∷ [] → ⊥
 later_pad a front after new l other first =
-    elim (parted (l.syns ++ map odd_octet l.other_address ++ 0x85 ∷ []) l.trail (0x16 ∷ front) new after l.heard) [
+    elim (parted (l.syns ++ map odd_octet l.other_address ++ 0x85 ∷ []) l.trail (0x16 ∷ front) new
+    after l.heard) [
       | inl q ↦
-          let there : (l.syns ++ map odd_octet l.other_address) ++ 0x85 ∷ [] ≡ (0x16 ∷ 0x16 ∷ map odd_octet a) ++ 0x85 ∷ (new ∷ q.more) =
-          q.first ∙ ap (λ z. 0x16 ∷ z ++ new ∷ q.more) first ∙ append_assoc (0x16 ∷ 0x16 ∷ map odd_octet a) (0x85 ∷ []) (new ∷ q.more) in
-          one_enq (l.syns ++ map odd_octet l.other_address) (0x16 ∷ 0x16 ∷ map odd_octet a) q.more new (line_no_enq l.syns l.other_address l.are_syns l.is_other) there
-      | inr q ↦ not_same new 0xff other (all_here (λ x. x ≡ 0xff) q.more new after (rw q.rest at l.are_trail))
+          let there : (l.syns ++ map odd_octet l.other_address) ++ 0x85 ∷ []
+          ≡ (0x16 ∷ 0x16 ∷ map odd_octet a) ++ 0x85 ∷ (new ∷ q.more) =
+          q.first ∙ ap (λ z. 0x16 ∷ z ++ new ∷ q.more) first
+          ∙ append_assoc (0x16 ∷ 0x16 ∷ map odd_octet a) (0x85 ∷ []) (new ∷ q.more) in
+          one_enq (l.syns ++ map odd_octet l.other_address) (0x16 ∷ 0x16 ∷ map odd_octet a) q.more
+          new (line_no_enq l.syns l.other_address l.are_syns l.is_other) there
+      | inr q ↦ not_same new 0xff other
+          (all_here (λ x. x ≡ 0xff) q.more new after (rw q.rest at l.are_trail))
     ]
 
 -- a change in the ENQ of a call, or in the PAD after it, leaves no call
-later_end : (a front : List ℕ) (o : ℕ) (after : List ℕ) (new : ℕ) (more : List ℕ) → Later a front o after new
+later_end : (a front : List ℕ) (o : ℕ) (after : List ℕ) (new : ℕ) (more : List ℕ)
+    → Later a front o after new
     → HaveOtherParity new o
     → front ≡ (0x16 ∷ map odd_octet a) ++ more → 0x85 ∷ 0xff ∷ [] ≡ more ++ o ∷ after → ⊥
 later_end a front o after new [] l other first rest =
     let was : o ≡ 0x85 = sym (heads rest) in
-    later_enq a front after new (rw was at l) (rw was at other) (first ∙ append-nil (0x16 ∷ map odd_octet a))
+    later_enq a front after new (rw was at l) (rw was at other)
+    (first ∙ append-nil (0x16 ∷ map odd_octet a))
 later_end a front o after new (x ∷ []) l other first rest =
     let was : o ≡ 0xff = sym (heads (tails rest)) in
-    later_pad a front after new (rw was at l) (rw was at other) (first ∙ ap (λ z. (0x16 ∷ map odd_octet a) ++ z ∷ []) (sym (heads rest)))
+    later_pad a front after new (rw was at l) (rw was at other)
+    (first ∙ ap (λ z. (0x16 ∷ map odd_octet a) ++ z ∷ []) (sym (heads rest)))
 later_end a front o after new (x ∷ y ∷ more) l other first rest =
     omega (arith, ap length rest, length-append more (o ∷ after))
 
 -- a change after the fourth octet of a call leaves no call
 later : (a front : List ℕ) (o : ℕ) (after : List ℕ) (new : ℕ) → Later a front o after new
     → HaveOtherParity new o → ⊥
-later a front o after new l other = elim (parted (0x16 ∷ map odd_octet a) (0x85 ∷ 0xff ∷ []) front o after l.sent) [
-  | inl p ↦ later_address a front o after new p.more l other p.first p.rest
-  | inr p ↦ later_end a front o after new p.more l other p.first p.rest
-]
+later a front o after new l other =
+    elim (parted (0x16 ∷ map odd_octet a) (0x85 ∷ 0xff ∷ []) front o after l.sent) [
+      | inl p ↦ later_address a front o after new p.more l other p.first p.rest
+      | inr p ↦ later_end a front o after new p.more l other p.first p.rest
+    ]
 
 -- ---- all
 
@@ -236,21 +274,33 @@ call_tail a = 0xff ∷ 0x16 ∷ 0x16 ∷ (map odd_octet a ++ 0x85 ∷ []) ++ 0xf
 -- where a call with one octet of other parity is read as a message, the octet is fill
 pub spared_call : (a : List ℕ) (n : Message) (before : List ℕ) (o : ℕ) (after : List ℕ) (new : ℕ)
     → IsAddress a
-    → call_tail a ≡ before ++ o ∷ after → HaveOtherParity new o → AfterFirst 0x04 (before ++ new ∷ after) n
+    → call_tail a ≡ before ++ o ∷ after → HaveOtherParity new o
+    → AfterFirst 0x04 (before ++ new ∷ after) n
     → IsCallFill (suc (suc (suc (length before)))) new
 spared_call a n [] o after new h whole other b =
     let was : o ≡ 0xff = sym (heads whole) in
-    let then : after ≡ 0x16 ∷ 0x16 ∷ (map odd_octet a ++ 0x85 ∷ []) ++ 0xff ∷ [] = sym (tails whole) in
-    inl (refl, third new (0x16 ∷ (map odd_octet a ++ 0x85 ∷ []) ++ 0xff ∷ []) n (rw was at other) (rw then at b))
+    let then : after ≡ 0x16 ∷ 0x16 ∷ (map odd_octet a ++ 0x85 ∷ []) ++ 0xff ∷ [] =
+    sym (tails whole) in
+    inl (
+      refl,
+      third new (0x16 ∷ (map odd_octet a ++ 0x85 ∷ []) ++ 0xff ∷ []) n (rw was at other)
+          (rw then at b),
+    )
 spared_call a n (x ∷ []) o after new h whole other b =
     let first : x ≡ 0xff = sym (heads whole) in
     let was : o ≡ 0x16 = sym (heads (tails whole)) in
-    let then : after ≡ 0x16 ∷ (map odd_octet a ++ 0x85 ∷ []) ++ 0xff ∷ [] = sym (tails (tails whole)) in
-    inr (refl, fourth new ((map odd_octet a ++ 0x85 ∷ []) ++ 0xff ∷ []) n (rw was at other) (rw (first, then) at b))
+    let then : after ≡ 0x16 ∷ (map odd_octet a ++ 0x85 ∷ []) ++ 0xff ∷ [] =
+    sym (tails (tails whole)) in
+    inr (
+      refl,
+      fourth new ((map odd_octet a ++ 0x85 ∷ []) ++ 0xff ∷ []) n (rw was at other)
+          (rw (first, then) at b),
+    )
 spared_call a n (x ∷ y ∷ front) o after new h whole other b =
     let first : x ≡ 0xff = sym (heads whole) in
     let second : y ≡ 0x16 = sym (heads (tails whole)) in
-    let then : 0x16 ∷ (map odd_octet a ++ 0x85 ∷ []) ++ 0xff ∷ [] ≡ front ++ o ∷ after = tails (tails whole) in
+    let then : 0x16 ∷ (map odd_octet a ++ 0x85 ∷ []) ++ 0xff ∷ [] ≡ front ++ o ∷ after =
+    tails (tails whole) in
     let heard : AfterFirst 0x04 (0xff ∷ 0x16 ∷ front ++ new ∷ after) n = rw (first, second) at b in
     elim (called_or_end n (0xff ∷ 0x16 ∷ front ++ new ∷ after) heard) [
       | inl c ↦ absurd (later a front o after new (record {
@@ -259,7 +309,9 @@ spared_call a n (x ∷ y ∷ front) o after new h whole other b =
         syns = c.syns;
         other_address = c.address;
         trail = c.trail;
-        heard = sym (one_pad c.pads c.syns c.address c.trail (front ++ new ∷ after) c.are_pads c.are_syns c.is_address c.whole);
+        heard =
+            sym (one_pad c.pads c.syns c.address c.trail (front ++ new ∷ after) c.are_pads
+            c.are_syns c.is_address c.whole);
         are_syns = c.are_syns;
         is_other = c.is_address;
         are_trail = c.are_trail;

@@ -1,6 +1,8 @@
 -- What is heard of a message of which one octet has the other parity.
-use Rattle.std.proofs.Common.{◌≡◌, ◌≢◌, ◌⊎◌, ◌↔◌, inl, inr, ℕ, zero, suc, ◌<◌, ◌≤◌, ◌==◌, false, refl, sym}
-use Rattle.std.proofs.Common.{ap, subst, ◌∙◌, arith, List, [], ◌∷◌, ◌++◌, length, get_or, set, length-set}
+use Rattle.std.proofs.Common.{◌≡◌, ◌≢◌, ◌⊎◌, ◌↔◌, inl, inr, ℕ, zero, suc, ◌<◌, ◌≤◌, ◌==◌, false}
+use Rattle.std.proofs.Common.{refl, sym}
+use Rattle.std.proofs.Common.{ap, subst, ◌∙◌, arith, List, [], ◌∷◌, ◌++◌, length, get_or, set}
+use Rattle.std.proofs.Common.{length-set}
 use Rattle.std.proofs.Common.{map, length-append, append-nil}
 use Rattle.bsc_octet.specs.Octet.{IsOdd, odd_octet}
 use Rattle.bsc_frame.specs.Addresses.{IsAddress}
@@ -9,17 +11,20 @@ use Rattle.bsc_frame.specs.Units.{units_wire}
 use Rattle.bsc_frame.specs.Message.{IsMessage}
 use Rattle.bsc_frame.specs.Wire.{wire, framed}
 use Rattle.bsc_frame.specs.Spells.{Spells, IsBody, AreAll, IsFailed}
-use Rattle.bsc_frame.specs.TurnedBits.{HaveOtherParity, IsSomeCall, IsSomeText, IsLeadingPad, IsCallFill}
+use Rattle.bsc_frame.specs.TurnedBits.{HaveOtherParity, IsSomeCall, IsSomeText, IsLeadingPad}
+use Rattle.bsc_frame.specs.TurnedBits.{IsCallFill}
 use Rattle.bsc_frame.specs.TurnedBits.{IsFillIn}
 use Rattle.bsc_frame.specs.declared.message.Message.{Message}
-use Rattle.bsc_frame.specs.declared.message.Message.TheVariants.{Eot, Call, Enq, Ack0, Ack1, Nak, Wack, Rvi}
+use Rattle.bsc_frame.specs.declared.message.Message.TheVariants.{Eot, Call, Enq, Ack0, Ack1, Nak}
+use Rattle.bsc_frame.specs.declared.message.Message.TheVariants.{Wack, Rvi}
 use Rattle.bsc_frame.specs.declared.message.Message.TheVariants.{Text}
 use Rattle.bsc_frame.specs.declared.message.Heard.TheVariants.{Whole, Failed, Noise}
 use Rattle.bsc_frame.proofs.ReadLemmas.{test_false}
 use Rattle.bsc_frame.proofs.OddLemmas.{syn_odd}
 use Rattle.bsc_frame.proofs.HeardLemmas.{heard_spelled, heard_failed, length-wire, one_message}
 use Rattle.bsc_frame.proofs.UnitLemmas.{wire_units}
-use Rattle.bsc_frame.proofs.BodyOddLemmas.{eot_odd, enq_odd, nak_odd, dle_odd, stx_odd, ack0_odd, ack1_odd}
+use Rattle.bsc_frame.proofs.BodyOddLemmas.{eot_odd, enq_odd, nak_odd, dle_odd, stx_odd, ack0_odd}
+use Rattle.bsc_frame.proofs.BodyOddLemmas.{ack1_odd}
 use Rattle.bsc_frame.proofs.BodyOddLemmas.{wack_odd, rvi_odd}
 use Rattle.bsc_frame.proofs.PlaceLemmas.{around}
 use Rattle.bsc_frame.proofs.InsideLemmas.{Inside, inside, failed_inside, AfterFirst, after_first}
@@ -55,8 +60,10 @@ no_more x Rvi y p q h = p (heads h)
 no_more x (Text t) y p q h = q (heads h.whole)
 
 -- a message of one octet is lost where the PAD after it is changed to the other parity
-lost_single : (x : ℕ) (n : Message) (before : List ℕ) (o : ℕ) (after : List ℕ) (new : ℕ) → x ≢ 0x10 → x ≢ 0x02
-    → 0xff ∷ [] ≡ before ++ o ∷ after → HaveOtherParity new o → AfterFirst x (before ++ new ∷ after) n → ⊥
+lost_single : (x : ℕ) (n : Message) (before : List ℕ) (o : ℕ) (after : List ℕ) (new : ℕ) → x ≢ 0x10
+    → x ≢ 0x02
+    → 0xff ∷ [] ≡ before ++ o ∷ after → HaveOtherParity new o
+    → AfterFirst x (before ++ new ∷ after) n → ⊥
 lost_single x n (y ∷ before) o after new p q whole other b =
     omega (arith, ap length whole, length-append before (o ∷ after))
 lost_single x n [] o after new p q whole other b =
@@ -64,7 +71,8 @@ lost_single x n [] o after new p q whole other b =
     let none : after ≡ [] = sym (tails whole) in
     by_body b.body b.trail (b.is_body) (sym (rw none at b.whole)) b.are_trail (rw was at other)
   where
-    by_body : (body trail : List ℕ) → IsBody n (x ∷ body) → body ++ trail ≡ new ∷ [] → AreAll 0xff trail → HaveOtherParity new 0xff → ⊥
+    by_body : (body trail : List ℕ) → IsBody n (x ∷ body) → body ++ trail ≡ new ∷ []
+        → AreAll 0xff trail → HaveOtherParity new 0xff → ⊥
     by_body [] [] h e k d = omega (arith, ap length e)
     by_body [] (t ∷ trail) h e k d = not_same new 0xff d (sym (heads e) ∙ k.0)
     by_body (z ∷ []) trail h e k d = no_more x n z p q h
@@ -90,7 +98,8 @@ reply_body (Text t) body h = absurd (omega (arith, heads h.whole))
 
 -- a reply of two octets is lost where one octet after its DLE is changed to the other parity
 lost_reply : (y : ℕ) (n : Message) (before : List ℕ) (o : ℕ) (after : List ℕ) (new : ℕ) → IsOdd y
-    → y ∷ 0xff ∷ [] ≡ before ++ o ∷ after → HaveOtherParity new o → AfterFirst 0x10 (before ++ new ∷ after) n
+    → y ∷ 0xff ∷ [] ≡ before ++ o ∷ after → HaveOtherParity new o
+    → AfterFirst 0x10 (before ++ new ∷ after) n
     → ⊥
 lost_reply y n [] o after new odd whole other b =
     let r = reply_body n b.body b.is_body in
@@ -120,7 +129,15 @@ sent_of Eot h = record { body = 0x04 ∷ []; whole = refl; is_body = refl }
 sent_of (Call a) h = record {
   body = 0x04 ∷ 0xff ∷ 0x16 ∷ 0x16 ∷ [] ++ map odd_octet a ++ 0x85 ∷ [];
   whole = refl;
-  is_body = record { pads = 0xff ∷ []; syns = 0x16 ∷ 0x16 ∷ []; whole = refl; are_pads = (refl, tt); are_syns = (refl, (refl, tt)); address = h };
+  is_body =
+      record {
+        pads = 0xff ∷ [];
+        syns = 0x16 ∷ 0x16 ∷ [];
+        whole = refl;
+        are_pads = (refl, tt);
+        are_syns = (refl, (refl, tt));
+        address = h;
+      };
 }
 sent_of Enq h = record { body = 0x85 ∷ []; whole = refl; is_body = refl }
 sent_of Nak h = record { body = 0x15 ∷ []; whole = refl; is_body = refl }
@@ -131,14 +148,24 @@ sent_of Rvi h = record { body = 0x10 ∷ 0xbc ∷ []; whole = refl; is_body = re
 sent_of (Text t) h = record {
   body = 0x02 ∷ units_wire t.units t.end;
   whole = refl;
-  is_body = record { rest = units_wire t.units t.end; whole = refl; units = wire_units false t.units t.end; text = h };
+  is_body =
+      record {
+        rest = units_wire t.units t.end;
+        whole = refl;
+        units =
+            wire_units false t.units t.end;
+        text = h;
+      };
 }
 
--- what follows the first octet of a body, heard with one octet of the other parity, is no message, or that octet is fill
+-- what follows the first octet of a body, heard with one octet of the other parity, is no message,
+-- or that octet is fill
 abbrev LostBehind : Message → ℕ → List ℕ → Type 0
 LostBehind m x tail =
-    (n : Message) (before : List ℕ) (o : ℕ) (after : List ℕ) (new : ℕ) → tail ≡ before ++ o ∷ after → HaveOtherParity new o
-    → Inside (x ∷ before ++ new ∷ after) n → IsSomeCall m × IsCallFill (suc (suc (suc (length before)))) new
+    (n : Message) (before : List ℕ) (o : ℕ) (after : List ℕ) (new : ℕ) → tail ≡ before ++ o ∷ after
+    → HaveOtherParity new o
+    → Inside (x ∷ before ++ new ∷ after) n → IsSomeCall m
+    × IsCallFill (suc (suc (suc (length before)))) new
 
 -- the octets of a message from its first on, and what they are worth with one octet changed
 record Shape (m : Message) : Type 0 where
@@ -158,7 +185,10 @@ shape Eot h = record {
   whole = refl;
   odd = eot_odd;
   other = refl;
-  lost = λ n before o after new w p i. absurd (lost_single 0x04 n before o after new (λ e. omega (arith, e)) (λ e. omega (arith, e)) w p (after_first 0x04 (before ++ new ∷ after) n i));
+  lost =
+      λ n before o after new w p i. absurd
+      (lost_single 0x04 n before o after new (λ e. omega (arith, e)) (λ e. omega (arith, e)) w p
+      (after_first 0x04 (before ++ new ∷ after) n i));
   starts_text = λ e. absurd (omega (arith, e));
 }
 shape (Call a) h = record {
@@ -167,7 +197,11 @@ shape (Call a) h = record {
   whole = refl;
   odd = eot_odd;
   other = refl;
-  lost = λ n before o after new w p i. ((a, refl), spared_call a n before o after new h w p (after_first 0x04 (before ++ new ∷ after) n i));
+  lost =
+      λ n before o after new w p i. (
+        (a, refl),
+        spared_call a n before o after new h w p (after_first 0x04 (before ++ new ∷ after) n i),
+      );
   starts_text = λ e. absurd (omega (arith, e));
 }
 shape Enq h = record {
@@ -176,7 +210,10 @@ shape Enq h = record {
   whole = refl;
   odd = enq_odd;
   other = refl;
-  lost = λ n before o after new w p i. absurd (lost_single 0x85 n before o after new (λ e. omega (arith, e)) (λ e. omega (arith, e)) w p (after_first 0x85 (before ++ new ∷ after) n i));
+  lost =
+      λ n before o after new w p i. absurd
+      (lost_single 0x85 n before o after new (λ e. omega (arith, e)) (λ e. omega (arith, e)) w p
+      (after_first 0x85 (before ++ new ∷ after) n i));
   starts_text = λ e. absurd (omega (arith, e));
 }
 shape Nak h = record {
@@ -185,7 +222,10 @@ shape Nak h = record {
   whole = refl;
   odd = nak_odd;
   other = refl;
-  lost = λ n before o after new w p i. absurd (lost_single 0x15 n before o after new (λ e. omega (arith, e)) (λ e. omega (arith, e)) w p (after_first 0x15 (before ++ new ∷ after) n i));
+  lost =
+      λ n before o after new w p i. absurd
+      (lost_single 0x15 n before o after new (λ e. omega (arith, e)) (λ e. omega (arith, e)) w p
+      (after_first 0x15 (before ++ new ∷ after) n i));
   starts_text = λ e. absurd (omega (arith, e));
 }
 shape Ack0 h = record {
@@ -194,7 +234,10 @@ shape Ack0 h = record {
   whole = refl;
   odd = dle_odd;
   other = refl;
-  lost = λ n before o after new w p i. absurd (lost_reply 0xb0 n before o after new ack0_odd w p (after_first 0x10 (before ++ new ∷ after) n i));
+  lost =
+      λ n before o after new w p i. absurd
+      (lost_reply 0xb0 n before o after new ack0_odd w p
+      (after_first 0x10 (before ++ new ∷ after) n i));
   starts_text = λ e. absurd (omega (arith, e));
 }
 shape Ack1 h = record {
@@ -203,7 +246,10 @@ shape Ack1 h = record {
   whole = refl;
   odd = dle_odd;
   other = refl;
-  lost = λ n before o after new w p i. absurd (lost_reply 0x31 n before o after new ack1_odd w p (after_first 0x10 (before ++ new ∷ after) n i));
+  lost =
+      λ n before o after new w p i. absurd
+      (lost_reply 0x31 n before o after new ack1_odd w p
+      (after_first 0x10 (before ++ new ∷ after) n i));
   starts_text = λ e. absurd (omega (arith, e));
 }
 shape Wack h = record {
@@ -212,7 +258,10 @@ shape Wack h = record {
   whole = refl;
   odd = dle_odd;
   other = refl;
-  lost = λ n before o after new w p i. absurd (lost_reply 0x3b n before o after new wack_odd w p (after_first 0x10 (before ++ new ∷ after) n i));
+  lost =
+      λ n before o after new w p i. absurd
+      (lost_reply 0x3b n before o after new wack_odd w p
+      (after_first 0x10 (before ++ new ∷ after) n i));
   starts_text = λ e. absurd (omega (arith, e));
 }
 shape Rvi h = record {
@@ -221,7 +270,10 @@ shape Rvi h = record {
   whole = refl;
   odd = dle_odd;
   other = refl;
-  lost = λ n before o after new w p i. absurd (lost_reply 0xbc n before o after new rvi_odd w p (after_first 0x10 (before ++ new ∷ after) n i));
+  lost =
+      λ n before o after new w p i. absurd
+      (lost_reply 0xbc n before o after new rvi_odd w p
+      (after_first 0x10 (before ++ new ∷ after) n i));
   starts_text = λ e. absurd (omega (arith, e));
 }
 shape (Text t) h = record {
@@ -244,24 +296,32 @@ by_place : (m : Message) (s : Shape m) (place new : ℕ) (n : Message)
 by_place m s zero new n l p h = elim (pad_or_not new) [
   | inl k ↦ inl (refl, k)
   | inr k ↦
-      let noise = starts_wrong new (0x16 ∷ s.x ∷ s.tail) k (test_false new 0x16 (not_same new 0x16 p)) in
+      let noise =
+      starts_wrong new (0x16 ∷ s.x ∷ s.tail) k (test_false new 0x16 (not_same new 0x16 p)) in
       let whole = heard_spelled (new ∷ 0x16 ∷ s.x ∷ s.tail) n h in
       absurd (let both : Whole n ≡ Noise = sym whole ∙ noise in cc)
 ]
 by_place m s (suc zero) new n l p h =
-    let i = inside (0x16 ∷ []) (new ∷ s.x ∷ s.tail) n (refl, tt) (λ e. cc) (test_false new 0x16 (not_same new 0x16 p)) h in
+    let i =
+    inside (0x16 ∷ []) (new ∷ s.x ∷ s.tail) n (refl, tt) (λ e. cc)
+    (test_false new 0x16 (not_same new 0x16 p)) h in
     absurd (not_both_odd new 0x16 p (first_is_odd new (s.x ∷ s.tail) n i) syn_odd)
 by_place m s (suc (suc zero)) new n l p h =
-    let i = inside (0x16 ∷ 0x16 ∷ []) (new ∷ s.tail) n (refl, (refl, tt)) (λ e. cc) (test_false new 0x16 (λ e. not_both_odd new s.x p (rw e syn_odd) s.odd)) h in
+    let i =
+    inside (0x16 ∷ 0x16 ∷ []) (new ∷ s.tail) n (refl, (refl, tt)) (λ e. cc)
+    (test_false new 0x16 (λ e. not_both_odd new s.x p (rw e syn_odd) s.odd)) h in
     absurd (not_both_odd new s.x p (first_is_odd new s.tail n i) s.odd)
 by_place m s (suc (suc (suc place))) new n l p h =
     let r = around s.tail place (omega arith) in
-    let i = inside (0x16 ∷ 0x16 ∷ []) (s.x ∷ r.before ++ new ∷ r.after) n (refl, (refl, tt)) (λ e. cc) s.other (rw (r.changed new) at h) in
+    let i =
+    inside (0x16 ∷ 0x16 ∷ []) (s.x ∷ r.before ++ new ∷ r.after) n (refl, (refl, tt)) (λ e. cc)
+    s.other (rw (r.changed new) at h) in
     let k = s.lost n r.before r.here r.after new r.whole (rw r.is_here at p) i in
     inr (rw r.long at k)
 
 -- where a message is spelled after one octet was changed to the other parity, the octet is fill
-pub spelled_fill : (m : Message) → IsMessage m → (place new : ℕ) (n : Message) → place < length (wire m)
+pub spelled_fill : (m : Message) → IsMessage m → (place new : ℕ) (n : Message) → place
+    < length (wire m)
     → HaveOtherParity new (get_or (wire m) place 0)
     → Spells (set (wire m) place new) n → IsFillIn m place new
 spelled_fill m h place new n l p k =
@@ -278,7 +338,18 @@ pad_spells : (m : Message) (body : List ℕ) (new : ℕ) → length (set (framed
 pad_spells m body new l h k = record {
   small = l;
   body = body;
-  carried = record { pads = new ∷ []; syns = 0x16 ∷ []; trail = 0xff ∷ []; whole = refl; are_pads = (k, tt); are_syns = (refl, tt); some_syn = λ e. cc; are_trail = (refl, tt) };
+  carried =
+      record {
+        pads = new ∷ [];
+        syns = 0x16 ∷ [];
+        trail = 0xff ∷ [];
+        whole = refl;
+        are_pads =
+            (k, tt);
+        are_syns = (refl, tt);
+        some_syn = λ e. cc;
+        are_trail = (refl, tt);
+      };
   is_body = h;
 }
 
@@ -288,7 +359,17 @@ call_spells : (a body : List ℕ) → length (framed body) ≤ MAX_HEARD → IsB
 call_spells a body l h = record {
   small = l;
   body = body;
-  carried = record { pads = []; syns = 0x16 ∷ 0x16 ∷ []; trail = 0xff ∷ []; whole = refl; are_pads = tt; are_syns = (refl, (refl, tt)); some_syn = λ e. cc; are_trail = (refl, tt) };
+  carried =
+      record {
+        pads = [];
+        syns = 0x16 ∷ 0x16 ∷ [];
+        trail = 0xff ∷ [];
+        whole = refl;
+        are_pads = tt;
+        are_syns = (refl, (refl, tt));
+        some_syn = λ e. cc;
+        are_trail = (refl, tt);
+      };
   is_body = h;
 }
 
@@ -296,11 +377,29 @@ call_spells a body l h = record {
 fill_in_call : (a : List ℕ) (h : IsAddress a) (place new : ℕ) → IsCallFill place new
     → Spells (set (wire (Call a)) place new) (Call a)
 fill_in_call a h place new (inl k) =
-    rw (k.0, k.1) (call_spells a (0x04 ∷ 0x16 ∷ 0x16 ∷ 0x16 ∷ [] ++ map odd_octet a ++ 0x85 ∷ []) (small (Call a) h 3 0x16)
-    (record { pads = []; syns = 0x16 ∷ 0x16 ∷ 0x16 ∷ []; whole = refl; are_pads = tt; are_syns = (refl, (refl, (refl, tt))); address = h }))
+    rw (k.0, k.1) (call_spells a (0x04 ∷ 0x16 ∷ 0x16 ∷ 0x16 ∷ [] ++ map odd_octet a ++ 0x85 ∷ [])
+    (small (Call a) h 3 0x16)
+    (record {
+      pads = [];
+      syns = 0x16 ∷ 0x16 ∷ 0x16 ∷ [];
+      whole = refl;
+      are_pads = tt;
+      are_syns =
+          (refl, (refl, (refl, tt)));
+      address = h;
+    }))
 fill_in_call a h place new (inr k) =
-    rw (k.0, k.1) (call_spells a (0x04 ∷ 0xff ∷ 0xff ∷ 0x16 ∷ [] ++ map odd_octet a ++ 0x85 ∷ []) (small (Call a) h 4 0xff)
-    (record { pads = 0xff ∷ 0xff ∷ []; syns = 0x16 ∷ []; whole = refl; are_pads = (refl, (refl, tt)); are_syns = (refl, tt); address = h }))
+    rw (k.0, k.1) (call_spells a (0x04 ∷ 0xff ∷ 0xff ∷ 0x16 ∷ [] ++ map odd_octet a ++ 0x85 ∷ [])
+    (small (Call a) h 4 0xff)
+    (record {
+      pads = 0xff ∷ 0xff ∷ [];
+      syns = 0x16 ∷ [];
+      whole = refl;
+      are_pads =
+          (refl, (refl, tt));
+      are_syns = (refl, tt);
+      address = h;
+    }))
 
 -- with fill in place of an octet the message is still spelled
 pub fill_spells : (m : Message) → IsMessage m → (place new : ℕ) → IsFillIn m place new
@@ -311,13 +410,16 @@ fill_spells m h place new (inl k) =
     rw (k.0, s.whole) (pad_spells m s.body new long s.is_body k.1)
 fill_spells m h place new (inr k) =
     let call : m ≡ Call k.0.0 = k.0.1 in
-    subst (λ (w : Message). Spells (set (wire w) place new) w) (sym call) (fill_in_call k.0.0 (subst (λ (w : Message). IsMessage w) call h) place new k.1)
+    subst (λ (w : Message). Spells (set (wire w) place new) w) (sym call)
+    (fill_in_call k.0.0 (subst (λ (w : Message). IsMessage w) call h) place new k.1)
 
 -- ---- where a text has failed
 
 -- a text with one octet after its STX changed to the other parity fails
-text_fails : (t : TextValue) → IsText t → (place new : ℕ) → 2 < place → place < length (wire (Text t))
-    → HaveOtherParity new (get_or (wire (Text t)) place 0) → IsFailed (set (wire (Text t)) place new)
+text_fails : (t : TextValue) → IsText t → (place new : ℕ) → 2 < place → place
+    < length (wire (Text t))
+    → HaveOtherParity new (get_or (wire (Text t)) place 0)
+    → IsFailed (set (wire (Text t)) place new)
 text_fails t h zero new u l p = absurd (omega arith)
 text_fails t h (suc zero) new u l p = absurd (omega arith)
 text_fails t h (suc (suc zero)) new u l p = absurd (omega arith)
@@ -348,18 +450,25 @@ by_failed_place : (m : Message) (s : Shape m) (place new : ℕ) → (IsLeadingPa
 by_failed_place m s zero new q l p f = elim (pad_or_not new) [
   | inl k ↦ absurd (q (refl, k))
   | inr k ↦
-      let noise = starts_wrong new (0x16 ∷ s.x ∷ s.tail) k (test_false new 0x16 (not_same new 0x16 p)) in
+      let noise =
+      starts_wrong new (0x16 ∷ s.x ∷ s.tail) k (test_false new 0x16 (not_same new 0x16 p)) in
       let failed = heard_failed (new ∷ 0x16 ∷ s.x ∷ s.tail) f in
       absurd (let both : Failed ≡ Noise = sym failed ∙ noise in cc)
 ]
 by_failed_place m s (suc zero) new q l p f =
-    let k = failed_inside (0x16 ∷ []) (new ∷ s.x ∷ s.tail) (refl, tt) (λ e. cc) (test_false new 0x16 (not_same new 0x16 p)) f in
+    let k =
+    failed_inside (0x16 ∷ []) (new ∷ s.x ∷ s.tail) (refl, tt) (λ e. cc)
+    (test_false new 0x16 (not_same new 0x16 p)) f in
     absurd (not_both_odd new 0x16 p (rw (heads k.1) stx_odd) syn_odd)
 by_failed_place m s (suc (suc zero)) new q l p f =
-    let k = failed_inside (0x16 ∷ 0x16 ∷ []) (new ∷ s.tail) (refl, (refl, tt)) (λ e. cc) (test_false new 0x16 (λ e. not_both_odd new s.x p (rw e syn_odd) s.odd)) f in
+    let k =
+    failed_inside (0x16 ∷ 0x16 ∷ []) (new ∷ s.tail) (refl, (refl, tt)) (λ e. cc)
+    (test_false new 0x16 (λ e. not_both_odd new s.x p (rw e syn_odd) s.odd)) f in
     absurd (not_both_odd new s.x p (rw (heads k.1) stx_odd) s.odd)
 by_failed_place m s (suc (suc (suc place))) new q l p f =
-    let k = failed_inside (0x16 ∷ 0x16 ∷ []) (s.x ∷ set s.tail place new) (refl, (refl, tt)) (λ e. cc) s.other f in
+    let k =
+    failed_inside (0x16 ∷ 0x16 ∷ []) (s.x ∷ set s.tail place new) (refl, (refl, tt)) (λ e. cc)
+    s.other f in
     (omega arith, s.starts_text (heads k.1))
 
 -- a change makes a transmission fail exactly where it stands after the STX of a text
@@ -371,13 +480,16 @@ failed_place m h place new l p = (there, back)
     there : IsFailed (set (wire m) place new) → (2 < place) × IsSomeText m
     there f =
         let s = shape m h in
-        by_failed_place m s place new (λ k. f.none m (fill_spells m h place new (inl k))) (rw s.whole at l) (rw s.whole at p) (rw s.whole at f)
+        by_failed_place m s place new (λ k. f.none m (fill_spells m h place new (inl k)))
+        (rw s.whole at l) (rw s.whole at p) (rw s.whole at f)
 
     back : (2 < place) × IsSomeText m → IsFailed (set (wire m) place new)
     back k =
         let text : m ≡ Text k.1.0 = k.1.1 in
         subst (λ (w : Message). IsFailed (set (wire w) place new)) (sym text)
-        (text_fails k.1.0 (subst (λ (w : Message). IsMessage w) text h) place new k.0 (subst (λ (w : Message). place < length (wire w)) text l) (subst (λ (w : Message). HaveOtherParity new (get_or (wire w) place 0)) text p))
+        (text_fails k.1.0 (subst (λ (w : Message). IsMessage w) text h) place new k.0
+        (subst (λ (w : Message). place < length (wire w)) text l)
+        (subst (λ (w : Message). HaveOtherParity new (get_or (wire w) place 0)) text p))
 
 -- ---- the laws
 
@@ -393,4 +505,6 @@ spelled_where m n place new h l p = (there, back)
         (one_message (set (wire m) place new) n m k (fill_spells m h place new fill), fill)
 
     back : (n ≡ m) × IsFillIn m place new → Spells (set (wire m) place new) n
-    back k = subst (λ (w : Message). Spells (set (wire m) place new) w) (sym k.0) (fill_spells m h place new k.1)
+    back k =
+        subst (λ (w : Message). Spells (set (wire m) place new) w) (sym k.0)
+        (fill_spells m h place new k.1)

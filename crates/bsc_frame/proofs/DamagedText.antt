@@ -1,5 +1,6 @@
 -- A text of which one octet after its STX has the other parity is no message.
-use Rattle.std.proofs.Common.{◌≡◌, inl, inr, ℕ, ◌%◌, ◌<◌, false, refl, sym, ap, subst, ◌∙◌, arith, List, []}
+use Rattle.std.proofs.Common.{◌≡◌, inl, inr, ℕ, ◌%◌, ◌<◌, false, refl, sym, ap, subst, ◌∙◌, arith}
+use Rattle.std.proofs.Common.{List, []}
 use Rattle.std.proofs.Common.{◌∷◌, ◌++◌, length, length-append, append_assoc, count_ones}
 use Rattle.std.specs.List.{AllByRecursion}
 use Rattle.bsc_octet.specs.Octet.{IsOdd}
@@ -8,7 +9,8 @@ use Rattle.bsc_frame.specs.Units.{units_wire}
 use Rattle.bsc_frame.specs.Spells.{IsBody, AreAll, AreUnits}
 use Rattle.bsc_frame.specs.TurnedBits.{HaveOtherParity}
 use Rattle.bsc_frame.specs.declared.message.Message.{Message}
-use Rattle.bsc_frame.specs.declared.message.Message.TheVariants.{Eot, Call, Enq, Ack0, Ack1, Nak, Wack, Rvi}
+use Rattle.bsc_frame.specs.declared.message.Message.TheVariants.{Eot, Call, Enq, Ack0, Ack1, Nak}
+use Rattle.bsc_frame.specs.declared.message.Message.TheVariants.{Wack, Rvi}
 use Rattle.bsc_frame.specs.declared.message.Message.TheVariants.{Text}
 use Rattle.bsc_frame.proofs.UnitLemmas.{wire_units}
 use Rattle.bsc_frame.proofs.OddLemmas.{units_odd}
@@ -50,34 +52,48 @@ pub some_after : (front back : List ℕ) (o : ℕ) → 0 < length (front ++ o �
 some_after front back o = omega (arith, length-append front (o ∷ back))
 
 -- a text with one octet after its STX changed to the other parity is in no transmission
-pub lost_text : (t : TextValue) (n : Message) (before : List ℕ) (o : ℕ) (after : List ℕ) (new : ℕ) → IsText t
+pub lost_text : (t : TextValue) (n : Message) (before : List ℕ) (o : ℕ) (after : List ℕ) (new : ℕ)
+    → IsText t
     → units_wire t.units t.end ++ 0xff ∷ [] ≡ before ++ o ∷ after → HaveOtherParity new o
     → Inside (0x02 ∷ before ++ new ∷ after) n → ⊥
 lost_text t n before o after new h whole other i =
     let b = after_first 0x02 (before ++ new ∷ after) n i in
     let s = text_body n b.body b.is_body in
-    let sent : AreUnits false t.units t.end (units_wire t.units t.end) = wire_units false t.units t.end in
+    let sent : AreUnits false t.units t.end (units_wire t.units t.end) =
+    wire_units false t.units t.end in
     let sent_odd : AllByRecursion IsOdd (units_wire t.units t.end) =
     units_odd false t.units t.end (units_wire t.units t.end) sent h.each in
-    let body_odd : AllByRecursion IsOdd b.body = units_odd false s.0.units s.0.end b.body s.1 s.2.each in
+    let body_odd : AllByRecursion IsOdd b.body =
+    units_odd false s.0.units s.0.end b.body s.1 s.2.each in
     elim (parted (units_wire t.units t.end) (0xff ∷ []) before o after whole) [
       | inl p ↦
-          let was : IsOdd o = all_here IsOdd before o p.more (subst (λ z. AllByRecursion IsOdd z) p.first sent_odd) in
+          let was : IsOdd o =
+          all_here IsOdd before o p.more (subst (λ z. AllByRecursion IsOdd z) p.first
+          sent_odd) in
           elim (parted b.body b.trail before new after (sym b.whole)) [
-            | inl q ↦ not_both_odd new o other (all_here IsOdd before new q.more (subst (λ z. AllByRecursion IsOdd z) q.first body_odd)) was
+            | inl q ↦ not_both_odd new o other
+                (all_here IsOdd before new q.more
+                (subst (λ z. AllByRecursion IsOdd z) q.first body_odd)) was
             | inr q ↦
                 let longer : units_wire t.units t.end ≡ b.body ++ (q.more ++ o ∷ p.more) =
-                p.first ∙ ap (λ z. z ++ o ∷ p.more) q.first ∙ append_assoc b.body q.more (o ∷ p.more) in
-                no_longer_units s.0 t b.body (q.more ++ o ∷ p.more) (some_after q.more p.more o) s.1 s.2 (subst (λ z. AreUnits false t.units t.end z) longer sent) h
+                p.first ∙ ap (λ z. z ++ o ∷ p.more) q.first
+                ∙ append_assoc b.body q.more (o ∷ p.more) in
+                no_longer_units s.0 t b.body (q.more ++ o ∷ p.more) (some_after q.more p.more o) s.1
+                s.2 (subst (λ z. AreUnits false t.units t.end z) longer sent) h
           ]
       | inr p ↦
-          let was : 0xff ≡ o = sym (all_here (λ x. x ≡ 0xff) p.more o after (subst (AreAll 0xff) p.rest pad_all)) in
+          let was : 0xff ≡ o =
+          sym (all_here (λ x. x ≡ 0xff) p.more o after (subst (AreAll 0xff) p.rest pad_all)) in
           elim (parted b.body b.trail before new after (sym b.whole)) [
             | inl q ↦
                 let longer : b.body ≡ units_wire t.units t.end ++ (p.more ++ new ∷ q.more) =
-                q.first ∙ ap (λ z. z ++ new ∷ q.more) p.first ∙ append_assoc (units_wire t.units t.end) p.more (new ∷ q.more) in
-                no_longer_units t s.0 (units_wire t.units t.end) (p.more ++ new ∷ q.more) (some_after p.more q.more new) sent h (subst (λ z. AreUnits false s.0.units s.0.end z) longer s.1) s.2
-            | inr q ↦ not_same new o other (all_here (λ x. x ≡ 0xff) q.more new after (subst (AreAll 0xff) q.rest b.are_trail) ∙ was)
+                q.first ∙ ap (λ z. z ++ new ∷ q.more) p.first
+                ∙ append_assoc (units_wire t.units t.end) p.more (new ∷ q.more) in
+                no_longer_units t s.0 (units_wire t.units t.end) (p.more ++ new ∷ q.more)
+                (some_after p.more q.more new) sent h
+                (subst (λ z. AreUnits false s.0.units s.0.end z) longer s.1) s.2
+            | inr q ↦ not_same new o other (all_here (λ x. x ≡ 0xff) q.more new after
+                (subst (AreAll 0xff) q.rest b.are_trail) ∙ was)
           ]
     ]
   where

@@ -1,6 +1,8 @@
 -- Codes that are gathered up to an ending character.
-use Rattle.std.proofs.Common.{◌≡◌, ◌≢◌, inl, inr, ℕ, suc, ◌-◌, ◌<◌, ◌≤◌, ◌==◌, true, false, cond, refl, sym}
-use Rattle.std.proofs.Common.{ap, ◌∙◌, arith, List, [], ◌∷◌, ◌++◌, length, Option, Some, None, append_assoc}
+use Rattle.std.proofs.Common.{◌≡◌, ◌≢◌, inl, inr, ℕ, suc, ◌-◌, ◌<◌, ◌≤◌, ◌==◌, true, false, cond}
+use Rattle.std.proofs.Common.{refl, sym}
+use Rattle.std.proofs.Common.{ap, ◌∙◌, arith, List, [], ◌∷◌, ◌++◌, length, Option, Some, None}
+use Rattle.std.proofs.Common.{append_assoc}
 use Rattle.std.proofs.lemmas.Bool.{eqb-true}
 use Rattle.bsc_octet.specs.Octet.{odd_octet, code_of}
 use Rattle.bsc_octet.proofs.ParityLemmas.{odd_cases, code_of_some, code_of-odd_octet}
@@ -29,12 +31,19 @@ pub record Gathers (octets codes rest : List ℕ) : Type 0 where
   pub ends : EndsUnit codes
 
 -- one more fill
-filled_more : (octets codes rest : List ℕ) → Gathers octets codes rest → Gathers (0x16 ∷ octets) codes rest
+filled_more : (octets codes rest : List ℕ) → Gathers octets codes rest
+    → Gathers (0x16 ∷ octets) codes rest
 filled_more octets [] rest g = absurd g.ends
 filled_more octets (c ∷ cs) rest g = record {
   front = 0x16 ∷ g.front;
   whole = ap (λ x. 0x16 ∷ x) g.whole;
-  filled = (0x16 ∷ g.filled.0, g.filled.1, (refl, g.filled.2), ap (λ x. 0x16 ∷ x) g.filled.3, g.filled.4);
+  filled = (
+    0x16 ∷ g.filled.0,
+    g.filled.1,
+    (refl, g.filled.2),
+    ap (λ x. 0x16 ∷ x) g.filled.3,
+    g.filled.4,
+  );
   ends = g.ends;
 }
 
@@ -50,7 +59,8 @@ more_codes x c octets (d ∷ cs) rest e g = record {
 }
 
 -- what is read with one code more at the front is read without it
-before_some : (c : ℕ) (o : Option (List ℕ × List ℕ)) (g : List ℕ × List ℕ) → before_gathered c o ≡ Some g
+before_some : (c : ℕ) (o : Option (List ℕ × List ℕ)) (g : List ℕ × List ℕ) → before_gathered c o
+    ≡ Some g
     → (h : List ℕ × List ℕ) × (o ≡ Some h) × (g.0 ≡ c ∷ h.0) × (g.1 ≡ h.1)
 before_some c None g e = cc
 before_some c (Some h) g e = (h, refl, cc, cc)
@@ -61,7 +71,8 @@ same_gathers : (octets codes codes' rest rest' : List ℕ) → codes ≡ codes' 
 same_gathers octets codes codes' rest rest' e f g = rw (e, f) g
 
 -- one octet more that is no SYN, by the code that it carries
-gathers_code : (x : ℕ) (xs : List ℕ) (o : Option ℕ) (more : Option (List ℕ × List ℕ)) (g : List ℕ × List ℕ)
+gathers_code : (x : ℕ) (xs : List ℕ) (o : Option ℕ) (more : Option (List ℕ × List ℕ))
+    (g : List ℕ × List ℕ)
     → code_of x ≡ o
     → ((h : List ℕ × List ℕ) → more ≡ Some h → Gathers xs h.0 h.1)
     → gather_code o xs more ≡ Some g → Gathers (x ∷ xs) g.0 g.1
@@ -78,14 +89,16 @@ gathers_code x xs (Some c) more g k f e = elim (chosen (is_ending_code c) _ _ _ 
       })
   | inr h ↦
       let b = before_some c more g h.1 in
-      same_gathers (x ∷ xs) g.0 (c ∷ b.0.0) g.1 b.0.1 b.2 b.3 (more_codes x c xs b.0.0 b.0.1 (code_of_some x c k).1 (f b.0 b.1))
+      same_gathers (x ∷ xs) g.0 (c ∷ b.0.0) g.1 b.0.1 b.2 b.3
+      (more_codes x c xs b.0.0 b.0.1 (code_of_some x c k).1 (f b.0 b.1))
 ]
 
 -- one octet more, which may be SYN
 gathers_octet : (room x : ℕ) (xs : List ℕ) (g : List ℕ × List ℕ)
     → (gathered room xs ≡ Some g → Gathers xs g.0 g.1)
     → ((h : List ℕ × List ℕ) → gathered (room - 1) xs ≡ Some h → Gathers xs h.0 h.1)
-    → cond (x == 0x16) (gathered room xs) (cond (room == 0) None (gather_code (code_of x) xs (gathered (room - 1) xs))) ≡ Some g
+    → cond (x == 0x16) (gathered room xs)
+    (cond (room == 0) None (gather_code (code_of x) xs (gathered (room - 1) xs))) ≡ Some g
     → Gathers (x ∷ xs) g.0 g.1
 gathers_octet room x xs g same more e = elim (chosen (x == 0x16) _ _ _ e) [
   | inl h ↦ rw (eqb-true x 0x16 h.0) (filled_more xs g.0 g.1 (same h.1))
@@ -96,11 +109,13 @@ gathers_octet room x xs g same more e = elim (chosen (x == 0x16) _ _ _ e) [
 ]
 
 -- the codes that are read are carried by the octets, with fill, up to the rest
-pub gathered_reads : (room : ℕ) (octets : List ℕ) (g : List ℕ × List ℕ) → gathered room octets ≡ Some g
+pub gathered_reads : (room : ℕ) (octets : List ℕ) (g : List ℕ × List ℕ) → gathered room octets
+    ≡ Some g
     → Gathers octets g.0 g.1
 unfolding gathered
 gathered_reads room [] g e = cc
-gathered_reads room (x ∷ xs) g e = gathers_octet room x xs g (gathered_reads room xs g) (gathered_reads (room - 1) xs) e
+gathered_reads room (x ∷ xs) g e =
+    gathers_octet room x xs g (gathered_reads room xs g) (gathered_reads (room - 1) xs) e
 
 -- ---- back
 
@@ -118,7 +133,8 @@ IsRun (c ∷ d ∷ cs) = IsOther c × (is_ending_code c ≡ false) × IsRun (d �
 -- the octet of a code that is no SYN is no SYN
 odd_other : (c : ℕ) → IsOther c → (odd_octet c == 0x16) ≡ false
 odd_other c o =
-    test_false (odd_octet c) 0x16 (λ e. elim (odd_cases c) [ inl k ↦ absurd (o.other (sym k.0 ∙ e)) | inr k ↦ absurd (omega arith) ])
+    test_false (odd_octet c) 0x16 (λ e. elim (odd_cases c)
+    [ inl k ↦ absurd (o.other (sym k.0 ∙ e)) | inr k ↦ absurd (omega arith) ])
 
 -- the same is read after fill
 after_fill : (room : ℕ) (fill rest : List ℕ) → AreAll 0x16 fill
@@ -141,11 +157,15 @@ gathered_read room (c ∷ []) front rest f r l =
     let first : gathered room (odd_octet c ∷ rest) ≡ Some (c ∷ [], rest) =
     rw (odd_other c r.0, some, code_of-odd_octet c r.0.code, r.1) refl in
     let here : front ≡ f.0 ++ odd_octet c ∷ [] = f.3 ∙ ap (λ z. f.0 ++ odd_octet c ∷ z) f.4 in
-    ap (λ z. gathered room (z ++ rest)) here ∙ ap (gathered room) (append_assoc f.0 (odd_octet c ∷ []) rest) ∙ after_fill room f.0 (odd_octet c ∷ rest) f.2 ∙ first
+    ap (λ z. gathered room (z ++ rest)) here
+    ∙ ap (gathered room) (append_assoc f.0 (odd_octet c ∷ []) rest)
+    ∙ after_fill room f.0 (odd_octet c ∷ rest) f.2 ∙ first
 gathered_read room (c ∷ d ∷ cs) front rest f r l =
     let some : (room == 0) ≡ false = test_false room 0 (has_room (length (d ∷ cs)) room l) in
     let more : gathered (room - 1) (f.1 ++ rest) ≡ Some (d ∷ cs, rest) =
     gathered_read (room - 1) (d ∷ cs) f.1 rest f.4 r.2 (omega arith) in
     let first : gathered room (odd_octet c ∷ f.1 ++ rest) ≡ Some (c ∷ d ∷ cs, rest) =
     rw (odd_other c r.0, some, code_of-odd_octet c r.0.code, r.1, more) refl in
-    ap (λ z. gathered room (z ++ rest)) f.3 ∙ ap (gathered room) (append_assoc f.0 (odd_octet c ∷ f.1) rest) ∙ after_fill room f.0 (odd_octet c ∷ f.1 ++ rest) f.2 ∙ first
+    ap (λ z. gathered room (z ++ rest)) f.3
+    ∙ ap (gathered room) (append_assoc f.0 (odd_octet c ∷ f.1) rest)
+    ∙ after_fill room f.0 (odd_octet c ∷ f.1 ++ rest) f.2 ∙ first

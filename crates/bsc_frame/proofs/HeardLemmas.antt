@@ -1,5 +1,6 @@
 -- What is heard is what is spelled.
-use Rattle.std.proofs.Common.{◌≡◌, ◌≢◌, ◌⊎◌, inl, inr, ℕ, ◌≤◌, ◌==◌, true, false, refl, sym, ap, subst, ◌∙◌}
+use Rattle.std.proofs.Common.{◌≡◌, ◌≢◌, ◌⊎◌, inl, inr, ℕ, ◌≤◌, ◌==◌, true, false, refl, sym, ap}
+use Rattle.std.proofs.Common.{subst, ◌∙◌}
 use Rattle.std.proofs.Common.{arith, List, [], ◌∷◌, ◌++◌, length, drop, map, Option, Some, None}
 use Rattle.std.proofs.Common.{length-append}
 use Rattle.std.proofs.lemmas.Bool.{eqb-true}
@@ -13,7 +14,8 @@ use Rattle.bsc_frame.specs.Spells.{Spells, IsBody, IsTextBody, Carries, IsFailed
 use Rattle.bsc_frame.specs.Reading.{is_octet, begins, control, heard, heard_body, whole_or_noise}
 use Rattle.bsc_frame.specs.Reading.{whole_or_failed, units_at}
 use Rattle.bsc_frame.specs.declared.message.Message.{Message}
-use Rattle.bsc_frame.specs.declared.message.Message.TheVariants.{Eot, Call, Enq, Ack0, Ack1, Nak, Wack, Rvi}
+use Rattle.bsc_frame.specs.declared.message.Message.TheVariants.{Eot, Call, Enq, Ack0, Ack1, Nak}
+use Rattle.bsc_frame.specs.declared.message.Message.TheVariants.{Wack, Rvi}
 use Rattle.bsc_frame.specs.declared.message.Message.TheVariants.{Text}
 use Rattle.bsc_frame.specs.declared.message.Heard.{Heard}
 use Rattle.bsc_frame.specs.declared.message.Heard.TheVariants.{Whole, Failed, Noise}
@@ -42,7 +44,13 @@ text_reads : (body : List ℕ) (t : TextValue) → begins (is_octet 0x02) body �
 text_reads [] t h e = cc
 text_reads (x ∷ rest) t h e =
     let r = units_at_reads MAX_UNITS false rest t e in
-    record { rest = rest; whole = ap (λ z. z ∷ rest) (eqb-true x 0x02 h); units = r.units; text = record { some = r.some; most = r.most; each = r.each } }
+    record {
+      rest = rest;
+      whole = ap (λ z. z ∷ rest) (eqb-true x 0x02 h);
+      units = r.units;
+      text =
+          record { some = r.some; most = r.most; each = r.each };
+    }
 
 -- a body that is heard as a message is that of the message
 pub body_reads : (body : List ℕ) (m : Message) → heard_body body ≡ Whole m → IsBody m body
@@ -60,25 +68,47 @@ record Plain (body : List ℕ) : Type 0 where
   ends : Ends body
 
 -- a body of one octet that is neither SYN nor PAD has no SYN first and no PAD last
-short : (x : ℕ) → ((x == 0x16) ≡ false) → ((x == 0xff) ≡ false) → (body : List ℕ) → body ≡ x ∷ [] → Plain body
+short : (x : ℕ) → ((x == 0x16) ≡ false) → ((x == 0xff) ≡ false) → (body : List ℕ) → body ≡ x ∷ []
+    → Plain body
 short x a c body e =
-    record { begins_other = (x, [], e, a); ends = record { front = []; last = x; whole = e; other = c } }
+    record {
+      begins_other = (x, [], e, a);
+      ends =
+          record { front = []; last = x; whole = e; other = c };
+    }
 
 -- nor has one of DLE and an octet that is no PAD
 reply : (y : ℕ) → ((y == 0xff) ≡ false) → (body : List ℕ) → body ≡ 0x10 ∷ y ∷ [] → Plain body
 reply y c body e =
-    record { begins_other = (0x10, y ∷ [], e, refl); ends = record { front = 0x10 ∷ []; last = y; whole = e; other = c } }
+    record {
+      begins_other = (0x10, y ∷ [], e, refl);
+      ends =
+          record { front = 0x10 ∷ []; last = y; whole = e; other = c };
+    }
 
 -- a text ends as its units do
 ends_text : (rest : List ℕ) → Ends rest → Ends (0x02 ∷ rest)
-ends_text rest e = record { front = 0x02 ∷ e.front; last = e.last; whole = ap (λ z. 0x02 ∷ z) e.whole; other = e.other }
+ends_text rest e =
+    record {
+      front = 0x02 ∷ e.front;
+      last = e.last;
+      whole = ap (λ z. 0x02 ∷ z) e.whole;
+      other =
+          e.other;
+    }
 
 -- the body of a message neither begins with SYN nor ends with PAD
 plain_body : (body : List ℕ) (m : Message) → IsBody m body → Plain body
 plain_body body Eot h = short 0x04 refl refl body h
 plain_body body (Call a) h = record {
   begins_other = (0x04, h.pads ++ h.syns ++ map odd_octet a ++ 0x85 ∷ [], h.whole, refl);
-  ends = record { front = 0x04 ∷ h.pads ++ h.syns ++ map odd_octet a; last = 0x85; whole = h.whole; other = refl };
+  ends =
+      record {
+        front = 0x04 ∷ h.pads ++ h.syns ++ map odd_octet a;
+        last = 0x85;
+        whole = h.whole;
+        other = refl;
+      };
 }
 plain_body body Enq h = short 0x85 refl refl body h
 plain_body body Nak h = short 0x15 refl refl body h
@@ -92,7 +122,8 @@ plain_body body (Text t) h = record {
 }
 
 -- the body of a message without a text is heard as it
-control_body : (x : ℕ) (rest : List ℕ) (m : Message) → (x == 0x02) ≡ false → IsControl m → (body : List ℕ)
+control_body : (x : ℕ) (rest : List ℕ) (m : Message) → (x == 0x02) ≡ false → IsControl m
+    → (body : List ℕ)
     → body ≡ x ∷ rest → IsBody m body → heard_body body ≡ Whole m
 unfolding heard_body
 control_body x rest m n k body e h =
@@ -112,7 +143,8 @@ body_read body Wack h = control_body 0x10 _ Wack refl tt body h h
 body_read body Rvi h = control_body 0x10 _ Rvi refl tt body h h
 body_read body (Text t) h =
     let units : units_at MAX_UNITS false h.rest ≡ Some t =
-    units_at_read MAX_UNITS false t.units t.end h.rest h.units h.text.some h.text.most h.text.each in
+    units_at_read MAX_UNITS false t.units t.end h.rest h.units h.text.some h.text.most
+    h.text.each in
     rw (h.whole, units) refl
 
 -- ---- whole
@@ -135,12 +167,19 @@ loud_whole h m e n = cc
 pub spelled_heard : (octets : List ℕ) (m : Message) → heard octets ≡ Whole m → Spells octets m
 spelled_heard octets m e =
     let b = bodies octets (loud_whole (heard octets) m e) in
-    record { small = b.small; body = b.body; carried = b.carried; is_body = body_reads b.body m (sym b.same ∙ e) }
+    record {
+      small = b.small;
+      body = b.body;
+      carried = b.carried;
+      is_body =
+          body_reads b.body m (sym b.same ∙ e);
+    }
 
 -- ---- failed
 
 -- a body that failed begins with STX
-pub failed_begins : (body : List ℕ) → heard_body body ≡ Failed → (rest : List ℕ) × (body ≡ 0x02 ∷ rest)
+pub failed_begins : (body : List ℕ) → heard_body body ≡ Failed → (rest : List ℕ)
+    × (body ≡ 0x02 ∷ rest)
 unfolding heard_body control
 failed_begins [] e = absurd cc
 failed_begins (x ∷ rest) e = elim (chosen (x == 0x02) _ _ _ e) [
@@ -158,7 +197,8 @@ text_loud : (rest : List ℕ)
 unfolding heard_body
 text_loud rest = by_units (units_at MAX_UNITS false rest)
   where
-    by_units : (o : Option TextValue) → (whole_or_failed o ≡ Failed) ⊎ ((m : Message) × (whole_or_failed o ≡ Whole m))
+    by_units : (o : Option TextValue) → (whole_or_failed o ≡ Failed)
+        ⊎ ((m : Message) × (whole_or_failed o ≡ Whole m))
     by_units None = inl refl
     by_units (Some t) = inr (Text t, refl)
 
@@ -171,7 +211,12 @@ pub failed_heard : (octets : List ℕ) → heard octets ≡ Failed → IsFailed 
 failed_heard octets e =
     let b = bodies octets (loud_failed (heard octets) e) in
     let f = failed_begins b.body (sym b.same ∙ e) in
-    record { small = b.small; rest = f.0; carried = subst (λ x. Carries octets x) f.1 b.carried; none = λ m s. let k = heard_spelled octets m s in cc }
+    record {
+      small = b.small;
+      rest = f.0;
+      carried = subst (λ x. Carries octets x) f.1 b.carried;
+      none = λ m s. let k = heard_spelled octets m s in cc;
+    }
 
 -- octets that are failed by the relation are heard as failed
 pub heard_failed : (octets : List ℕ) → IsFailed octets → heard octets ≡ Failed
@@ -188,7 +233,8 @@ heard_failed octets f =
 
 -- octets that are heard as noise are noise by the relation
 pub noise_heard : (octets : List ℕ) → heard octets ≡ Noise → IsNoise octets
-noise_heard octets e = (λ m s. let k = heard_spelled octets m s in cc, λ f. let k = heard_failed octets f in cc)
+noise_heard octets e =
+    (λ m s. let k = heard_spelled octets m s in cc, λ f. let k = heard_failed octets f in cc)
 
 -- octets that are noise by the relation are heard as noise
 noise_by : (octets : List ℕ) (h : Heard) → heard octets ≡ h → IsNoise octets → heard octets ≡ Noise
@@ -212,7 +258,13 @@ one_message octets m n s t =
 pub length-wire : (m : Message) → IsMessage m → length (wire m) ≤ MAX_SENT
 length-wire Eot h = omega arith
 length-wire (Call a) h =
-    omega (arith, h.most, length-append (map odd_octet a ++ 0x85 ∷ []) (0xff ∷ []), length-append (map odd_octet a) (0x85 ∷ []), length-map a odd_octet)
+    omega (
+      arith,
+      h.most,
+      length-append (map odd_octet a ++ 0x85 ∷ []) (0xff ∷ []),
+      length-append (map odd_octet a) (0x85 ∷ []),
+      length-map a odd_octet,
+    )
 length-wire Enq h = omega arith
 length-wire Nak h = omega arith
 length-wire Ack0 h = omega arith
@@ -220,7 +272,12 @@ length-wire Ack1 h = omega arith
 length-wire Wack h = omega arith
 length-wire Rvi h = omega arith
 length-wire (Text t) h =
-    omega (arith, h.most, length-units_wire t.units t.end h.each, length-append (units_wire t.units t.end) (0xff ∷ []))
+    omega (
+      arith,
+      h.most,
+      length-units_wire t.units t.end h.each,
+      length-append (units_wire t.units t.end) (0xff ∷ []),
+    )
 
 -- two SYN, a body and one PAD spell the message of the body
 sent : (body : List ℕ) (m : Message) → length (framed body) ≤ MAX_SENT → IsBody m body
@@ -228,7 +285,17 @@ sent : (body : List ℕ) (m : Message) → length (framed body) ≤ MAX_SENT →
 sent body m short h = record {
   small = omega arith;
   body = body;
-  carried = record { pads = []; syns = 0x16 ∷ 0x16 ∷ []; trail = 0xff ∷ []; whole = refl; are_pads = tt; are_syns = (refl, (refl, tt)); some_syn = λ e. cc; are_trail = (refl, tt) };
+  carried =
+      record {
+        pads = [];
+        syns = 0x16 ∷ 0x16 ∷ [];
+        trail = 0xff ∷ [];
+        whole = refl;
+        are_pads = tt;
+        are_syns = (refl, (refl, tt));
+        some_syn = λ e. cc;
+        are_trail = (refl, tt);
+      };
   is_body = h;
 }
 
@@ -236,7 +303,15 @@ sent body m short h = record {
 pub wire_spells : (m : Message) → IsMessage m → Spells (wire m) m
 wire_spells Eot h = sent _ Eot (length-wire Eot h) refl
 wire_spells (Call a) h =
-    sent _ (Call a) (length-wire (Call a) h) (record { pads = 0xff ∷ []; syns = 0x16 ∷ 0x16 ∷ []; whole = refl; are_pads = (refl, tt); are_syns = (refl, (refl, tt)); address = h })
+    sent _ (Call a) (length-wire (Call a) h)
+    (record {
+      pads = 0xff ∷ [];
+      syns = 0x16 ∷ 0x16 ∷ [];
+      whole = refl;
+      are_pads = (refl, tt);
+      are_syns = (refl, (refl, tt));
+      address = h;
+    })
 wire_spells Enq h = sent _ Enq (length-wire Enq h) refl
 wire_spells Nak h = sent _ Nak (length-wire Nak h) refl
 wire_spells Ack0 h = sent _ Ack0 (length-wire Ack0 h) refl
@@ -244,4 +319,11 @@ wire_spells Ack1 h = sent _ Ack1 (length-wire Ack1 h) refl
 wire_spells Wack h = sent _ Wack (length-wire Wack h) refl
 wire_spells Rvi h = sent _ Rvi (length-wire Rvi h) refl
 wire_spells (Text t) h =
-    sent _ (Text t) (length-wire (Text t) h) (record { rest = units_wire t.units t.end; whole = refl; units = wire_units false t.units t.end; text = h })
+    sent _ (Text t) (length-wire (Text t) h)
+    (record {
+      rest = units_wire t.units t.end;
+      whole = refl;
+      units =
+          wire_units false t.units t.end;
+      text = h;
+    })

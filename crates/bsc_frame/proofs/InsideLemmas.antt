@@ -1,12 +1,15 @@
 -- What octets that spell a message, or failed, have after their SYN.
-use Rattle.std.proofs.Common.{◌≡◌, ◌≢◌, ◌⊎◌, inl, inr, ℕ, ◌≤◌, ◌==◌, Bool, true, false, cond, refl, sym, ap}
+use Rattle.std.proofs.Common.{◌≡◌, ◌≢◌, ◌⊎◌, inl, inr, ℕ, ◌≤◌, ◌==◌, Bool, true, false, cond, refl}
+use Rattle.std.proofs.Common.{sym, ap}
 use Rattle.std.proofs.Common.{subst, ◌∙◌, List, [], ◌∷◌, ◌++◌, length, append-nil, map, nat_lt}
 use Rattle.std.proofs.lemmas.Bool.{eqb-true}
 use Rattle.bsc_octet.specs.Octet.{IsOdd, odd_octet}
 use Rattle.bsc_frame.specs.Spells.{Spells, IsBody, Carries, AreAll, IsFailed}
-use Rattle.bsc_frame.specs.Reading.{skip, is_octet, is_pad_octet, begins, heard, heard_body, trimmed}
+use Rattle.bsc_frame.specs.Reading.{skip, is_octet, is_pad_octet, begins, heard, heard_body}
+use Rattle.bsc_frame.specs.Reading.{trimmed}
 use Rattle.bsc_frame.specs.declared.message.Message.{Message}
-use Rattle.bsc_frame.specs.declared.message.Message.TheVariants.{Eot, Call, Enq, Ack0, Ack1, Nak, Wack, Rvi}
+use Rattle.bsc_frame.specs.declared.message.Message.TheVariants.{Eot, Call, Enq, Ack0, Ack1, Nak}
+use Rattle.bsc_frame.specs.declared.message.Message.TheVariants.{Wack, Rvi}
 use Rattle.bsc_frame.specs.declared.message.Message.TheVariants.{Text}
 use Rattle.bsc_frame.specs.declared.message.Heard.{Heard}
 use Rattle.bsc_frame.specs.declared.message.Heard.TheVariants.{Noise}
@@ -24,7 +27,8 @@ pub record Inside (rest : List ℕ) (n : Message) : Type 0 where
   pub is_body : IsBody n body
 
 -- a body after SYN without pads is heard as itself, without PAD at its end
-heard_syns : (syns rest : List ℕ) → AreAll 0x16 syns → syns ≢ [] → begins (is_octet 0x16) rest ≡ false
+heard_syns : (syns rest : List ℕ) → AreAll 0x16 syns → syns ≢ [] → begins (is_octet 0x16) rest
+    ≡ false
     → length (syns ++ rest) ≤ MAX_HEARD
     → heard (syns ++ rest) ≡ heard_body (trimmed rest)
 heard_syns syns rest are some stops small =
@@ -38,7 +42,9 @@ heard_syns syns rest are some stops small =
       some_syn = some;
       are_trail = tt;
     } in
-    heard_carried (syns ++ rest) rest c small (ap (begins (is_octet 0x16)) (append-nil rest) ∙ stops) ∙ ap (λ z. heard_body (trimmed z)) (append-nil rest)
+    heard_carried (syns ++ rest) rest c small
+    (ap (begins (is_octet 0x16)) (append-nil rest) ∙ stops)
+    ∙ ap (λ z. heard_body (trimmed z)) (append-nil rest)
 
 -- what is after SYN carries the body of the message that is spelled
 pub inside : (syns rest : List ℕ) (n : Message) → AreAll 0x16 syns → syns ≢ []
@@ -50,15 +56,20 @@ inside syns rest n are some stops s =
       trail = t.trail;
       whole = t.whole;
       are_trail = t.are;
-      is_body = body_reads (trimmed rest) n (sym (heard_syns syns rest are some stops s.small) ∙ heard_spelled (syns ++ rest) n s);
+      is_body =
+          body_reads (trimmed rest) n (sym (heard_syns syns rest are some stops s.small)
+          ∙ heard_spelled (syns ++ rest) n s);
     }
 
 -- what failed has STX after its SYN
-pub failed_inside : (syns rest : List ℕ) → AreAll 0x16 syns → syns ≢ [] → begins (is_octet 0x16) rest ≡ false
+pub failed_inside : (syns rest : List ℕ) → AreAll 0x16 syns → syns ≢ []
+    → begins (is_octet 0x16) rest ≡ false
     → IsFailed (syns ++ rest) → (more : List ℕ) × (rest ≡ 0x02 ∷ more)
 failed_inside syns rest are some stops f =
     let t = trail_of rest in
-    let k = failed_begins (trimmed rest) (sym (heard_syns syns rest are some stops f.small) ∙ heard_failed (syns ++ rest) f) in
+    let k =
+    failed_begins (trimmed rest) (sym (heard_syns syns rest are some stops f.small)
+    ∙ heard_failed (syns ++ rest) f) in
     (k.0 ++ t.trail, t.whole ∙ ap (λ z. z ++ t.trail) k.1)
 
 -- ---- the first octet
@@ -74,7 +85,12 @@ pub record First (body : List ℕ) : Type 0 where
 pub first_of : (n : Message) (body : List ℕ) → IsBody n body → First body
 first_of Eot body h = record { first = 0x04; more = []; whole = h; odd = eot_odd }
 first_of (Call a) body h =
-    record { first = 0x04; more = h.pads ++ h.syns ++ map odd_octet a ++ 0x85 ∷ []; whole = h.whole; odd = eot_odd }
+    record {
+      first = 0x04;
+      more = h.pads ++ h.syns ++ map odd_octet a ++ 0x85 ∷ [];
+      whole = h.whole;
+      odd = eot_odd;
+    }
 first_of Enq body h = record { first = 0x85; more = []; whole = h; odd = enq_odd }
 first_of Nak body h = record { first = 0x15; more = []; whole = h; odd = nak_odd }
 first_of Ack0 body h = record { first = 0x10; more = 0xb0 ∷ []; whole = h; odd = dle_odd }
@@ -131,7 +147,8 @@ starts_wrong o rest p s = rw p (either_noise (nat_lt MAX_HEARD (length (o ∷ re
 pub pad_or_not : (o : ℕ) → ((o ≡ 0x55) ⊎ (o ≡ 0xaa)) ⊎ (is_pad_octet o ≡ false)
 pad_or_not o = by_tests (o == 0x55) (o == 0xaa) refl refl
   where
-    by_tests : (a b : Bool) → (o == 0x55) ≡ a → (o == 0xaa) ≡ b → ((o ≡ 0x55) ⊎ (o ≡ 0xaa)) ⊎ (is_pad_octet o ≡ false)
+    by_tests : (a b : Bool) → (o == 0x55) ≡ a → (o == 0xaa) ≡ b → ((o ≡ 0x55) ⊎ (o ≡ 0xaa))
+        ⊎ (is_pad_octet o ≡ false)
     by_tests true b e f = inl (inl (eqb-true o 0x55 e))
     by_tests false true e f = inl (inr (eqb-true o 0xaa f))
     by_tests false false e f = inr (rw (e, f) refl)

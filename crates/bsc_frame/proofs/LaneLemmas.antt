@@ -1,5 +1,6 @@
 -- From the mask of 32 lanes to the octets at the front that pass a test.
-use Rattle.std.proofs.Common.{◌≡◌, ℕ, ◌%◌, ◌^◌, ◌==◌, Bool, true, false, not, ◌||◌, cond, List, [], ◌∷◌, map}
+use Rattle.std.proofs.Common.{◌≡◌, ℕ, ◌%◌, ◌^◌, ◌==◌, Bool, true, false, not, ◌||◌, cond, List, []}
+use Rattle.std.proofs.Common.{◌∷◌, map}
 use Rattle.std.proofs.Common.{length, refl, ap, ◌∙◌, arith, bit_or, bit_and}
 use Rattle.std.specs.Int.{w64, trailing_zeros}
 use Rattle.std.specs.List.{prefix_len}
@@ -10,14 +11,17 @@ use Rattle.std.proofs.lemmas.List.{length-map}
 -- the first lane that is set in the mask is the first octet that stops the run
 pub first_lane_is : (stops : ℕ → Bool) (f : ℕ → ℕ) (octets lanes : List ℕ) (r : ℕ)
     → ((x : ℕ) → top 7 (f x) ≡ stops x) → length octets ≡ 32 → lanes ≡ map f octets
-    → r ≡ cond (mask_l (map (top 7) lanes) % 2 ^ 64 == 0) 32 (trailing_zeros w64 (mask_l (map (top 7) lanes) % 2 ^ 64))
+    → r ≡ cond (mask_l (map (top 7) lanes) % 2 ^ 64 == 0) 32
+    (trailing_zeros w64 (mask_l (map (top 7) lanes) % 2 ^ 64))
     → r ≡ prefix_len (λ x. not (stops x)) octets
 first_lane_is stops f octets lanes r e long by found =
     let each : map (top 7) lanes ≡ map stops octets =
     ap (map (top 7)) by ∙ map-map (top 7) f octets ∙ map_same octets in
     let mask : mask_l (map (top 7) lanes) % 2 ^ 64 ≡ mask_l (map stops octets) =
-    ap (λ l. mask_l l % 2 ^ 64) each ∙ mask_l-mod (map stops octets) 64 (omega (arith, length-map octets stops)) in
-    found ∙ ap (λ m. cond (m == 0) 32 (trailing_zeros w64 m)) mask ∙ first_set_mask_l stops octets 32 long (omega arith)
+    ap (λ l. mask_l l % 2 ^ 64) each ∙ mask_l-mod (map stops octets) 64
+    (omega (arith, length-map octets stops)) in
+    found ∙ ap (λ m. cond (m == 0) 32 (trailing_zeros w64 m)) mask
+    ∙ first_set_mask_l stops octets 32 long (omega arith)
   where
     map_same : (xs : List ℕ) → map (λ x. top 7 (f x)) xs ≡ map stops xs
     map_same [] = refl
@@ -36,7 +40,8 @@ top_or false false true = refl
 top_or false false false = refl
 
 -- the highest bit of a lane that is set where neither of two tests passes
-pub top_and : (a b : Bool) → top 7 (bit_and (cond (not a) 255 0) (cond (not b) 255 0)) ≡ not (a || b)
+pub top_and : (a b : Bool) → top 7 (bit_and (cond (not a) 255 0) (cond (not b) 255 0))
+    ≡ not (a || b)
 top_and true true = refl
 top_and true false = refl
 top_and false true = refl

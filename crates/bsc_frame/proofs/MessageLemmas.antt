@@ -5,7 +5,8 @@ use lib.Pointwise.{bytes_decides}
 use mathlib.Core.Bool.{true≢false}
 use Rattle.bsc_frame.specs.TextEquality.{text-Decides}
 use Rattle.bsc_frame.specs.declared.message.Message.{Message}
-use Rattle.bsc_frame.specs.declared.message.Message.TheVariants.{Eot, Call, Enq, Ack0, Ack1, Nak, Wack, Rvi}
+use Rattle.bsc_frame.specs.declared.message.Message.TheVariants.{Eot, Call, Enq, Ack0, Ack1, Nak}
+use Rattle.bsc_frame.specs.declared.message.Message.TheVariants.{Wack, Rvi}
 use Rattle.bsc_frame.specs.declared.message.Message.TheVariants.{Text}
 use Rattle.bsc_frame.specs.contracts.message.MessagePartialEq.TheImpl.{eq-value}
 

@@ -1,5 +1,6 @@
 -- Each octet of what a text spells has odd parity.
-use Rattle.std.proofs.Common.{◌≡◌, ℕ, ◌<◌, Bool, true, false, refl, arith, List, [], ◌∷◌, ◌++◌, Option, Some}
+use Rattle.std.proofs.Common.{◌≡◌, ℕ, ◌<◌, Bool, true, false, refl, arith, List, [], ◌∷◌, ◌++◌}
+use Rattle.std.proofs.Common.{Option, Some}
 use Rattle.std.proofs.Common.{None, All}
 use Rattle.std.specs.List.{AllByRecursion}
 use Rattle.std.proofs.lemmas.List.Elements.{All-from_recursion}
@@ -37,7 +38,8 @@ filled_odd : (codes front : List ℕ) → AreFilled codes front → AllByRecursi
     → AllByRecursion IsOdd front
 filled_odd [] front f h = rw f tt
 filled_odd (c ∷ cs) front f h =
-    rw f.3 (odd_append f.0 (odd_octet c ∷ f.1) (fill_odd f.0 f.2) (IsOdd-odd_octet c h.0, filled_odd cs f.1 f.4 h.1))
+    rw f.3 (odd_append f.0 (odd_octet c ∷ f.1) (fill_odd f.0 f.2)
+    (IsOdd-odd_octet c h.0, filled_odd cs f.1 f.4 h.1))
 
 -- the codes of a unit are below 128
 run_small : (codes : List ℕ) → IsRun codes → AllByRecursion (λ c. c < 128) codes
@@ -51,15 +53,23 @@ pub units_odd : (after_us : Bool) (us : List TextUnit) (end : End) (octets : Lis
 units_odd after_us [] end octets a h = rw a tt
 units_odd after_us (u ∷ us) end octets a h =
     let run : IsRun (a.0 ++ unit_codes u (ending us end)) =
-    run_start after_us a.0 (unit_codes u (ending us end)) a.3 (run_unit u (ending us end) h.0 (ending_is us end)) in
-    rw a.5 (odd_append a.1 (odd_octet (longitudinal_sum (a.0 ++ unit_codes u (ending us end))) ∷ a.2) (filled_odd _ a.1 a.4 (run_small _ run))
-    (IsOdd-odd_octet (longitudinal_sum (a.0 ++ unit_codes u (ending us end))) (longitudinal_sum-lt (a.0 ++ unit_codes u (ending us end))), units_odd true us end a.2 a.6 h.1))
+    run_start after_us a.0 (unit_codes u (ending us end)) a.3
+    (run_unit u (ending us end) h.0 (ending_is us end)) in
+    rw a.5 (odd_append a.1 (odd_octet (longitudinal_sum (a.0 ++ unit_codes u (ending us end)))
+    ∷ a.2) (filled_odd _ a.1 a.4 (run_small _ run)) (
+      IsOdd-odd_octet (longitudinal_sum (a.0 ++ unit_codes u (ending us end)))
+          (longitudinal_sum-lt (a.0 ++ unit_codes u (ending us end))),
+      units_odd true us end a.2 a.6 h.1,
+    ))
 
 -- where an octet is even no units are read
 pub not_odd_fails : (octets : List ℕ) → (All IsOdd octets → ⊥)
     → Failed ≡ whole_or_failed (units_at MAX_UNITS false octets)
 not_odd_fails octets n = by_units (units_at MAX_UNITS false octets) refl
   where
-    by_units : (o : Option TextValue) → units_at MAX_UNITS false octets ≡ o → Failed ≡ whole_or_failed o
+    by_units : (o : Option TextValue) → units_at MAX_UNITS false octets ≡ o → Failed
+        ≡ whole_or_failed o
     by_units None e = refl
-    by_units (Some t) e = let r = units_at_reads MAX_UNITS false octets t e in absurd (n (All-from_recursion IsOdd octets (units_odd false t.units t.end octets r.units r.each)))
+    by_units (Some t) e = let r = units_at_reads MAX_UNITS false octets t e in
+        absurd
+        (n (All-from_recursion IsOdd octets (units_odd false t.units t.end octets r.units r.each)))

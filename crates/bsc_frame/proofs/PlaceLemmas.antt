@@ -1,5 +1,6 @@
 -- Lists around a place, and two ways to part one list.
-use Rattle.std.proofs.Common.{◌≡◌, ◌⊎◌, inl, inr, ℕ, zero, suc, ◌<◌, refl, sym, ap, ◌∙◌, arith, List, [], ◌∷◌}
+use Rattle.std.proofs.Common.{◌≡◌, ◌⊎◌, inl, inr, ℕ, zero, suc, ◌<◌, refl, sym, ap, ◌∙◌, arith}
+use Rattle.std.proofs.Common.{List, [], ◌∷◌}
 use Rattle.std.proofs.Common.{◌++◌, length, get_or, set}
 use Rattle.std.specs.List.{AllByRecursion}
 
@@ -17,7 +18,16 @@ pub record Around (xs : List ℕ) (place : ℕ) : Type 0 where
 pub around : (xs : List ℕ) (place : ℕ) → place < length xs → Around xs place
 around [] place l = absurd (omega arith)
 around (x ∷ xs) zero l =
-    record { before = []; here = x; after = xs; whole = refl; long = refl; is_here = refl; changed = λ o. refl }
+    record {
+      before = [];
+      here = x;
+      after = xs;
+      whole = refl;
+      long = refl;
+      is_here = refl;
+      changed =
+          λ o. refl;
+    }
 around (x ∷ xs) (suc place) l =
     let r = around xs place (omega arith) in
     record {
@@ -54,8 +64,18 @@ parted (x ∷ xs) ys (y ∷ front) o back e =
     let head : x ≡ y = cc in
     let tail : xs ++ ys ≡ front ++ o ∷ back = cc in
     elim (parted xs ys front o back tail) [
-      | inl r ↦ inl (record { more = r.more; first = ap (λ z. z ∷ xs) head ∙ ap (λ z. y ∷ z) r.first; rest = r.rest })
-      | inr r ↦ inr (record { more = r.more; first = ap (λ z. z ∷ front) (sym head) ∙ ap (λ z. x ∷ z) r.first; rest = r.rest })
+      | inl r ↦ inl (record {
+        more = r.more;
+        first = ap (λ z. z ∷ xs) head
+            ∙ ap (λ z. y ∷ z) r.first;
+        rest = r.rest;
+      })
+      | inr r ↦ inr (record {
+        more = r.more;
+        first = ap (λ z. z ∷ front) (sym head)
+            ∙ ap (λ z. x ∷ z) r.first;
+        rest = r.rest;
+      })
     ]
 
 -- what holds of each member

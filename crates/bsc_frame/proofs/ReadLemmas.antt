@@ -1,7 +1,10 @@
 -- The steps of reading.
-use Rattle.std.proofs.Common.{◌≡◌, ◌≢◌, ℕ, zero, suc, ◌+◌, ◌-◌, ◌<◌, ◌≤◌, ◌==◌, Bool, true, false, cond, refl}
-use Rattle.std.proofs.Common.{sym, ap, ◌∙◌, arith, List, [], ◌∷◌, ◌++◌, length, take, drop, get_or, drop-cons}
-use Rattle.std.proofs.Common.{add-one, append-nil, append_assoc, length-append, length-drop, Option, Some}
+use Rattle.std.proofs.Common.{◌≡◌, ◌≢◌, ℕ, zero, suc, ◌+◌, ◌-◌, ◌<◌, ◌≤◌, ◌==◌, Bool, true, false}
+use Rattle.std.proofs.Common.{cond, refl}
+use Rattle.std.proofs.Common.{sym, ap, ◌∙◌, arith, List, [], ◌∷◌, ◌++◌, length, take, drop, get_or}
+use Rattle.std.proofs.Common.{drop-cons}
+use Rattle.std.proofs.Common.{add-one, append-nil, append_assoc, length-append, length-drop, Option}
+use Rattle.std.proofs.Common.{Some}
 use Rattle.std.proofs.Common.{None}
 use Rattle.std.proofs.lemmas.List.{drop_all, take_more, take_all}
 use Rattle.std.proofs.lemmas.Bool.Decides.{nat_tests}
@@ -54,11 +57,13 @@ trimmed_done s n same p l e =
     let back : n ≡ (n - 1) + 1 = omega arith in
     let split : take n s ≡ take (n - 1) s ++ get_or s (n - 1) 0 ∷ [] =
     ap (λ k. take k s) back ∙ take_more s (n - 1) 0 (omega arith) in
-    let stays : trimmed (take n s) ≡ take n s = rw split (trimmed-push_other (take (n - 1) s) (get_or s (n - 1) 0) e) in
+    let stays : trimmed (take n s) ≡ take n s =
+    rw split (trimmed-push_other (take (n - 1) s) (get_or s (n - 1) 0) e) in
     sym stays ∙ same
 
 -- and of PAD only nothing is left
-pub trimmed_none : (s : List ℕ) (n : ℕ) → trimmed (take n s) ≡ trimmed s → n ≤ 0 → take 0 s ≡ trimmed s
+pub trimmed_none : (s : List ℕ) (n : ℕ) → trimmed (take n s) ≡ trimmed s → n ≤ 0 → take 0 s
+    ≡ trimmed s
 unfolding trimmed
 trimmed_none s zero same l = same
 trimmed_none s (suc n) same l = absurd (omega arith)
@@ -72,7 +77,9 @@ with_codes front (Some codes) = Some (front ++ codes)
 
 -- the codes of a call from a place on, by the octet there
 pub called_at : (room : ℕ) (s : List ℕ) (i : ℕ) → i < length s
-    → called room (drop i s) ≡ cond (get_or s i 0 == 0x85) (at_end (drop (i + 1) s)) (cond (room == 0) None (with_code (code_of (get_or s i 0)) (called (room - 1) (drop (i + 1) s))))
+    → called room (drop i s) ≡ cond (get_or s i 0 == 0x85) (at_end (drop (i + 1) s))
+    (cond (room == 0) None (with_code (code_of (get_or s i 0))
+    (called (room - 1) (drop (i + 1) s))))
 unfolding called
 called_at room s i l = rw (add-one i, drop-cons s i 0 l) refl
 
@@ -84,7 +91,8 @@ at_end_none (x ∷ xs) h = refl
 -- what the loop keeps
 pub record Reads (front : List ℕ) (i : ℕ) (s : List ℕ) : Type 0 where
   pub room : length front ≤ MAX_ADDRESS
-  pub rest : with_codes front (called (MAX_ADDRESS - length front) (drop i s)) ≡ called MAX_ADDRESS s
+  pub rest : with_codes front (called (MAX_ADDRESS - length front) (drop i s))
+      ≡ called MAX_ADDRESS s
 
 -- where an address may have one more code, there is room
 more_room : (n : ℕ) → n < MAX_ADDRESS → MAX_ADDRESS - n ≡ 0 → ⊥
@@ -96,7 +104,8 @@ from_rest : (front : List ℕ) (i : ℕ) (s : List ℕ) (x : Option (List ℕ)) 
 from_rest front i s x r e = ap (with_codes front) (sym e) ∙ r.rest
 
 -- an ENQ at the end ends the address
-pub called_end : (front : List ℕ) (i : ℕ) (s : List ℕ) → Reads front i s → i < length s → get_or s i 0 ≡ 0x85
+pub called_end : (front : List ℕ) (i : ℕ) (s : List ℕ) → Reads front i s → i < length s
+    → get_or s i 0 ≡ 0x85
     → i + 1 ≡ length s → Some front ≡ called MAX_ADDRESS s
 called_end front i s r l e last =
     let all : drop (i + 1) s ≡ [] = drop_all (i + 1) s (omega arith) in
@@ -109,7 +118,8 @@ pub called_early : (front : List ℕ) (i : ℕ) (s : List ℕ) → Reads front i
     → get_or s i 0 ≡ 0x85 → (i + 1 ≡ length s → ⊥) → None ≡ called MAX_ADDRESS s
 called_early front i s r l e more =
     let here : called (MAX_ADDRESS - length front) (drop i s) ≡ None =
-    called_at (MAX_ADDRESS - length front) s i l ∙ rw (e, at_end_none (drop (i + 1) s) (omega (arith, length-drop (i + 1) s))) refl in
+    called_at (MAX_ADDRESS - length front) s i l
+    ∙ rw (e, at_end_none (drop (i + 1) s) (omega (arith, length-drop (i + 1) s))) refl in
     from_rest front i s None r here
 
 -- there are more codes than an address has
@@ -117,7 +127,8 @@ pub called_full : (front : List ℕ) (i : ℕ) (s : List ℕ) → Reads front i 
     → (get_or s i 0 ≡ 0x85 → ⊥) → length front ≡ MAX_ADDRESS → None ≡ called MAX_ADDRESS s
 called_full front i s r l e full =
     let here : called (MAX_ADDRESS - length front) (drop i s) ≡ None =
-    called_at (MAX_ADDRESS - length front) s i l ∙ rw (test_false (get_or s i 0) 0x85 e, full) refl in
+    called_at (MAX_ADDRESS - length front) s i l
+    ∙ rw (test_false (get_or s i 0) 0x85 e, full) refl in
     from_rest front i s None r here
 
 -- an octet of even parity is in no address
@@ -128,7 +139,8 @@ called_wrong front i s r l e less k =
     let some : (MAX_ADDRESS - length front == 0) ≡ false =
     test_false (MAX_ADDRESS - length front) 0 (more_room (length front) less) in
     let here : called (MAX_ADDRESS - length front) (drop i s) ≡ None =
-    called_at (MAX_ADDRESS - length front) s i l ∙ rw (test_false (get_or s i 0) 0x85 e, some, k) refl in
+    called_at (MAX_ADDRESS - length front) s i l
+    ∙ rw (test_false (get_or s i 0) 0x85 e, some, k) refl in
     from_rest front i s None r here
 
 -- one code more before the rest
@@ -144,13 +156,19 @@ pub called_more : (front : List ℕ) (i : ℕ) (s : List ℕ) (c : ℕ) → Read
 called_more front i s c r l e less k =
     let some : (MAX_ADDRESS - length front == 0) ≡ false =
     test_false (MAX_ADDRESS - length front) 0 (more_room (length front) less) in
-    let longitudinal_sum : length (front ++ c ∷ []) ≡ length front + 1 = length-append front (c ∷ []) in
-    let fewer : MAX_ADDRESS - length (front ++ c ∷ []) ≡ MAX_ADDRESS - length front - 1 = omega arith in
-    let here : called (MAX_ADDRESS - length front) (drop i s) ≡ with_code (Some c) (called (MAX_ADDRESS - length front - 1) (drop (i + 1) s))
-    = called_at (MAX_ADDRESS - length front) s i l ∙ rw (test_false (get_or s i 0) 0x85 e, some, k) refl in
+    let longitudinal_sum : length (front ++ c ∷ []) ≡ length front + 1 =
+    length-append front (c ∷ []) in
+    let fewer : MAX_ADDRESS - length (front ++ c ∷ []) ≡ MAX_ADDRESS - length front - 1 =
+    omega arith in
+    let here : called (MAX_ADDRESS - length front) (drop i s)
+    ≡ with_code (Some c) (called (MAX_ADDRESS - length front - 1) (drop (i + 1) s))
+    = called_at (MAX_ADDRESS - length front) s i l
+    ∙ rw (test_false (get_or s i 0) 0x85 e, some, k) refl in
     record {
       room = omega arith;
-      rest = rw fewer (with_one front c (called (MAX_ADDRESS - length front - 1) (drop (i + 1) s)) ∙ from_rest front i s _ r here);
+      rest =
+          rw fewer (with_one front c (called (MAX_ADDRESS - length front - 1) (drop (i + 1) s))
+          ∙ from_rest front i s _ r here);
     }
 
 -- there is no ENQ
@@ -158,3 +176,6 @@ pub called_none : (front : List ℕ) (i : ℕ) (s : List ℕ) → Reads front i 
     → None ≡ called MAX_ADDRESS s
 unfolding called
 called_none front i s r l = from_rest front i s None r (rw (drop_all i s l) refl)
+
+-- what a loop from the end back uses
+pub ruleset trim_steps = (trimmed_less, trimmed_done, trimmed_none)

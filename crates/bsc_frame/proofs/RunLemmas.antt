@@ -1,7 +1,10 @@
 -- The octets at the front that pass a test, counted one by one or 32 at a time.
-use Rattle.std.proofs.Common.{◌≡◌, ℕ, zero, suc, ◌+◌, ◌-◌, ◌<◌, ◌≤◌, Bool, true, false, cond, List, [], ◌∷◌}
-use Rattle.std.proofs.Common.{length, take, drop, get_or, add-one, drop-cons, drop-drop, length-drop}
-use Rattle.std.proofs.Common.{length-take, take-add, append-nil, append_assoc, ◌++◌, ◌||◌, ◌==◌, refl, sym}
+use Rattle.std.proofs.Common.{◌≡◌, ℕ, zero, suc, ◌+◌, ◌-◌, ◌<◌, ◌≤◌, Bool, true, false, cond, List}
+use Rattle.std.proofs.Common.{[], ◌∷◌}
+use Rattle.std.proofs.Common.{length, take, drop, get_or, add-one, drop-cons, drop-drop}
+use Rattle.std.proofs.Common.{length-drop}
+use Rattle.std.proofs.Common.{length-take, take-add, append-nil, append_assoc, ◌++◌, ◌||◌, ◌==◌}
+use Rattle.std.proofs.Common.{refl, sym}
 use Rattle.std.proofs.Common.{ap, ◌∙◌, arith}
 use Rattle.std.specs.List.{prefix_len}
 use Rattle.std.proofs.lemmas.List.{drop_all}
@@ -49,12 +52,14 @@ record Cuts (p : ℕ → Bool) (n : ℕ) (s : List ℕ) : Type 0 where
   goes_on : n ≤ prefix_len p (take n s) → prefix_len p s ≡ n + prefix_len p (drop n s)
 
 -- one octet more at the front
-cuts_head : (p : ℕ → Bool) (n x : ℕ) (s : List ℕ) (b : Bool) → p x ≡ b → Cuts p n s → Cuts p (suc n) (x ∷ s)
+cuts_head : (p : ℕ → Bool) (n x : ℕ) (s : List ℕ) (b : Bool) → p x ≡ b → Cuts p n s
+    → Cuts p (suc n) (x ∷ s)
 cuts_head p n x s true e c = record {
   stops = rw e (λ l. ap (λ k. 1 + k) (c.stops (omega arith)));
   goes_on = rw e (λ l. let k = c.goes_on (omega arith) in omega (arith, k));
 }
-cuts_head p n x s false e c = record { stops = rw e (λ l. refl); goes_on = rw e (λ l. absurd (omega arith)) }
+cuts_head p n x s false e c =
+    record { stops = rw e (λ l. refl); goes_on = rw e (λ l. absurd (omega arith)) }
 
 -- so it is of every list
 cuts : (p : ℕ → Bool) (n : ℕ) (s : List ℕ) → n ≤ length s → Cuts p n s
@@ -89,9 +94,11 @@ run_rest p at run s c e =
 
 -- one octet more at the front
 skip_head : (test : ℕ → Bool) (x : ℕ) (s : List ℕ) (b : Bool) → test x ≡ b
-    → skip test s ≡ drop (prefix_len test s) s → skip test (x ∷ s) ≡ drop (prefix_len test (x ∷ s)) (x ∷ s)
+    → skip test s ≡ drop (prefix_len test s) s → skip test (x ∷ s)
+    ≡ drop (prefix_len test (x ∷ s)) (x ∷ s)
 unfolding skip
-skip_head test x s true e h = let one : 1 + prefix_len test s ≡ suc (prefix_len test s) = omega arith in rw (e, one) h
+skip_head test x s true e h = let one : 1 + prefix_len test s ≡ suc (prefix_len test s) =
+    omega arith in rw (e, one) h
 skip_head test x s false e h = rw e refl
 
 -- what is skipped is the front that passes
@@ -120,33 +127,43 @@ skip_pads s n e = rest_is s n ∙ ap (λ k. drop k s) e ∙ sym (skip-drop (is_e
 pub skip_all : (s : List ℕ) (n octet : ℕ) → n ≡ prefix_len (is_either octet octet) s
     → take (length s - n) (drop n s) ≡ skip (is_octet octet) s
 skip_all s n octet e =
-    rest_is s n ∙ ap (λ k. drop k s) e ∙ sym (skip-drop (is_either octet octet) s) ∙ skip-same (is_either octet octet) (is_octet octet) (λ x. twice (x == octet)) s
+    rest_is s n ∙ ap (λ k. drop k s) e ∙ sym (skip-drop (is_either octet octet) s)
+    ∙ skip-same (is_either octet octet) (is_octet octet) (λ x. twice (x == octet)) s
 
 -- ---- what is trimmed
 
 -- one PAD more at the end changes nothing, and so on for all of them
 pad_head : (front : List ℕ) (x : ℕ) (pads : List ℕ) (b : Bool) → (x == 0xff) ≡ b
-    → (length pads ≤ prefix_len (is_either 0xff 0xff) pads → trimmed ((front ++ x ∷ []) ++ pads) ≡ trimmed (front ++ x ∷ []))
+    → (length pads ≤ prefix_len (is_either 0xff 0xff) pads → trimmed ((front ++ x ∷ []) ++ pads)
+    ≡ trimmed (front ++ x ∷ []))
     → suc (length pads) ≤ cond (b || b) (1 + prefix_len (is_either 0xff 0xff) pads) 0
     → trimmed (front ++ x ∷ pads) ≡ trimmed front
 pad_head front x pads true e h l =
     let pad : x ≡ 0xff = eqb-true x 0xff e in
-    ap trimmed (sym (append_assoc front (x ∷ []) pads)) ∙ h (omega arith) ∙ ap (λ z. trimmed (front ++ z ∷ [])) pad ∙ trimmed-push_pad front
+    ap trimmed (sym (append_assoc front (x ∷ []) pads)) ∙ h (omega arith)
+    ∙ ap (λ z. trimmed (front ++ z ∷ [])) pad ∙ trimmed-push_pad front
 pad_head front x pads false e h l = absurd (omega arith)
 
 -- PAD at the end changes nothing
 trimmed_pads : (front pads : List ℕ) → length pads ≤ prefix_len (is_either 0xff 0xff) pads
     → trimmed (front ++ pads) ≡ trimmed front
 trimmed_pads front [] l = ap trimmed (append-nil front)
-trimmed_pads front (x ∷ pads) l = pad_head front x pads (x == 0xff) refl (trimmed_pads (front ++ x ∷ []) pads) l
+trimmed_pads front (x ∷ pads) l =
+    pad_head front x pads (x == 0xff) refl (trimmed_pads (front ++ x ∷ []) pads) l
 
 -- lanes of PAD at the end change nothing
-pub trim_more : (s : List ℕ) (end run : ℕ) → trimmed (take end s) ≡ trimmed s → end ≤ length s → 32 ≤ end
+pub trim_more : (s : List ℕ) (end run : ℕ) → trimmed (take end s) ≡ trimmed s → end ≤ length s → 32
+    ≤ end
     → run ≡ prefix_len (is_either 0xff 0xff) (take 32 (drop (end - 32) s)) → 32 ≤ run
     → trimmed (take (end - 32) s) ≡ trimmed s
 trim_more s end run same within l e all =
     let back : (end - 32) + 32 ≡ end = omega arith in
     let parts : take end s ≡ take (end - 32) s ++ take 32 (drop (end - 32) s) =
     ap (λ k. take k s) (sym back) ∙ take-add (end - 32) 32 s in
-    let long : length (take 32 (drop (end - 32) s)) ≤ 32 = omega (arith, length-take 32 (drop (end - 32) s)) in
-    sym (trimmed_pads (take (end - 32) s) (take 32 (drop (end - 32) s)) (omega arith)) ∙ ap trimmed (sym parts) ∙ same
+    let long : length (take 32 (drop (end - 32) s)) ≤ 32 =
+    omega (arith, length-take 32 (drop (end - 32) s)) in
+    sym (trimmed_pads (take (end - 32) s) (take 32 (drop (end - 32) s)) (omega arith))
+    ∙ ap trimmed (sym parts) ∙ same
+
+-- what a loop over the octets at the front uses
+pub ruleset run_steps = (run_more, run_stop, run_end)

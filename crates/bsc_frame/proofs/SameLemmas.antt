@@ -1,7 +1,10 @@
--- A buffer with its marks is read off the units that it holds, so two texts are the same where their marks,
+-- A buffer with its marks is read off the units that it holds, so two texts are the same where
+-- their marks,
 -- characters and ends are.
-use Rattle.std.proofs.Common.{◌≡◌, ℕ, ◌+◌, ◌-◌, ◌≤◌, Bool, true, false, ◌&&◌, ◌==◌, refl, sym, ap, ◌∙◌, subst}
-use Rattle.std.proofs.Common.{arith, List, [], ◌∷◌, ◌++◌, length, drop, length-take, length-drop, drop-drop}
+use Rattle.std.proofs.Common.{◌≡◌, ℕ, ◌+◌, ◌-◌, ◌≤◌, Bool, true, false, ◌&&◌, ◌==◌, refl, sym, ap}
+use Rattle.std.proofs.Common.{◌∙◌, subst}
+use Rattle.std.proofs.Common.{arith, List, [], ◌∷◌, ◌++◌, length, drop, length-take, length-drop}
+use Rattle.std.proofs.Common.{drop-drop}
 use Rattle.std.proofs.Common.{take-append-drop, slice_range}
 use Rattle.std.proofs.lemmas.List.{drop_all}
 use Rattle.std.specs.Bool.{Decides, one_answer, beq}
@@ -9,7 +12,8 @@ use Rattle.std.specs.Cmp.{unsigned_Decides, booleans_Decides}
 use lib.Pointwise.{pointwise, pointwise_decides, bytes_decides}
 use denote.Enum.Bare.{sameb}
 use Rattle.bsc_frame.specs.contracts.text.End.{the_type}
-use Rattle.bsc_frame.specs.Texts.{TextUnit, TextValue, units_from, AreMarked, HoldsText, marked_text}
+use Rattle.bsc_frame.specs.Texts.{TextUnit, TextValue, units_from, AreMarked, HoldsText}
+use Rattle.bsc_frame.specs.Texts.{marked_text}
 use Rattle.bsc_frame.specs.Same.{is_same_text}
 use Rattle.bsc_frame.specs.TextEquality.{text-Decides, both_true}
 use Rattle.bsc_frame.specs.declared.text.End.{End}
@@ -24,7 +28,8 @@ record SameFrom (start : ℕ) (ms ns : List Mark) (xs ys : List ℕ) : Type 0 wh
 -- a unit and what stands after it
 unit_length : (start end : ℕ) (xs : List ℕ) → start ≤ end → end ≤ length xs
     → length (slice_range xs start end) ≡ end - start
-unit_length start end xs h l = omega (arith, h, l, length-take (end - start) (drop start xs), length-drop start xs)
+unit_length start end xs h l =
+    omega (arith, h, l, length-take (end - start) (drop start xs), length-drop start xs)
 
 -- what is left after a start is the range up to an end, and what is left after that
 unit_first : (start end : ℕ) (xs : List ℕ) → start ≤ end
@@ -32,7 +37,8 @@ unit_first : (start end : ℕ) (xs : List ℕ) → start ≤ end
 unit_first start end xs h =
     let to : start + (end - start) ≡ end = omega arith in
     sym (take-append-drop (end - start) (drop start xs))
-    ∙ ap (λ (zs : List ℕ). slice_range xs start end ++ zs) (drop-drop (end - start) start xs ∙ ap (λ (k : ℕ). drop k xs) to)
+    ∙ ap (λ (zs : List ℕ). slice_range xs start end ++ zs)
+    (drop-drop (end - start) start xs ∙ ap (λ (k : ℕ). drop k xs) to)
 
 abbrev first_or : TextUnit → List TextUnit → TextUnit
 first_or d [] = d
@@ -43,10 +49,15 @@ after_first [] = []
 after_first (u ∷ us) = us
 
 -- marks and characters that give the same units from a start on are the same
-same_from : (start : ℕ) (ms ns : List Mark) (xs ys : List ℕ) → AreMarked start ms xs → AreMarked start ns ys →
+same_from : (start : ℕ) (ms ns : List Mark) (xs ys : List ℕ) → AreMarked start ms xs
+    → AreMarked start ns ys →
     units_from start ms xs ≡ units_from start ns ys → SameFrom start ms ns xs ys
 same_from start [] [] xs ys h k e =
-    record { marks = refl; chars = drop_all start xs (omega arith) ∙ sym (drop_all start ys (omega arith)) }
+    record {
+      marks = refl;
+      chars = drop_all start xs (omega arith)
+          ∙ sym (drop_all start ys (omega arith));
+    }
 same_from start [] (n ∷ ns) xs ys h k e = absurd (cc)
 same_from start (m ∷ ms) [] xs ys h k e = absurd (cc)
 same_from start (m ∷ ms) (n ∷ ns) xs ys h k e =
@@ -54,9 +65,17 @@ same_from start (m ∷ ms) (n ∷ ns) xs ys h k e =
     let v : TextUnit = record { chars = slice_range ys start n.end; em = n.em } in
     let one : u ≡ v = ap (first_or u) e in
     let more : units_from m.end ms xs ≡ units_from n.end ns ys = ap after_first e in
-    let chars : slice_range xs start m.end ≡ slice_range ys start n.end = ap (λ (x : TextUnit). x.chars) one in
+    let chars : slice_range xs start m.end ≡ slice_range ys start n.end =
+    ap (λ (x : TextUnit). x.chars) one in
     let ends : m.end ≡ n.end =
-    omega (arith, h.0, k.0, unit_length start m.end xs h.0 h.1, unit_length start n.end ys k.0 k.1, ap length chars) in
+    omega (
+      arith,
+      h.0,
+      k.0,
+      unit_length start m.end xs h.0 h.1,
+      unit_length start n.end ys k.0 k.1,
+      ap length chars,
+    ) in
     let rest : SameFrom m.end ms ns xs ys =
     same_from m.end ms ns xs ys h.2 (subst (λ (z : ℕ). AreMarked z ns ys) (sym ends) k.2)
     (more ∙ ap (λ (z : ℕ). units_from z ns ys) (sym ends)) in
@@ -64,7 +83,8 @@ same_from start (m ∷ ms) (n ∷ ns) xs ys h k e =
     let mark : m ≡ n = λ i. record { end = ends i; em = em i } in
     record {
       marks = λ i. mark i ∷ rest.marks i;
-      chars = unit_first start m.end xs h.0 ∙ (λ i. chars i ++ rest.chars i) ∙ ap (λ (z : ℕ). slice_range ys start n.end ++ drop z ys) ends
+      chars = unit_first start m.end xs h.0 ∙ (λ i. chars i ++ rest.chars i)
+          ∙ ap (λ (z : ℕ). slice_range ys start n.end ++ drop z ys) ends
           ∙ sym (unit_first start n.end ys k.0);
     }
 
@@ -75,7 +95,8 @@ pub record IsKeptAlike (ms ns : List Mark) (xs ys : List ℕ) (e f : End) : Type
   pub chars : xs ≡ ys
 
 -- two buffers that hold the same text are kept alike
-kept_alike : (ms ns : List Mark) (xs ys : List ℕ) (e f : End) → HoldsText ms xs e → HoldsText ns ys f →
+kept_alike : (ms ns : List Mark) (xs ys : List ℕ) (e f : End) → HoldsText ms xs e
+    → HoldsText ns ys f →
     marked_text ms xs e ≡ marked_text ns ys f → IsKeptAlike ms ns xs ys e f
 kept_alike ms ns xs ys e f h k same =
     let from : SameFrom 0 ms ns xs ys =
@@ -92,13 +113,16 @@ abbrev pub is_same_mark : Mark → Mark → Bool
 is_same_mark a b = (a.end == b.end) && beq a.em b.em
 
 abbrev pub is_kept_alike : List Mark → List Mark → List ℕ → List ℕ → End → End → Bool
-is_kept_alike ms ns xs ys e f = pointwise is_same_mark ms ns && (sameb the_type e f && pointwise ◌==◌ xs ys)
+is_kept_alike ms ns xs ys e f =
+    pointwise is_same_mark ms ns && (sameb the_type e f && pointwise ◌==◌ xs ys)
 
 -- the comparison of marks tells exactly whether they are the same
 mark-Decides : (a b : Mark) → Decides (is_same_mark a b) (a ≡ b)
 mark-Decides a b =
-    both_true (a.end == b.end) (beq a.em b.em) (unsigned_Decides a.end b.end) (booleans_Decides a.em b.em)
-    (λ end em i. record { end = end i; em = em i }) (ap (λ (m : Mark). m.end)) (ap (λ (m : Mark). m.em))
+    both_true (a.end == b.end) (beq a.em b.em) (unsigned_Decides a.end b.end)
+    (booleans_Decides a.em b.em)
+    (λ end em i. record { end = end i; em = em i }) (ap (λ (m : Mark). m.end))
+    (ap (λ (m : Mark). m.em))
 
 -- and that of ends
 ends-Decides : (e f : End) → Decides (sameb the_type e f) (e ≡ f)
@@ -111,18 +135,23 @@ ends-Decides Etx Etx = (λ t. refl, λ t. refl)
 kept-Decides : (ms ns : List Mark) (xs ys : List ℕ) (e f : End)
     → Decides (is_kept_alike ms ns xs ys e f) (IsKeptAlike ms ns xs ys e f)
 kept-Decides ms ns xs ys e f =
-    both_true {P = ms ≡ ns} {Q = (e ≡ f) × (xs ≡ ys)} (pointwise is_same_mark ms ns) (sameb the_type e f && pointwise ◌==◌ xs ys) (pointwise_decides mark-Decides ms ns)
-    (both_true (sameb the_type e f) (pointwise ◌==◌ xs ys) (ends-Decides e f) (bytes_decides xs ys) (λ a b. (a, b)) (λ a. a.0) (λ a. a.1))
+    both_true {P = ms ≡ ns} {Q = (e ≡ f) × (xs ≡ ys)} (pointwise is_same_mark ms ns)
+    (sameb the_type e f && pointwise ◌==◌ xs ys) (pointwise_decides mark-Decides ms ns)
+    (both_true (sameb the_type e f) (pointwise ◌==◌ xs ys) (ends-Decides e f) (bytes_decides xs ys)
+    (λ a b. (a, b)) (λ a. a.0) (λ a. a.1))
     (λ a b. record { marks = a; end = b.0; chars = b.1 }) (λ a. a.marks) (λ a. (a.end, a.chars))
 
 -- a test of what is kept is one of the texts
 pub tells_text : (ms ns : List Mark) (xs ys : List ℕ) (e f : End) (a b : TextValue) (r : Bool)
     → HoldsText ms xs e → HoldsText ns ys f →
-    marked_text ms xs e ≡ a → marked_text ns ys f ≡ b → r ≡ is_kept_alike ms ns xs ys e f → r ≡ is_same_text a b
+    marked_text ms xs e ≡ a → marked_text ns ys f ≡ b → r ≡ is_kept_alike ms ns xs ys e f → r
+    ≡ is_same_text a b
 tells_text ms ns xs ys e f a b r h k is_a is_b tests =
     let d = kept-Decides ms ns xs ys e f in
-    tests ∙ one_answer (is_kept_alike ms ns xs ys e f) (is_same_text a b)
-    (λ t. sym is_a ∙ text_alike ms ns xs ys e f (d.0 t) ∙ is_b, λ same. d.1 (kept_alike ms ns xs ys e f h k (is_a ∙ same ∙ sym is_b)))
+    tests ∙ one_answer (is_kept_alike ms ns xs ys e f) (is_same_text a b) (
+      λ t. sym is_a ∙ text_alike ms ns xs ys e f (d.0 t) ∙ is_b,
+      λ same. d.1 (kept_alike ms ns xs ys e f h k (is_a ∙ same ∙ sym is_b)),
+    )
     (text-Decides a b)
 
 -- three tests in turn

@@ -1,5 +1,6 @@
 -- What is told without a text is what is heard.
-use Rattle.std.proofs.Common.{◌≡◌, inl, inr, ℕ, true, false, refl, sym, ◌∙◌, List, drop, Option, Some, None}
+use Rattle.std.proofs.Common.{◌≡◌, inl, inr, ℕ, true, false, refl, sym, ◌∙◌, List, drop, Option}
+use Rattle.std.proofs.Common.{Some, None}
 use Rattle.bsc_frame.specs.Texts.{TextValue}
 use Rattle.bsc_frame.specs.Short.{IsHeard, BeginsText}
 use Rattle.bsc_frame.specs.Reading.{is_octet, begins, control, heard, heard_body, whole_or_noise}
@@ -25,7 +26,8 @@ unfolding heard_body
 short_is_heard octets body h e n k = is_heard octets h (e ∙ rw (← n) (sym k))
 
 -- a body that begins with STX is a text, or failed as one
-pub text_begins : (octets body : List ℕ) → heard octets ≡ heard_body body → true ≡ begins (is_octet 0x02) body
+pub text_begins : (octets body : List ℕ) → heard octets ≡ heard_body body → true
+    ≡ begins (is_octet 0x02) body
     → BeginsText octets
 unfolding heard_body
 text_begins octets body e b = by_units (units_at MAX_UNITS false (drop 1 body)) (e ∙ rw (← b) refl)

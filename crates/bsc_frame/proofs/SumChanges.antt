@@ -1,5 +1,6 @@
 -- What changed members do to a longitudinal sum.
-use Rattle.std.proofs.Common.{◌≡◌, ℕ, zero, suc, ◌+◌, ◌*◌, ◌/◌, ◌%◌, ◌<◌, ◌==◌, cond, refl, sym, ap, ◌∙◌}
+use Rattle.std.proofs.Common.{◌≡◌, ℕ, zero, suc, ◌+◌, ◌*◌, ◌/◌, ◌%◌, ◌<◌, ◌==◌, cond, refl, sym, ap}
+use Rattle.std.proofs.Common.{◌∙◌}
 use Rattle.std.proofs.Common.{arith, List, ◌∷◌, ◌++◌, bit_xor}
 use Rattle.std.specs.Int.{bit_at}
 use Rattle.std.proofs.lemmas.Nat.Bits.{bit_at_xor, bit_at-lt}
@@ -21,7 +22,8 @@ around_bit : (i : ℕ) (front : List ℕ) (c : ℕ) (back : List ℕ)
     → with_bit i (front ++ c ∷ back) ≡ with_bit i front + (bit_at c i + with_bit i back)
 around_bit i front c back =
     with_bit-append i front (c ∷ back)
-    ∙ ap (λ n. with_bit i front + n) (sum_by-cons (λ y. cond (bit_at y i == 1) 1 0) c back ∙ ap (λ n. n + with_bit i back) (bit_counts c i))
+    ∙ ap (λ n. with_bit i front + n) (sum_by-cons (λ y. cond (bit_at y i == 1) 1 0) c back
+    ∙ ap (λ n. n + with_bit i back) (bit_counts c i))
 
 -- lists with the same parity of each bit have the same sum
 same_sum : (s t : List ℕ) → ((i : ℕ) → with_bit i s % 2 ≡ with_bit i t % 2)
@@ -31,9 +33,11 @@ same_sum s t h = rw (h 0, h 1, h 2, h 3, h 4, h 5, h 6) refl
 
 -- the same bits turned in two members leave the sum as it was
 pub two_turned : (front middle back : List ℕ) (c d mask : ℕ)
-    → longitudinal_sum (front ++ bit_xor c mask ∷ middle ++ bit_xor d mask ∷ back) ≡ longitudinal_sum (front ++ c ∷ middle ++ d ∷ back)
+    → longitudinal_sum (front ++ bit_xor c mask ∷ middle ++ bit_xor d mask ∷ back)
+    ≡ longitudinal_sum (front ++ c ∷ middle ++ d ∷ back)
 two_turned front middle back c d mask =
-    same_sum (front ++ bit_xor c mask ∷ middle ++ bit_xor d mask ∷ back) (front ++ c ∷ middle ++ d ∷ back)
+    same_sum (front ++ bit_xor c mask ∷ middle ++ bit_xor d mask ∷ back)
+    (front ++ c ∷ middle ++ d ∷ back)
     (λ i. omega (
       arith,
       around_bit i (front ++ bit_xor c mask ∷ middle) (bit_xor d mask) back,
@@ -93,26 +97,42 @@ record SameBits (c d : ℕ) : Type 0 where
 
 -- where one member is changed and the parity of a bit is not, the member has the bit as before
 same_bit : (i : ℕ) (front : List ℕ) (c d : ℕ) (back : List ℕ)
-    → with_bit i (front ++ c ∷ back) % 2 ≡ with_bit i (front ++ d ∷ back) % 2 → bit_at c i ≡ bit_at d i
+    → with_bit i (front ++ c ∷ back) % 2 ≡ with_bit i (front ++ d ∷ back) % 2 → bit_at c i
+    ≡ bit_at d i
 same_bit i front c d back h =
-    omega (arith, h, around_bit i front c back, around_bit i front d back, bit_at-lt c i, bit_at-lt d i)
+    omega (
+      arith,
+      h,
+      around_bit i front c back,
+      around_bit i front d back,
+      bit_at-lt c i,
+      bit_at-lt d i,
+    )
 
 -- so where the sum is not changed, it has all bits as before
 same_bits : (front : List ℕ) (c d : ℕ) (back : List ℕ)
     → longitudinal_sum (front ++ c ∷ back) ≡ longitudinal_sum (front ++ d ∷ back) → SameBits c d
 same_bits front c d back h = record {
-  b0 = same_bit 0 front c d back (sym (sum_bit_0 (front ++ c ∷ back)) ∙ ap (λ n. n % 2) h ∙ sum_bit_0 (front ++ d ∷ back));
-  b1 = same_bit 1 front c d back (sym (sum_bit_1 (front ++ c ∷ back)) ∙ ap (λ n. n / 2 % 2) h ∙ sum_bit_1 (front ++ d ∷ back));
-  b2 = same_bit 2 front c d back (sym (sum_bit_2 (front ++ c ∷ back)) ∙ ap (λ n. n / 4 % 2) h ∙ sum_bit_2 (front ++ d ∷ back));
-  b3 = same_bit 3 front c d back (sym (sum_bit_3 (front ++ c ∷ back)) ∙ ap (λ n. n / 8 % 2) h ∙ sum_bit_3 (front ++ d ∷ back));
-  b4 = same_bit 4 front c d back (sym (sum_bit_4 (front ++ c ∷ back)) ∙ ap (λ n. n / 16 % 2) h ∙ sum_bit_4 (front ++ d ∷ back));
-  b5 = same_bit 5 front c d back (sym (sum_bit_5 (front ++ c ∷ back)) ∙ ap (λ n. n / 32 % 2) h ∙ sum_bit_5 (front ++ d ∷ back));
-  b6 = same_bit 6 front c d back (sym (sum_bit_6 (front ++ c ∷ back)) ∙ ap (λ n. n / 64 % 2) h ∙ sum_bit_6 (front ++ d ∷ back));
+  b0 = same_bit 0 front c d back (sym (sum_bit_0 (front ++ c ∷ back)) ∙ ap (λ n. n % 2) h
+      ∙ sum_bit_0 (front ++ d ∷ back));
+  b1 = same_bit 1 front c d back (sym (sum_bit_1 (front ++ c ∷ back)) ∙ ap (λ n. n / 2 % 2) h
+      ∙ sum_bit_1 (front ++ d ∷ back));
+  b2 = same_bit 2 front c d back (sym (sum_bit_2 (front ++ c ∷ back)) ∙ ap (λ n. n / 4 % 2) h
+      ∙ sum_bit_2 (front ++ d ∷ back));
+  b3 = same_bit 3 front c d back (sym (sum_bit_3 (front ++ c ∷ back)) ∙ ap (λ n. n / 8 % 2) h
+      ∙ sum_bit_3 (front ++ d ∷ back));
+  b4 = same_bit 4 front c d back (sym (sum_bit_4 (front ++ c ∷ back)) ∙ ap (λ n. n / 16 % 2) h
+      ∙ sum_bit_4 (front ++ d ∷ back));
+  b5 = same_bit 5 front c d back (sym (sum_bit_5 (front ++ c ∷ back)) ∙ ap (λ n. n / 32 % 2) h
+      ∙ sum_bit_5 (front ++ d ∷ back));
+  b6 = same_bit 6 front c d back (sym (sum_bit_6 (front ++ c ∷ back)) ∙ ap (λ n. n / 64 % 2) h
+      ∙ sum_bit_6 (front ++ d ∷ back));
 }
 
 -- a code by its bits
 code_by_bits : (c : ℕ) → c < 128
-    → bit_at c 0 + 2 * bit_at c 1 + 4 * bit_at c 2 + 8 * bit_at c 3 + 16 * bit_at c 4 + 32 * bit_at c 5 + 64 * bit_at c 6 ≡ c
+    → bit_at c 0 + 2 * bit_at c 1 + 4 * bit_at c 2 + 8 * bit_at c 3 + 16 * bit_at c 4 + 32
+    * bit_at c 5 + 64 * bit_at c 6 ≡ c
 code_by_bits c h = omega arith
 
 -- two codes of which one may stand for the other in a sum are the same

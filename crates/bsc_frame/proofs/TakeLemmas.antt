@@ -1,7 +1,10 @@
 -- The steps of taking one unit from octets.
-use Rattle.std.proofs.Common.{◌≡◌, inl, inr, ℕ, suc, ◌+◌, ◌<◌, ◌≤◌, ◌==◌, ◌||◌, ◌&&◌, not, Bool, true, false}
-use Rattle.std.proofs.Common.{cond, refl, sym, ap, subst, ◌∙◌, arith, List, [], ◌∷◌, ◌++◌, length, take, drop}
-use Rattle.std.proofs.Common.{map, get_or, append_assoc, append-nil, Option, Some, None, All, IsTrue}
+use Rattle.std.proofs.Common.{◌≡◌, inl, inr, ℕ, suc, ◌+◌, ◌<◌, ◌≤◌, ◌==◌, ◌||◌, ◌&&◌, not, Bool}
+use Rattle.std.proofs.Common.{true, false}
+use Rattle.std.proofs.Common.{cond, refl, sym, ap, subst, ◌∙◌, arith, List, [], ◌∷◌, ◌++◌, length}
+use Rattle.std.proofs.Common.{take, drop}
+use Rattle.std.proofs.Common.{map, get_or, append_assoc, append-nil, Option, Some, None, All}
+use Rattle.std.proofs.Common.{IsTrue}
 use Rattle.std.specs.List.{AllByRecursion, filter, prefix_len, list_all, list_any}
 use Rattle.std.proofs.lemmas.Bool.{eqb-true, cases_lt}
 use Rattle.std.proofs.lemmas.List.{take_more, map-append, append_cancel_right, length-map}
@@ -11,7 +14,8 @@ use Rattle.bsc_octet.specs.Octet.{IsOdd, is_record_char, code_of}
 use Rattle.bsc_frame.specs.Texts.{TextUnit, IsUnit}
 use Rattle.bsc_frame.specs.Units.{unit_codes}
 use Rattle.bsc_frame.specs.Reading.{◌>>=◌, low_bits, is_octet, begins, is_other, is_char_octet}
-use Rattle.bsc_frame.specs.Reading.{is_before_ending, is_ending_code, is_ending_octet, IsFront, AreParts}
+use Rattle.bsc_frame.specs.Reading.{is_before_ending, is_ending_code, is_ending_octet, IsFront}
+use Rattle.bsc_frame.specs.Reading.{AreParts}
 use Rattle.bsc_frame.specs.Reading.{after_check, after_start, read_unit, unit_before, unit_at}
 use Rattle.bsc_frame.proofs.UnitLemmas.{unit_of_reads, unit_of_read, length-unit_codes}
 use Rattle.bsc_frame.proofs.CarriedLemmas.{AreCarried, ending_same, em_is, check_low, start_low}
@@ -21,7 +25,8 @@ use Rattle.bsc_frame.specs.declared.limits.TheConstants.{MAX_CHARS, MAX_UNIT_COD
 -- ---- the front
 
 -- an STX is at most one code
-length_start : (after_us : Bool) (codes : List ℕ) → length codes ≤ length (after_start after_us codes) + 1
+length_start : (after_us : Bool) (codes : List ℕ) → length codes
+    ≤ length (after_start after_us codes) + 1
 length_start false codes = omega arith
 length_start true [] = omega arith
 length_start true (x ∷ codes) = by_test (x == 0x02)
@@ -31,7 +36,8 @@ length_start true (x ∷ codes) = by_test (x == 0x02)
     by_test false = omega arith
 
 -- where each way on gives nothing, all gives nothing
-none_after : {A B : Type 0} (o : Option A) (f : A → Option B) → ((x : A) → f x ≡ None) → (o >>= f) ≡ None
+none_after : {A B : Type 0} (o : Option A) (f : A → Option B) → ((x : A) → f x ≡ None) → (o >>= f)
+    ≡ None
 none_after None f h = refl
 none_after (Some x) f h = h x
 
@@ -39,31 +45,43 @@ none_after (Some x) f h = h x
 long_unit : (after_us : Bool) (codes octets : List ℕ) → MAX_UNIT_CODES < length codes
     → unit_before after_us codes octets ≡ None
 long_unit after_us codes octets l =
-    let none : read_unit (after_start after_us codes) ≡ None = by_unit (read_unit (after_start after_us codes)) refl in
+    let none : read_unit (after_start after_us codes) ≡ None =
+    by_unit (read_unit (after_start after_us codes)) refl in
     none_after (after_check codes octets) _ (λ rest. rw none refl)
   where
     by_unit : (o : Option (TextUnit × ℕ)) → read_unit (after_start after_us codes) ≡ o → o ≡ None
     by_unit None e = refl
     by_unit (Some f) e =
         let r = unit_of_reads (after_start after_us codes) f e in
-        absurd (omega (arith, r.1.most, ap length r.0, length-unit_codes f.0 f.1, length_start after_us codes))
+        absurd (omega (
+          arith,
+          r.1.most,
+          ap length r.0,
+          length-unit_codes f.0 f.1,
+          length_start after_us codes,
+        ))
 
 -- where no octet ends a unit, no unit is read
-pub at_end : (after_us : Bool) (s : List ℕ) (place : ℕ) → AreCarried s → place ≡ prefix_len is_before_ending s
+pub at_end : (after_us : Bool) (s : List ℕ) (place : ℕ) → AreCarried s → place
+    ≡ prefix_len is_before_ending s
     → place ≡ length s → unit_at after_us s ≡ None
 unfolding unit_at
 at_end after_us s place c e l = rw (gathered_none MAX_UNIT_CODES s c (sym e ∙ l)) refl
 
 -- the unit is that of the front without fill
-pub at_front : (after_us : Bool) (s : List ℕ) (m : ℕ) → AreCarried s → m ≡ prefix_len is_before_ending s + 1
+pub at_front : (after_us : Bool) (s : List ℕ) (m : ℕ) → AreCarried s → m
+    ≡ prefix_len is_before_ending s + 1
     → m ≤ length s
-    → unit_at after_us s ≡ unit_before after_us (map low_bits (filter is_other (take m s))) (drop m s)
+    → unit_at after_us s ≡ unit_before after_us (map low_bits (filter is_other (take m s)))
+    (drop m s)
 unfolding unit_at
 at_front after_us s m c e l =
     let k = cut m MAX_UNIT_CODES s c e l in
     let codes : List ℕ = map low_bits (filter is_other (take m s)) in
     elim (cases_lt MAX_UNIT_CODES (length (filter is_other (take m s)))) [
-      | inl many ↦ rw (k.full many) (sym (long_unit after_us codes (drop m s) (omega (arith, many, length-map (filter is_other (take m s)) low_bits))))
+      | inl many ↦ rw (k.full many)
+          (sym (long_unit after_us codes (drop m s)
+          (omega (arith, many, length-map (filter is_other (take m s)) low_bits))))
       | inr few ↦ rw (k.fits few) refl
     ]
 
@@ -72,7 +90,8 @@ pub no_fill : (s : List ℕ) → list_any (is_octet 0x16) s ≡ false → filter
 no_fill [] h = refl
 no_fill (x ∷ s) h = by_test (x == 0x16) refl h (no_fill s)
   where
-    by_test : (b : Bool) → (x == 0x16) ≡ b → (b || list_any (is_octet 0x16) s) ≡ false → (list_any (is_octet 0x16) s ≡ false → filter is_other s ≡ s)
+    by_test : (b : Bool) → (x == 0x16) ≡ b → (b || list_any (is_octet 0x16) s) ≡ false
+        → (list_any (is_octet 0x16) s ≡ false → filter is_other s ≡ s)
         → cond (not b) (x ∷ filter is_other s) (filter is_other s) ≡ x ∷ s
     by_test true e h f = cc
     by_test false e h f = ap (λ t. x ∷ t) (f h)
@@ -82,7 +101,8 @@ ending_other : (x : ℕ) → is_ending_octet x ≡ true → is_other x ≡ true
 ending_other x e = by_test (x == 0x16) refl
   where
     by_test : (b : Bool) → (x == 0x16) ≡ b → not b ≡ true
-    by_test true f = let z : x ≡ 0x16 = eqb-true x 0x16 f in let t : is_ending_octet x ≡ false = rw z refl in cc
+    by_test true f = let z : x ≡ 0x16 = eqb-true x 0x16 f in let t : is_ending_octet x ≡ false =
+        rw z refl in cc
     by_test false f = refl
 
 -- an octet that is not before an ending one is one
@@ -100,7 +120,9 @@ front_ends s place e l =
       front = take place s;
       last = get_or s place 0;
       whole = take_more s place 0 l;
-      ends = rw e (not_before (get_or s (prefix_len is_before_ending s) 0) (is_ending_octet (get_or s (prefix_len is_before_ending s) 0)) refl stops);
+      ends =
+          rw e (not_before (get_or s (prefix_len is_before_ending s) 0)
+          (is_ending_octet (get_or s (prefix_len is_before_ending s) 0)) refl stops);
     }
 
 -- a front without its fill is one
@@ -108,7 +130,8 @@ pub ends_filtered : (s : List ℕ) → IsFront s → IsFront (filter is_other s)
 ends_filtered s e = record {
   front = filter is_other e.front;
   last = e.last;
-  whole = ap (filter is_other) e.whole ∙ filter-append is_other e.front (e.last ∷ []) ∙ rw (ending_other e.last e.ends) refl;
+  whole = ap (filter is_other) e.whole ∙ filter-append is_other e.front (e.last ∷ [])
+      ∙ rw (ending_other e.last e.ends) refl;
   ends = e.ends;
 }
 
@@ -147,11 +170,13 @@ snoc_same (x ∷ xs) (y ∷ ys) a b e =
 pub last_ends : (octets chars : List ℕ) (em : Bool) (last : ℕ) → IsFront octets
     → AreParts octets chars em last → is_ending_octet last ≡ true
 last_ends octets chars em last e p =
-    let k = snoc_same e.front (chars ++ cond em (0x19 ∷ []) []) e.last last (sym e.whole ∙ p.whole) in
+    let k =
+    snoc_same e.front (chars ++ cond em (0x19 ∷ []) []) e.last last (sym e.whole ∙ p.whole) in
     rw (← k.1) e.ends
 
 -- an octet in a list of odd parity carries its low bits
-carried_last : (xs : List ℕ) (x : ℕ) (ys : List ℕ) → AreCarried (xs ++ x ∷ ys) → code_of x ≡ Some (low_bits x)
+carried_last : (xs : List ℕ) (x : ℕ) (ys : List ℕ) → AreCarried (xs ++ x ∷ ys) → code_of x
+    ≡ Some (low_bits x)
 carried_last [] x ys c = c.0
 carried_last (z ∷ xs) x ys c = carried_last xs x ys c.1
 
@@ -164,7 +189,8 @@ carried_front (x ∷ xs) ys c = (c.0, carried_front xs ys c.1)
 pub last_code : (octets chars : List ℕ) (em : Bool) (last : ℕ) → AreCarried octets → IsFront octets
     → AreParts octets chars em last → is_ending_code (low_bits last) ≡ true
 last_code octets chars em last c e p =
-    ending_same last (carried_last (chars ++ cond em (0x19 ∷ []) []) last [] (rw p.whole at c)) ∙ last_ends octets chars em last e p
+    ending_same last (carried_last (chars ++ cond em (0x19 ∷ []) []) last [] (rw p.whole at c))
+    ∙ last_ends octets chars em last e p
 
 -- the low bits of EM are EM
 low_em : (em : Bool) → map low_bits (cond em (0x19 ∷ []) []) ≡ cond em (0x19 ∷ []) []
@@ -173,14 +199,18 @@ low_em false = refl
 
 -- the codes of the parts
 low_parts : (octets chars : List ℕ) (em : Bool) (last : ℕ) → AreParts octets chars em last
-    → map low_bits octets ≡ unit_codes (record { chars = map low_bits chars; em = em }) (low_bits last)
+    → map low_bits octets ≡ unit_codes (record { chars = map low_bits chars; em = em })
+    (low_bits last)
 low_parts octets chars em last p =
     ap (map low_bits) p.whole ∙ map-append low_bits (chars ++ cond em (0x19 ∷ []) []) (last ∷ [])
-    ∙ ap (λ z. z ++ low_bits last ∷ []) (map-append low_bits chars (cond em (0x19 ∷ []) []) ∙ ap (λ z. map low_bits chars ++ z) (low_em em))
+    ∙ ap (λ z. z ++ low_bits last ∷ [])
+    (map-append low_bits chars (cond em (0x19 ∷ []) [])
+    ∙ ap (λ z. map low_bits chars ++ z) (low_em em))
 
 -- one octet more that carries a record character
 char_head : (x : ℕ) (chars : List ℕ) (b : Bool) → is_char_octet x ≡ b
-    → (list_all is_char_octet chars ≡ true → AllByRecursion (λ c. IsTrue (is_record_char c)) (map low_bits chars))
+    → (list_all is_char_octet chars ≡ true
+    → AllByRecursion (λ c. IsTrue (is_record_char c)) (map low_bits chars))
     → (b && list_all is_char_octet chars) ≡ true
     → AllByRecursion (λ c. IsTrue (is_record_char c)) (map low_bits (x ∷ chars))
 char_head x chars true e f h = (e, f h)
@@ -199,16 +229,21 @@ chars_all [] h = refl
 chars_all (x ∷ chars) h = rw (h.0, chars_all chars h.1) refl
 
 -- at most MAX_CHARS octets that pass the test are the characters of a unit
-pub chars_unit : (chars : List ℕ) (em : Bool) → length chars ≤ MAX_CHARS → list_all is_char_octet chars ≡ true
+pub chars_unit : (chars : List ℕ) (em : Bool) → length chars ≤ MAX_CHARS
+    → list_all is_char_octet chars ≡ true
     → IsUnit (record { chars = map low_bits chars; em = em })
-chars_unit chars em l h = record { most = omega (arith, length-map chars low_bits); each = all_chars chars h }
+chars_unit chars em l h =
+    record { most = omega (arith, length-map chars low_bits); each = all_chars chars h }
 
 -- the characters are a unit
 pub parts_read : (octets chars : List ℕ) (em : Bool) (last : ℕ) → AreCarried octets → IsFront octets
     → AreParts octets chars em last → length chars ≤ MAX_CHARS → list_all is_char_octet chars ≡ true
-    → read_unit (map low_bits octets) ≡ Some (record { chars = map low_bits chars; em = em }, low_bits last)
+    → read_unit (map low_bits octets) ≡ Some
+    (record { chars = map low_bits chars; em = em }, low_bits last)
 parts_read octets chars em last c e p l h =
-    ap read_unit (low_parts octets chars em last p) ∙ unit_of_read (record { chars = map low_bits chars; em = em }) (low_bits last) (chars_unit chars em l h) (last_code octets chars em last c e p)
+    ap read_unit (low_parts octets chars em last p)
+    ∙ unit_of_read (record { chars = map low_bits chars; em = em }) (low_bits last)
+    (chars_unit chars em l h) (last_code octets chars em last c e p)
 
 -- ---- no other characters are
 
@@ -232,7 +267,8 @@ same_chars chars true more true e h n = append_cancel_right chars more (0x19 ∷
 same_chars chars false more false e h n = sym (append-nil chars) ∙ e ∙ append-nil more
 same_chars chars true more false e h n =
     let last : is_record_char 0x19 ≡ true =
-    all_last chars 0x19 (subst (AllByRecursion (λ c. IsTrue (is_record_char c))) (sym (append-nil more) ∙ sym e) h) in
+    all_last chars 0x19 (subst (AllByRecursion (λ c. IsTrue (is_record_char c)))
+    (sym (append-nil more) ∙ sym e) h) in
     absurd (let k = em_no_char in cc)
 same_chars chars false more true e h n = absurd (n refl more (sym (append-nil chars) ∙ e))
 
@@ -241,7 +277,8 @@ last_em : (xs front : List ℕ) → AreCarried xs → map low_bits xs ≡ front 
     → (before : List ℕ) × (xs ≡ before ++ 0x19 ∷ [])
 last_em [] [] c e = absurd cc
 last_em [] (y ∷ front) c e = absurd cc
-last_em (x ∷ []) [] c e = ([], let k = em_is x c.0 (let w : low_bits x ≡ 0x19 = cc in w) in ap (λ z. z ∷ []) k)
+last_em (x ∷ []) [] c e =
+    ([], let k = em_is x c.0 (let w : low_bits x ≡ 0x19 = cc in w) in ap (λ z. z ∷ []) k)
 last_em (x ∷ z ∷ xs) [] c e = absurd cc
 last_em (x ∷ xs) (y ∷ front) c e =
     let k = last_em xs front c.1 (let w : map low_bits xs ≡ front ++ 0x19 ∷ [] = cc in w) in
@@ -249,21 +286,29 @@ last_em (x ∷ xs) (y ∷ front) c e =
 
 -- parts of which the characters are too many, or no record characters, are no unit
 pub parts_none : (octets chars : List ℕ) (em : Bool) (last : ℕ) → AreCarried octets
-    → AreParts octets chars em last → (length chars ≤ MAX_CHARS → list_all is_char_octet chars ≡ true → ⊥)
+    → AreParts octets chars em last
+    → (length chars ≤ MAX_CHARS → list_all is_char_octet chars ≡ true → ⊥)
     → read_unit (map low_bits octets) ≡ None
 parts_none octets chars em last c p n = by_unit (read_unit (map low_bits octets)) refl
   where
     carried_chars : AreCarried chars
-    carried_chars = carried_front chars (cond em (0x19 ∷ []) [] ++ last ∷ []) (rw (p.whole ∙ append_assoc chars (cond em (0x19 ∷ []) []) (last ∷ [])) at c)
+    carried_chars =
+        carried_front chars (cond em (0x19 ∷ []) [] ++ last ∷ [])
+        (rw (p.whole ∙ append_assoc chars (cond em (0x19 ∷ []) []) (last ∷ [])) at c)
 
     by_unit : (o : Option (TextUnit × ℕ)) → read_unit (map low_bits octets) ≡ o → o ≡ None
     by_unit None e = refl
     by_unit (Some f) e =
         let r = unit_of_reads (map low_bits octets) f e in
-        let k = snoc_same (map low_bits chars ++ cond em (0x19 ∷ []) []) (f.0.chars ++ cond f.0.em (0x19 ∷ []) []) (low_bits last) f.1 (sym (low_parts octets chars em last p) ∙ r.0) in
-        let same : map low_bits chars ≡ f.0.chars = same_chars (map low_bits chars) em f.0.chars f.0.em k.0 r.1.each
+        let k =
+        snoc_same (map low_bits chars ++ cond em (0x19 ∷ []) [])
+        (f.0.chars ++ cond f.0.em (0x19 ∷ []) []) (low_bits last) f.1
+        (sym (low_parts octets chars em last p) ∙ r.0) in
+        let same : map low_bits chars ≡ f.0.chars =
+        same_chars (map low_bits chars) em f.0.chars f.0.em k.0 r.1.each
         (λ m front w. let b = last_em chars front carried_chars w in p.no_em m b.0 b.1) in
-        absurd (n (omega (arith, r.1.most, ap length same, length-map chars low_bits)) (chars_all chars (rw same r.1.each)))
+        absurd (n (omega (arith, r.1.most, ap length same, length-map chars low_bits))
+        (chars_all chars (rw same r.1.each)))
 
 -- ---- the check, and an STX after one
 
@@ -274,16 +319,20 @@ wrong_check after_us front octets e = rw (check_low front octets, ← e) refl
 
 -- a right check of codes that are no unit: none is read
 pub wrong_unit : (after_us : Bool) (front octets rest : List ℕ) → AreCarried front
-    → Some rest ≡ after_check front octets → read_unit (map low_bits (after_start after_us front)) ≡ None
+    → Some rest ≡ after_check front octets → read_unit (map low_bits (after_start after_us front))
+    ≡ None
     → unit_before after_us (map low_bits front) octets ≡ None
-wrong_unit after_us front octets rest c e n = rw (check_low front octets, ← e, start_low after_us front c, n) refl
+wrong_unit after_us front octets rest c e n =
+    rw (check_low front octets, ← e, start_low after_us front c, n) refl
 
 -- a right check of the codes of a unit: it is read
-pub right_unit : (after_us : Bool) (front octets rest : List ℕ) (u : TextUnit) (k : ℕ) → AreCarried front
+pub right_unit : (after_us : Bool) (front octets rest : List ℕ) (u : TextUnit) (k : ℕ)
+    → AreCarried front
     → Some rest ≡ after_check front octets
     → read_unit (map low_bits (after_start after_us front)) ≡ Some (u, k)
     → unit_before after_us (map low_bits front) octets ≡ Some (u, k, rest)
-right_unit after_us front octets rest u k c e n = rw (check_low front octets, ← e, start_low after_us front c, n) refl
+right_unit after_us front octets rest u k c e n =
+    rw (check_low front octets, ← e, start_low after_us front c, n) refl
 
 -- octets with odd parity have it without an STX too
 pub odd_start : (after_us : Bool) (s : List ℕ) → All IsOdd s → All IsOdd (after_start after_us s)
@@ -299,16 +348,21 @@ odd_start after_us s h = by_test (after_us && begins (is_octet 0x02) s)
 pub front_without_fill : (after_us : Bool) (s : List ℕ) (place : ℕ) → AreCarried s
     → place ≡ prefix_len is_before_ending s → place < length s
     → list_any (is_octet 0x16) (take (place + 1) s) ≡ false
-    → unit_before after_us (map low_bits (take (place + 1) s)) (drop (place + 1) s) ≡ unit_at after_us s
+    → unit_before after_us (map low_bits (take (place + 1) s)) (drop (place + 1) s)
+    ≡ unit_at after_us s
 front_without_fill after_us s place c e l n =
-    ap (λ z. unit_before after_us (map low_bits z) (drop (place + 1) s)) (sym (no_fill (take (place + 1) s) n)) ∙ sym (at_front after_us s (place + 1) c (omega arith) (omega arith))
+    ap (λ z. unit_before after_us (map low_bits z) (drop (place + 1) s))
+    (sym (no_fill (take (place + 1) s) n))
+    ∙ sym (at_front after_us s (place + 1) c (omega arith) (omega arith))
 
 -- where fill was squeezed out, the unit is read from the octets that are left
 pub front_squeezed : (after_us : Bool) (s : List ℕ) (place : ℕ) (unit : List ℕ) → AreCarried s
-    → place ≡ prefix_len is_before_ending s → place < length s → unit ≡ filter is_other (take (place + 1) s)
+    → place ≡ prefix_len is_before_ending s → place < length s → unit
+    ≡ filter is_other (take (place + 1) s)
     → unit_before after_us (map low_bits unit) (drop (place + 1) s) ≡ unit_at after_us s
 front_squeezed after_us s place unit c e l n =
-    ap (λ z. unit_before after_us (map low_bits z) (drop (place + 1) s)) n ∙ sym (at_front after_us s (place + 1) c (omega arith) (omega arith))
+    ap (λ z. unit_before after_us (map low_bits z) (drop (place + 1) s)) n
+    ∙ sym (at_front after_us s (place + 1) c (omega arith) (omega arith))
 
 -- more than MAX_UNIT_CODES octets without fill are no unit
 pub front_long : (after_us : Bool) (s : List ℕ) (place : ℕ) → AreCarried s
@@ -316,4 +370,5 @@ pub front_long : (after_us : Bool) (s : List ℕ) (place : ℕ) → AreCarried s
     → MAX_UNIT_CODES < length (filter is_other (take (place + 1) s))
     → unit_at after_us s ≡ None
 unfolding unit_at
-front_long after_us s place c e l n = rw ((cut (place + 1) MAX_UNIT_CODES s c (omega arith) (omega arith)).full n) refl
+front_long after_us s place c e l n =
+    rw ((cut (place + 1) MAX_UNIT_CODES s c (omega arith) (omega arith)).full n) refl

@@ -33,16 +33,20 @@ no_fill m h place bit l (inr k) = in_call k.0 k.1
         syn_no_fill bit l (sym (ap (λ w. turned bit (get_or (wire w) 4 0)) c.1) ∙ here)
 
 -- with one bit turned no message is spelled
-pub turned_spells : (m n : Message) (place bit : ℕ) → IsMessage m → place < length (wire m) → bit < 8
+pub turned_spells : (m n : Message) (place bit : ℕ) → IsMessage m → place < length (wire m) → bit
+    < 8
     → Spells (with_turned_bit place bit (wire m)) n → ⊥
 turned_spells m n place bit h l b k =
-    no_fill m h place bit b ((spelled_where m n place (turned bit (get_or (wire m) place 0)) h l (turned_other bit (get_or (wire m) place 0))).0 k).1
+    no_fill m h place bit b
+    ((spelled_where m n place (turned bit (get_or (wire m) place 0)) h l
+    (turned_other bit (get_or (wire m) place 0))).0 k).1
 
 -- it failed exactly where the bit stands after the STX of a text
 pub turned_failed : (m : Message) (place bit : ℕ) → IsMessage m → place < length (wire m) → bit < 8
     → IsFailed (with_turned_bit place bit (wire m)) ↔ ((2 < place) × IsSomeText m)
 turned_failed m place bit h l b =
-    failed_place m h place (turned bit (get_or (wire m) place 0)) l (turned_other bit (get_or (wire m) place 0))
+    failed_place m h place (turned bit (get_or (wire m) place 0)) l
+    (turned_other bit (get_or (wire m) place 0))
 
 -- and else it is noise
 pub turned_noise : (m : Message) (place bit : ℕ) → IsMessage m → place < length (wire m) → bit < 8

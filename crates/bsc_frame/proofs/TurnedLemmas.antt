@@ -1,5 +1,6 @@
 -- A turned bit gives an octet the other parity.
-use Rattle.std.proofs.Common.{◌≡◌, ◌⊎◌, inl, inr, ℕ, zero, suc, ◌+◌, ◌*◌, ◌/◌, ◌^◌, ◌%◌, ◌<◌, ◌≤◌, ap, ◌∙◌}
+use Rattle.std.proofs.Common.{◌≡◌, ◌⊎◌, inl, inr, ℕ, zero, suc, ◌+◌, ◌*◌, ◌/◌, ◌^◌, ◌%◌, ◌<◌, ◌≤◌}
+use Rattle.std.proofs.Common.{ap, ◌∙◌}
 use Rattle.std.proofs.Common.{arith, count_ones, bit_xor}
 use Rattle.std.proofs.lemmas.Nat.{ones_cat, ones_le_self, pow_pos}
 use Rattle.std.specs.Int.Bits.{xor_zero_l}
@@ -32,7 +33,8 @@ xor_half : (a b : ℕ) → bit_xor a b ≡ bit_xor (a / 2) (b / 2) * 2 ^ 1 + bit
 xor_half a b =
     let e : a ≡ (a / 2) * 2 ^ 1 + a % 2 = omega arith in
     let f : b ≡ (b / 2) * 2 ^ 1 + b % 2 = omega arith in
-    ap (λ z. bit_xor z b) e ∙ ap (λ z. bit_xor ((a / 2) * 2 ^ 1 + a % 2) z) f ∙ xor_block 1 (a / 2) (b / 2) (a % 2) (b % 2) (omega arith) (omega arith)
+    ap (λ z. bit_xor z b) e ∙ ap (λ z. bit_xor ((a / 2) * 2 ^ 1 + a % 2) z) f
+    ∙ xor_block 1 (a / 2) (b / 2) (a % 2) (b % 2) (omega arith) (omega arith)
 
 -- the exclusive or of two bits is a bit, and modulo 2 it has as many ones as both together
 record Digit (r s : ℕ) : Type 0 where
@@ -44,7 +46,8 @@ digit : (r s : ℕ) → r < 2 → s < 2 → Digit r s
 digit zero zero l k = record { small = omega arith; counts = omega (arith, ones_zero) }
 digit zero (suc zero) l k = record { small = omega arith; counts = omega (arith, ones_zero) }
 digit (suc zero) zero l k = record { small = omega arith; counts = omega (arith, ones_zero) }
-digit (suc zero) (suc zero) l k = record { small = omega arith; counts = omega (arith, ones_zero, ones_one) }
+digit (suc zero) (suc zero) l k =
+    record { small = omega arith; counts = omega (arith, ones_zero, ones_one) }
 digit (suc (suc r)) s l k = absurd (omega arith)
 digit r (suc (suc s)) l k = absurd (omega arith)
 
@@ -54,11 +57,14 @@ xor_by zero a b l =
     let none : a ≡ 0 = omega arith in
     rw (none, xor_zero_l b) (omega (arith, ones_zero))
 xor_by (suc n) a b l =
-    let rest : count_ones (bit_xor (a / 2) (b / 2)) % 2 ≡ (count_ones (a / 2) + count_ones (b / 2)) % 2 =
+    let rest : count_ones (bit_xor (a / 2) (b / 2)) % 2
+    ≡ (count_ones (a / 2) + count_ones (b / 2)) % 2 =
     xor_by n (a / 2) (b / 2) (omega arith) in
     let low = digit (a % 2) (b % 2) (omega arith) (omega arith) in
-    let both : count_ones (bit_xor a b) ≡ count_ones (bit_xor (a / 2) (b / 2)) + count_ones (bit_xor (a % 2) (b % 2)) =
-    ap count_ones (xor_half a b) ∙ ones_cat 1 (bit_xor (a / 2) (b / 2)) (bit_xor (a % 2) (b % 2)) low.small in
+    let both : count_ones (bit_xor a b) ≡ count_ones (bit_xor (a / 2) (b / 2))
+    + count_ones (bit_xor (a % 2) (b % 2)) =
+    ap count_ones (xor_half a b) ∙ ones_cat 1 (bit_xor (a / 2) (b / 2)) (bit_xor (a % 2) (b % 2))
+    low.small in
     omega (arith, both, rest, low.counts, ones_half a, ones_half b)
 
 -- an odd number of turned bits changes the parity
@@ -67,14 +73,16 @@ odd_bits_other octet bits odd e = omega (arith, e, xor_by octet octet bits (omeg
 
 -- one turned bit changes the parity
 pub turned_other : (bit octet : ℕ) → HaveOtherParity (turned bit octet) octet
-turned_other bit octet e = omega (arith, e, xor_by octet octet (2 ^ bit) (omega arith), ones_pow bit)
+turned_other bit octet e =
+    omega (arith, e, xor_by octet octet (2 ^ bit) (omega arith), ones_pow bit)
 
 -- ---- the turned bits of what may be fill
 
 -- no turned bit makes SYN a leading pad or PAD
 turned_syn : (bit : ℕ) → bit < 8
     → ((turned bit 0x16 ≡ 0x55) ⊎ (turned bit 0x16 ≡ 0xaa)) ⊎ (turned bit 0x16 ≡ 0xff) → ⊥
-turned_syn zero l e = elim e [ inl k ↦ elim k [ inl w ↦ omega arith | inr w ↦ omega arith ] | inr w ↦ omega arith ]
+turned_syn zero l e =
+    elim e [ inl k ↦ elim k [ inl w ↦ omega arith | inr w ↦ omega arith ] | inr w ↦ omega arith ]
 turned_syn (suc zero) l e =
     elim e [ inl k ↦ elim k [ inl w ↦ omega arith | inr w ↦ omega arith ] | inr w ↦ omega arith ]
 turned_syn (suc (suc zero)) l e =

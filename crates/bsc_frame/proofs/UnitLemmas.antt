@@ -1,7 +1,10 @@
 -- Units by their codes, and texts by their units.
-use Rattle.std.proofs.Common.{◌≡◌, ◌⊎◌, inl, inr, ℕ, zero, suc, ◌+◌, ◌*◌, ◌<◌, ◌≤◌, ◌==◌, ◌||◌, ◌&&◌, Bool}
-use Rattle.std.proofs.Common.{true, false, not, cond, refl, sym, ap, subst, ◌∙◌, arith, List, [], ◌∷◌, ◌++◌}
-use Rattle.std.proofs.Common.{length, take, drop, Option, Some, None, append_assoc, append-nil, length-append}
+use Rattle.std.proofs.Common.{◌≡◌, ◌⊎◌, inl, inr, ℕ, zero, suc, ◌+◌, ◌*◌, ◌<◌, ◌≤◌, ◌==◌, ◌||◌}
+use Rattle.std.proofs.Common.{◌&&◌, Bool}
+use Rattle.std.proofs.Common.{true, false, not, cond, refl, sym, ap, subst, ◌∙◌, arith, List, []}
+use Rattle.std.proofs.Common.{◌∷◌, ◌++◌}
+use Rattle.std.proofs.Common.{length, take, drop, Option, Some, None, append_assoc, append-nil}
+use Rattle.std.proofs.Common.{length-append}
 use Rattle.std.proofs.Common.{length-take, map, count_ones, take-append-drop, lit<, IsTrue, nat_lt}
 use Rattle.std.specs.List.{AllByRecursion, prefix_len, list_any}
 use Rattle.std.proofs.lemmas.Bool.{eqb-true, eqb-false, eq-eqb}
@@ -17,13 +20,15 @@ use Rattle.bsc_frame.specs.Texts.{TextUnit, TextValue, IsUnit}
 use Rattle.bsc_frame.specs.Units.{unit_codes, unit_wire, units_wire, ending, end_code}
 use Rattle.bsc_frame.specs.Spells.{AreFilled, IsStart, AreUnits}
 use Rattle.bsc_frame.specs.Reading.{◌>>=◌, is_ending_code, is_octet, begins, gathered, after_check}
-use Rattle.bsc_frame.specs.Reading.{after_start, read_unit, unit_of_tail, unit_at, units_at, before_units}
+use Rattle.bsc_frame.specs.Reading.{after_start, read_unit, unit_of_tail, unit_at, units_at}
+use Rattle.bsc_frame.specs.Reading.{before_units}
 use Rattle.bsc_frame.specs.Reading.{last_unit}
 use Rattle.bsc_frame.specs.declared.text.End.{End}
 use Rattle.bsc_frame.specs.declared.text.End.TheVariants.{Etb, Etx}
 use Rattle.bsc_frame.proofs.ReadLemmas.{test_false}
 use Rattle.bsc_frame.proofs.ControlLemmas.{chosen, some_is}
-use Rattle.bsc_frame.proofs.GatherLemmas.{gathered_reads, gathered_read, EndsUnit-last, IsOther, IsRun}
+use Rattle.bsc_frame.proofs.GatherLemmas.{gathered_reads, gathered_read, EndsUnit-last, IsOther}
+use Rattle.bsc_frame.proofs.GatherLemmas.{IsRun}
 use Rattle.bsc_frame.specs.declared.limits.TheConstants.{MAX_CHARS, MAX_UNIT_CODES, MAX_UNIT_SENT}
 
 -- what stands after a step that succeeded
@@ -37,9 +42,11 @@ bind_some (Some x) f y e = (x, refl, e)
 -- one code more: the front of record characters has record characters only
 pass_head : (c : ℕ) (cs : List ℕ) (b : Bool) → is_record_char c ≡ b
     → AllByRecursion (λ c. IsTrue (is_record_char c)) (take (prefix_len is_record_char cs) cs)
-    → AllByRecursion (λ c. IsTrue (is_record_char c)) (take (prefix_len is_record_char (c ∷ cs)) (c ∷ cs))
+    → AllByRecursion (λ c. IsTrue (is_record_char c))
+    (take (prefix_len is_record_char (c ∷ cs)) (c ∷ cs))
 pass_head c cs true e h =
-    let k : prefix_len is_record_char (c ∷ cs) ≡ suc (prefix_len is_record_char cs) = rw e (omega arith) in
+    let k : prefix_len is_record_char (c ∷ cs) ≡ suc (prefix_len is_record_char cs) =
+    rw e (omega arith) in
     rw k (e, h)
 pass_head c cs false e h =
     let k : prefix_len is_record_char (c ∷ cs) ≡ 0 = rw e refl in
@@ -56,12 +63,18 @@ abbrev IsTail : List ℕ → List ℕ → TextUnit × ℕ → Type 0
 IsTail chars tail f = (chars ++ tail ≡ unit_codes f.0 f.1) × (f.0.chars ≡ chars)
 
 -- a tail that reads as a unit is that of its codes
-tail_reads : (chars tail : List ℕ) (f : TextUnit × ℕ) → unit_of_tail chars tail ≡ Some f → IsTail chars tail f
+tail_reads : (chars tail : List ℕ) (f : TextUnit × ℕ) → unit_of_tail chars tail ≡ Some f
+    → IsTail chars tail f
 tail_reads chars [] f h = cc
 tail_reads chars (e ∷ []) f h =
-    subst (IsTail chars (e ∷ [])) (some_is _ _ h) (ap (λ z. z ++ e ∷ []) (sym (append-nil chars)), refl)
+    subst (IsTail chars (e ∷ [])) (some_is _ _ h)
+    (ap (λ z. z ++ e ∷ []) (sym (append-nil chars)), refl)
 tail_reads chars (m ∷ e ∷ []) f h = elim (chosen (m == 0x19) _ _ _ h) [
-  | inl k ↦ subst (IsTail chars (m ∷ e ∷ [])) (some_is _ _ k.1) (ap (λ z. chars ++ z ∷ e ∷ []) (eqb-true m 0x19 k.0) ∙ sym (append_assoc chars (0x19 ∷ []) (e ∷ [])), refl)
+  | inl k ↦ subst (IsTail chars (m ∷ e ∷ [])) (some_is _ _ k.1) (
+    ap (λ z. chars ++ z ∷ e ∷ []) (eqb-true m 0x19 k.0)
+        ∙ sym (append_assoc chars (0x19 ∷ []) (e ∷ [])),
+    refl,
+  )
   | inr k ↦ let w = k.1 in cc
 ]
 tail_reads chars (m ∷ e ∷ x ∷ xs) f h = cc
@@ -78,27 +91,38 @@ not_many n h = grind (arith, nat_tests)
 pub unit_of_reads : (codes : List ℕ) (f : TextUnit × ℕ) → read_unit codes ≡ Some f
     → (codes ≡ unit_codes f.0 f.1) × IsUnit f.0
 unfolding read_unit
-unit_of_reads codes f h = elim (chosen (nat_lt MAX_CHARS (prefix_len is_record_char codes)) _ _ _ h) [
-  | inl k ↦ let w = k.1 in cc
-  | inr k ↦
-      let t = tail_reads (take (prefix_len is_record_char codes) codes) (drop (prefix_len is_record_char codes) codes) f k.1 in (
-        sym (take-append-drop (prefix_len is_record_char codes) codes) ∙ t.0,
-        record {
-          most = omega (arith, few (prefix_len is_record_char codes) k.0, length-take (prefix_len is_record_char codes) codes, ap length t.1);
-          each = rw t.1 (pass_front codes);
-        },
-      )
-]
+unit_of_reads codes f h =
+    elim (chosen (nat_lt MAX_CHARS (prefix_len is_record_char codes)) _ _ _ h) [
+      | inl k ↦ let w = k.1 in cc
+      | inr k ↦
+          let t =
+          tail_reads (take (prefix_len is_record_char codes) codes)
+          (drop (prefix_len is_record_char codes) codes) f k.1 in (
+            sym (take-append-drop (prefix_len is_record_char codes) codes) ∙ t.0,
+            record {
+              most =
+                  omega (
+                    arith,
+                    few (prefix_len is_record_char codes) k.0,
+                    length-take (prefix_len is_record_char codes) codes,
+                    ap length t.1,
+                  );
+              each = rw t.1 (pass_front codes);
+            },
+          )
+    ]
 
 -- an ending character is one of three
 ending_cases : (e : ℕ) → is_ending_code e ≡ true → (e ≡ 0x1f) ⊎ ((e ≡ 0x17) ⊎ (e ≡ 0x03))
 ending_cases e h = by_first (e == 0x1f) refl h
   where
-    by_second : (b : Bool) → (e == 0x17) ≡ b → (b || (e == 0x03)) ≡ true → (e ≡ 0x1f) ⊎ ((e ≡ 0x17) ⊎ (e ≡ 0x03))
+    by_second : (b : Bool) → (e == 0x17) ≡ b → (b || (e == 0x03)) ≡ true → (e ≡ 0x1f)
+        ⊎ ((e ≡ 0x17) ⊎ (e ≡ 0x03))
     by_second true k h = inr (inl (eqb-true e 0x17 k))
     by_second false k h = inr (inr (eqb-true e 0x03 h))
 
-    by_first : (b : Bool) → (e == 0x1f) ≡ b → (b || ((e == 0x17) || (e == 0x03))) ≡ true → (e ≡ 0x1f) ⊎ ((e ≡ 0x17) ⊎ (e ≡ 0x03))
+    by_first : (b : Bool) → (e == 0x1f) ≡ b → (b || ((e == 0x17) || (e == 0x03))) ≡ true
+        → (e ≡ 0x1f) ⊎ ((e ≡ 0x17) ⊎ (e ≡ 0x03))
     by_first true k h = inl (eqb-true e 0x1f k)
     by_first false k h = by_second (e == 0x17) refl h
 
@@ -106,32 +130,42 @@ ending_cases e h = by_first (e == 0x1f) refl h
 ending_no_char : (e : ℕ) → is_ending_code e ≡ true → is_record_char e ≡ false
 unfolding is_record_char
 ending_no_char e h =
-    elim (ending_cases e h) [ inl k ↦ rw k refl | inr w ↦ elim w [ inl k ↦ rw k refl | inr k ↦ rw k refl ] ]
+    elim (ending_cases e h) [
+      | inl k ↦ rw k refl
+      | inr w ↦ elim w
+          [ inl k ↦ rw k refl | inr k ↦ rw k refl ]
+    ]
 
 -- where a code comes after record characters that is none, these are the front
-prefix_stop : (chars : List ℕ) (x : ℕ) (rest : List ℕ) → AllByRecursion (λ c. IsTrue (is_record_char c)) chars
+prefix_stop : (chars : List ℕ) (x : ℕ) (rest : List ℕ)
+    → AllByRecursion (λ c. IsTrue (is_record_char c)) chars
     → is_record_char x ≡ false
     → prefix_len is_record_char (chars ++ x ∷ rest) ≡ length chars
 prefix_stop [] x rest h e = rw e refl
 prefix_stop (c ∷ chars) x rest h e = rw (h.0, prefix_stop chars x rest h.1 e) (omega arith)
 
 -- the front of record characters is what a unit has
-unit_of_at : (chars : List ℕ) (x : ℕ) (rest : List ℕ) → AllByRecursion (λ c. IsTrue (is_record_char c)) chars
+unit_of_at : (chars : List ℕ) (x : ℕ) (rest : List ℕ)
+    → AllByRecursion (λ c. IsTrue (is_record_char c)) chars
     → length chars ≤ MAX_CHARS → is_record_char x ≡ false
     → read_unit (chars ++ x ∷ rest) ≡ unit_of_tail chars (x ∷ rest)
 unfolding read_unit
 unit_of_at chars x rest h l e =
-    rw (prefix_stop chars x rest h e, not_many (length chars) l, take-append_seam, drop-append_seam) refl
+    rw (prefix_stop chars x rest h e, not_many (length chars) l, take-append_seam, drop-append_seam)
+    refl
 
 -- characters, EM where it is marked, and an ending code read as that unit
-unit_read : (chars : List ℕ) (em : Bool) (e : ℕ) → AllByRecursion (λ c. IsTrue (is_record_char c)) chars
+unit_read : (chars : List ℕ) (em : Bool) (e : ℕ)
+    → AllByRecursion (λ c. IsTrue (is_record_char c)) chars
     → length chars ≤ MAX_CHARS → is_ending_code e ≡ true
-    → read_unit (unit_codes (record { chars = chars; em = em }) e) ≡ Some (record { chars = chars; em = em }, e)
+    → read_unit (unit_codes (record { chars = chars; em = em }) e)
+    ≡ Some (record { chars = chars; em = em }, e)
 unfolding is_record_char
 unit_read chars true e h l k =
     ap read_unit (append_assoc chars (0x19 ∷ []) (e ∷ [])) ∙ unit_of_at chars 0x19 (e ∷ []) h l refl
 unit_read chars false e h l k =
-    ap (λ z. read_unit (z ++ e ∷ [])) (append-nil chars) ∙ unit_of_at chars e [] h l (ending_no_char e k)
+    ap (λ z. read_unit (z ++ e ∷ [])) (append-nil chars)
+    ∙ unit_of_at chars e [] h l (ending_no_char e k)
 
 -- the codes of a unit read as it
 pub unit_of_read : (u : TextUnit) (e : ℕ) → IsUnit u → is_ending_code e ≡ true
@@ -166,7 +200,8 @@ start_read after_us start codes (inr e) other = rw (e.0, e.1) refl
 -- what a record character is not
 char_not : (c k : ℕ) → is_record_char c ≡ true → is_record_char k ≡ false → c ≡ k → ⊥
 char_not c k h n e =
-    let w : is_record_char c ≡ is_record_char k = ap is_record_char e in let z : true ≡ false = sym h ∙ w ∙ n in absurd (apart z)
+    let w : is_record_char c ≡ is_record_char k = ap is_record_char e in let z : true ≡ false =
+    sym h ∙ w ∙ n in absurd (apart z)
   where
     apart : true ≡ false → ⊥
     apart e = subst (λ b. cond b (Unit {0}) ⊥) e tt
@@ -186,7 +221,8 @@ not_stx u e h k = by_chars u.chars u.em h.each
     ending_other (inr (inl k)) = rw k refl
     ending_other (inr (inr k)) = rw k refl
 
-    by_chars : (chars : List ℕ) (em : Bool) → AllByRecursion (λ c. IsTrue (is_record_char c)) chars → begins (is_octet 0x02) (unit_codes (record { chars = chars; em = em }) e) ≡ false
+    by_chars : (chars : List ℕ) (em : Bool) → AllByRecursion (λ c. IsTrue (is_record_char c)) chars
+        → begins (is_octet 0x02) (unit_codes (record { chars = chars; em = em }) e) ≡ false
     by_chars [] true p = refl
     by_chars [] false p = ending_other (ending_cases e k)
     by_chars (c ∷ chars) em p = test_false c 0x02 (char_not c 0x02 p.0 stx_no_char)
@@ -194,7 +230,8 @@ not_stx u e h k = by_chars u.chars u.em h.each
 -- ---- one unit at the front of octets
 
 -- octets are a unit: an STX that may stand after a check, fill, the codes, the check and the rest
-pub record UnitAt (after_us : Bool) (octets : List ℕ) (u : TextUnit) (e : ℕ) (rest : List ℕ) : Type 0 where
+pub record UnitAt (after_us : Bool) (octets : List ℕ) (u : TextUnit) (e : ℕ) (rest : List ℕ) : Type
+    0 where
   pub start : List ℕ
   pub front : List ℕ
   pub is_start : IsStart after_us start
@@ -207,10 +244,13 @@ pub record UnitAt (after_us : Bool) (octets : List ℕ) (u : TextUnit) (e : ℕ)
 check_reads : (codes octets rest : List ℕ) → after_check codes octets ≡ Some rest
     → octets ≡ odd_octet (longitudinal_sum codes) ∷ rest
 check_reads codes [] rest e = cc
-check_reads codes (k ∷ more) rest e = elim (chosen (odd_octet (longitudinal_sum codes) == k) _ _ _ e) [
-  | inl h ↦ let w : more ≡ rest = some_is _ _ h.1 in ap (λ z. z ∷ more) (sym (eqb-true (odd_octet (longitudinal_sum codes)) k h.0)) ∙ ap (λ z. odd_octet (longitudinal_sum codes) ∷ z) w
-  | inr h ↦ let w = h.1 in cc
-]
+check_reads codes (k ∷ more) rest e =
+    elim (chosen (odd_octet (longitudinal_sum codes) == k) _ _ _ e) [
+      | inl h ↦ let w : more ≡ rest = some_is _ _ h.1 in
+          ap (λ z. z ∷ more) (sym (eqb-true (odd_octet (longitudinal_sum codes)) k h.0))
+          ∙ ap (λ z. odd_octet (longitudinal_sum codes) ∷ z) w
+      | inr h ↦ let w = h.1 in cc
+    ]
 
 -- octets from which a unit is read are that unit and the rest
 pub unit_at_reads : (after_us : Bool) (octets : List ℕ) (f : TextUnit × ℕ × List ℕ)
@@ -224,23 +264,30 @@ unit_at_reads after_us octets f h =
     let gathers = gathered_reads MAX_UNIT_CODES octets g.0 g.1 in
     let codes = unit_of_reads (after_start after_us g.0.0) w.0 w.1 in
     let start = start_of after_us g.0.0 in
-    let all : g.0.0 ≡ start.0 ++ unit_codes w.0.0 w.0.1 = start.2 ∙ ap (λ z. start.0 ++ z) codes.0 in
+    let all : g.0.0 ≡ start.0 ++ unit_codes w.0.0 w.0.1 = start.2
+    ∙ ap (λ z. start.0 ++ z) codes.0 in
     let unit : UnitAt after_us octets w.0.0 w.0.1 r.0 = record {
       start = start.0;
       front = gathers.front;
       is_start = start.1;
       filled = rw all at gathers.filled;
-      whole = gathers.whole ∙ ap (λ z. gathers.front ++ z) (check_reads g.0.0 g.0.1 r.0 r.1 ∙ ap (λ z. odd_octet (longitudinal_sum z) ∷ r.0) all);
+      whole =
+          gathers.whole ∙ ap (λ z. gathers.front ++ z)
+          (check_reads g.0.0 g.0.1 r.0 r.1
+          ∙ ap (λ z. odd_octet (longitudinal_sum z) ∷ r.0) all);
       unit = codes.1;
       ends = EndsUnit-last (start.0 ++ (w.0.0.chars ++ cond w.0.0.em (0x19 ∷ []) [])) w.0.1
-          (rw (all ∙ sym (append_assoc start.0 (w.0.0.chars ++ cond w.0.0.em (0x19 ∷ []) []) (w.0.1 ∷ []))) at gathers.ends);
+          (rw (all
+          ∙ sym (append_assoc start.0 (w.0.0.chars ++ cond w.0.0.em (0x19 ∷ []) [])
+          (w.0.1 ∷ []))) at gathers.ends);
     } in
     subst (λ x. UnitAt after_us octets x.0 x.1 x.2) found unit
 
 -- ---- the codes of a unit as they are gathered
 
 -- a run grows at its front by a code that is neither SYN nor an ending character
-run_more : (c : ℕ) (codes : List ℕ) → IsOther c → is_ending_code c ≡ false → IsRun codes → IsRun (c ∷ codes)
+run_more : (c : ℕ) (codes : List ℕ) → IsOther c → is_ending_code c ≡ false → IsRun codes
+    → IsRun (c ∷ codes)
 run_more c [] o e r = absurd r
 run_more c (d ∷ codes) o e r = (o, e, r)
 
@@ -249,7 +296,8 @@ pub char_lt : (c : ℕ) → is_record_char c ≡ true → c < 128
 unfolding is_record_char
 char_lt c h = by_size (nat_lt c 128) refl h
   where
-    by_size : (b : Bool) → nat_lt c 128 ≡ b → (b && not (list_any (λ k. c == k) controls)) ≡ true → c < 128
+    by_size : (b : Bool) → nat_lt c 128 ≡ b → (b && not (list_any (λ k. c == k) controls)) ≡ true
+        → c < 128
     by_size true e h = grind (arith, nat_tests)
     by_size false e h = cc
 
@@ -263,7 +311,8 @@ char_other : (c : ℕ) → is_record_char c ≡ true → IsOther c
 char_other c h = record { code = char_lt c h; other = char_not c 0x16 h syn_no_char }
 
 -- a record character ends no unit
-char_no_end : (c : ℕ) (b : Bool) → is_ending_code c ≡ b → is_record_char c ≡ true → is_ending_code c ≡ false
+char_no_end : (c : ℕ) (b : Bool) → is_ending_code c ≡ b → is_record_char c ≡ true → is_ending_code c
+    ≡ false
 char_no_end c true e h = let w : true ≡ false = sym h ∙ ending_no_char c e in cc
 char_no_end c false e h = e
 
@@ -271,15 +320,21 @@ char_no_end c false e h = e
 ending_other : (e : ℕ) → is_ending_code e ≡ true → IsOther e
 ending_other e h = elim (ending_cases e h) [
   | inl k ↦ record { code = omega arith; other = λ z. omega arith }
-  | inr w ↦ elim w [ inl k ↦ record { code = omega arith; other = λ z. omega arith } | inr k ↦ record { code = omega arith; other = λ z. omega arith } ]
+  | inr w ↦ elim w [
+    | inl k ↦ record { code = omega arith; other = λ z. omega arith }
+    | inr k ↦
+        record { code = omega arith; other = λ z. omega arith }
+  ]
 ]
 
 -- characters before the codes of a unit are codes of a unit too
-run_chars : (chars codes : List ℕ) → AllByRecursion (λ c. IsTrue (is_record_char c)) chars → IsRun codes
+run_chars : (chars codes : List ℕ) → AllByRecursion (λ c. IsTrue (is_record_char c)) chars
+    → IsRun codes
     → IsRun (chars ++ codes)
 run_chars [] codes h r = r
 run_chars (c ∷ chars) codes h r =
-    run_more c (chars ++ codes) (char_other c h.0) (char_no_end c (is_ending_code c) refl h.0) (run_chars chars codes h.1 r)
+    run_more c (chars ++ codes) (char_other c h.0) (char_no_end c (is_ending_code c) refl h.0)
+    (run_chars chars codes h.1 r)
 
 -- so are EM, where it is marked, and the ending character
 run_em : (em : Bool) (e : ℕ) → is_ending_code e ≡ true → IsRun (cond em (0x19 ∷ []) [] ++ e ∷ [])
@@ -288,7 +343,9 @@ run_em false e h = (ending_other e h, h)
 
 -- the codes of a unit are a run: only the last ends it, and none is SYN
 pub run_unit : (u : TextUnit) (e : ℕ) → IsUnit u → is_ending_code e ≡ true → IsRun (unit_codes u e)
-run_unit u e h k = rw append_assoc (run_chars u.chars (cond u.em (0x19 ∷ []) [] ++ e ∷ []) h.each (run_em u.em e k))
+run_unit u e h k =
+    rw append_assoc (run_chars u.chars (cond u.em (0x19 ∷ []) [] ++ e ∷ []) h.each
+    (run_em u.em e k))
 
 -- the codes of a unit with an STX before them are a run too
 pub run_start : (after_us : Bool) (start codes : List ℕ) → IsStart after_us start → IsRun codes
@@ -310,7 +367,12 @@ length_start after_us start (inr e) = omega (arith, ap length e.1)
 -- a unit has at most two codes more than characters
 pub length-unit_codes : (u : TextUnit) (e : ℕ) → length (unit_codes u e) ≤ length u.chars + 2
 length-unit_codes u e =
-    omega (arith, length_em u.em, length-append (u.chars ++ cond u.em (0x19 ∷ []) []) (e ∷ []), length-append u.chars (cond u.em (0x19 ∷ []) []))
+    omega (
+      arith,
+      length_em u.em,
+      length-append (u.chars ++ cond u.em (0x19 ∷ []) []) (e ∷ []),
+      length-append u.chars (cond u.em (0x19 ∷ []) []),
+    )
 
 -- from octets that are a unit and the rest, that unit is read
 pub unit_at_read : (after_us : Bool) (octets : List ℕ) (u : TextUnit) (e : ℕ) (rest : List ℕ)
@@ -320,12 +382,25 @@ unit_at_read after_us octets u e rest a =
     let run : IsRun (a.start ++ unit_codes u e) =
     run_start after_us a.start (unit_codes u e) a.is_start (run_unit u e a.unit a.ends) in
     let fits : length (a.start ++ unit_codes u e) ≤ MAX_UNIT_CODES =
-    omega (arith, a.unit.most, length_start after_us a.start a.is_start, length-unit_codes u e, length-append a.start (unit_codes u e)) in
-    let gathers : gathered MAX_UNIT_CODES octets ≡ Some (a.start ++ unit_codes u e, odd_octet (longitudinal_sum (a.start ++ unit_codes u e)) ∷ rest) =
-    ap (gathered MAX_UNIT_CODES) a.whole ∙ gathered_read MAX_UNIT_CODES (a.start ++ unit_codes u e) a.front _ a.filled run fits in
+    omega (
+      arith,
+      a.unit.most,
+      length_start after_us a.start a.is_start,
+      length-unit_codes u e,
+      length-append a.start (unit_codes u e),
+    ) in
+    let gathers : gathered MAX_UNIT_CODES octets
+    ≡ Some (
+      a.start ++ unit_codes u e,
+      odd_octet (longitudinal_sum (a.start ++ unit_codes u e))
+          ∷ rest,
+    ) =
+    ap (gathered MAX_UNIT_CODES) a.whole
+    ∙ gathered_read MAX_UNIT_CODES (a.start ++ unit_codes u e) a.front _ a.filled run fits in
     rw (
       gathers,
-      eq-eqb (odd_octet (longitudinal_sum (a.start ++ unit_codes u e))) (odd_octet (longitudinal_sum (a.start ++ unit_codes u e))) refl,
+      eq-eqb (odd_octet (longitudinal_sum (a.start ++ unit_codes u e)))
+          (odd_octet (longitudinal_sum (a.start ++ unit_codes u e))) refl,
       start_read after_us a.start (unit_codes u e) a.is_start (not_stx u e a.unit a.ends),
       unit_of_read u e a.unit a.ends,
     ) refl
@@ -375,8 +450,10 @@ units_step n after_us octets t f a more e = elim (chosen (f.1 == 0x1f) _ _ _ e) 
   | inl h ↦
       let b = before_some f.0 (units_at n true f.2) t h.1 in
       let r = more b.0 b.1 in
-      let us : ending b.0.units b.0.end ≡ f.1 = more_end b.0.units b.0.end r.some ∙ sym (eqb-true f.1 0x1f h.0) in
-      let all : ReadsUnits (suc n) after_us octets (record { units = f.0 ∷ b.0.units; end = b.0.end }) = record {
+      let us : ending b.0.units b.0.end ≡ f.1 = more_end b.0.units b.0.end r.some
+      ∙ sym (eqb-true f.1 0x1f h.0) in
+      let all : ReadsUnits (suc n) after_us octets
+      (record { units = f.0 ∷ b.0.units; end = b.0.end }) = record {
         units = rw us (a.start, a.front, f.2, a.is_start, a.filled, a.whole, r.units);
         some = omega arith;
         most = omega (arith, r.most);
@@ -385,8 +462,10 @@ units_step n after_us octets t f a more e = elim (chosen (f.1 == 0x1f) _ _ _ e) 
       subst (ReadsUnits (suc n) after_us octets) b.2 all
   | inr h ↦
       let b = last_some f.0 f.1 f.2 t h.1 in
-      let us : end_code (cond (f.1 == 0x17) Etb Etx) ≡ f.1 = last_end f.1 (f.1 == 0x17) refl a.ends h.0 in
-      let all : ReadsUnits (suc n) after_us octets (record { units = f.0 ∷ []; end = cond (f.1 == 0x17) Etb Etx }) = record {
+      let us : end_code (cond (f.1 == 0x17) Etb Etx) ≡ f.1 =
+      last_end f.1 (f.1 == 0x17) refl a.ends h.0 in
+      let all : ReadsUnits (suc n) after_us octets
+      (record { units = f.0 ∷ []; end = cond (f.1 == 0x17) Etb Etx }) = record {
         units = rw us (a.start, a.front, f.2, a.is_start, a.filled, a.whole, b.0);
         some = omega arith;
         most = omega arith;
@@ -402,7 +481,8 @@ unfolding units_at
 units_at_reads zero after_us octets t e = cc
 units_at_reads (suc n) after_us octets t e =
     let b = bind_some (unit_at after_us octets) _ t e in
-    units_step n after_us octets t b.0 (unit_at_reads after_us octets b.0 b.1) (λ s. units_at_reads n true b.0.2 s) b.2
+    units_step n after_us octets t b.0 (unit_at_reads after_us octets b.0 b.1)
+    (λ s. units_at_reads n true b.0.2 s) b.2
 
 -- what ends a unit of a text is an ending character
 pub ending_is : (us : List TextUnit) (end : End) → is_ending_code (ending us end) ≡ true
@@ -412,24 +492,44 @@ ending_is [] Etx = refl
 
 -- a text of one unit is read by its last unit
 last_of : (u : TextUnit) (end : End) (o : Option TextValue)
-    → cond (end_code end == 0x1f) o (last_unit u (end_code end) []) ≡ Some (record { units = u ∷ []; end = end })
+    → cond (end_code end == 0x1f) o (last_unit u (end_code end) [])
+    ≡ Some (record { units = u ∷ []; end = end })
 last_of u Etb o = refl
 last_of u Etx o = refl
 
 -- from octets that are units, a text of them is read
 pub units_at_read : (n : ℕ) (after_us : Bool) (us : List TextUnit) (end : End) (octets : List ℕ)
     → AreUnits after_us us end octets → 0 < length us → length us ≤ n
-    → AllByRecursion IsUnit us → units_at n after_us octets ≡ Some (record { units = us; end = end })
+    → AllByRecursion IsUnit us → units_at n after_us octets
+    ≡ Some (record { units = us; end = end })
 unfolding units_at
 units_at_read n after_us [] end octets a some most each = absurd (omega arith)
 units_at_read zero after_us (u ∷ us) end octets a some most each = absurd (omega arith)
 units_at_read (suc n) after_us (u ∷ []) end octets a some most each =
-    let first : unit_at after_us octets ≡ Some (u, end_code end, a.2) = unit_at_read after_us octets u (end_code end) a.2
-    (record { start = a.0; front = a.1; is_start = a.3; filled = a.4; whole = a.5; unit = each.0; ends = ending_is [] end }) in
+    let first : unit_at after_us octets ≡ Some (u, end_code end, a.2) =
+    unit_at_read after_us octets u (end_code end) a.2
+    (record {
+      start = a.0;
+      front = a.1;
+      is_start = a.3;
+      filled = a.4;
+      whole = a.5;
+      unit = each.0;
+      ends = ending_is [] end;
+    }) in
     rw (first, a.6) (last_of u end (before_units u (units_at n true [])))
 units_at_read (suc n) after_us (u ∷ v ∷ us) end octets a some most each =
-    let first : unit_at after_us octets ≡ Some (u, 0x1f, a.2) = unit_at_read after_us octets u 0x1f a.2
-    (record { start = a.0; front = a.1; is_start = a.3; filled = a.4; whole = a.5; unit = each.0; ends = refl }) in
+    let first : unit_at after_us octets ≡ Some (u, 0x1f, a.2) =
+    unit_at_read after_us octets u 0x1f a.2
+    (record {
+      start = a.0;
+      front = a.1;
+      is_start = a.3;
+      filled = a.4;
+      whole = a.5;
+      unit = each.0;
+      ends = refl;
+    }) in
     let more : units_at n true a.2 ≡ Some (record { units = v ∷ us; end = end }) =
     units_at_read n true (v ∷ us) end a.2 a.6 (omega arith) (omega arith) each.1 in
     rw (first, more) refl
@@ -451,21 +551,34 @@ wire_units after_us (u ∷ us) end = (
   units_wire us end,
   inl refl,
   filled_plain (unit_codes u (ending us end)),
-  append_assoc (map odd_octet (unit_codes u (ending us end))) (odd_octet (longitudinal_sum (unit_codes u (ending us end))) ∷ []) (units_wire us end),
+  append_assoc (map odd_octet (unit_codes u (ending us end)))
+      (odd_octet (longitudinal_sum (unit_codes u (ending us end))) ∷ []) (units_wire us end),
   wire_units true us end,
 )
 
 -- and at most three octets more
 pub length-unit_wire : (u : TextUnit) (e : ℕ) → length (unit_wire u e) ≤ length u.chars + 3
 length-unit_wire u e =
-    omega (arith, length-unit_codes u e, length-append (map odd_octet (unit_codes u e)) (odd_octet (longitudinal_sum (unit_codes u e)) ∷ []), length-map (unit_codes u e) odd_octet)
+    omega (
+      arith,
+      length-unit_codes u e,
+      length-append (map odd_octet (unit_codes u e))
+          (odd_octet (longitudinal_sum (unit_codes u e)) ∷ []),
+      length-map (unit_codes u e) odd_octet,
+    )
 
 -- what is sent for units within their limits is at most this long
 pub length-units_wire : (us : List TextUnit) (end : End) → AllByRecursion IsUnit us
     → length (units_wire us end) ≤ MAX_UNIT_SENT * length us
 length-units_wire [] end h = omega arith
 length-units_wire (u ∷ us) end h =
-    omega (arith, h.0.most, length-unit_wire u (ending us end), length-units_wire us end h.1, length-append (unit_wire u (ending us end)) (units_wire us end))
+    omega (
+      arith,
+      h.0.most,
+      length-unit_wire u (ending us end),
+      length-units_wire us end h.1,
+      length-append (unit_wire u (ending us end)) (units_wire us end),
+    )
 
 -- ---- the last octet of a text
 
@@ -473,19 +586,35 @@ length-units_wire (u ∷ us) end h =
 odd_no_pad : (c : ℕ) → c < 128 → (odd_octet c == 0xff) ≡ false
 odd_no_pad c h = test_false (odd_octet c) 0xff (λ e. elim (odd_cases c) [
   | inl k ↦ absurd (omega arith)
-  | inr k ↦ let full : c ≡ 127 = omega arith in let seven : count_ones c ≡ 7 = ap count_ones full ∙ ones-ones 7 in absurd (omega arith)
+  | inr k ↦ let full : c ≡ 127 = omega arith in let seven : count_ones c ≡ 7 = ap count_ones full
+      ∙ ones-ones 7 in absurd (omega arith)
 ])
 
 -- what ends so does with more octets before it
 ends_after : (front octets : List ℕ) → Ends octets → Ends (front ++ octets)
 ends_after front octets e =
-    record { front = front ++ e.front; last = e.last; whole = ap (λ z. front ++ z) e.whole ∙ sym (append_assoc front e.front (e.last ∷ [])); other = e.other }
+    record {
+      front = front ++ e.front;
+      last = e.last;
+      whole = ap (λ z. front ++ z) e.whole
+          ∙ sym (append_assoc front e.front (e.last ∷ []));
+      other = e.other;
+    }
 
 -- octets that are units end so that no PAD is taken from them
 pub units_end : (after_us : Bool) (us : List TextUnit) (end : End) (octets : List ℕ)
     → AreUnits after_us us end octets → 0 < length us → Ends octets
 units_end after_us [] end octets a h = absurd (omega arith)
 units_end after_us (u ∷ []) end octets a h =
-    record { front = a.1; last = odd_octet (longitudinal_sum (a.0 ++ unit_codes u (ending [] end))); whole = a.5 ∙ rw a.6 refl; other = odd_no_pad (longitudinal_sum (a.0 ++ unit_codes u (ending [] end))) (longitudinal_sum-lt (a.0 ++ unit_codes u (ending [] end))) }
+    record {
+      front = a.1;
+      last = odd_octet (longitudinal_sum (a.0 ++ unit_codes u (ending [] end)));
+      whole = a.5 ∙ rw a.6 refl;
+      other =
+          odd_no_pad (longitudinal_sum (a.0 ++ unit_codes u (ending [] end)))
+          (longitudinal_sum-lt (a.0 ++ unit_codes u (ending [] end)));
+    }
 units_end after_us (u ∷ v ∷ us) end octets a h =
-    rw a.5 (ends_after a.1 _ (ends_after (odd_octet (longitudinal_sum (a.0 ++ unit_codes u 0x1f)) ∷ []) a.2 (units_end true (v ∷ us) end a.2 a.6 (omega arith))))
+    rw a.5
+    (ends_after a.1 _ (ends_after (odd_octet (longitudinal_sum (a.0 ++ unit_codes u 0x1f)) ∷ [])
+    a.2 (units_end true (v ∷ us) end a.2 a.6 (omega arith))))

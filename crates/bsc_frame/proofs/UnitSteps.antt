@@ -1,6 +1,8 @@
 -- The steps of reading units.
-use Rattle.std.proofs.Common.{◌≡◌, ℕ, zero, suc, ◌+◌, ◌-◌, ◌<◌, ◌≤◌, ◌==◌, Bool, true, false, cond, refl, sym}
-use Rattle.std.proofs.Common.{ap, subst, All, ◌∙◌, arith, List, [], ◌∷◌, ◌++◌, length, take, drop, get_or}
+use Rattle.std.proofs.Common.{◌≡◌, ℕ, zero, suc, ◌+◌, ◌-◌, ◌<◌, ◌≤◌, ◌==◌, Bool, true, false, cond}
+use Rattle.std.proofs.Common.{refl, sym}
+use Rattle.std.proofs.Common.{ap, subst, All, ◌∙◌, arith, List, [], ◌∷◌, ◌++◌, length, take, drop}
+use Rattle.std.proofs.Common.{get_or}
 use Rattle.std.proofs.Common.{append_assoc, length-append, Option, Some, None, nat_lt}
 use Rattle.std.proofs.lemmas.Bool.{eq-eqb}
 use Rattle.std.proofs.lemmas.Bool.Decides.{nat_tests}
@@ -40,7 +42,8 @@ check_is s k e = let h : Some (odd_octet (longitudinal_sum s)) ≡ Some k = rw (
 pub check_wrong : (s octets : List ℕ) → (get_or octets 0 0 ≡ odd_octet (longitudinal_sum s) → ⊥)
     → None ≡ after_check s octets
 check_wrong s [] h = refl
-check_wrong s (x ∷ octets) h = rw (test_false (odd_octet (longitudinal_sum s)) x (λ w. h (sym w))) refl
+check_wrong s (x ∷ octets) h =
+    rw (test_false (odd_octet (longitudinal_sum s)) x (λ w. h (sym w))) refl
 
 -- the check leaves the octets after it
 pub check_right : (s octets : List ℕ) → get_or octets 0 0 ≡ odd_octet (longitudinal_sum s)
@@ -62,21 +65,25 @@ pub record ReadTo (d : Draft) (n : ℕ) (rest s : List ℕ) : Type 0 where
   pub draft : IsDraft d
   pub count : length (draft_units d) ≡ n
   pub most : n ≤ MAX_UNITS
-  pub same : before_all (draft_units d) (units_at (MAX_UNITS - n) (nat_lt 0 n) rest) ≡ units_at MAX_UNITS false s
+  pub same : before_all (draft_units d) (units_at (MAX_UNITS - n) (nat_lt 0 n) rest)
+      ≡ units_at MAX_UNITS false s
 
 -- one unit more before the rest
 before_more : (us : List TextUnit) (u : TextUnit) (o : Option TextValue)
     → before_all (us ++ u ∷ []) o ≡ before_all us (before_units u o)
 before_more us u None = refl
-before_more us u (Some t) = ap (λ z. Some (record { units = z; end = t.end })) (append_assoc us (u ∷ []) t.units)
+before_more us u (Some t) =
+    ap (λ z. Some (record { units = z; end = t.end })) (append_assoc us (u ∷ []) t.units)
 
 -- what is read where a first unit is read, by its ending character
 units_next : (n : ℕ) (after_us : Bool) (s : List ℕ) (u : TextUnit) (e : ℕ) (rest : List ℕ) → 0 < n
     → unit_at after_us s ≡ Some (u, e, rest)
-    → units_at n after_us s ≡ cond (e == 0x1f) (before_units u (units_at (n - 1) true rest)) (last_unit u e rest)
+    → units_at n after_us s ≡ cond (e == 0x1f) (before_units u (units_at (n - 1) true rest))
+    (last_unit u e rest)
 unfolding units_at
 units_next zero after_us s u e rest p h = absurd (omega arith)
-units_next (suc n) after_us s u e rest p h = let less : suc n - 1 ≡ n = omega arith in rw (less, h) refl
+units_next (suc n) after_us s u e rest p h = let less : suc n - 1 ≡ n = omega arith in
+    rw (less, h) refl
 
 -- without a first unit there is no text
 pub units_stop : (n : ℕ) (after_us : Bool) (s : List ℕ) → unit_at after_us s ≡ None
@@ -89,31 +96,40 @@ units_stop (suc n) after_us s h = rw h refl
 pub read_stop : (d : Draft) (count : ℕ) (rest s : List ℕ) → ReadTo d count rest s
     → unit_at (nat_lt 0 count) rest ≡ None → None ≡ units_at MAX_UNITS false s
 read_stop d count rest s r h =
-    ap (before_all (draft_units d)) (sym (units_stop (MAX_UNITS - count) (nat_lt 0 count) rest h)) ∙ r.same
+    ap (before_all (draft_units d)) (sym (units_stop (MAX_UNITS - count) (nat_lt 0 count) rest h))
+    ∙ r.same
 
 -- one unit more is read that ends with US
 pub read_more : (d new : Draft) (count e : ℕ) (rest more s : List ℕ) → ReadTo d count rest s
     → count < MAX_UNITS → TakesUnit d new (unit_at (nat_lt 0 count) rest) e more → e ≡ 0x1f
     → ReadTo new (count + 1) more s
 read_more d new count e rest more s r l t us =
-    let next : units_at (MAX_UNITS - count) (nat_lt 0 count) rest ≡ before_units t.unit (units_at (MAX_UNITS - count - 1) true more) =
-    units_next (MAX_UNITS - count) (nat_lt 0 count) rest t.unit e more (omega arith) t.reads ∙ rw us refl in
+    let next : units_at (MAX_UNITS - count) (nat_lt 0 count) rest
+    ≡ before_units t.unit (units_at (MAX_UNITS - count - 1) true more) =
+    units_next (MAX_UNITS - count) (nat_lt 0 count) rest t.unit e more (omega arith) t.reads
+    ∙ rw us refl in
     let fewer : MAX_UNITS - (count + 1) ≡ MAX_UNITS - count - 1 = omega arith in
     let later : nat_lt 0 (count + 1) ≡ true = grind (arith, nat_tests) in
     record {
       draft = t.draft;
-      count = ap length t.units ∙ length-append (draft_units d) (t.unit ∷ []) ∙ omega (arith, r.count);
+      count = ap length t.units ∙ length-append (draft_units d) (t.unit ∷ [])
+          ∙ omega (arith, r.count);
       most = omega arith;
-      same = rw (fewer, later, t.units) (before_more (draft_units d) t.unit (units_at (MAX_UNITS - count - 1) true more) ∙ ap (before_all (draft_units d)) (sym next) ∙ r.same);
+      same =
+          rw (fewer, later, t.units) (before_more (draft_units d) t.unit
+          (units_at (MAX_UNITS - count - 1) true more)
+          ∙ ap (before_all (draft_units d)) (sym next) ∙ r.same);
     }
 
 -- the last unit of a text is read
-read_last : (d new : Draft) (count e : ℕ) (rest more s : List ℕ) → ReadTo d count rest s → count < MAX_UNITS
+read_last : (d new : Draft) (count e : ℕ) (rest more s : List ℕ) → ReadTo d count rest s → count
+    < MAX_UNITS
     → (t : TakesUnit d new (unit_at (nat_lt 0 count) rest) e more) → (e ≡ 0x1f → ⊥)
     → before_all (draft_units d) (last_unit t.unit e more) ≡ units_at MAX_UNITS false s
 read_last d new count e rest more s r l t us =
     let next : units_at (MAX_UNITS - count) (nat_lt 0 count) rest ≡ last_unit t.unit e more =
-    units_next (MAX_UNITS - count) (nat_lt 0 count) rest t.unit e more (omega arith) t.reads ∙ rw (test_false e 0x1f us) refl in
+    units_next (MAX_UNITS - count) (nat_lt 0 count) rest t.unit e more (omega arith) t.reads
+    ∙ rw (test_false e 0x1f us) refl in
     ap (before_all (draft_units d)) (sym next) ∙ r.same
 
 -- octets after the last unit leave no text
@@ -121,15 +137,20 @@ pub read_extra : (d new : Draft) (count e : ℕ) (rest more s : List ℕ) → Re
     → count < MAX_UNITS → TakesUnit d new (unit_at (nat_lt 0 count) rest) e more → (e ≡ 0x1f → ⊥)
     → (length more ≡ 0 → ⊥) → None ≡ units_at MAX_UNITS false s
 read_extra d new count e rest [] s r l t us p = absurd (p refl)
-read_extra d new count e rest (x ∷ more) s r l t us p = read_last d new count e rest (x ∷ more) s r l t us
+read_extra d new count e rest (x ∷ more) s r l t us p =
+    read_last d new count e rest (x ∷ more) s r l t us
 
 -- the last unit ends the text
-pub read_whole : (d new : Draft) (count e : ℕ) (rest more s : List ℕ) (end : End) → ReadTo d count rest s
+pub read_whole : (d new : Draft) (count e : ℕ) (rest more s : List ℕ) (end : End)
+    → ReadTo d count rest s
     → count < MAX_UNITS → TakesUnit d new (unit_at (nat_lt 0 count) rest) e more → (e ≡ 0x1f → ⊥)
-    → length more ≡ 0 → cond (e == 0x17) Etb Etx ≡ end → ReadsText new end (units_at MAX_UNITS false s)
+    → length more ≡ 0 → cond (e == 0x17) Etb Etx ≡ end
+    → ReadsText new end (units_at MAX_UNITS false s)
 read_whole d new count e rest (x ∷ more) s end r l t us p q = absurd (omega arith)
 read_whole d new count e rest [] s end r l t us p q = record {
-  reads = sym (read_last d new count e rest [] s r l t us) ∙ ap Some (ap (λ z. record { units = draft_units d ++ t.unit ∷ []; end = z }) q ∙ sym (ap (λ z. record { units = z; end = end }) t.units));
+  reads = sym (read_last d new count e rest [] s r l t us)
+      ∙ ap Some (ap (λ z. record { units = draft_units d ++ t.unit ∷ []; end = z }) q
+      ∙ sym (ap (λ z. record { units = z; end = end }) t.units));
   draft = t.draft;
   some = omega (arith, ap length t.units, length-append (draft_units d) (t.unit ∷ []));
 }
@@ -141,8 +162,11 @@ rest_odd after_us s u e rest h r =
     let a = unit_at_reads after_us s (u, e, rest) r in
     let front : List ℕ = a.front ++ odd_octet (longitudinal_sum (a.start ++ unit_codes u e)) ∷ [] in
     let whole : s ≡ front ++ rest =
-    a.whole ∙ sym (append_assoc a.front (odd_octet (longitudinal_sum (a.start ++ unit_codes u e)) ∷ []) rest) in
-    subst (All IsOdd) (ap (drop (length front)) whole ∙ drop-append_seam front rest) (All-drop IsOdd (length front) s h)
+    a.whole
+    ∙ sym (append_assoc a.front (odd_octet (longitudinal_sum (a.start ++ unit_codes u e)) ∷ [])
+    rest) in
+    subst (All IsOdd) (ap (drop (length front)) whole ∙ drop-append_seam front rest)
+    (All-drop IsOdd (length front) s h)
 
 -- there are more units than a text has
 pub read_all : (d : Draft) (count : ℕ) (rest s : List ℕ) → ReadTo d count rest s → MAX_UNITS ≤ count
@@ -155,8 +179,17 @@ read_all d count rest s r l =
 -- at first no unit is read
 pub read_start : (d : Draft) (s : List ℕ) → IsDraft d → draft_units d ≡ [] → ReadTo d 0 s s
 read_start d s h e =
-    record { draft = h; count = ap length e; most = omega arith; same = rw e (nothing_before (units_at MAX_UNITS false s)) }
+    record {
+      draft = h;
+      count = ap length e;
+      most = omega arith;
+      same =
+          rw e (nothing_before (units_at MAX_UNITS false s));
+    }
   where
     nothing_before : (o : Option TextValue) → before_all [] o ≡ o
     nothing_before None = refl
     nothing_before (Some t) = refl
+
+-- what the loop over the units of a text uses
+pub ruleset read_steps = (read_start, read_stop, read_more, read_extra, read_whole, read_all)

@@ -1,10 +1,14 @@
 -- The steps of sending units.
-use Rattle.std.proofs.Common.{◌≡◌, ℕ, zero, suc, ◌+◌, ◌*◌, ◌<◌, ◌≤◌, Bool, true, false, cond, refl, sym, ap}
-use Rattle.std.proofs.Common.{◌∙◌, arith, lit<, List, [], ◌∷◌, ◌++◌, length, take, drop, get_or, set, map}
-use Rattle.std.proofs.Common.{add-one, append_assoc, length-set, length-append, Some, slice_get, All, IsTrue}
+use Rattle.std.proofs.Common.{◌≡◌, ℕ, zero, suc, ◌+◌, ◌*◌, ◌<◌, ◌≤◌, Bool, true, false, cond, refl}
+use Rattle.std.proofs.Common.{sym, ap}
+use Rattle.std.proofs.Common.{◌∙◌, arith, lit<, List, [], ◌∷◌, ◌++◌, length, take, drop, get_or}
+use Rattle.std.proofs.Common.{set, map}
+use Rattle.std.proofs.Common.{add-one, append_assoc, length-set, length-append, Some, slice_get}
+use Rattle.std.proofs.Common.{All, IsTrue}
 use Rattle.std.specs.List.{AllByRecursion}
 use Rattle.std.proofs.lemmas.List.{drop_all, take_all, take_more, take_more_set, map-append}
-use Rattle.std.proofs.lemmas.List.Elements.{recursion_from_All, All-from_recursion, All-append, All-cons}
+use Rattle.std.proofs.lemmas.List.Elements.{recursion_from_All, All-from_recursion, All-append}
+use Rattle.std.proofs.lemmas.List.Elements.{All-cons}
 use Rattle.std.proofs.lemmas.List.Elements.{All-nil}
 use Rattle.bsc_octet.specs.Octet.{odd_octet, longitudinal_sum, is_record_char}
 use Rattle.bsc_octet.proofs.ParityLemmas.{odd_octet-low}
@@ -32,7 +36,8 @@ em_small false = All-nil (λ c. c < 128)
 codes_small : (u : TextUnit) (e : ℕ) → IsUnit u → e < 128 → All (λ c. c < 128) (unit_codes u e)
 codes_small u e h l =
     All-append (λ c. c < 128) (u.chars ++ cond u.em (0x19 ∷ []) []) (e ∷ [])
-    (All-append (λ c. c < 128) u.chars (cond u.em (0x19 ∷ []) []) (All-from_recursion (λ c. c < 128) u.chars (all_small u.chars h.each)) (em_small u.em))
+    (All-append (λ c. c < 128) u.chars (cond u.em (0x19 ∷ []) [])
+    (All-from_recursion (λ c. c < 128) u.chars (all_small u.chars h.each)) (em_small u.em))
     (All-cons (λ c. c < 128) e [] l (All-nil (λ c. c < 128)))
 
 -- ---- the octets of a unit
@@ -43,15 +48,19 @@ pub record PutTo (octets : List ℕ) (i : ℕ) (codes : List ℕ) : Type 0 where
   pub front : take i octets ≡ map odd_octet (take i codes)
 
 -- one octet more is put
-pub put_more : (octets : List ℕ) (i : ℕ) (codes : List ℕ) (o : ℕ) → PutTo octets i codes → i < length codes
+pub put_more : (octets : List ℕ) (i : ℕ) (codes : List ℕ) (o : ℕ) → PutTo octets i codes → i
+    < length codes
     → length codes ≤ MAX_UNIT_SENT → o ≡ odd_octet (get_or codes i 0)
     → PutTo (set octets i o) (i + 1) codes
 put_more octets i codes o p l few e =
-    let next : map odd_octet (take (i + 1) codes) ≡ map odd_octet (take i codes) ++ odd_octet (get_or codes i 0) ∷ [] =
-    ap (map odd_octet) (take_more codes i 0 l) ∙ map-append odd_octet (take i codes) (get_or codes i 0 ∷ []) in
+    let next : map odd_octet (take (i + 1) codes) ≡ map odd_octet (take i codes)
+    ++ odd_octet (get_or codes i 0) ∷ [] =
+    ap (map odd_octet) (take_more codes i 0 l)
+    ∙ map-append odd_octet (take i codes) (get_or codes i 0 ∷ []) in
     record {
       long = omega (arith, p.long, length-set octets i o);
-      front = take_more_set octets i o (omega (arith, p.long)) ∙ ap (λ z. z ++ o ∷ []) p.front ∙ ap (λ z. map odd_octet (take i codes) ++ z ∷ []) e ∙ sym next;
+      front = take_more_set octets i o (omega (arith, p.long)) ∙ ap (λ z. z ++ o ∷ []) p.front
+          ∙ ap (λ z. map odd_octet (take i codes) ++ z ∷ []) e ∙ sym next;
     }
 
 -- at the end all octets stand at the front
@@ -66,7 +75,8 @@ pub chars_small : (u : TextUnit) → IsUnit u → All (λ c. c < 128) u.chars
 chars_small u h = All-from_recursion (λ c. c < 128) u.chars (all_small u.chars h.each)
 
 -- the low bits of the octets of codes are the codes
-low_odd : (codes : List ℕ) → AllByRecursion (λ c. c < 128) codes → map low_bits (map odd_octet codes) ≡ codes
+low_odd : (codes : List ℕ) → AllByRecursion (λ c. c < 128) codes
+    → map low_bits (map odd_octet codes) ≡ codes
 low_odd [] h = refl
 low_odd (c ∷ codes) h = rw (odd_octet-low c h.0, low_odd codes h.1) refl
 
@@ -74,7 +84,8 @@ low_odd (c ∷ codes) h = rw (odd_octet-low c h.0, low_odd codes h.1) refl
 sum_odd : (codes : List ℕ) → All (λ c. c < 128) codes
     → longitudinal_sum (map odd_octet codes) ≡ longitudinal_sum codes
 sum_odd codes h =
-    sym (sum_low (map odd_octet codes)) ∙ ap longitudinal_sum (low_odd codes (recursion_from_All (λ c. c < 128) codes h))
+    sym (sum_low (map odd_octet codes))
+    ∙ ap longitudinal_sum (low_odd codes (recursion_from_All (λ c. c < 128) codes h))
 
 -- EM is carried as it is
 odd_em : (em : Bool) → map odd_octet (cond em (0x19 ∷ []) []) ≡ cond em (0x19 ∷ []) []
@@ -84,10 +95,12 @@ odd_em false = refl
 
 -- the octets of the codes of a unit, by its parts
 odd_codes : (u : TextUnit) (e : ℕ)
-    → map odd_octet (unit_codes u e) ≡ (map odd_octet u.chars ++ cond u.em (0x19 ∷ []) []) ++ odd_octet e ∷ []
+    → map odd_octet (unit_codes u e) ≡ (map odd_octet u.chars ++ cond u.em (0x19 ∷ []) [])
+    ++ odd_octet e ∷ []
 odd_codes u e =
     map-append odd_octet (u.chars ++ cond u.em (0x19 ∷ []) []) (e ∷ [])
-    ∙ ap (λ z. z ++ odd_octet e ∷ []) (map-append odd_octet u.chars (cond u.em (0x19 ∷ []) []) ∙ ap (λ z. map odd_octet u.chars ++ z) (odd_em u.em))
+    ∙ ap (λ z. z ++ odd_octet e ∷ []) (map-append odd_octet u.chars (cond u.em (0x19 ∷ []) [])
+    ∙ ap (λ z. map odd_octet u.chars ++ z) (odd_em u.em))
 
 -- the octets of the codes and the check after them
 pub unit_wire_is : (u : TextUnit) (e : ℕ) (line : List ℕ) → IsUnit u → e < 128
@@ -96,12 +109,14 @@ pub unit_wire_is : (u : TextUnit) (e : ℕ) (line : List ℕ) → IsUnit u → e
 unit_wire_is u e line h l w =
     let same : line ≡ map odd_octet (unit_codes u e) = w ∙ sym (odd_codes u e) in
     ap (λ z. z ++ odd_octet (longitudinal_sum z) ∷ []) same
-    ∙ ap (λ n. map odd_octet (unit_codes u e) ++ odd_octet n ∷ []) (sum_odd (unit_codes u e) (codes_small u e h l))
+    ∙ ap (λ n. map odd_octet (unit_codes u e) ++ odd_octet n ∷ [])
+    (sum_odd (unit_codes u e) (codes_small u e h l))
 
 -- ---- which character ends a unit
 
 -- a unit that others follow ends with US
-pub ending_more : (us : List TextUnit) (i : ℕ) (end : End) → i < length us → 0x1f ≡ ending (drop i us) end
+pub ending_more : (us : List TextUnit) (i : ℕ) (end : End) → i < length us → 0x1f
+    ≡ ending (drop i us) end
 ending_more [] i end l = absurd (omega arith)
 ending_more (u ∷ us) zero end l = refl
 ending_more (u ∷ us) (suc i) end l = ending_more us i end (omega arith)
@@ -122,16 +137,19 @@ drop_get (v ∷ us) (suc i) u e = drop_get us i u e
 
 -- and so are the octets that are sent for it
 wire_split : (us : List TextUnit) (i : ℕ) (u : TextUnit) (end : End) → slice_get us i ≡ Some u
-    → units_wire (drop i us) end ≡ unit_wire u (ending (drop (i + 1) us) end) ++ units_wire (drop (i + 1) us) end
+    → units_wire (drop i us) end ≡ unit_wire u (ending (drop (i + 1) us) end)
+    ++ units_wire (drop (i + 1) us) end
 wire_split us i u end e = rw (add-one, drop_get us i u e) refl
 
 -- the wire after the unit at the place
 pub wire_next : (w first : List ℕ) (us : List TextUnit) (i : ℕ) (u : TextUnit) (end : End)
     → slice_get us i ≡ Some u
     → w ++ units_wire (drop i us) end ≡ first ++ units_wire us end
-    → w ++ unit_wire u (ending (drop (i + 1) us) end) ++ units_wire (drop (i + 1) us) end ≡ first ++ units_wire us end
+    → w ++ unit_wire u (ending (drop (i + 1) us) end) ++ units_wire (drop (i + 1) us) end ≡ first
+    ++ units_wire us end
 wire_next w first us i u end e h =
-    append_assoc w (unit_wire u (ending (drop (i + 1) us) end)) (units_wire (drop (i + 1) us) end) ∙ ap (λ z. w ++ z) (sym (wire_split us i u end e)) ∙ h
+    append_assoc w (unit_wire u (ending (drop (i + 1) us) end)) (units_wire (drop (i + 1) us) end)
+    ∙ ap (λ z. w ++ z) (sym (wire_split us i u end e)) ∙ h
 
 -- the units of a text within its limits have at most this many octets
 wire_long : (us : List TextUnit) (end : End) → length us ≤ MAX_UNITS → AllByRecursion IsUnit us
@@ -159,4 +177,10 @@ pub wire_short : (w first : List ℕ) (us : List TextUnit) (i : ℕ) (end : End)
     → length us ≤ MAX_UNITS → AllByRecursion IsUnit us
     → w ++ units_wire (drop i us) end ≡ first ++ units_wire us end → length w < MAX_SENT
 wire_short w first us i end short few all h =
-    omega (arith, wire_long us end few all, ap length h, length-append first (units_wire us end), length-append w (units_wire (drop i us) end))
+    omega (
+      arith,
+      wire_long us end few all,
+      ap length h,
+      length-append first (units_wire us end),
+      length-append w (units_wire (drop i us) end),
+    )

@@ -47,7 +47,7 @@ fn trim_lanes(octets: &[u8]) -> &[u8]
 }
 
 /// The octets without PAD at their end, dropped one at a time.
-#[tactic(auto, using(crate::proofs::ReadLemmas::trimmed_less, crate::proofs::ReadLemmas::trimmed_done, crate::proofs::ReadLemmas::trimmed_none))]
+#[tactic(auto, using(crate::proofs::ReadLemmas::trim_steps))]
 fn trim_rest(octets: &[u8]) -> &[u8]
     ensures { result.now ≡ trimmed octets.now }
 {

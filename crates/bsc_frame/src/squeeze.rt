@@ -37,7 +37,7 @@ pub(crate) fn has_fill(octets: &[u8]) -> bool
 /// Puts the octets without fill after the first ones of the buffer, and gives how many there are
 /// then. Each octet is stored, and the next one is stored in its place where it is fill.
 #[inline(always)]
-#[tactic(auto, using(crate::proofs::SqueezeLemmas::squeeze_more, crate::proofs::SqueezeLemmas::squeeze_start, crate::proofs::SqueezeLemmas::squeeze_all))]
+#[tactic(auto, using(crate::proofs::SqueezeLemmas::squeeze_steps))]
 fn squeeze_part(octets: &[u8], buffer: &mut UnitBuffer, start: usize) -> usize
     requires part { length octets.now ≤ PART }
     requires start { start ≤ TOO_MANY }
@@ -54,7 +54,7 @@ fn squeeze_part(octets: &[u8], buffer: &mut UnitBuffer, start: usize) -> usize
 
 /// Puts the octets without fill to the front of the buffer, and gives their count. `None` where
 /// they are more than a unit has.
-#[tactic(auto, using(crate::proofs::SqueezeLemmas::part_start, crate::proofs::SqueezeLemmas::part_more, crate::proofs::SqueezeLemmas::part_full, crate::proofs::SqueezeLemmas::part_last))]
+#[tactic(auto, using(crate::proofs::SqueezeLemmas::part_steps))]
 pub(crate) fn squeeze(octets: &[u8], buffer: &mut UnitBuffer) -> Option<usize>
     ensures some { IfSome result (λ n. (n ≤ UNIT_ROOM)
         × (take n buffer.new ≡ filter is_other octets.now)) }
@@ -77,7 +77,7 @@ pub(crate) fn squeeze(octets: &[u8], buffer: &mut UnitBuffer) -> Option<usize>
 
 /// Puts the codes of the octets to the front of the buffer, and says whether they all are record
 /// characters.
-#[tactic(auto, using(crate::proofs::SqueezeLemmas::codes_more, crate::proofs::SqueezeLemmas::codes_all))]
+#[tactic(auto, using(crate::proofs::SqueezeLemmas::code_steps))]
 pub(crate) fn copy_codes(octets: &[u8], buffer: &mut [u8; MAX_CHARS]) -> bool
     requires { length octets.now ≤ MAX_CHARS }
     ensures codes { take (length octets.now) buffer.new ≡ map low_bits octets.now }

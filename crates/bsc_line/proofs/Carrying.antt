@@ -1,5 +1,7 @@
 -- What is heard and how it is told: the steps of the calls that carry.
-use Rattle.std.proofs.Common.{◌≡◌, ◌↔◌, ℕ, ◌<◌, ◌≤◌, Bool, true, false, ◌&&◌, IsTrue, IfSome, is_some, Result, Ok, Err, List, length, Option, None, Some, get_or, slice_set, get_or-set_same, refl, sym, ◌∙◌, ap, subst, arith, inl}
+use Rattle.std.proofs.Common.{◌≡◌, ◌↔◌, ℕ, ◌<◌, ◌≤◌, Bool, true, false, ◌&&◌, IsTrue, IfSome}
+use Rattle.std.proofs.Common.{is_some, Result, Ok, Err, List, length, Option, None, Some, get_or}
+use Rattle.std.proofs.Common.{slice_set, get_or-set_same, refl, sym, ◌∙◌, ap, subst, arith, inl}
 use Rattle.std.specs.Borrow.{Bor}
 use Rattle.bsc_frame.specs.declared.message.Message.{Message}
 use Rattle.bsc_frame.specs.declared.message.Message.TheVariants as m
@@ -22,11 +24,14 @@ use Rattle.bsc_line_model.specs.declared.transmission.Speaker.TheVariants.{Contr
 use Rattle.bsc_line_model.specs.declared.transmission.Transmission.{Transmission}
 use Rattle.bsc_line_model.specs.Transmission.{sent_by, speaker_of, IsOnWire}
 use Rattle.bsc_line_model.specs.Hearing.{heard_in, heard_at}
-use Rattle.bsc_line_model.specs.Line.{LineValue, no_terminal, terminal_in, terminal_at, terminal_count, with_terminal}
+use Rattle.bsc_line_model.specs.Line.{LineValue, no_terminal, terminal_in, terminal_at}
+use Rattle.bsc_line_model.specs.Line.{terminal_count, with_terminal}
 use Rattle.bsc_line_model.specs.Terminals.{EachHears, EachKeeps, first_answer, line_owner}
 use Rattle.bsc_line_model.specs.Trust.{IsHeardFairly, IsTrustAfter, IsAddressedAfter}
-use Rattle.bsc_line_model.specs.Carries.{IsCarriedDown, IsCarriedUp, IsCarriedBy, TerminalActsAlone, OwnerActs}
-use Rattle.bsc_line_model.specs.Runs.{Carries, CarriesAs, CarriesEachAs, PassesSilence, IsFromTerminal, IsFromControl}
+use Rattle.bsc_line_model.specs.Carries.{IsCarriedDown, IsCarriedUp, IsCarriedBy, TerminalActsAlone}
+use Rattle.bsc_line_model.specs.Carries.{OwnerActs}
+use Rattle.bsc_line_model.specs.Runs.{Carries, CarriesAs, CarriesEachAs, PassesSilence}
+use Rattle.bsc_line_model.specs.Runs.{IsFromTerminal, IsFromControl}
 use Rattle.bsc_line_model.proofs.Carrying.{is_terminal}
 use Rattle.bsc_line_model.specs.Kept.{AreStations}
 
@@ -42,12 +47,16 @@ true_of_both true false r e x y = absurd (cc)
 true_of_both false b r e x y = absurd (cc)
 
 -- the flag that is kept is the one that is told
-pub trust_after : (a b r : Bool) (fair : Type 0) → r ≡ (a && b) → (IsTrue b ↔ fair) → IsTrustAfter a fair r
-trust_after a b r fair e f =
-    (λ h. let both : IsTrue a × IsTrue b = both_true a b r e h in (both.0, f.0 both.1), λ h. true_of_both a b r e h.0 (f.1 h.1))
+pub trust_after : (a b r : Bool) (fair : Type 0) → r ≡ (a && b) → (IsTrue b ↔ fair)
+    → IsTrustAfter a fair r
+trust_after a b r fair e f = (
+  λ h. let both : IsTrue a × IsTrue b = both_true a b r e h in (both.0, f.0 both.1),
+  λ h. true_of_both a b r e h.0 (f.1 h.1),
+)
 
 -- what is said of it where something is sent
-pub of_some : (P : Transmission → Type 0) (o : Option Transmission) (s : Transmission) → IfSome o P → o ≡ Some s → P s
+pub of_some : (P : Transmission → Type 0) (o : Option Transmission) (s : Transmission) → IfSome o P
+    → o ≡ Some s → P s
 of_some P o s h e = subst (λ (z : Option Transmission). IfSome z P) e h
 
 -- there is a terminal
@@ -55,27 +64,49 @@ pub some_terminal : (c : ControlValue) (ts : List TributaryValue) → AreStation
 some_terminal c ts s = let some : 1 ≤ length c.peers = s.control.some in omega (arith, s.count)
 
 -- who sent what is on the line
-sent_of : (Q : Type 0) (o : Option Transmission) (speaker : Speaker) → speaker_of o ≡ Some speaker → ((s : Transmission) → o ≡ Some s → s.speaker ≡ speaker → Q) → Q
+sent_of : (Q : Type 0) (o : Option Transmission) (speaker : Speaker) → speaker_of o ≡ Some speaker
+    → ((s : Transmission) → o ≡ Some s → s.speaker ≡ speaker → Q) → Q
 sent_of Q None speaker is f = absurd (cc)
 sent_of Q (Some s) speaker is f = f s refl (let same : s.speaker ≡ speaker = cc in same)
 
-pub from_terminal : (l : LineValue) (t : ℕ) → speaker_of l.pending ≡ Some (Terminal t) → IsFromTerminal l
-from_terminal l t is = sent_of (IsFromTerminal l) l.pending (Terminal t) is (λ s e speaker. record { sent = s; pending = e; speaker = λ control. cc })
+pub from_terminal : (l : LineValue) (t : ℕ) → speaker_of l.pending ≡ Some (Terminal t)
+    → IsFromTerminal l
+from_terminal l t is =
+    sent_of (IsFromTerminal l) l.pending (Terminal t) is
+    (λ s e speaker. record { sent = s; pending = e; speaker = λ control. cc })
 
 pub from_control : (l : LineValue) → speaker_of l.pending ≡ Some Control → IsFromControl l
-from_control l is = sent_of (IsFromControl l) l.pending Control is (λ s e speaker. record { sent = s; pending = e; speaker = speaker })
+from_control l is =
+    sent_of (IsFromControl l) l.pending Control is
+    (λ s e speaker. record { sent = s; pending = e; speaker = speaker })
 
 -- what is on the line is heard so by all terminals
-pub carries_down : (hear : Transmission → Heard) (l new : LineValue) → speaker_of l.pending ≡ Some Control → ((s : Transmission) → l.pending ≡ Some s → IsCarriedDown s.message (λ t. hear s) l new) → CarriesAs hear l new
+pub carries_down : (hear : Transmission → Heard) (l new : LineValue) → speaker_of l.pending
+    ≡ Some Control
+    → ((s : Transmission) → l.pending ≡ Some s → IsCarriedDown s.message (λ t. hear s) l new)
+    → CarriesAs hear l new
 carries_down hear l new is f =
     sent_of (CarriesAs hear l new) l.pending Control is
-    (λ s e speaker. record { sent = s; pending = e; carried = subst (λ (p : Speaker). IsCarriedBy p s.message (hear s) l new) (sym speaker) (f s e) })
+    (λ s e speaker. record {
+      sent = s;
+      pending = e;
+      carried =
+          subst (λ (p : Speaker). IsCarriedBy p s.message (hear s) l new) (sym speaker) (f s e);
+    })
 
 -- or by the control station
-pub carries_up : (hear : Transmission → Heard) (l new : LineValue) (t : ℕ) → speaker_of l.pending ≡ Some (Terminal t) → ((s : Transmission) → l.pending ≡ Some s → IsCarriedUp s.message (hear s) l new) → CarriesAs hear l new
+pub carries_up : (hear : Transmission → Heard) (l new : LineValue) (t : ℕ) → speaker_of l.pending
+    ≡ Some (Terminal t)
+    → ((s : Transmission) → l.pending ≡ Some s → IsCarriedUp s.message (hear s) l new)
+    → CarriesAs hear l new
 carries_up hear l new t is f =
     sent_of (CarriesAs hear l new) l.pending (Terminal t) is
-    (λ s e speaker. record { sent = s; pending = e; carried = subst (λ (p : Speaker). IsCarriedBy p s.message (hear s) l new) (sym speaker) (f s e) })
+    (λ s e speaker. record {
+      sent = s;
+      pending = e;
+      carried =
+          subst (λ (p : Speaker). IsCarriedBy p s.message (hear s) l new) (sym speaker) (f s e);
+    })
 
 -- nothing is on the line
 pub none_of : (o : Option Transmission) → is_some o ≡ false → o ≡ None
@@ -83,13 +114,28 @@ none_of None e = refl
 none_of (Some s) e = absurd (cc)
 
 -- the owner of the line has acted on a silence
-pub passes_silence : (l new : LineValue) (owner : Option ℕ) → is_some l.pending ≡ false → owner ≡ line_owner l.terminals → OwnerActs owner l new → PassesSilence l new
-passes_silence l new owner none is acts = record { nothing = none_of l.pending none; acts = subst (λ (o : Option ℕ). OwnerActs o l new) is acts }
+pub passes_silence : (l new : LineValue) (owner : Option ℕ) → is_some l.pending ≡ false → owner
+    ≡ line_owner l.terminals → OwnerActs owner l new → PassesSilence l new
+passes_silence l new owner none is acts =
+    record {
+      nothing = none_of l.pending none;
+      acts =
+          subst (λ (o : Option ℕ). OwnerActs o l new) is acts;
+    }
 
 -- what is on the line is heard alike by either reading
-pub carries_same : (f g : Transmission → Heard) (l : LineValue) (result : Result (Unit {0}) LineError) (new : LineValue) → ((s : Transmission) → l.pending ≡ Some s → f s ≡ g s) → Carries f l result new → Carries g l result new
+pub carries_same : (f g : Transmission → Heard) (l : LineValue)
+    (result : Result (Unit {0}) LineError) (new : LineValue)
+    → ((s : Transmission) → l.pending ≡ Some s → f s ≡ g s) → Carries f l result new
+    → Carries g l result new
 carries_same f g l (Ok done) new same h =
-    record { sent = h.sent; pending = h.pending; carried = subst (λ (x : Heard). IsCarriedBy h.sent.speaker h.sent.message x l new) (same h.sent h.pending) h.carried }
+    record {
+      sent = h.sent;
+      pending = h.pending;
+      carried =
+          subst (λ (x : Heard). IsCarriedBy h.sent.speaker h.sent.message x l new)
+          (same h.sent h.pending) h.carried;
+    }
 carries_same f g l (Err e.NothingSent) new same h = h
 carries_same f g l (Err e.NotControl) new same h = h
 carries_same f g l (Err e.WrongCount) new same h = h
@@ -102,9 +148,20 @@ carries_same f g l (Err e.NotInDoubt) new same h = h
 carries_same f g l (Err e.CountMismatch) new same h = h
 
 -- each terminal hears its item
-pub carries_each : (l new : LineValue) (items : List (Option (Bor (List ℕ)))) → speaker_of l.pending ≡ Some Control → length items ≡ terminal_count l → ((s : Transmission) → l.pending ≡ Some s → IsCarriedDown s.message (heard_at items) l new) → CarriesEachAs items l new
+pub carries_each : (l new : LineValue) (items : List (Option (Bor (List ℕ)))) → speaker_of l.pending
+    ≡ Some Control → length items ≡ terminal_count l
+    → ((s : Transmission) → l.pending ≡ Some s → IsCarriedDown s.message (heard_at items) l new)
+    → CarriesEachAs items l new
 carries_each l new items is count f =
-    sent_of (CarriesEachAs items l new) l.pending Control is (λ s e speaker. record { sent = s; pending = e; control = speaker; count = count; carried = f s e })
+    sent_of (CarriesEachAs items l new) l.pending Control is
+    (λ s e speaker. record {
+      sent = s;
+      pending = e;
+      control = speaker;
+      count = count;
+      carried =
+          f s e;
+    })
 
 -- what is heard as it was sent is heard fairly
 whole_fair : (w : Message) (n : ℕ) → IsHeardFairly w n (λ t. Whole w)
@@ -123,8 +180,12 @@ pub trust_stays : (trusted : Bool) (fair : Type 0) → fair → IsTrustAfter tru
 trust_stays trusted fair f = (λ h. (h, f), λ h. h.0)
 
 -- all terminals hear what was sent
-pub carried_whole : (w : Message) (h : Heard) (old new : LineValue) → h ≡ Whole w → new.control ≡ old.control → EachHears old.terminals (λ t. h) new.terminals → EachKeeps old.terminals (λ t. h) new.terminals →
-    new.pending ≡ first_answer old.terminals (λ t. h) new.terminals (terminal_count old) → IsAddressedAfter (addresses_of old.control) (terminal_count old) (λ t. h) old.addressed new.addressed → new.trusted ≡ old.trusted →
+pub carried_whole : (w : Message) (h : Heard) (old new : LineValue) → h ≡ Whole w → new.control
+    ≡ old.control → EachHears old.terminals (λ t. h) new.terminals
+    → EachKeeps old.terminals (λ t. h) new.terminals →
+    new.pending ≡ first_answer old.terminals (λ t. h) new.terminals (terminal_count old)
+    → IsAddressedAfter (addresses_of old.control) (terminal_count old) (λ t. h) old.addressed
+    new.addressed → new.trusted ≡ old.trusted →
     IsCarriedDown w (λ t. Whole w) old new
 carried_whole w h old new is control each kept pending addressed trusted =
     subst (λ (x : Heard). IsCarriedDown w (λ t. x) old new) is
@@ -134,13 +195,20 @@ carried_whole w h old new is control each kept pending addressed trusted =
       kept = kept;
       pending = pending;
       addressed = addressed;
-      trusted = subst (λ (b : Bool). IsTrustAfter old.trusted (IsHeardFairly w (terminal_count old) (λ t. h)) b) (sym trusted)
-          (trust_stays old.trusted (IsHeardFairly w (terminal_count old) (λ t. h)) (subst (λ (x : Heard). IsHeardFairly w (terminal_count old) (λ t. x)) (sym is) (whole_fair w (terminal_count old))));
+      trusted =
+          subst (λ (b : Bool). IsTrustAfter old.trusted
+          (IsHeardFairly w (terminal_count old) (λ t. h)) b) (sym trusted)
+          (trust_stays old.trusted (IsHeardFairly w (terminal_count old) (λ t. h))
+          (subst (λ (x : Heard). IsHeardFairly w (terminal_count old) (λ t. x)) (sym is)
+          (whole_fair w (terminal_count old))));
     })
 
 -- the control station hears what was sent
-pub carried_up_whole : (w : Message) (h : Heard) (old new : LineValue) (sent : Option Message) → h ≡ Whole w → ControlHears old.control h new.control sent → ControlAfter old.control h new.control sent → new.terminals ≡ old.terminals →
-    new.pending ≡ sent_by Control sent → new.addressed ≡ old.addressed → new.trusted ≡ old.trusted → IsCarriedUp w (Whole w) old new
+pub carried_up_whole : (w : Message) (h : Heard) (old new : LineValue) (sent : Option Message) → h
+    ≡ Whole w → ControlHears old.control h new.control sent
+    → ControlAfter old.control h new.control sent → new.terminals ≡ old.terminals →
+    new.pending ≡ sent_by Control sent → new.addressed ≡ old.addressed → new.trusted ≡ old.trusted
+    → IsCarriedUp w (Whole w) old new
 carried_up_whole w h old new sent is row kept terminals pending addressed trusted =
     subst (λ (x : Heard). IsCarriedUp w x old new) is
     (record {
@@ -151,38 +219,57 @@ carried_up_whole w h old new sent is row kept terminals pending addressed truste
       pending = pending;
       addressed = addressed;
       trusted = subst (λ (b : Bool). IsTrustAfter old.trusted (IsFairlyHeard w h) b) (sym trusted)
-          (trust_stays old.trusted (IsFairlyHeard w h) (subst (λ (x : Heard). IsFairlyHeard w x) (sym is) (inl refl)));
+          (trust_stays old.trusted (IsFairlyHeard w h)
+          (subst (λ (x : Heard). IsFairlyHeard w x) (sym is) (inl refl)));
     })
 
 -- octets that are those of what is on the line are heard as it was sent
-pub heard_whole : (sent : Option Transmission) (wired : List ℕ) (octets : Option (List ℕ)) (s : Transmission) → IsOnWire sent wired → sent ≡ Some s → octets ≡ Some wired →
-    ((w : Message) → IsMessage w → Spells (wire w) w) → ((xs : List ℕ) (w : Message) → (heard xs ≡ Whole w) ↔ Spells xs w) → Whole s.message ≡ heard_in octets
+pub heard_whole : (sent : Option Transmission) (wired : List ℕ) (octets : Option (List ℕ))
+    (s : Transmission) → IsOnWire sent wired → sent ≡ Some s → octets ≡ Some wired →
+    ((w : Message) → IsMessage w → Spells (wire w) w)
+    → ((xs : List ℕ) (w : Message) → (heard xs ≡ Whole w) ↔ Spells xs w) → Whole s.message
+    ≡ heard_in octets
 unfolding heard_in
 heard_whole sent wired octets s on is same spelled read =
-    let told : (wired ≡ wire s.message) × IsMessage s.message = subst (λ (o : Option Transmission). IsOnWire o wired) is on in
-    let whole : heard wired ≡ Whole s.message = (read wired s.message).1 (subst (λ (xs : List ℕ). Spells xs s.message) (sym told.0) (spelled s.message told.1)) in
+    let told : (wired ≡ wire s.message) × IsMessage s.message =
+    subst (λ (o : Option Transmission). IsOnWire o wired) is on in
+    let whole : heard wired ≡ Whole s.message =
+    (read wired s.message).1 (subst (λ (xs : List ℕ). Spells xs s.message) (sym told.0)
+    (spelled s.message told.1)) in
     sym (ap heard_in same ∙ whole)
 
 -- what is heard is as it was read
-pub carries_heard : (h k : Heard) (l : LineValue) (result : Result (Unit {0}) LineError) (new : LineValue) → h ≡ k → Carries (λ (s : Transmission). h) l result new → Carries (λ (s : Transmission). k) l result new
-carries_heard h k l result new same c = subst (λ (x : Heard). Carries (λ (s : Transmission). x) l result new) same c
+pub carries_heard : (h k : Heard) (l : LineValue) (result : Result (Unit {0}) LineError)
+    (new : LineValue) → h ≡ k → Carries (λ (s : Transmission). h) l result new
+    → Carries (λ (s : Transmission). k) l result new
+carries_heard h k l result new same c =
+    subst (λ (x : Heard). Carries (λ (s : Transmission). x) l result new) same c
 
 -- a terminal has acted
-pub acted_at : (l : LineValue) (t : ℕ) (x u : TributaryValue) (sent : Option Message) (next : Option Transmission) → t < terminal_count l → x ≡ get_or l.terminals t x → TerminalActs x u sent → TerminalKeeps x u sent → next ≡ sent_by (Terminal t) sent →
+pub acted_at : (l : LineValue) (t : ℕ) (x u : TributaryValue) (sent : Option Message)
+    (next : Option Transmission) → t < terminal_count l → x ≡ get_or l.terminals t x
+    → TerminalActs x u sent → TerminalKeeps x u sent → next ≡ sent_by (Terminal t) sent →
     TerminalActsAlone t l (record (with_terminal l t u) { pending = next })
 acted_at l t x u sent next less is row kept made =
     let here : x ≡ terminal_at l t = sym (is_terminal l.terminals t x less is) in
-    let there : u ≡ terminal_in (slice_set l.terminals t u) t = sym (get_or-set_same l.terminals t u no_terminal less) in
+    let there : u ≡ terminal_in (slice_set l.terminals t u) t =
+    sym (get_or-set_same l.terminals t u no_terminal less) in
     record {
       sent = sent;
       there = less;
-      row = subst (λ (y : TributaryValue). TerminalActs (terminal_at l t) y sent) there (subst (λ (y : TributaryValue). TerminalActs y u sent) here row);
-      kept = subst (λ (y : TributaryValue). TerminalKeeps (terminal_at l t) y sent) there (subst (λ (y : TributaryValue). TerminalKeeps y u sent) here kept);
+      row =
+          subst (λ (y : TributaryValue). TerminalActs (terminal_at l t) y sent) there
+          (subst (λ (y : TributaryValue). TerminalActs y u sent) here row);
+      kept =
+          subst (λ (y : TributaryValue). TerminalKeeps (terminal_at l t) y sent) there
+          (subst (λ (y : TributaryValue). TerminalKeeps y u sent) here kept);
       becomes = ap (λ (o : Option Transmission). record (with_terminal l t u) { pending = o }) made
-          ∙ ap (λ (y : TributaryValue). record (with_terminal l t y) { pending = sent_by (Terminal t) sent }) there;
+          ∙ ap (λ (y : TributaryValue). record (with_terminal l t y)
+          { pending = sent_by (Terminal t) sent }) there;
     }
 
 -- what is on the line keeps the limits of a message
-pub on_wire_within : (sent : Option Transmission) (octets : List ℕ) → IsOnWire sent octets → IfSome sent (λ (s : Transmission). IsMessage s.message)
+pub on_wire_within : (sent : Option Transmission) (octets : List ℕ) → IsOnWire sent octets
+    → IfSome sent (λ (s : Transmission). IsMessage s.message)
 on_wire_within None octets on = tt
 on_wire_within (Some s) octets on = on.1

@@ -1,5 +1,6 @@
 -- The channel that is addressed after the control station's transmission.
-use Rattle.std.proofs.Common.{◌≡◌, ◌↔◌, ℕ, ◌<◌, Bool, false, IsTrue, List, Option, Some, None, refl, sym, ◌∙◌, ap, subst}
+use Rattle.std.proofs.Common.{◌≡◌, ◌↔◌, ℕ, ◌<◌, Bool, false, IsTrue, List, Option, Some, None, refl}
+use Rattle.std.proofs.Common.{sym, ◌∙◌, ap, subst}
 use Rattle.bsc_frame.specs.declared.message.Message.TheVariants as m
 use Rattle.bsc_frame.specs.declared.message.Heard.{Heard}
 use Rattle.bsc_frame.specs.declared.message.Heard.TheVariants.{Whole}
@@ -11,7 +12,10 @@ use Rattle.bsc_line_model.specs.Trust.{AllHear, IsAddressedAfter}
 use Rattle.bsc_line.specs.Naming.{named_in}
 
 -- all hear a call
-pub addressed_call : (ts : List TerminalValue) (n : ℕ) (hears : ℕ → Heard) (old new : Option (ℕ × Way)) (a : List ℕ) → 0 < n → AllHear n hears (m.Call a) → ((t : ℕ) (way : Way) → (new ≡ Some (t, way)) ↔ IsAddressOf ts t way a) → IsAddressedAfter ts n hears old new
+pub addressed_call : (ts : List TerminalValue) (n : ℕ) (hears : ℕ → Heard)
+    (old new : Option (ℕ × Way)) (a : List ℕ) → 0 < n → AllHear n hears (m.Call a)
+    → ((t : ℕ) (way : Way) → (new ≡ Some (t, way)) ↔ IsAddressOf ts t way a)
+    → IsAddressedAfter ts n hears old new
 addressed_call ts n hears old new a some all exact =
     let here : hears 0 ≡ Whole (m.Call a) = all 0 some in
     record {
@@ -24,7 +28,8 @@ addressed_call ts n hears old new a some all exact =
     }
 
 -- all hear EOT
-pub addressed_nobody : (ts : List TerminalValue) (n : ℕ) (hears : ℕ → Heard) (old : Option (ℕ × Way)) → 0 < n → AllHear n hears m.Eot → IsAddressedAfter ts n hears old None
+pub addressed_nobody : (ts : List TerminalValue) (n : ℕ) (hears : ℕ → Heard)
+    (old : Option (ℕ × Way)) → 0 < n → AllHear n hears m.Eot → IsAddressedAfter ts n hears old None
 addressed_nobody ts n hears old some all =
     let here : hears 0 ≡ Whole m.Eot = all 0 some in
     record {
@@ -34,12 +39,21 @@ addressed_nobody ts n hears old some all =
     }
 
 -- neither
-pub still_addressed : (ts : List TerminalValue) (n : ℕ) (hears : ℕ → Heard) (old : Option (ℕ × Way)) → ((a : List ℕ) → AllHear n hears (m.Call a) → ⊥) → (AllHear n hears m.Eot → ⊥) → IsAddressedAfter ts n hears old old
+pub still_addressed : (ts : List TerminalValue) (n : ℕ) (hears : ℕ → Heard) (old : Option (ℕ × Way))
+    → ((a : List ℕ) → AllHear n hears (m.Call a) → ⊥) → (AllHear n hears m.Eot → ⊥)
+    → IsAddressedAfter ts n hears old old
 still_addressed ts n hears old f g =
-    record { called = λ z each. absurd (f z each); ended = λ each. absurd (g each); other = λ f g. refl }
+    record {
+      called = λ z each. absurd (f z each);
+      ended = λ each. absurd (g each);
+      other =
+          λ f g. refl;
+    }
 
 -- the first hears a call that not all hear
-pub other_call : (ts : List TerminalValue) (n : ℕ) (hears : ℕ → Heard) (old : Option (ℕ × Way)) (a : List ℕ) (all : Bool) → 0 < n → Address a ≡ named_in (hears 0) → all ≡ false → (IsTrue all ↔ AllHear n hears (m.Call a)) → IsAddressedAfter ts n hears old old
+pub other_call : (ts : List TerminalValue) (n : ℕ) (hears : ℕ → Heard) (old : Option (ℕ × Way))
+    (a : List ℕ) (all : Bool) → 0 < n → Address a ≡ named_in (hears 0) → all ≡ false
+    → (IsTrue all ↔ AllHear n hears (m.Call a)) → IsAddressedAfter ts n hears old old
 other_call ts n hears old a all some first not told =
     still_addressed ts n hears old
     (λ z each.
@@ -51,14 +65,17 @@ other_call ts n hears old a all some first not told =
     (λ each. let there : Address a ≡ Nobody = first ∙ ap named_in (each 0 some) in cc)
 
 -- the first hears an EOT that not all hear
-pub other_eot : (ts : List TerminalValue) (n : ℕ) (hears : ℕ → Heard) (old : Option (ℕ × Way)) (all : Bool) → 0 < n → Nobody ≡ named_in (hears 0) → all ≡ false → (IsTrue all ↔ AllHear n hears m.Eot) → IsAddressedAfter ts n hears old old
+pub other_eot : (ts : List TerminalValue) (n : ℕ) (hears : ℕ → Heard) (old : Option (ℕ × Way))
+    (all : Bool) → 0 < n → Nobody ≡ named_in (hears 0) → all ≡ false
+    → (IsTrue all ↔ AllHear n hears m.Eot) → IsAddressedAfter ts n hears old old
 other_eot ts n hears old all some first not told =
     still_addressed ts n hears old
     (λ z each. let there : Nobody ≡ Address z = first ∙ ap named_in (each 0 some) in cc)
     (λ each. let yet : IsTrue all = told.1 each in cc)
 
 -- the first hears neither
-pub other_heard : (ts : List TerminalValue) (n : ℕ) (hears : ℕ → Heard) (old : Option (ℕ × Way)) → 0 < n → Nothing ≡ named_in (hears 0) → IsAddressedAfter ts n hears old old
+pub other_heard : (ts : List TerminalValue) (n : ℕ) (hears : ℕ → Heard) (old : Option (ℕ × Way)) → 0
+    < n → Nothing ≡ named_in (hears 0) → IsAddressedAfter ts n hears old old
 other_heard ts n hears old some first =
     still_addressed ts n hears old
     (λ z each. let there : Nothing ≡ Address z = first ∙ ap named_in (each 0 some) in cc)
@@ -66,7 +83,8 @@ other_heard ts n hears old some first =
 
 -- what names an address is its call
 pub named_address : (h : Heard) (a : List ℕ) → Address a ≡ named_in h → h ≡ Whole (m.Call a)
-named_address (Whole (m.Call z)) a e = let same : a ≡ z = cc in ap (λ (y : List ℕ). Whole (m.Call y)) (sym same)
+named_address (Whole (m.Call z)) a e = let same : a ≡ z = cc in
+    ap (λ (y : List ℕ). Whole (m.Call y)) (sym same)
 named_address (Whole m.Eot) a e = absurd (cc)
 named_address _ a e = absurd (cc)
 

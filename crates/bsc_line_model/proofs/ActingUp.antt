@@ -1,5 +1,6 @@
 -- A terminal does what its sender's act says, in a poll: its bid goes on, or is over.
-use Rattle.std.proofs.Common.{◌≡◌, ◌≢◌, ◌⊎◌, inl, inr, ℕ, ◌<◌, List, length, Option, None, Some, refl, sym, subst}
+use Rattle.std.proofs.Common.{◌≡◌, ◌≢◌, ◌⊎◌, inl, inr, ℕ, ◌<◌, List, length, Option, None, Some}
+use Rattle.std.proofs.Common.{refl, sym, subst}
 use Rattle.bsc_frame.specs.declared.message.Message.{Message}
 use Rattle.bsc_frame.specs.declared.message.Message.TheVariants as m
 use Rattle.bsc_text.specs.Act.{Act}
@@ -16,7 +17,8 @@ use Rattle.bsc_control.specs.declared.task.Replied.{Replied}
 use Rattle.bsc_control.specs.Peer.{PeerValue}
 use Rattle.bsc_line_model.specs.declared.transmission.Speaker.TheVariants as sp
 use Rattle.bsc_line_model.specs.Transmission.{sent_by}
-use Rattle.bsc_line_model.specs.Together.{IsQuiet, RestsDown, IsInBidUp, AllInControlMode, IsPolledWith}
+use Rattle.bsc_line_model.specs.Together.{IsQuiet, RestsDown, IsInBidUp, AllInControlMode}
+use Rattle.bsc_line_model.specs.Together.{IsPolledWith}
 use Rattle.bsc_line_model.specs.BidLaws.{BidLaws}
 use Rattle.bsc_line_model.proofs.SendingUp.{rests, stays}
 
@@ -26,28 +28,40 @@ IsEndedUp out mode = (out ≡ None) ⊎ ((out ≡ Some m.Eot) × (mode ≡ Contr
 
 -- no bid of it goes on, or one does
 abbrev pub HasActedUp : PeerValue → ℕ → TributaryValue → Option Message → Type 0
-HasActedUp p e u out = (IsQuiet p u × IsEndedUp out u.mode) ⊎ IsInBidUp (sent_by (sp.Terminal e) out) p e u
+HasActedUp p e u out = (IsQuiet p u × IsEndedUp out u.mode)
+    ⊎ IsInBidUp (sent_by (sp.Terminal e) out) p e u
 
 -- what a step of its sender leaves
 pub record StepsUp (p : PeerValue) (x : TributaryValue) (step : SenderStep) : Type 0 where
   pub down : (k : ℕ) → k < length p.outbounds → RestsDown p x k
-  pub continues : Continues step.sender.phase step.queue p.receiver.alternation p.receiver.last p.spool.records (sent_flight step.act)
+  pub continues : Continues step.sender.phase step.queue p.receiver.alternation p.receiver.last
+      p.spool.records (sent_flight step.act)
   pub ended : IsEnded step.act step.sender.phase
 
 -- a sender that kept quiet was in a bid while the terminal sends, else at rest
 abbrev pub KeptQuiet : Mode → Phase → Type 0
 KeptQuiet mode phase = ((mode ≡ Sending) × IsGoing phase) ⊎ ((mode ≢ Sending) × IsAtRest phase)
 
-pub acts_up : (laws : BidLaws) (p : PeerValue) (e : ℕ) (x : TributaryValue) (step : SenderStep) (act : Act) → step.act ≡ act → StepsUp p x step → (act ≡ a.Quiet → KeptQuiet x.mode step.sender.phase) →
-    HasActedUp p e (record x { mode = mode_after act x.mode; sender = step.sender; queue = step.queue }) (message_of_act act)
+pub acts_up : (laws : BidLaws) (p : PeerValue) (e : ℕ) (x : TributaryValue) (step : SenderStep)
+    (act : Act) → step.act ≡ act → StepsUp p x step
+    → (act ≡ a.Quiet → KeptQuiet x.mode step.sender.phase) →
+    HasActedUp p e (record x {
+      mode = mode_after act x.mode;
+      sender = step.sender;
+      queue =
+          step.queue;
+    }) (message_of_act act)
 acts_up laws p e x step (a.Send text) is h kept =
     inr (record {
       mode = refl;
       down = h.down;
       flight = Outward (m.Text text);
       flies = (refl, refl);
-      bid = laws.goes_on step.sender.phase step.queue p.receiver.alternation p.receiver.last p.spool.records (m.Text text)
-          (subst (λ (z : Act). Continues step.sender.phase step.queue p.receiver.alternation p.receiver.last p.spool.records (sent_flight z)) is h.continues);
+      bid =
+          laws.goes_on step.sender.phase step.queue p.receiver.alternation p.receiver.last
+          p.spool.records (m.Text text)
+          (subst (λ (z : Act). Continues step.sender.phase step.queue p.receiver.alternation
+          p.receiver.last p.spool.records (sent_flight z)) is h.continues);
     })
 acts_up laws p e x step a.Enq is h kept =
     inr (record {
@@ -55,13 +69,22 @@ acts_up laws p e x step a.Enq is h kept =
       down = h.down;
       flight = Outward m.Enq;
       flies = (refl, refl);
-      bid = laws.goes_on step.sender.phase step.queue p.receiver.alternation p.receiver.last p.spool.records m.Enq
-          (subst (λ (z : Act). Continues step.sender.phase step.queue p.receiver.alternation p.receiver.last p.spool.records (sent_flight z)) is h.continues);
+      bid =
+          laws.goes_on step.sender.phase step.queue p.receiver.alternation p.receiver.last
+          p.spool.records m.Enq
+          (subst (λ (z : Act). Continues step.sender.phase step.queue p.receiver.alternation
+          p.receiver.last p.spool.records (sent_flight z)) is h.continues);
     })
 acts_up laws p e x step a.Over is h kept =
-    let at_rest : IsAtRest step.sender.phase = subst (λ (z : Act). IsEnded z step.sender.phase) is h.ended in
+    let at_rest : IsAtRest step.sender.phase =
+    subst (λ (z : Act). IsEnded z step.sender.phase) is h.ended in
     inl (
-      record { mode = λ sends. cc; up = rests step.sender.phase step.queue _ _ _ _ at_rest h.continues; down = h.down },
+      record {
+        mode = λ sends. cc;
+        up =
+            rests step.sender.phase step.queue _ _ _ _ at_rest h.continues;
+        down = h.down;
+      },
       inr (refl, refl),
     )
 acts_up laws p e x step a.Quiet is h kept =
@@ -72,22 +95,39 @@ acts_up laws p e x step a.Quiet is h kept =
             down = h.down;
             flight = Still;
             flies = refl;
-            bid = stays step.sender.phase step.queue p.receiver.alternation p.receiver.last p.spool.records Still k.1
-                (subst (λ (z : Act). Continues step.sender.phase step.queue p.receiver.alternation p.receiver.last p.spool.records (sent_flight z)) is h.continues);
+            bid =
+                stays step.sender.phase step.queue p.receiver.alternation p.receiver.last
+                p.spool.records Still k.1
+                (subst (λ (z : Act). Continues step.sender.phase step.queue p.receiver.alternation
+                p.receiver.last p.spool.records (sent_flight z)) is h.continues);
           })
       | inr k ↦
           inl (
-            record { mode = k.0; up = rests step.sender.phase step.queue _ _ _ _ k.1 h.continues; down = h.down },
+            record {
+              mode = k.0;
+              up = rests step.sender.phase step.queue _ _ _ _ k.1 h.continues;
+              down = h.down;
+            },
             inl refl,
           )
     ]
 
 -- what is then on the line, in the poll
-ended_with : (p : PeerValue) (e : ℕ) (mode : Mode) (out : Option Message) (replied : Replied) (ts : List TributaryValue) → IsEndedUp out mode → (mode ≡ Control → AllInControlMode ts) → IsPolledWith (sent_by (sp.Terminal e) out) replied p e ts
-ended_with p e mode out replied ts (inl nothing) all = subst (λ (o : Option Message). IsPolledWith (sent_by (sp.Terminal e) o) replied p e ts) (sym nothing) tt
-ended_with p e mode out replied ts (inr eot) all = subst (λ (o : Option Message). IsPolledWith (sent_by (sp.Terminal e) o) replied p e ts) (sym eot.0) (refl, refl, all eot.1)
+ended_with : (p : PeerValue) (e : ℕ) (mode : Mode) (out : Option Message) (replied : Replied)
+    (ts : List TributaryValue) → IsEndedUp out mode → (mode ≡ Control → AllInControlMode ts)
+    → IsPolledWith (sent_by (sp.Terminal e) out) replied p e ts
+ended_with p e mode out replied ts (inl nothing) all =
+    subst (λ (o : Option Message). IsPolledWith (sent_by (sp.Terminal e) o) replied p e ts)
+    (sym nothing) tt
+ended_with p e mode out replied ts (inr eot) all =
+    subst (λ (o : Option Message). IsPolledWith (sent_by (sp.Terminal e) o) replied p e ts)
+    (sym eot.0) (refl, refl, all eot.1)
 
-pub present_after : (p : PeerValue) (e : ℕ) (u : TributaryValue) (out : Option Message) (replied : Replied) (ts : List TributaryValue) → HasActedUp p e u out → (u.mode ≡ Control → AllInControlMode ts) →
-    (IsQuiet p u × IsPolledWith (sent_by (sp.Terminal e) out) replied p e ts) ⊎ IsInBidUp (sent_by (sp.Terminal e) out) p e u
-present_after p e u out replied ts (inl h) all = inl (h.0, ended_with p e u.mode out replied ts h.1 all)
+pub present_after : (p : PeerValue) (e : ℕ) (u : TributaryValue) (out : Option Message)
+    (replied : Replied) (ts : List TributaryValue) → HasActedUp p e u out
+    → (u.mode ≡ Control → AllInControlMode ts) →
+    (IsQuiet p u × IsPolledWith (sent_by (sp.Terminal e) out) replied p e ts)
+    ⊎ IsInBidUp (sent_by (sp.Terminal e) out) p e u
+present_after p e u out replied ts (inl h) all =
+    inl (h.0, ended_with p e u.mode out replied ts h.1 all)
 present_after p e u out replied ts (inr h) all = inr h

@@ -1,5 +1,6 @@
 -- The control station's transmission is heard fairly by the terminals, in each of its tasks.
-use Rattle.std.proofs.Common.{◌≡◌, inl, inr, ℕ, ◌<◌, true, false, List, length, Option, None, Some, refl, sym, ◌∙◌, ap, subst}
+use Rattle.std.proofs.Common.{◌≡◌, inl, inr, ℕ, ◌<◌, true, false, List, length, Option, None, Some}
+use Rattle.std.proofs.Common.{refl, sym, ◌∙◌, ap, subst}
 use Rattle.bsc_frame.specs.declared.message.Message.{Message}
 use Rattle.bsc_frame.specs.declared.message.Message.TheVariants as m
 use Rattle.bsc_frame.specs.declared.message.Heard.{Heard}
@@ -26,7 +27,8 @@ use Rattle.bsc_line_model.specs.BidLaws.{BidLaws}
 use Rattle.bsc_line_model.proofs.Entries.{places, current_there}
 use Rattle.bsc_line_model.proofs.Tuning.{NamesOwn, each_fairly}
 use Rattle.bsc_line_model.proofs.SendingDown.{IsBidMessage, sends_down}
-use Rattle.bsc_line_model.proofs.CallsHeard.{selecting_missed, polling_missed, selecting_heard, polling_heard, with_others}
+use Rattle.bsc_line_model.proofs.CallsHeard.{selecting_missed, polling_missed, selecting_heard}
+use Rattle.bsc_line_model.proofs.CallsHeard.{polling_heard, with_others}
 use Rattle.bsc_line_model.proofs.RepliesHeard.{polling_replied, selecting_enquired}
 
 bid_no_call : (w : Message) → IsBidMessage w → is_call w ≡ false
@@ -49,31 +51,48 @@ reply_is_no_call Wack = refl
 reply_is_no_call Rvi = refl
 
 -- The terminals hear the control station: they and what answers go together with it.
-pub hears_down : (names : NamesOwn) (laws : BidLaws) (c : ControlValue) (old : List TributaryValue) (before after : Option (ℕ × Way)) (w : Message) (hears : ℕ → Heard) (new : List TributaryValue) → AreStations c old → AreTuned before old →
-    InTask c.task (Some (record { speaker = sp.Control; message = w })) c old → IsHeardFairly w (length old) hears → IsAddressedAfter (terminals c) (length old) hears before after → EachHears old hears new → EachKeeps old hears new →
+pub hears_down : (names : NamesOwn) (laws : BidLaws) (c : ControlValue) (old : List TributaryValue)
+    (before after : Option (ℕ × Way)) (w : Message) (hears : ℕ → Heard) (new : List TributaryValue)
+    → AreStations c old → AreTuned before old →
+    InTask c.task (Some (record { speaker = sp.Control; message = w })) c old
+    → IsHeardFairly w (length old) hears
+    → IsAddressedAfter (terminals c) (length old) hears before after → EachHears old hears new
+    → EachKeeps old hears new →
     InTask c.task (first_answer old hears new (length old)) c new
-hears_down names laws c old before after w hears new stations tuned together fair addressed each keeps = by_task c.task refl together
+hears_down names laws c old before after w hears new stations tuned together fair addressed each
+    keeps = by_task c.task refl together
   where
     there : current c < length old
-    there = subst (λ (n : ℕ). current c < n) stations.count (current_there c (places c stations.control.entries))
+    there =
+        subst (λ (n : ℕ). current c < n) stations.count
+        (current_there c (places c stations.control.entries))
 
-    by_task : (task : Task) → c.task ≡ task → InTask task (Some (record { speaker = sp.Control; message = w })) c old → InTask task (first_answer old hears new (length old)) c new
-    by_task AtRest is k = let no : Some (record { speaker = sp.Control; message = w }) ≡ None = k.nothing in absurd (cc)
+    by_task : (task : Task) → c.task ≡ task
+        → InTask task (Some (record { speaker = sp.Control; message = w })) c old
+        → InTask task (first_answer old hears new (length old)) c new
+    by_task AtRest is k = let no : Some (record { speaker = sp.Control; message = w }) ≡ None =
+        k.nothing in absurd (cc)
     by_task (Selecting s true) is k =
         selecting_enquired c old before hears new s there stations tuned k.quiet k.fresh
         (subst (λ (v : Message). IsHeardFairly v (length old) hears) k.with_pending fair) each keeps
     by_task (Selecting s false) is k =
         elim (subst (λ (v : Message). IsHeardFairly v (length old) hears) k.with_pending fair) [
-          | inl all ↦ selecting_heard names c old hears new after s false there stations is k.quiet all (addressed.called (select_address (peer c).terminal s) all) each
+          | inl all ↦ selecting_heard names c old hears new after s false there stations is k.quiet
+              all (addressed.called (select_address (peer c).terminal s) all) each
           | inr missed ↦ selecting_missed c old hears new s stations k.quiet missed each keeps
         ]
     by_task (Sending s) is k =
-        let b : IsInBidDown (Some (record { speaker = sp.Control; message = w })) (peer c) (current c) s (terminal_in old (current c)) = k.bid in
+        let b : IsInBidDown (Some (record { speaker = sp.Control; message = w })) (peer c)
+        (current c) s (terminal_in old (current c)) = k.bid in
         let x : TributaryValue = terminal_in old (current c) in
         let o : OutboundValue = outbound_at (peer c) s in
-        let bid : IsBidMessage w = laws.outward o.sender.phase o.queue x.receiver.alternation x.receiver.last (spool_at x.spools s).records w
-        (subst (λ (f : Flight). InBid o.sender.phase o.queue x.receiver.alternation x.receiver.last (spool_at x.spools s).records f) b.flies b.bid) in
-        sends_down laws c old before s w hears new there stations tuned k (each_fairly w (length old) hears (bid_no_call w bid) fair) each keeps
+        let bid : IsBidMessage w =
+        laws.outward o.sender.phase o.queue x.receiver.alternation x.receiver.last
+        (spool_at x.spools s).records w
+        (subst (λ (f : Flight). InBid o.sender.phase o.queue x.receiver.alternation x.receiver.last
+        (spool_at x.spools s).records f) b.flies b.bid) in
+        sends_down laws c old before s w hears new there stations tuned k
+        (each_fairly w (length old) hears (bid_no_call w bid) fair) each keeps
     by_task (Polling replied) is k =
         elim k.present [
           | inl q ↦
@@ -81,12 +100,17 @@ hears_down names laws c old before after w hears new stations tuned together fai
               let all_quiet = with_others c old (current c) k.others q.0 in
               elim (subst (λ (v : Message). IsHeardFairly v (length old) hears) q.1.0 fair) [
                 | inl all ↦
-                    subst (λ (r : Replied). IsPolling (first_answer old hears new (length old)) c new r) (sym nothing)
-                    (polling_heard names laws c old hears new after there stations (is ∙ ap (λ (r : Replied). Polling r) nothing) all_quiet all (addressed.called (peer c).terminal.poll all) each)
-                | inr missed ↦ polling_missed c old hears new replied there stations all_quiet missed each keeps
+                    subst (λ (r : Replied). IsPolling (first_answer old hears new (length old)) c
+                    new r) (sym nothing)
+                    (polling_heard names laws c old hears new after there stations
+                    (is ∙ ap (λ (r : Replied). Polling r) nothing) all_quiet all
+                    (addressed.called (peer c).terminal.poll all) each)
+                | inr missed ↦ polling_missed c old hears new replied there stations all_quiet
+                    missed each keeps
               ])
           | inr b ↦
               (let reply : w ≡ message_of b.flies.0 = b.flies.1 in
               let never : is_call w ≡ false = ap is_call reply ∙ reply_is_no_call b.flies.0 in
-              polling_replied laws c old before w hears new replied there tuned k.others b (each_fairly w (length old) hears never fair) each keeps)
+              polling_replied laws c old before w hears new replied there tuned k.others b
+              (each_fairly w (length old) hears never fair) each keeps)
         ]

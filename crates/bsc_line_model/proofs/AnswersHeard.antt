@@ -1,5 +1,7 @@
 -- The control station hears what a terminal sends, in each of its tasks.
-use Rattle.std.proofs.Common.{◌≡◌, ◌⊎◌, inl, inr, ℕ, ◌+◌, ◌<◌, Bool, true, false, nat_lt, List, length, Option, None, Some, option_map, refl, sym, ◌∙◌, ap, subst, get_or-set_other, get_or-set_same, if◌then◌else◌}
+use Rattle.std.proofs.Common.{◌≡◌, ◌⊎◌, inl, inr, ℕ, ◌+◌, ◌<◌, Bool, true, false, nat_lt, List}
+use Rattle.std.proofs.Common.{length, Option, None, Some, option_map, refl, sym, ◌∙◌, ap, subst}
+use Rattle.std.proofs.Common.{get_or-set_other, get_or-set_same, if◌then◌else◌}
 use Rattle.bsc_frame.specs.declared.message.Message.{Message}
 use Rattle.bsc_frame.specs.declared.message.Message.TheVariants as m
 use Rattle.bsc_frame.specs.declared.message.Heard.{Heard}
@@ -17,7 +19,8 @@ use Rattle.bsc_text.specs.Reply.{message_of, reply_in, reply_heard}
 use Rattle.bsc_text.specs.Receiver.{ReceiverStep, Rooms, heard_step, sends_rvi}
 use Rattle.bsc_text.specs.Sender.{SenderValue, SenderStep, sent_next, begin_step}
 use Rattle.bsc_text.specs.Fair.{IsFairlyHeard}
-use Rattle.bsc_text.specs.Agreement.{Flight, Still, Outward, InBid, IsResting, Continues, reply_flight, sent_flight}
+use Rattle.bsc_text.specs.Agreement.{Flight, Still, Outward, InBid, IsResting, Continues}
+use Rattle.bsc_text.specs.Agreement.{reply_flight, sent_flight}
 use Rattle.bsc_text.specs.EachStep.{SenderAgrees, ReceiverAgrees}
 use Rattle.bsc_tributary.specs.Tributary.{TributaryValue, spool_at}
 use Rattle.bsc_tributary.specs.Kept.{IsNoCall}
@@ -28,13 +31,16 @@ use Rattle.bsc_control.specs.Peer.{PeerValue, OutboundValue, no_peer, outbound_a
 use Rattle.bsc_control.specs.Control.{ControlValue, ControlStep, peer, current, with_current, quiet}
 use Rattle.bsc_control.specs.CallOrder.{After, Selection, Poll, next_call}
 use Rattle.bsc_control.specs.Kept.{IsSelected, SuitsTask, AfterHearing}
-use Rattle.bsc_control.specs.Table.{Hears, next_call_step, bid_step, selecting_step, polling_step, task_step, receiving_step, has_rvi, replied_after, rooms_after}
+use Rattle.bsc_control.specs.Table.{Hears, next_call_step, bid_step, selecting_step, polling_step}
+use Rattle.bsc_control.specs.Table.{task_step, receiving_step, has_rvi, replied_after, rooms_after}
 use Rattle.bsc_line_model.specs.declared.transmission.Speaker.TheVariants as sp
 use Rattle.bsc_line_model.specs.declared.transmission.Transmission.{Transmission}
 use Rattle.bsc_line_model.specs.Transmission.{sent_by}
 use Rattle.bsc_line_model.specs.Line.{terminal_in}
 use Rattle.bsc_line_model.specs.Kept.{AreStations}
-use Rattle.bsc_line_model.specs.Together.{IsQuiet, AllQuiet, OthersQuiet, IsFresh, IsAnswer, IsSelecting, IsSending, IsPolling, IsInBidDown, IsInBidUp, FliesUp, InTask}
+use Rattle.bsc_line_model.specs.Together.{IsQuiet, AllQuiet, OthersQuiet, IsFresh, IsAnswer}
+use Rattle.bsc_line_model.specs.Together.{IsSelecting, IsSending, IsPolling, IsInBidDown, IsInBidUp}
+use Rattle.bsc_line_model.specs.Together.{FliesUp, InTask}
 use Rattle.bsc_line_model.specs.BidLaws.{BidLaws}
 use Rattle.bsc_line_model.proofs.Entries.{places, current_there, next_there}
 use Rattle.bsc_line_model.proofs.Calling.{called_next}
@@ -43,10 +49,14 @@ use Rattle.bsc_line_model.proofs.SendingUp.{HasActed, performed, places_after, a
 use Rattle.bsc_line_model.proofs.CallsHeard.{with_others}
 
 -- what was on its way is lost
-lost_selecting : (c : ControlValue) (ts : List TributaryValue) (pending : Option Transmission) (s : ℕ) (enquired : Bool) → IsSelecting pending c ts s enquired → IsSelecting None c ts s enquired
-lost_selecting c ts pending s enquired h = record { quiet = h.quiet; with_pending = tt; fresh = h.fresh }
+lost_selecting : (c : ControlValue) (ts : List TributaryValue) (pending : Option Transmission)
+    (s : ℕ) (enquired : Bool) → IsSelecting pending c ts s enquired
+    → IsSelecting None c ts s enquired
+lost_selecting c ts pending s enquired h =
+    record { quiet = h.quiet; with_pending = tt; fresh = h.fresh }
 
-lost_sending : (laws : BidLaws) (c : ControlValue) (ts : List TributaryValue) (pending : Option Transmission) (s : ℕ) → IsSending pending c ts s → IsSending None c ts s
+lost_sending : (laws : BidLaws) (c : ControlValue) (ts : List TributaryValue)
+    (pending : Option Transmission) (s : ℕ) → IsSending pending c ts s → IsSending None c ts s
 lost_sending laws c ts pending s h =
     let b : IsInBidDown pending (peer c) (current c) s (terminal_in ts (current c)) = h.bid in
     let x : TributaryValue = terminal_in ts (current c) in
@@ -59,11 +69,15 @@ lost_sending laws c ts pending s h =
         down = b.down;
         flight = Still;
         flies = refl;
-        bid = laws.loss o.sender.phase o.queue x.receiver.alternation x.receiver.last (spool_at x.spools s).records b.flight b.bid;
+        bid =
+            laws.loss o.sender.phase o.queue x.receiver.alternation x.receiver.last
+            (spool_at x.spools s).records b.flight b.bid;
       };
     }
 
-lost_polling : (laws : BidLaws) (c : ControlValue) (ts : List TributaryValue) (pending : Option Transmission) (replied : Replied) → IsPolling pending c ts replied → IsPolling None c ts replied
+lost_polling : (laws : BidLaws) (c : ControlValue) (ts : List TributaryValue)
+    (pending : Option Transmission) (replied : Replied) → IsPolling pending c ts replied
+    → IsPolling None c ts replied
 lost_polling laws c ts pending replied h =
     record {
       others = h.others;
@@ -76,43 +90,58 @@ lost_polling laws c ts pending replied h =
               down = b.down;
               flight = Still;
               flies = refl;
-              bid = laws.loss x.sender.phase x.queue (peer c).receiver.alternation (peer c).receiver.last (peer c).spool.records b.flight b.bid;
+              bid =
+                  laws.loss x.sender.phase x.queue (peer c).receiver.alternation
+                  (peer c).receiver.last (peer c).spool.records b.flight b.bid;
             }))
       ];
     }
 
-pub lost : (laws : BidLaws) (task : Task) (c : ControlValue) (ts : List TributaryValue) (pending : Option Transmission) → InTask task pending c ts → InTask task None c ts
+pub lost : (laws : BidLaws) (task : Task) (c : ControlValue) (ts : List TributaryValue)
+    (pending : Option Transmission) → InTask task pending c ts → InTask task None c ts
 lost laws AtRest c ts pending h = record { nothing = refl; quiet = h.quiet; modes = h.modes }
 lost laws (Selecting s enquired) c ts pending h = lost_selecting c ts pending s enquired h
 lost laws (Sending s) c ts pending h = lost_sending laws c ts pending s h
 lost laws (Polling replied) c ts pending h = lost_polling laws c ts pending replied h
 
 -- the next call is made where all are quiet
-pub next_made : (c : ControlValue) (ts : List TributaryValue) (after : After) → AreStations c ts → AllQuiet c ts → InTask (next_call_step c after).control.task (sent_by sp.Control (next_call_step c after).sent) (next_call_step c after).control ts
+pub next_made : (c : ControlValue) (ts : List TributaryValue) (after : After) → AreStations c ts
+    → AllQuiet c ts
+    → InTask (next_call_step c after).control.task
+    (sent_by sp.Control (next_call_step c after).sent) (next_call_step c after).control ts
 next_made c ts after stations all =
-    called_next c ts (next_call c after).place (next_call c after).way (next_there c after (places c stations.control.entries)) stations.count all
+    called_next c ts (next_call c after).place (next_call c after).way
+    (next_there c after (places c stations.control.entries)) stations.count all
 
 -- a sender that begins does not keep quiet
-begins_loudly : (s : SenderValue) (q : QueueValue) (alternation : Alternation) (n : Option Next) → (sent_next s q alternation n).act ≡ a.Quiet → ⊥
+begins_loudly : (s : SenderValue) (q : QueueValue) (alternation : Alternation) (n : Option Next)
+    → (sent_next s q alternation n).act ≡ a.Quiet → ⊥
 begins_loudly s q alternation None e = cc
 begins_loudly s q alternation (Some n) e = cc
 
 -- the selected terminal is ready: a bid begins
-pub begins_down : (laws : BidLaws) (c : ControlValue) (ts : List TributaryValue) (s : ℕ) (enquired : Bool) → AreStations c ts → c.task ≡ Selecting s enquired → AllQuiet c ts → IsFresh (terminal_in ts (current c)) s → (terminal_in ts (current c)).receiver.last ≡ Ack0 →
-    let new : ControlStep = bid_step c s (begin_step (outbound_at (peer c) s).sender (outbound_at (peer c) s).queue) (Selection s) in
+pub begins_down : (laws : BidLaws) (c : ControlValue) (ts : List TributaryValue) (s : ℕ)
+    (enquired : Bool) → AreStations c ts → c.task ≡ Selecting s enquired → AllQuiet c ts
+    → IsFresh (terminal_in ts (current c)) s → (terminal_in ts (current c)).receiver.last ≡ Ack0 →
+    let new : ControlStep =
+    bid_step c s (begin_step (outbound_at (peer c) s).sender (outbound_at (peer c) s).queue)
+    (Selection s) in
     InTask new.control.task (sent_by sp.Control new.sent) new.control ts
 begins_down laws c ts s enquired stations task all fresh last =
     let e : ℕ = current c in
     let x : TributaryValue = terminal_in ts e in
     let o : OutboundValue = outbound_at (peer c) s in
     let step : SenderStep = begin_step o.sender o.queue in
-    let suits : IsSelected (peer c) s = subst (λ (t : Task). SuitsTask t (peer c)) task stations.control.orderly.suits in
+    let suits : IsSelected (peer c) s =
+    subst (λ (t : Task). SuitsTask t (peer c)) task stations.control.orderly.suits in
     let there : current c < length c.peers = current_there c (places c stations.control.entries) in
     let within : current c < length ts = subst (λ (n : ℕ). current c < n) stations.count there in
     let this : IsQuiet (peer c) x = all e within in
     let spooled : List (List ℕ) = (spool_at x.spools s).records in
-    let rest : IsResting Idle o.queue spooled = subst (λ (k : Phase). IsResting k o.queue spooled) suits.idle (this.down s suits.there) in
-    let agrees : SenderAgrees o.queue Even Ack0 spooled step = laws.begin o.sender o.queue spooled rest suits.some in
+    let rest : IsResting Idle o.queue spooled =
+    subst (λ (k : Phase). IsResting k o.queue spooled) suits.idle (this.down s suits.there) in
+    let agrees : SenderAgrees o.queue Even Ack0 spooled step =
+    laws.begin o.sender o.queue spooled rest suits.some in
     let has : HasActed c ts s step = record {
       there = there;
       select = suits.there;
@@ -120,26 +149,46 @@ begins_down laws c ts s enquired stations task all fresh last =
       mode = fresh.mode;
       up = this.up;
       down = λ k less differ. this.down k less;
-      continues = subst (λ (r : Reply). Continues step.sender.phase step.queue x.receiver.alternation r spooled (sent_flight step.act)) (sym last)
-          (subst (λ (p : Alternation). Continues step.sender.phase step.queue p Ack0 spooled (sent_flight step.act)) (sym fresh.even) agrees.continues);
+      continues =
+          subst (λ (r : Reply). Continues step.sender.phase step.queue x.receiver.alternation r
+          spooled (sent_flight step.act)) (sym last)
+          (subst (λ (p : Alternation). Continues step.sender.phase step.queue p Ack0 spooled
+          (sent_flight step.act)) (sym fresh.even) agrees.continues);
       ended = agrees.ended;
     } in
-    performed laws c ts s step (Selection s) step.act refl has (λ is. absurd (begins_loudly o.sender o.queue Odd (next_block o.queue) is)) stations.count
+    performed laws c ts s step (Selection s) step.act refl has
+    (λ is. absurd (begins_loudly o.sender o.queue Odd (next_block o.queue) is)) stations.count
     (places_after c s step (places c stations.control.entries))
 
 -- it is asked to wait: ENQ, or after too many the next call
-asks_again : (c : ControlValue) (ts : List TributaryValue) (s : ℕ) (over : Bool) → AreStations c ts → AllQuiet c ts → IsFresh (terminal_in ts (current c)) s →
-    let new : ControlStep = if over then next_call_step c (Selection s) else record { control = record c { task = Selecting s true; failures = 0; wacks = c.wacks + 1 }; sent = Some m.Enq } in
+asks_again : (c : ControlValue) (ts : List TributaryValue) (s : ℕ) (over : Bool) → AreStations c ts
+    → AllQuiet c ts → IsFresh (terminal_in ts (current c)) s →
+    let new : ControlStep =
+    if over then next_call_step c (Selection s)
+    else record {
+      control =
+          record c { task = Selecting s true; failures = 0; wacks = c.wacks + 1 };
+      sent =
+          Some m.Enq;
+    } in
     InTask new.control.task (sent_by sp.Control new.sent) new.control ts
 asks_again c ts s true stations all fresh = next_made c ts (Selection s) stations all
-asks_again c ts s false stations all fresh = record { quiet = all; with_pending = refl; fresh = fresh }
+asks_again c ts s false stations all fresh =
+    record { quiet = all; with_pending = refl; fresh = fresh }
 
 -- a selection is answered
-pub selecting_answered : (laws : BidLaws) (c : ControlValue) (ts : List TributaryValue) (s t : ℕ) (w : Message) (enquired : Bool) → AreStations c ts → c.task ≡ Selecting s enquired → IsSelecting (Some (record { speaker = sp.Terminal t; message = w })) c ts s enquired →
-    InTask (selecting_step c s (reply_in w)).control.task (sent_by sp.Control (selecting_step c s (reply_in w)).sent) (selecting_step c s (reply_in w)).control ts
-selecting_answered laws c ts s t m.Ack0 enquired stations task h = begins_down laws c ts s enquired stations task h.quiet h.with_pending.1.0 h.with_pending.1.1
-selecting_answered laws c ts s t m.Nak enquired stations task h = next_made c ts (Selection s) stations h.quiet
-selecting_answered laws c ts s t m.Wack enquired stations task h = asks_again c ts s (nat_lt c.setup.waits (c.wacks + 1)) stations h.quiet h.with_pending.1.0
+pub selecting_answered : (laws : BidLaws) (c : ControlValue) (ts : List TributaryValue) (s t : ℕ)
+    (w : Message) (enquired : Bool) → AreStations c ts → c.task ≡ Selecting s enquired
+    → IsSelecting (Some (record { speaker = sp.Terminal t; message = w })) c ts s enquired →
+    InTask (selecting_step c s (reply_in w)).control.task
+    (sent_by sp.Control (selecting_step c s (reply_in w)).sent)
+    (selecting_step c s (reply_in w)).control ts
+selecting_answered laws c ts s t m.Ack0 enquired stations task h =
+    begins_down laws c ts s enquired stations task h.quiet h.with_pending.1.0 h.with_pending.1.1
+selecting_answered laws c ts s t m.Nak enquired stations task h =
+    next_made c ts (Selection s) stations h.quiet
+selecting_answered laws c ts s t m.Wack enquired stations task h =
+    asks_again c ts s (nat_lt c.setup.waits (c.wacks + 1)) stations h.quiet h.with_pending.1.0
 selecting_answered laws c ts s t m.Eot enquired stations task h = absurd h.with_pending.1
 selecting_answered laws c ts s t m.Enq enquired stations task h = absurd h.with_pending.1
 selecting_answered laws c ts s t m.Ack1 enquired stations task h = absurd h.with_pending.1
@@ -148,7 +197,9 @@ selecting_answered laws c ts s t (m.Text z) enquired stations task h = absurd h.
 selecting_answered laws c ts s t (m.Call z) enquired stations task h = absurd h.with_pending.1
 
 -- in a poll what is no EOT goes to the receiver
-polling_by : (c : ControlValue) (replied : Replied) (h : Heard) (rooms : Rooms) → IsNoCall h → polling_step c replied h rooms ≡ receiving_step c replied (heard_step (peer c).receiver (peer c).spool h (peer c).urgent rooms)
+polling_by : (c : ControlValue) (replied : Replied) (h : Heard) (rooms : Rooms) → IsNoCall h
+    → polling_step c replied h rooms ≡ receiving_step c replied
+    (heard_step (peer c).receiver (peer c).spool h (peer c).urgent rooms)
 polling_by c replied Failed rooms k = refl
 polling_by c replied Noise rooms k = refl
 polling_by c replied (Whole m.Eot) rooms k = absurd k
@@ -161,36 +212,71 @@ polling_by c replied (Whole m.Nak) rooms k = refl
 polling_by c replied (Whole m.Wack) rooms k = refl
 polling_by c replied (Whole m.Rvi) rooms k = refl
 
-reply_flies_up : (e : ℕ) (reply : Option Reply) → FliesUp (sent_by sp.Control (option_map message_of reply)) e (reply_flight reply)
+reply_flies_up : (e : ℕ) (reply : Option Reply)
+    → FliesUp (sent_by sp.Control (option_map message_of reply)) e (reply_flight reply)
 reply_flies_up e None = refl
 reply_flies_up e (Some r) = (r, refl, refl)
 
 -- the polled terminal's text or ENQ is received
-pub polling_received : (laws : BidLaws) (c : ControlValue) (ts : List TributaryValue) (t : ℕ) (w : Message) (h : Heard) (rooms : Rooms) (replied : Replied) → AreStations c ts → OthersQuiet c ts (current c) →
-    IsInBidUp (Some (record { speaker = sp.Terminal t; message = w })) (peer c) (current c) (terminal_in ts (current c)) → IsFairlyHeard w h →
-    InTask (polling_step c replied h rooms).control.task (sent_by sp.Control (polling_step c replied h rooms).sent) (polling_step c replied h rooms).control ts
+pub polling_received : (laws : BidLaws) (c : ControlValue) (ts : List TributaryValue) (t : ℕ)
+    (w : Message) (h : Heard) (rooms : Rooms) (replied : Replied) → AreStations c ts
+    → OthersQuiet c ts (current c) →
+    IsInBidUp (Some (record { speaker = sp.Terminal t; message = w })) (peer c) (current c)
+    (terminal_in ts (current c)) → IsFairlyHeard w h →
+    InTask (polling_step c replied h rooms).control.task
+    (sent_by sp.Control (polling_step c replied h rooms).sent)
+    (polling_step c replied h rooms).control ts
 polling_received laws c ts t w h rooms replied stations others b fair =
     let e : ℕ = current c in
     let p : PeerValue = peer c in
     let x : TributaryValue = terminal_in ts e in
     let step : ReceiverStep = heard_step p.receiver p.spool h p.urgent rooms in
-    let q : PeerValue = record p { receiver = step.receiver; spool = step.spool; urgent = if sends_rvi step.reply then false else p.urgent } in
-    let flying : InBid x.sender.phase x.queue p.receiver.alternation p.receiver.last p.spool.records (Outward w) =
-    subst (λ (f : Flight). InBid x.sender.phase x.queue p.receiver.alternation p.receiver.last p.spool.records f) b.flies.1 b.bid in
-    let bid : IsBidMessage w = laws.outward x.sender.phase x.queue p.receiver.alternation p.receiver.last p.spool.records w flying in
-    let agrees : ReceiverAgrees x.sender.phase x.queue p.spool.records step = laws.hearing x.sender.phase x.queue p.receiver p.spool w (Some h) p.urgent rooms flying fair in
+    let q : PeerValue =
+    record p {
+      receiver = step.receiver;
+      spool = step.spool;
+      urgent =
+          if sends_rvi step.reply then false else p.urgent;
+    } in
+    let flying : InBid x.sender.phase x.queue p.receiver.alternation p.receiver.last p.spool.records
+    (Outward w) =
+    subst (λ (f : Flight). InBid x.sender.phase x.queue p.receiver.alternation p.receiver.last
+    p.spool.records f) b.flies.1 b.bid in
+    let bid : IsBidMessage w =
+    laws.outward x.sender.phase x.queue p.receiver.alternation p.receiver.last p.spool.records w
+    flying in
+    let agrees : ReceiverAgrees x.sender.phase x.queue p.spool.records step =
+    laws.hearing x.sender.phase x.queue p.receiver p.spool w (Some h) p.urgent rooms flying
+    fair in
     let there : current c < length c.peers = current_there c (places c stations.control.entries) in
     let peer_is : peer (with_current c q) ≡ q = get_or-set_same c.peers e q no_peer there in
-    let made : IsInBidUp (sent_by sp.Control (option_map message_of step.reply)) q e x = record { mode = b.mode; down = b.down; flight = reply_flight step.reply; flies = reply_flies_up e step.reply; bid = agrees.bid } in
-    let polls : IsPolling (sent_by sp.Control (receiving_step c replied step).sent) (receiving_step c replied step).control ts (replied_after replied step.reply) = record {
-      others = λ k less differ. subst (λ (z : PeerValue). IsQuiet z (terminal_in ts k)) (sym (get_or-set_other c.peers e k q no_peer differ)) (others k less differ);
-      present = inr (subst (λ (z : PeerValue). IsInBidUp (sent_by sp.Control (option_map message_of step.reply)) z e x) (sym peer_is) made);
+    let made : IsInBidUp (sent_by sp.Control (option_map message_of step.reply)) q e x =
+    record {
+      mode = b.mode;
+      down = b.down;
+      flight = reply_flight step.reply;
+      flies =
+          reply_flies_up e step.reply;
+      bid = agrees.bid;
     } in
-    subst (λ (o : ControlStep). InTask o.control.task (sent_by sp.Control o.sent) o.control ts) (sym (polling_by c replied h rooms (no_call_heard w h bid fair))) polls
+    let polls : IsPolling (sent_by sp.Control (receiving_step c replied step).sent)
+    (receiving_step c replied step).control ts (replied_after replied step.reply) = record {
+      others =
+          λ k less differ. subst (λ (z : PeerValue). IsQuiet z (terminal_in ts k))
+          (sym (get_or-set_other c.peers e k q no_peer differ)) (others k less differ);
+      present =
+          inr (subst (λ (z : PeerValue). IsInBidUp
+          (sent_by sp.Control (option_map message_of step.reply)) z e x) (sym peer_is) made);
+    } in
+    subst (λ (o : ControlStep). InTask o.control.task (sent_by sp.Control o.sent) o.control ts)
+    (sym (polling_by c replied h rooms (no_call_heard w h bid fair))) polls
 
 -- a whole EOT ends the poll
-pub polling_ended : (c : ControlValue) (ts : List TributaryValue) (rooms : Rooms) (replied : Replied) → AreStations c ts → AllQuiet c ts →
-    InTask (polling_step c replied (Whole m.Eot) rooms).control.task (sent_by sp.Control (polling_step c replied (Whole m.Eot) rooms).sent) (polling_step c replied (Whole m.Eot) rooms).control ts
+pub polling_ended : (c : ControlValue) (ts : List TributaryValue) (rooms : Rooms)
+    (replied : Replied) → AreStations c ts → AllQuiet c ts →
+    InTask (polling_step c replied (Whole m.Eot) rooms).control.task
+    (sent_by sp.Control (polling_step c replied (Whole m.Eot) rooms).sent)
+    (polling_step c replied (Whole m.Eot) rooms).control ts
 polling_ended c ts rooms replied stations all = next_made c ts (Poll (has_rvi replied)) stations all
 
 -- the control station's step suits the line
@@ -205,7 +291,8 @@ whole_eot Failed f = absurd f
 whole_eot Noise f = inr refl
 
 -- a terminal's answer to a selection is heard whole, or as noise
-whole_answer : (w : Message) (x : TributaryValue) (s : ℕ) (ts : List TributaryValue) (h : Heard) → IsAnswer w x s ts → IsFairlyHeard w h → (h ≡ Whole w) ⊎ (h ≡ Noise)
+whole_answer : (w : Message) (x : TributaryValue) (s : ℕ) (ts : List TributaryValue) (h : Heard)
+    → IsAnswer w x s ts → IsFairlyHeard w h → (h ≡ Whole w) ⊎ (h ≡ Noise)
 whole_answer w x s ts Noise k f = inr refl
 whole_answer w x s ts (Whole v) k (inl e) = inl (ap (λ (z : Message). Whole z) e)
 whole_answer m.Ack0 x s ts (Whole v) k (inr f) = absurd f
@@ -228,7 +315,10 @@ whole_answer (m.Text z) x s ts Failed k f = absurd k
 whole_answer (m.Call z) x s ts Failed k f = absurd k
 
 -- The control station hears a terminal: it and what it sends go together with the terminals.
-pub hears_up : (laws : BidLaws) (c d : ControlValue) (ts : List TributaryValue) (t : ℕ) (w : Message) (h : Heard) (out : Option Message) → AreStations c ts → InTask c.task (Some (record { speaker = sp.Terminal t; message = w })) c ts → IsFairlyHeard w h →
+pub hears_up : (laws : BidLaws) (c d : ControlValue) (ts : List TributaryValue) (t : ℕ)
+    (w : Message) (h : Heard) (out : Option Message) → AreStations c ts
+    → InTask c.task (Some (record { speaker = sp.Terminal t; message = w })) c ts
+    → IsFairlyHeard w h →
     Hears c h d out → AfterHearing c h d out → InTask d.task (sent_by sp.Control out) d ts
 hears_up laws c d ts t w h out stations together fair row after = by_task c.task refl together
   where
@@ -236,32 +326,45 @@ hears_up laws c d ts t w h out stations together fair row after = by_task c.task
     noise e =
         let same : (d ≡ c) × (out ≡ None) = after.noise e in
         subst (λ (o : Option Message). InTask d.task (sent_by sp.Control o) d ts) (sym same.1)
-        (subst (λ (k : ControlValue). InTask k.task None k ts) (sym same.0) (lost laws c.task c ts (Some (record { speaker = sp.Terminal t; message = w })) together))
+        (subst (λ (k : ControlValue). InTask k.task None k ts) (sym same.0)
+        (lost laws c.task c ts (Some (record { speaker = sp.Terminal t; message = w }))
+        together))
 
-    by_row : (task : Task) → c.task ≡ task → StepsTo (task_step c task h (rooms_after c h d)) ts → InTask d.task (sent_by sp.Control out) d ts
+    by_row : (task : Task) → c.task ≡ task → StepsTo (task_step c task h (rooms_after c h d)) ts
+        → InTask d.task (sent_by sp.Control out) d ts
     by_row task is steps =
-        let step : record { control = d; sent = out } ≡ task_step c task h (rooms_after c h d) = row.row ∙ ap (λ (k : Task). task_step c k h (rooms_after c h d)) is in
+        let step : record { control = d; sent = out } ≡ task_step c task h (rooms_after c h d) =
+        row.row ∙ ap (λ (k : Task). task_step c k h (rooms_after c h d)) is in
         subst (λ (o : ControlStep). StepsTo o ts) (sym step) steps
 
-    by_task : (task : Task) → c.task ≡ task → InTask task (Some (record { speaker = sp.Terminal t; message = w })) c ts → InTask d.task (sent_by sp.Control out) d ts
-    by_task AtRest is k = let no : Some (record { speaker = sp.Terminal t; message = w }) ≡ None = k.nothing in absurd (cc)
+    by_task : (task : Task) → c.task ≡ task
+        → InTask task (Some (record { speaker = sp.Terminal t; message = w })) c ts
+        → InTask d.task (sent_by sp.Control out) d ts
+    by_task AtRest is k = let no : Some (record { speaker = sp.Terminal t; message = w }) ≡ None =
+        k.nothing in absurd (cc)
     by_task (Selecting s enquired) is k =
         elim (whole_answer w (terminal_in ts (current c)) s ts h k.with_pending.1 fair) [
           | inl whole ↦
               by_row (Selecting s enquired) is
-              (subst (λ (z : Heard). StepsTo (selecting_step c s (reply_heard z)) ts) (sym whole) (selecting_answered laws c ts s t w enquired stations is k))
+              (subst (λ (z : Heard). StepsTo (selecting_step c s (reply_heard z)) ts) (sym whole)
+              (selecting_answered laws c ts s t w enquired stations is k))
           | inr quiet ↦ noise quiet
         ]
-    by_task (Sending s) is k = by_row (Sending s) is (answers_down laws c ts s t w h stations is k fair)
+    by_task (Sending s) is k =
+        by_row (Sending s) is (answers_down laws c ts s t w h stations is k fair)
     by_task (Polling replied) is k =
         elim k.present [
           | inl q ↦
               elim (whole_eot h (subst (λ (v : Message). IsFairlyHeard v h) q.1.1 fair)) [
                 | inl whole ↦
                     by_row (Polling replied) is
-                    (subst (λ (z : Heard). StepsTo (polling_step c replied z (rooms_after c h d)) ts) (sym whole)
-                    (polling_ended c ts (rooms_after c h d) replied stations (with_others c ts (current c) k.others q.0)))
+                    (subst (λ (z : Heard). StepsTo (polling_step c replied z (rooms_after c h d))
+                    ts) (sym whole)
+                    (polling_ended c ts (rooms_after c h d) replied stations
+                    (with_others c ts (current c) k.others q.0)))
                 | inr quiet ↦ noise quiet
               ]
-          | inr b ↦ by_row (Polling replied) is (polling_received laws c ts t w h (rooms_after c h d) replied stations k.others b fair)
+          | inr b ↦ by_row (Polling replied) is
+              (polling_received laws c ts t w h (rooms_after c h d) replied stations k.others b
+              fair)
         ]

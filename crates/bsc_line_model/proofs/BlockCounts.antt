@@ -1,5 +1,7 @@
 -- How many blocks the waiting records of a queue make, and what its first block is.
-use Rattle.std.proofs.Common.{◌≡◌, ◌≢◌, ℕ, suc, ◌<◌, ◌≤◌, Bool, true, false, List, [], ◌∷◌, length, take, drop, nat_eq, Some, refl, sym, ◌∙◌, ap, subst, arith, if◌then◌else◌}
+use Rattle.std.proofs.Common.{◌≡◌, ◌≢◌, ℕ, suc, ◌<◌, ◌≤◌, Bool, true, false, List, [], ◌∷◌, length}
+use Rattle.std.proofs.Common.{take, drop, nat_eq, Some, refl, sym, ◌∙◌, ap, subst, arith}
+use Rattle.std.proofs.Common.{if◌then◌else◌}
 use Rattle.std.proofs.lemmas.Bool.Decides.{nat_tests}
 use Rattle.std.proofs.lemmas.List.{drop-drop, drop_all, length-drop}
 use Rattle.bsc_frame.specs.declared.text.End.{End}
@@ -14,7 +16,8 @@ use Rattle.bsc_line_model.specs.Rounds.{block_count}
 pub record CutLaws : Type 0 where
   pub taken_is : (f : FormatValue) (rs : List (List ℕ)) → IsTaken f rs (taken f rs)
   pub none : (f : FormatValue) → blocks f [] ≡ []
-  pub next : (f : FormatValue) (rs : List (List ℕ)) → IsFormat f → AreShort f.full rs → rs ≢ [] → blocks f rs ≡ take (taken f rs) rs ∷ blocks f (drop (taken f rs) rs)
+  pub next : (f : FormatValue) (rs : List (List ℕ)) → IsFormat f → AreShort f.full rs → rs ≢ []
+      → blocks f rs ≡ take (taken f rs) rs ∷ blocks f (drop (taken f rs) rs)
   pub rest : (full k : ℕ) (rs : List (List ℕ)) → AreShort full rs → AreShort full (drop k rs)
 
 -- after the last block no block is left, after another one some are
@@ -33,54 +36,85 @@ pub record HasFirstBlock (q : QueueValue) (n : ℕ) : Type 0 where
 not_nil : (r : List ℕ) (rs : List (List ℕ)) → r ∷ rs ≢ []
 not_nil r rs e = cc
 
-pub some_blocks : (laws : CutLaws) (f : FormatValue) (rs : List (List ℕ)) → IsFormat f → AreShort f.full rs → 0 < length rs → (k : ℕ) × (length (blocks f rs) ≡ suc k)
+pub some_blocks : (laws : CutLaws) (f : FormatValue) (rs : List (List ℕ)) → IsFormat f
+    → AreShort f.full rs → 0 < length rs → (k : ℕ) × (length (blocks f rs) ≡ suc k)
 some_blocks laws f [] format short less = absurd (omega arith)
-some_blocks laws f (r ∷ rs) format short less =
-    (length (blocks f (drop (taken f (r ∷ rs)) (r ∷ rs))), ap (λ (bs : List (List (List ℕ))). length bs) (laws.next f (r ∷ rs) format short (not_nil r rs)))
+some_blocks laws f (r ∷ rs) format short less = (
+  length (blocks f (drop (taken f (r ∷ rs)) (r ∷ rs))),
+  ap (λ (bs : List (List (List ℕ))). length bs)
+      (laws.next f (r ∷ rs) format short (not_nil r rs)),
+)
 
 -- whether the block is the last one
-end_by : (laws : CutLaws) (f : FormatValue) (rs : List (List ℕ)) (k : ℕ) → IsFormat f → AreShort f.full rs → k ≤ length rs → (b : Bool) → nat_eq k (length rs) ≡ b → IsEnd (if b then Etx else Etb) (length (blocks f (drop k rs)))
+end_by : (laws : CutLaws) (f : FormatValue) (rs : List (List ℕ)) (k : ℕ) → IsFormat f
+    → AreShort f.full rs → k ≤ length rs → (b : Bool) → nat_eq k (length rs) ≡ b
+    → IsEnd (if b then Etx else Etb) (length (blocks f (drop k rs)))
 end_by laws f rs k format short within true e =
     let all : length rs ≤ k = grind (arith, nat_tests) in
-    ap (λ (xs : List (List ℕ)). length (blocks f xs)) (drop_all k rs all) ∙ ap (λ (bs : List (List (List ℕ))). length bs) (laws.none f)
+    ap (λ (xs : List (List ℕ)). length (blocks f xs)) (drop_all k rs all)
+    ∙ ap (λ (bs : List (List (List ℕ))). length bs) (laws.none f)
 end_by laws f rs k format short within false e =
     let differ : k ≢ length rs = grind (arith, nat_tests) in
     let less : 0 < length (drop k rs) = omega (arith, length-drop k rs) in
     some_blocks laws f (drop k rs) format (laws.rest f.full k rs short) less
 
-first_of_waiting : (laws : CutLaws) (q : QueueValue) (n : ℕ) → IsFormat q.format → (rs : List (List ℕ)) → waiting q ≡ rs → AreShort q.format.full rs → length (blocks q.format rs) ≡ suc n → HasFirstBlock q n
-first_of_waiting laws q n format [] is short count = absurd (let none : length (blocks q.format []) ≡ 0 = ap (λ (bs : List (List (List ℕ))). length bs) (laws.none q.format) in omega (arith, none, count))
+first_of_waiting : (laws : CutLaws) (q : QueueValue) (n : ℕ) → IsFormat q.format
+    → (rs : List (List ℕ)) → waiting q ≡ rs → AreShort q.format.full rs
+    → length (blocks q.format rs) ≡ suc n → HasFirstBlock q n
+first_of_waiting laws q n format [] is short count =
+    absurd (let none : length (blocks q.format []) ≡ 0 =
+    ap (λ (bs : List (List (List ℕ))). length bs) (laws.none q.format) in
+    omega (arith, none, count))
 first_of_waiting laws q n format (r ∷ rs) is short count =
     let f : FormatValue = q.format in
     let k : ℕ = taken f (r ∷ rs) in
-    let cut : length (blocks f (r ∷ rs)) ≡ suc (length (blocks f (drop k (r ∷ rs)))) = ap (λ (bs : List (List (List ℕ))). length bs) (laws.next f (r ∷ rs) format short (not_nil r rs)) in
+    let cut : length (blocks f (r ∷ rs)) ≡ suc (length (blocks f (drop k (r ∷ rs)))) =
+    ap (λ (bs : List (List (List ℕ))). length bs)
+    (laws.next f (r ∷ rs) format short (not_nil r rs)) in
     let left : length (blocks f (drop k (r ∷ rs))) ≡ n = omega (arith, cut, count) in
-    let waits : waiting (with_known q k) ≡ drop k (r ∷ rs) = sym (drop-drop k q.known q.offered) ∙ ap (λ (xs : List (List ℕ)). drop k xs) is in
+    let waits : waiting (with_known q k) ≡ drop k (r ∷ rs) = sym (drop-drop k q.known q.offered)
+    ∙ ap (λ (xs : List (List ℕ)). drop k xs) is in
     record {
       next = record { count = k; end = if nat_eq k (length (r ∷ rs)) then Etx else Etb };
       is = ap (λ (xs : List (List ℕ)). next_after f xs) is;
       rest = ap (λ (xs : List (List ℕ)). length (blocks f xs)) waits ∙ left;
-      end = subst (λ (j : ℕ). IsEnd (if nat_eq k (length (r ∷ rs)) then Etx else Etb) j) left (end_by laws f (r ∷ rs) k format short (laws.taken_is f (r ∷ rs)).there (nat_eq k (length (r ∷ rs))) refl);
+      end =
+          subst (λ (j : ℕ). IsEnd (if nat_eq k (length (r ∷ rs)) then Etx else Etb) j) left
+          (end_by laws f (r ∷ rs) k format short (laws.taken_is f (r ∷ rs)).there
+          (nat_eq k (length (r ∷ rs))) refl);
     }
 
 -- a queue of n + 1 blocks has a first one, and after it n
-pub has_first : (laws : CutLaws) (q : QueueValue) (n : ℕ) → IsQueue q → block_count q ≡ suc n → HasFirstBlock q n
-has_first laws q n is count = first_of_waiting laws q n is.format (waiting q) refl (laws.rest q.format.full q.known q.offered is.short) count
+pub has_first : (laws : CutLaws) (q : QueueValue) (n : ℕ) → IsQueue q → block_count q ≡ suc n
+    → HasFirstBlock q n
+has_first laws q n is count =
+    first_of_waiting laws q n is.format (waiting q) refl
+    (laws.rest q.format.full q.known q.offered is.short) count
 
 -- where some records wait there is a block
-none_waits : (laws : CutLaws) (q : QueueValue) → IsQueue q → block_count q ≡ 0 → (b : Bool) → nat_eq (length (waiting q)) 0 ≡ b → b ≡ true
+none_waits : (laws : CutLaws) (q : QueueValue) → IsQueue q → block_count q ≡ 0 → (b : Bool)
+    → nat_eq (length (waiting q)) 0 ≡ b → b ≡ true
 none_waits laws q is none true e = refl
 none_waits laws q is none false e =
     let some : 0 < length (waiting q) = grind (arith, nat_tests) in
-    let count : (k : ℕ) × (block_count q ≡ suc k) = some_blocks laws q.format (waiting q) is.format (laws.rest q.format.full q.known q.offered is.short) some in
+    let count : (k : ℕ) × (block_count q ≡ suc k) =
+    some_blocks laws q.format (waiting q) is.format
+    (laws.rest q.format.full q.known q.offered is.short) some in
     absurd (omega (arith, none, count.1))
 
-pub no_block : (laws : CutLaws) (q : QueueValue) → IsQueue q → block_count q ≡ 0 → nat_eq (length (waiting q)) 0 ≡ true
+pub no_block : (laws : CutLaws) (q : QueueValue) → IsQueue q → block_count q ≡ 0
+    → nat_eq (length (waiting q)) 0 ≡ true
 no_block laws q is none = none_waits laws q is none (nat_eq (length (waiting q)) 0) refl
 
-some_wait : (laws : CutLaws) (q : QueueValue) (n : ℕ) → block_count q ≡ suc n → (rs : List (List ℕ)) → waiting q ≡ rs → nat_eq (length rs) 0 ≡ false
-some_wait laws q n some [] is = absurd (let none : block_count q ≡ 0 = ap (λ (xs : List (List ℕ)). length (blocks q.format xs)) is ∙ ap (λ (bs : List (List (List ℕ))). length bs) (laws.none q.format) in omega (arith, none, some))
+some_wait : (laws : CutLaws) (q : QueueValue) (n : ℕ) → block_count q ≡ suc n → (rs : List (List ℕ))
+    → waiting q ≡ rs → nat_eq (length rs) 0 ≡ false
+some_wait laws q n some [] is =
+    absurd (let none : block_count q ≡ 0 =
+    ap (λ (xs : List (List ℕ)). length (blocks q.format xs)) is
+    ∙ ap (λ (bs : List (List (List ℕ))). length bs) (laws.none q.format) in
+    omega (arith, none, some))
 some_wait laws q n some (r ∷ rs) is = grind (arith, nat_tests)
 
-pub a_block : (laws : CutLaws) (q : QueueValue) (n : ℕ) → block_count q ≡ suc n → nat_eq (length (waiting q)) 0 ≡ false
+pub a_block : (laws : CutLaws) (q : QueueValue) (n : ℕ) → block_count q ≡ suc n
+    → nat_eq (length (waiting q)) 0 ≡ false
 a_block laws q n some = some_wait laws q n some (waiting q) refl

@@ -1,5 +1,6 @@
 -- Where no bid goes on, the next call of the control station begins a selection or a poll.
-use Rattle.std.proofs.Common.{◌≡◌, ◌≢◌, inl, inr, ℕ, ◌<◌, true, false, List, length, refl, sym, ap, subst, get_or-set_other, get_or-set_same}
+use Rattle.std.proofs.Common.{◌≡◌, ◌≢◌, inl, inr, ℕ, ◌<◌, true, false, List, length, refl, sym, ap}
+use Rattle.std.proofs.Common.{subst, get_or-set_other, get_or-set_same}
 use Rattle.bsc_frame.specs.declared.message.Message.TheVariants as m
 use Rattle.bsc_text.specs.Receiver.{new_receiver}
 use Rattle.bsc_tributary.specs.Tributary.{TributaryValue}
@@ -9,43 +10,56 @@ use Rattle.bsc_control.specs.declared.task.Replied.TheVariants.{Nothing}
 use Rattle.bsc_control.specs.Peer.{PeerValue, no_peer}
 use Rattle.bsc_control.specs.Control.{ControlValue, peer_at, terminal_of_entry, with_peer}
 use Rattle.bsc_control.specs.CallOrder.{Call}
-use Rattle.bsc_control.specs.Table.{poll_call_step, selection_call_step, make_call_step, select_address}
+use Rattle.bsc_control.specs.Table.{poll_call_step, selection_call_step, make_call_step}
+use Rattle.bsc_control.specs.Table.{select_address}
 use Rattle.bsc_line_model.specs.declared.transmission.Speaker.TheVariants as sp
 use Rattle.bsc_line_model.specs.Transmission.{sent_by}
 use Rattle.bsc_line_model.specs.Line.{terminal_in}
-use Rattle.bsc_line_model.specs.Together.{IsQuiet, AllQuiet, OthersQuiet, IsSelecting, IsPolling, InTask}
+use Rattle.bsc_line_model.specs.Together.{IsQuiet, AllQuiet, OthersQuiet, IsSelecting, IsPolling}
+use Rattle.bsc_line_model.specs.Together.{InTask}
 use Rattle.bsc_line_model.proofs.Stations.{same_or_not}
 
 -- a peer that was written, and another one
-peer_same : (c : ControlValue) (e : ℕ) (p : PeerValue) → e < length c.peers → peer_at (with_peer c e p) e ≡ p
+peer_same : (c : ControlValue) (e : ℕ) (p : PeerValue) → e < length c.peers
+    → peer_at (with_peer c e p) e ≡ p
 peer_same c e p there = get_or-set_same c.peers e p no_peer there
 
-peer_other : (c : ControlValue) (e t : ℕ) (p : PeerValue) → t ≢ e → peer_at (with_peer c e p) t ≡ peer_at c t
+peer_other : (c : ControlValue) (e t : ℕ) (p : PeerValue) → t ≢ e → peer_at (with_peer c e p) t
+    ≡ peer_at c t
 peer_other c e t p differ = get_or-set_other c.peers e t p no_peer differ
 
 -- one peer changed so that its terminal stays quiet
-others_quiet : (c : ControlValue) (ts : List TributaryValue) (e : ℕ) (p : PeerValue) → AllQuiet c ts → OthersQuiet (with_peer c e p) ts e
-others_quiet c ts e p quiet t less differ = subst (λ (q : PeerValue). IsQuiet q (terminal_in ts t)) (sym (peer_other c e t p differ)) (quiet t less)
+others_quiet : (c : ControlValue) (ts : List TributaryValue) (e : ℕ) (p : PeerValue) → AllQuiet c ts
+    → OthersQuiet (with_peer c e p) ts e
+others_quiet c ts e p quiet t less differ =
+    subst (λ (q : PeerValue). IsQuiet q (terminal_in ts t)) (sym (peer_other c e t p differ))
+    (quiet t less)
 
-all_quiet : (c : ControlValue) (ts : List TributaryValue) (e : ℕ) (p : PeerValue) → e < length c.peers → AllQuiet c ts → (e < length ts → IsQuiet p (terminal_in ts e)) → AllQuiet (with_peer c e p) ts
+all_quiet : (c : ControlValue) (ts : List TributaryValue) (e : ℕ) (p : PeerValue) → e
+    < length c.peers → AllQuiet c ts → (e < length ts → IsQuiet p (terminal_in ts e))
+    → AllQuiet (with_peer c e p) ts
 all_quiet c ts e p there quiet here t less =
     elim (same_or_not t e) [
       | inl same ↦
           subst (λ (n : ℕ). IsQuiet (peer_at (with_peer c e p) n) (terminal_in ts n)) (sym same)
-          (subst (λ (q : PeerValue). IsQuiet q (terminal_in ts e)) (sym (peer_same c e p there)) (here (subst (λ (n : ℕ). n < length ts) same less)))
+          (subst (λ (q : PeerValue). IsQuiet q (terminal_in ts e)) (sym (peer_same c e p there))
+          (here (subst (λ (n : ℕ). n < length ts) same less)))
       | inr differ ↦ others_quiet c ts e p quiet t less differ
     ]
 
 -- the receiver begins, and the urgent flag falls: neither is seen by the channels
-begins : (p : PeerValue) (x : TributaryValue) → IsQuiet p x → IsQuiet (record p { receiver = new_receiver true }) x
+begins : (p : PeerValue) (x : TributaryValue) → IsQuiet p x
+    → IsQuiet (record p { receiver = new_receiver true }) x
 begins p x q = record { mode = q.mode; up = q.up; down = q.down }
 
 calms : (p : PeerValue) (x : TributaryValue) → IsQuiet p x → IsQuiet (record p { urgent = false }) x
 calms p x q = record { mode = q.mode; up = q.up; down = q.down }
 
 -- the polling address of an entry is called
-pub polled_next : (c : ControlValue) (ts : List TributaryValue) (place failures : ℕ) → terminal_of_entry c place < length c.peers → length c.peers ≡ length ts → AllQuiet c ts →
-    IsPolling (sent_by sp.Control (poll_call_step c place failures).sent) (poll_call_step c place failures).control ts Nothing
+pub polled_next : (c : ControlValue) (ts : List TributaryValue) (place failures : ℕ)
+    → terminal_of_entry c place < length c.peers → length c.peers ≡ length ts → AllQuiet c ts →
+    IsPolling (sent_by sp.Control (poll_call_step c place failures).sent)
+    (poll_call_step c place failures).control ts Nothing
 polled_next c ts place failures there count quiet =
     let e : ℕ = terminal_of_entry c place in
     let p : PeerValue = peer_at c e in
@@ -54,27 +68,35 @@ polled_next c ts place failures there count quiet =
     record {
       others = others_quiet c ts e d quiet;
       present = inl (
-        subst (λ (q : PeerValue). IsQuiet q (terminal_in ts e)) (sym (peer_same c e d there)) (begins p (terminal_in ts e) (quiet e here)),
+        subst (λ (q : PeerValue). IsQuiet q (terminal_in ts e)) (sym (peer_same c e d there))
+            (begins p (terminal_in ts e) (quiet e here)),
         (ap (λ (q : PeerValue). m.Call q.terminal.poll) (sym (peer_same c e d there)), refl),
       );
     }
 
 -- a selection address of an entry is called
-pub selected_next : (c : ControlValue) (ts : List TributaryValue) (place s : ℕ) → terminal_of_entry c place < length c.peers → length c.peers ≡ length ts → AllQuiet c ts →
-    IsSelecting (sent_by sp.Control (selection_call_step c place s).sent) (selection_call_step c place s).control ts s false
+pub selected_next : (c : ControlValue) (ts : List TributaryValue) (place s : ℕ)
+    → terminal_of_entry c place < length c.peers → length c.peers ≡ length ts → AllQuiet c ts →
+    IsSelecting (sent_by sp.Control (selection_call_step c place s).sent)
+    (selection_call_step c place s).control ts s false
 selected_next c ts place s there count quiet =
     let e : ℕ = terminal_of_entry c place in
     let p : PeerValue = peer_at c e in
     let d : PeerValue = record p { urgent = false } in
     record {
       quiet = all_quiet c ts e d there quiet (λ less. calms p (terminal_in ts e) (quiet e less));
-      with_pending = ap (λ (q : PeerValue). m.Call (select_address q.terminal s)) (sym (peer_same c e d there));
+      with_pending =
+          ap (λ (q : PeerValue). m.Call (select_address q.terminal s))
+          (sym (peer_same c e d there));
       fresh = tt;
     }
 
 -- any call
-pub called_next : (c : ControlValue) (ts : List TributaryValue) (place : ℕ) (way : Way) → terminal_of_entry c place < length c.peers → length c.peers ≡ length ts → AllQuiet c ts →
+pub called_next : (c : ControlValue) (ts : List TributaryValue) (place : ℕ) (way : Way)
+    → terminal_of_entry c place < length c.peers → length c.peers ≡ length ts → AllQuiet c ts →
     let call : Call = record { place = place; way = way } in
-    InTask (make_call_step c call).control.task (sent_by sp.Control (make_call_step c call).sent) (make_call_step c call).control ts
+    InTask (make_call_step c call).control.task (sent_by sp.Control (make_call_step c call).sent)
+    (make_call_step c call).control ts
 called_next c ts place FromTerminal there count quiet = polled_next c ts place 0 there count quiet
-called_next c ts place (ToTerminal s) there count quiet = selected_next c ts place s there count quiet
+called_next c ts place (ToTerminal s) there count quiet =
+    selected_next c ts place s there count quiet

@@ -1,6 +1,9 @@
--- The control station's call is missed by all terminals, or heard whole by all: the one that is called answers, and
+-- The control station's call is missed by all terminals, or heard whole by all: the one that is
+-- called answers, and
 -- the others give up the line.
-use Rattle.std.proofs.Common.{◌≡◌, ◌≢◌, ◌⊎◌, inl, inr, ◌↔◌, ℕ, ◌<◌, Bool, true, false, nat_eq, List, length, Option, None, Some, slice_get, slice_set, refl, sym, ◌∙◌, ap, subst, arith, get_or-set_other, get_or-set_same, if◌then◌else◌, ◌≤◌}
+use Rattle.std.proofs.Common.{◌≡◌, ◌≢◌, ◌⊎◌, inl, inr, ◌↔◌, ℕ, ◌<◌, Bool, true, false, nat_eq, List}
+use Rattle.std.proofs.Common.{length, Option, None, Some, slice_get, slice_set, refl, sym, ◌∙◌, ap}
+use Rattle.std.proofs.Common.{subst, arith, get_or-set_other, get_or-set_same, if◌then◌else◌, ◌≤◌}
 use Rattle.std.proofs.lemmas.Bool.{eqb-false}
 use Rattle.std.proofs.lemmas.Option.{slice_get-get_or}
 use Rattle.bsc_frame.specs.declared.message.Message.{Message}
@@ -23,12 +26,15 @@ use Rattle.bsc_text.specs.Terminal.{TerminalValue}
 use Rattle.bsc_text.specs.Agreement.{IsResting, Continues, sent_flight}
 use Rattle.bsc_text.specs.EachStep.{SenderAgrees}
 use Rattle.bsc_tributary.specs.declared.called.Called.{Called}
-use Rattle.bsc_tributary.specs.declared.called.Called.TheVariants.{Polling as PollingCalled, Selection, Other}
+use Rattle.bsc_tributary.specs.declared.called.Called.TheVariants.{Polling as PollingCalled}
+use Rattle.bsc_tributary.specs.declared.called.Called.TheVariants.{Selection, Other}
 use Rattle.bsc_tributary.specs.declared.mode.Mode.{Mode}
 use Rattle.bsc_tributary.specs.declared.mode.Mode.TheVariants.{Control, Receiving, Sending}
 use Rattle.bsc_tributary.specs.Called.{called_as}
 use Rattle.bsc_text.specs.Terminal.{HasDistinctAddresses}
-use Rattle.bsc_tributary.specs.Tributary.{TributaryValue, TributaryStep, Hears, hear_step, call_step, act_step, answer_step, quiet_step, without_line, rooms_after, spool_at, empty_spool}
+use Rattle.bsc_tributary.specs.Tributary.{TributaryValue, TributaryStep, Hears, hear_step}
+use Rattle.bsc_tributary.specs.Tributary.{call_step, act_step, answer_step, quiet_step}
+use Rattle.bsc_tributary.specs.Tributary.{without_line, rooms_after, spool_at, empty_spool}
 use Rattle.bsc_tributary.specs.Kept.{IsTributary, AfterHearing, StaysQuiet, SuitsMode}
 use Rattle.bsc_control.specs.declared.task.Replied.{Replied}
 use Rattle.bsc_control.specs.declared.task.Replied.TheVariants.{Nothing}
@@ -47,7 +53,8 @@ use Rattle.bsc_line_model.specs.Line.{terminal_in}
 use Rattle.bsc_line_model.specs.Terminals.{answer_of, EachHears, EachKeeps, first_answer}
 use Rattle.bsc_line_model.specs.Trust.{EachOf, IsMissed, AllHear}
 use Rattle.bsc_line_model.specs.Kept.{AreStations}
-use Rattle.bsc_line_model.specs.Together.{IsQuiet, AllQuiet, OthersQuiet, AllInControlMode, IsSelectedWith, IsSelecting, IsPolling}
+use Rattle.bsc_line_model.specs.Together.{IsQuiet, AllQuiet, OthersQuiet, AllInControlMode}
+use Rattle.bsc_line_model.specs.Together.{IsSelectedWith, IsSelecting, IsPolling}
 use Rattle.bsc_line_model.specs.BidLaws.{BidLaws}
 use Rattle.bsc_line_model.proofs.Entries.{places, current_there}
 use Rattle.bsc_line_model.proofs.Stations.{same_or_not, terminal_there}
@@ -56,7 +63,8 @@ use Rattle.bsc_line_model.proofs.SendingDown.{place_of, none_before, one_answers
 use Rattle.bsc_line_model.proofs.ActingUp.{HasActedUp, acts_up, present_after}
 
 -- a terminal that no bid goes on from is at rest
-pub at_rest_in : (mode : Mode) (phase : Phase) (n : ℕ) → mode ≢ Sending → SuitsMode mode phase n → IsAtRest phase
+pub at_rest_in : (mode : Mode) (phase : Phase) (n : ℕ) → mode ≢ Sending → SuitsMode mode phase n
+    → IsAtRest phase
 at_rest_in Control phase n ne k = k
 at_rest_in (Receiving s) phase n ne k = k.0
 at_rest_in Sending phase n ne k = absurd (ne refl)
@@ -68,11 +76,14 @@ cut_same (Unanswered b) h = absurd h
 cut_same (Held end x) h = absurd h
 
 -- the line is taken from it
-pub without_quiet : (p : PeerValue) (x : TributaryValue) → IsTributary x → IsQuiet p x → IsQuiet p (without_line x)
+pub without_quiet : (p : PeerValue) (x : TributaryValue) → IsTributary x → IsQuiet p x
+    → IsQuiet p (without_line x)
 without_quiet p x is q =
     record {
       mode = λ sends. cc;
-      up = subst (λ (k : Phase). IsResting k x.queue p.spool.records) (sym (cut_same x.sender.phase (at_rest_in x.mode x.sender.phase (length x.spools) q.mode is.bid))) q.up;
+      up = subst (λ (k : Phase). IsResting k x.queue p.spool.records)
+          (sym (cut_same x.sender.phase (at_rest_in x.mode x.sender.phase (length x.spools) q.mode
+          is.bid))) q.up;
       down = q.down;
     }
 
@@ -86,7 +97,8 @@ pub record GivesUp (x u : TributaryValue) (out : Option Message) : Type 0 where
   pub becomes : u ≡ without_line x
   pub silent : out ≡ None
 
-pub back_quiet : (p : PeerValue) (x u : TributaryValue) (out : Option Message) → IsTributary x → IsQuiet p x → StepsBack x u out → IsQuiet p u
+pub back_quiet : (p : PeerValue) (x u : TributaryValue) (out : Option Message) → IsTributary x
+    → IsQuiet p x → StepsBack x u out → IsQuiet p u
 back_quiet p x u out is q b =
     elim b.becomes [
       | inl e ↦ subst (λ (y : TributaryValue). IsQuiet p y) (sym e) q
@@ -94,12 +106,17 @@ back_quiet p x u out is q b =
     ]
 
 -- it missed the call
-pub misses : (x : TributaryValue) (h : Heard) (u : TributaryValue) (out : Option Message) → IsMissed h → Hears x h u out → AfterHearing x h u out → StepsBack x u out
+pub misses : (x : TributaryValue) (h : Heard) (u : TributaryValue) (out : Option Message)
+    → IsMissed h → Hears x h u out → AfterHearing x h u out → StepsBack x u out
 misses x Noise u out f row after =
     let q : StaysQuiet x u out = after.noise refl in
     record { becomes = inl q.0; silent = q.1 }
 misses x (Whole m.Eot) u out f row after =
-    record { becomes = inr (ap (λ (o : TributaryStep). o.tributary) row.row); silent = ap (λ (o : TributaryStep). o.sent) row.row }
+    record {
+      becomes = inr (ap (λ (o : TributaryStep). o.tributary) row.row);
+      silent =
+          ap (λ (o : TributaryStep). o.sent) row.row;
+    }
 misses x Failed u out f row after = absurd f
 misses x (Whole (m.Call z)) u out f row after = absurd f
 misses x (Whole (m.Text z)) u out f row after = absurd f
@@ -110,32 +127,48 @@ misses x (Whole m.Nak) u out f row after = absurd f
 misses x (Whole m.Wack) u out f row after = absurd f
 misses x (Whole m.Rvi) u out f row after = absurd f
 
-nobody_answers : (old : List TributaryValue) (hears : ℕ → Heard) (new : List TributaryValue) (n : ℕ) → ((k : ℕ) → k < n → answer_of old hears new k ≡ None) → first_answer old hears new n ≡ None
-nobody_answers old hears new n f = none_before old hears new n n (omega arith) (λ k less ne. f k less)
+nobody_answers : (old : List TributaryValue) (hears : ℕ → Heard) (new : List TributaryValue) (n : ℕ)
+    → ((k : ℕ) → k < n → answer_of old hears new k ≡ None) → first_answer old hears new n ≡ None
+nobody_answers old hears new n f =
+    none_before old hears new n n (omega arith) (λ k less ne. f k less)
 
 -- all missed it: no bid goes on, and nothing is on the line
-pub record AllBack (c : ControlValue) (old : List TributaryValue) (hears : ℕ → Heard) (new : List TributaryValue) : Type 0 where
+pub record AllBack (c : ControlValue) (old : List TributaryValue) (hears : ℕ → Heard)
+    (new : List TributaryValue) : Type 0 where
   pub quiet : AllQuiet c new
   pub first : first_answer old hears new (length old) ≡ None
 
-pub all_miss : (c : ControlValue) (old : List TributaryValue) (hears : ℕ → Heard) (new : List TributaryValue) → AreStations c old → AllQuiet c old → EachOf (length old) (λ t. IsMissed (hears t)) → EachHears old hears new → EachKeeps old hears new → AllBack c old hears new
+pub all_miss : (c : ControlValue) (old : List TributaryValue) (hears : ℕ → Heard)
+    (new : List TributaryValue) → AreStations c old → AllQuiet c old
+    → EachOf (length old) (λ t. IsMissed (hears t)) → EachHears old hears new
+    → EachKeeps old hears new → AllBack c old hears new
 all_miss c old hears new stations quiet missed each keeps =
-    let backs : (t : ℕ) → t < length old → StepsBack (terminal_in old t) (terminal_in new t) (answer_of old hears new t) =
-    λ t less. misses (terminal_in old t) (hears t) (terminal_in new t) (answer_of old hears new t) (missed t less) (each.each t less) (keeps t less) in
+    let backs : (t : ℕ) → t < length old
+    → StepsBack (terminal_in old t) (terminal_in new t) (answer_of old hears new t) =
+    λ t less. misses (terminal_in old t) (hears t) (terminal_in new t) (answer_of old hears new t)
+    (missed t less) (each.each t less) (keeps t less) in
     record {
       quiet = λ t less.
           let before : t < length old = omega (arith, each.count) in
-          back_quiet (peer_at c t) (terminal_in old t) (terminal_in new t) (answer_of old hears new t) (stations.members t before).tributary (quiet t before) (backs t before);
+          back_quiet (peer_at c t) (terminal_in old t) (terminal_in new t)
+          (answer_of old hears new t) (stations.members t before).tributary (quiet t before)
+          (backs t before);
       first = nobody_answers old hears new (length old) (λ t less. (backs t less).silent);
     }
 
-pub selecting_missed : (c : ControlValue) (old : List TributaryValue) (hears : ℕ → Heard) (new : List TributaryValue) (s : ℕ) → AreStations c old → AllQuiet c old → EachOf (length old) (λ t. IsMissed (hears t)) → EachHears old hears new → EachKeeps old hears new →
+pub selecting_missed : (c : ControlValue) (old : List TributaryValue) (hears : ℕ → Heard)
+    (new : List TributaryValue) (s : ℕ) → AreStations c old → AllQuiet c old
+    → EachOf (length old) (λ t. IsMissed (hears t)) → EachHears old hears new
+    → EachKeeps old hears new →
     IsSelecting (first_answer old hears new (length old)) c new s false
 selecting_missed c old hears new s stations quiet missed each keeps =
     let b : AllBack c old hears new = all_miss c old hears new stations quiet missed each keeps in
     record { quiet = b.quiet; with_pending = rw (b.first) tt; fresh = tt }
 
-pub polling_missed : (c : ControlValue) (old : List TributaryValue) (hears : ℕ → Heard) (new : List TributaryValue) (replied : Replied) → current c < length old → AreStations c old → AllQuiet c old → EachOf (length old) (λ t. IsMissed (hears t)) → EachHears old hears new → EachKeeps old hears new →
+pub polling_missed : (c : ControlValue) (old : List TributaryValue) (hears : ℕ → Heard)
+    (new : List TributaryValue) (replied : Replied) → current c < length old → AreStations c old
+    → AllQuiet c old → EachOf (length old) (λ t. IsMissed (hears t)) → EachHears old hears new
+    → EachKeeps old hears new →
     IsPolling (first_answer old hears new (length old)) c new replied
 polling_missed c old hears new replied there stations quiet missed each keeps =
     let b : AllBack c old hears new = all_miss c old hears new stations quiet missed each keeps in
@@ -146,56 +179,103 @@ polling_missed c old hears new replied there stations quiet missed each keeps =
     }
 
 -- a call is heard whole by all, and its address is that of terminal e for this way
-pub record IsCallTo (c : ControlValue) (old : List TributaryValue) (hears : ℕ → Heard) (addressed : Option (ℕ × Way)) (e : ℕ) (way : Way) (address : List ℕ) : Type 0 where
+pub record IsCallTo (c : ControlValue) (old : List TributaryValue) (hears : ℕ → Heard)
+    (addressed : Option (ℕ × Way)) (e : ℕ) (way : Way) (address : List ℕ) : Type 0 where
   pub there : e < length old
   pub all : AllHear (length old) hears (m.Call address)
   pub exact : (u : ℕ) (w : Way) → (addressed ≡ Some (u, w)) ↔ IsAddressOf (terminals c) u w address
   pub its_own : IsAddressOf (terminals c) e way address
 
 -- an address is that of one terminal
-one_terminal : (addressed : Option (ℕ × Way)) (t e : ℕ) (v w : Way) → addressed ≡ Some (t, v) → addressed ≡ Some (e, w) → t ≡ e
+one_terminal : (addressed : Option (ℕ × Way)) (t e : ℕ) (v w : Way) → addressed ≡ Some (t, v)
+    → addressed ≡ Some (e, w) → t ≡ e
 one_terminal addressed t e v w a b = ap place_of (sym a ∙ b)
 
 -- so the others are not called
-pub not_called : (laws : NamesOwn) (addressed : Option (ℕ × Way)) (ts : List TerminalValue) (t e : ℕ) (way : Way) (x : TerminalValue) (address : List ℕ) → IsCalledBy addressed ts t x address → addressed ≡ Some (e, way) → t ≢ e → (called : Called) → called_as x address ≡ called → called_as x address ≡ Other
+pub not_called : (laws : NamesOwn) (addressed : Option (ℕ × Way)) (ts : List TerminalValue)
+    (t e : ℕ) (way : Way) (x : TerminalValue) (address : List ℕ)
+    → IsCalledBy addressed ts t x address → addressed ≡ Some (e, way) → t ≢ e → (called : Called)
+    → called_as x address ≡ called → called_as x address ≡ Other
 not_called laws addressed ts t e way x address b is differ Other k = k
 not_called laws addressed ts t e way x address b is differ PollingCalled k =
-    absurd (differ (one_terminal addressed t e FromTerminal way ((b.exact t FromTerminal).1 (record { terminal = x; there = b.there; its_own = ap (λ (z : List ℕ). Some z) (sym ((laws.polling x address).0 k)) })) is))
+    absurd
+    (differ (one_terminal addressed t e FromTerminal way
+    ((b.exact t FromTerminal).1 (record {
+      terminal = x;
+      there = b.there;
+      its_own =
+          ap (λ (z : List ℕ). Some z) (sym ((laws.polling x address).0 k));
+    })) is))
 not_called laws addressed ts t e way x address b is differ (Selection s) k =
-    absurd (differ (one_terminal addressed t e (ToTerminal s) way ((b.exact t (ToTerminal s)).1 (record { terminal = x; there = b.there; its_own = (laws.selection x address s b.distinct).0 k })) is))
+    absurd
+    (differ (one_terminal addressed t e (ToTerminal s) way
+    ((b.exact t (ToTerminal s)).1 (record {
+      terminal = x;
+      there = b.there;
+      its_own =
+          (laws.selection x address s b.distinct).0 k;
+    })) is))
 
 -- what a terminal does that hears a call whole
-pub called_row : (x : TributaryValue) (h : Heard) (u : TributaryValue) (out : Option Message) (address : List ℕ) (called : Called) → h ≡ Whole (m.Call address) → called_as x.terminal address ≡ called → Hears x h u out →
+pub called_row : (x : TributaryValue) (h : Heard) (u : TributaryValue) (out : Option Message)
+    (address : List ℕ) (called : Called) → h ≡ Whole (m.Call address) → called_as x.terminal address
+    ≡ called → Hears x h u out →
     record { tributary = u; sent = out } ≡ call_step x called (rooms_after h u)
 called_row x h u out address called heard is row =
-    let first : record { tributary = u; sent = out } ≡ hear_step x (Whole (m.Call address)) (rooms_after h u) =
-    subst (λ (z : Heard). record { tributary = u; sent = out } ≡ hear_step x z (rooms_after h u)) heard row.row in
-    subst (λ (k : Called). record { tributary = u; sent = out } ≡ call_step x k (rooms_after h u)) is first
+    let first : record { tributary = u; sent = out }
+    ≡ hear_step x (Whole (m.Call address)) (rooms_after h u) =
+    subst (λ (z : Heard). record { tributary = u; sent = out } ≡ hear_step x z (rooms_after h u))
+    heard row.row in
+    subst (λ (k : Called). record { tributary = u; sent = out } ≡ call_step x k (rooms_after h u))
+    is first
 
-gives_up : (x : TributaryValue) (h : Heard) (u : TributaryValue) (out : Option Message) (address : List ℕ) → h ≡ Whole (m.Call address) → called_as x.terminal address ≡ Other → Hears x h u out → GivesUp x u out
+gives_up : (x : TributaryValue) (h : Heard) (u : TributaryValue) (out : Option Message)
+    (address : List ℕ) → h ≡ Whole (m.Call address) → called_as x.terminal address ≡ Other
+    → Hears x h u out → GivesUp x u out
 gives_up x h u out address heard is row =
-    let row : record { tributary = u; sent = out } ≡ quiet_step (without_line x) = called_row x h u out address Other heard is row in
-    record { becomes = ap (λ (o : TributaryStep). o.tributary) row; silent = ap (λ (o : TributaryStep). o.sent) row }
+    let row : record { tributary = u; sent = out } ≡ quiet_step (without_line x) =
+    called_row x h u out address Other heard is row in
+    record {
+      becomes = ap (λ (o : TributaryStep). o.tributary) row;
+      silent =
+          ap (λ (o : TributaryStep). o.sent) row;
+    }
 
 -- the others when a call is heard whole
-pub record OneCalled (c : ControlValue) (old : List TributaryValue) (hears : ℕ → Heard) (new : List TributaryValue) (e : ℕ) : Type 0 where
-  pub others : (t : ℕ) → t < length old → t ≢ e → GivesUp (terminal_in old t) (terminal_in new t) (answer_of old hears new t)
-  pub first : first_answer old hears new (length old) ≡ sent_by (sp.Terminal e) (answer_of old hears new e)
+pub record OneCalled (c : ControlValue) (old : List TributaryValue) (hears : ℕ → Heard)
+    (new : List TributaryValue) (e : ℕ) : Type 0 where
+  pub others : (t : ℕ) → t < length old → t ≢ e
+      → GivesUp (terminal_in old t) (terminal_in new t) (answer_of old hears new t)
+  pub first : first_answer old hears new (length old)
+      ≡ sent_by (sp.Terminal e) (answer_of old hears new e)
   pub modes : (terminal_in new e).mode ≡ Control → AllInControlMode new
 
-pub one_called : (laws : NamesOwn) (c : ControlValue) (old : List TributaryValue) (hears : ℕ → Heard) (new : List TributaryValue) (addressed : Option (ℕ × Way)) (e : ℕ) (way : Way) (address : List ℕ) → AreStations c old → IsCallTo c old hears addressed e way address → EachHears old hears new → OneCalled c old hears new e
+pub one_called : (laws : NamesOwn) (c : ControlValue) (old : List TributaryValue)
+    (hears : ℕ → Heard) (new : List TributaryValue) (addressed : Option (ℕ × Way)) (e : ℕ)
+    (way : Way) (address : List ℕ) → AreStations c old
+    → IsCallTo c old hears addressed e way address → EachHears old hears new
+    → OneCalled c old hears new e
 one_called laws c old hears new addressed e way address stations call each =
-    let ups : (t : ℕ) → t < length old → t ≢ e → GivesUp (terminal_in old t) (terminal_in new t) (answer_of old hears new t) =
+    let ups : (t : ℕ) → t < length old → t ≢ e
+    → GivesUp (terminal_in old t) (terminal_in new t) (answer_of old hears new t) =
     λ t less differ.
     let x : TributaryValue = terminal_in old t in
     let distinct : HasDistinctAddresses x.terminal = (stations.members t less).tributary.distinct in
     gives_up x (hears t) (terminal_in new t) (answer_of old hears new t) address (call.all t less)
-    (not_called laws addressed (terminals c) t e way x.terminal address (record { exact = call.exact; there = terminal_there c old t stations less; distinct = distinct })
+    (not_called laws addressed (terminals c) t e way x.terminal address
+    (record {
+      exact = call.exact;
+      there = terminal_there c old t stations less;
+      distinct =
+          distinct;
+    })
     ((call.exact e way).1 call.its_own) differ (called_as x.terminal address) refl)
     (each.each t less) in
     record {
       others = ups;
-      first = one_answers old hears new e (length old) call.there (λ t less differ. (ups t less differ).silent);
+      first =
+          one_answers old hears new e (length old) call.there
+          (λ t less differ. (ups t less differ).silent);
       modes = λ here t less.
           let before : t < length old = omega (arith, each.count) in
           elim (same_or_not t e) [
@@ -205,14 +285,20 @@ one_called laws c old hears new addressed e way address stations call each =
     }
 
 -- the others stay quiet
-pub others_give_up : (c : ControlValue) (old : List TributaryValue) (hears : ℕ → Heard) (new : List TributaryValue) (e : ℕ) → AreStations c old → AllQuiet c old → length new ≡ length old → OneCalled c old hears new e → OthersQuiet c new e
+pub others_give_up : (c : ControlValue) (old : List TributaryValue) (hears : ℕ → Heard)
+    (new : List TributaryValue) (e : ℕ) → AreStations c old → AllQuiet c old → length new
+    ≡ length old → OneCalled c old hears new e → OthersQuiet c new e
 others_give_up c old hears new e stations quiet count one t less differ =
     let before : t < length old = omega (arith, count) in
-    let up : GivesUp (terminal_in old t) (terminal_in new t) (answer_of old hears new t) = one.others t before differ in
-    back_quiet (peer_at c t) (terminal_in old t) (terminal_in new t) (answer_of old hears new t) (stations.members t before).tributary (quiet t before) (record { becomes = inr up.becomes; silent = up.silent })
+    let up : GivesUp (terminal_in old t) (terminal_in new t) (answer_of old hears new t) =
+    one.others t before differ in
+    back_quiet (peer_at c t) (terminal_in old t) (terminal_in new t) (answer_of old hears new t)
+    (stations.members t before).tributary (quiet t before)
+    (record { becomes = inr up.becomes; silent = up.silent })
 
 -- all are quiet where the others and this one are
-pub with_others : (c : ControlValue) (ts : List TributaryValue) (e : ℕ) → OthersQuiet c ts e → IsQuiet (peer_at c e) (terminal_in ts e) → AllQuiet c ts
+pub with_others : (c : ControlValue) (ts : List TributaryValue) (e : ℕ) → OthersQuiet c ts e
+    → IsQuiet (peer_at c e) (terminal_in ts e) → AllQuiet c ts
 with_others c ts e others this t less =
     elim (same_or_not t e) [
       | inl same ↦ subst (λ (n : ℕ). IsQuiet (peer_at c n) (terminal_in ts n)) (sym same) this
@@ -220,11 +306,18 @@ with_others c ts e others this t less =
     ]
 
 -- a try for room leaves the records
-records_kept : (spools : List SpoolValue) (s k : ℕ) (room : Bool) → s < length spools → (spool_at (slice_set spools s (room_asked (spool_at spools s) room)) k).records ≡ (spool_at spools k).records
+records_kept : (spools : List SpoolValue) (s k : ℕ) (room : Bool) → s < length spools
+    → (spool_at (slice_set spools s (room_asked (spool_at spools s) room)) k).records
+    ≡ (spool_at spools k).records
 records_kept spools s k room there =
     elim (same_or_not k s) [
-      | inl same ↦ rw (same, get_or-set_same spools s (room_asked (spool_at spools s) room) empty_spool there) refl
-      | inr differ ↦ ap (λ (z : SpoolValue). z.records) (get_or-set_other spools s k (room_asked (spool_at spools s) room) empty_spool differ)
+      | inl same ↦ rw (
+        same,
+        get_or-set_same spools s (room_asked (spool_at spools s) room)
+            empty_spool there,
+      ) refl
+      | inr differ ↦ ap (λ (z : SpoolValue). z.records)
+          (get_or-set_other spools s k (room_asked (spool_at spools s) room) empty_spool differ)
     ]
 
 -- the answer to a selection, by the flag and whether there is room
@@ -233,39 +326,73 @@ selection_answer x s room ready =
     let d : TributaryValue = without_line x in
     let spools : List SpoolValue = slice_set x.spools s (room_asked (spool_at x.spools s) room) in
     if ready
-    then answer_step (record d { mode = Receiving s; receiver = new_receiver room; spools = spools })
+    then answer_step (record d {
+      mode = Receiving s;
+      receiver = new_receiver room;
+      spools =
+          spools;
+    })
     (message_of (first_reply room))
     else answer_step d m.Nak
 
 -- a terminal that receives now, and rests
-receives_now : (p : PeerValue) (x : TributaryValue) (s : ℕ) (room : Bool) → IsTributary x → IsQuiet p x → s < length x.spools →
-    IsQuiet p (record (without_line x) { mode = Receiving s; receiver = new_receiver room; spools = slice_set x.spools s (room_asked (spool_at x.spools s) room) })
+receives_now : (p : PeerValue) (x : TributaryValue) (s : ℕ) (room : Bool) → IsTributary x
+    → IsQuiet p x → s < length x.spools →
+    IsQuiet p (record (without_line x) {
+      mode = Receiving s;
+      receiver = new_receiver room;
+      spools =
+          slice_set x.spools s (room_asked (spool_at x.spools s) room);
+    })
 receives_now p x s room is q there =
     record {
       mode = λ sends. cc;
       up = (without_quiet p x is q).up;
-      down = λ k less. subst (λ (z : List (List ℕ)). IsResting (outbound_at p k).sender.phase (outbound_at p k).queue z) (sym (records_kept x.spools s k room there)) (q.down k less);
+      down =
+          λ k less. subst (λ (z : List (List ℕ)). IsResting (outbound_at p k).sender.phase
+          (outbound_at p k).queue z) (sym (records_kept x.spools s k room there))
+          (q.down k less);
     }
 
 -- the selected terminal is quiet, and its answer is one
 abbrev AnswersSelection : PeerValue → ℕ → ℕ → TributaryStep → List TributaryValue → Type 0
-AnswersSelection p e s step ts = (step.tributary.mode ≡ Control → AllInControlMode ts) → IsQuiet p step.tributary × IsSelectedWith (sent_by (sp.Terminal e) step.sent) false p e s step.tributary ts
+AnswersSelection p e s step ts = (step.tributary.mode ≡ Control → AllInControlMode ts)
+    → IsQuiet p step.tributary × IsSelectedWith (sent_by (sp.Terminal e) step.sent) false p e s
+    step.tributary ts
 
-selected_terminal : (p : PeerValue) (e s : ℕ) (x : TributaryValue) (ts : List TributaryValue) (room ready : Bool) → IsTributary x → IsQuiet p x → s < length x.spools → AnswersSelection p e s (selection_answer x s room ready) ts
-selected_terminal p e s x ts true true is q there modes = (receives_now p x s true is q there, (refl, (record { mode = refl; even = refl; last = inl refl }, refl)))
-selected_terminal p e s x ts false true is q there modes = (receives_now p x s false is q there, (refl, (record { mode = refl; even = refl; last = inr refl }, refl)))
-selected_terminal p e s x ts true false is q there modes = (without_quiet p x is q, (refl, modes refl))
-selected_terminal p e s x ts false false is q there modes = (without_quiet p x is q, (refl, modes refl))
+selected_terminal : (p : PeerValue) (e s : ℕ) (x : TributaryValue) (ts : List TributaryValue)
+    (room ready : Bool) → IsTributary x → IsQuiet p x → s < length x.spools
+    → AnswersSelection p e s (selection_answer x s room ready) ts
+selected_terminal p e s x ts true true is q there modes = (
+  receives_now p x s true is q there,
+  (refl, (record { mode = refl; even = refl; last = inl refl }, refl)),
+)
+selected_terminal p e s x ts false true is q there modes = (
+  receives_now p x s false is q there,
+  (refl, (record { mode = refl; even = refl; last = inr refl }, refl)),
+)
+selected_terminal p e s x ts true false is q there modes =
+    (without_quiet p x is q, (refl, modes refl))
+selected_terminal p e s x ts false false is q there modes =
+    (without_quiet p x is q, (refl, modes refl))
 
 -- a selection address of the present terminal
-pub select_there : (c : ControlValue) (s : ℕ) → IsControl c → s < length (peer c).outbounds → s < length (peer c).terminal.selects
+pub select_there : (c : ControlValue) (s : ℕ) → IsControl c → s < length (peer c).outbounds → s
+    < length (peer c).terminal.selects
 select_there c s is less =
-    let of_peer : IsPeer (peer c) = is.entries.peers (current c) no_peer (current_there c (places c is.entries)) in
+    let of_peer : IsPeer (peer c) =
+    is.entries.peers (current c) no_peer (current_there c (places c is.entries)) in
     subst (λ (n : ℕ). s < n) of_peer.outbounds less
 
 -- the selection address of the present terminal is heard by all: its terminal answers
-pub selecting_heard : (laws : NamesOwn) (c : ControlValue) (old : List TributaryValue) (hears : ℕ → Heard) (new : List TributaryValue) (addressed : Option (ℕ × Way)) (s : ℕ) (enquired : Bool) → current c < length old → AreStations c old → c.task ≡ Selecting s enquired → AllQuiet c old →
-    AllHear (length old) hears (m.Call (select_address (peer c).terminal s)) → ((u : ℕ) (w : Way) → (addressed ≡ Some (u, w)) ↔ IsAddressOf (terminals c) u w (select_address (peer c).terminal s)) → EachHears old hears new →
+pub selecting_heard : (laws : NamesOwn) (c : ControlValue) (old : List TributaryValue)
+    (hears : ℕ → Heard) (new : List TributaryValue) (addressed : Option (ℕ × Way)) (s : ℕ)
+    (enquired : Bool) → current c < length old → AreStations c old → c.task ≡ Selecting s enquired
+    → AllQuiet c old →
+    AllHear (length old) hears (m.Call (select_address (peer c).terminal s))
+    → ((u : ℕ) (w : Way)
+    → (addressed ≡ Some (u, w)) ↔ IsAddressOf (terminals c) u w
+    (select_address (peer c).terminal s)) → EachHears old hears new →
     IsSelecting (first_answer old hears new (length old)) c new s false
 selecting_heard laws c old hears new addressed s enquired there stations task quiet all exact each =
     let e : ℕ = current c in
@@ -274,21 +401,42 @@ selecting_heard laws c old hears new addressed s enquired there stations task qu
     let u : TributaryValue = terminal_in new e in
     let address : List ℕ = select_address p.terminal s in
     let is : IsTributary x = (stations.members e there).tributary in
-    let suits : IsSelected p s = subst (λ (t : Task). SuitsTask t p) task stations.control.orderly.suits in
+    let suits : IsSelected p s =
+    subst (λ (t : Task). SuitsTask t p) task stations.control.orderly.suits in
     let select : s < length p.terminal.selects = select_there c s stations.control suits.there in
-    let named : slice_get p.terminal.selects s ≡ Some address = slice_get-get_or p.terminal.selects s p.terminal.poll select in
+    let named : slice_get p.terminal.selects s ≡ Some address =
+    slice_get-get_or p.terminal.selects s p.terminal.poll select in
     let same : x.terminal ≡ p.terminal = (stations.members e there).addresses in
-    let named_there : slice_get x.terminal.selects s ≡ Some address = subst (λ (y : TerminalValue). slice_get y.selects s ≡ Some address) (sym same) named in
-    let its_own : IsAddressOf (terminals c) e (ToTerminal s) address = record { terminal = x.terminal; there = terminal_there c old e stations there; its_own = named_there } in
-    let one : OneCalled c old hears new e = one_called laws c old hears new addressed e (ToTerminal s) address stations (record { there = there; all = all; exact = exact; its_own = its_own }) each in
-    let called : called_as x.terminal address ≡ Selection s = (laws.selection x.terminal address s is.distinct).1 named_there in
-    let row : record { tributary = u; sent = answer_of old hears new e } ≡ selection_answer x s (rooms_after (hears e) u).first x.ready =
-    called_row x (hears e) u (answer_of old hears new e) address (Selection s) (all e there) called (each.each e there) in
-    let into : s < length x.spools = subst (λ (n : ℕ). s < n) (sym is.spools) (subst (λ (y : TerminalValue). s < length y.selects) (sym same) select) in
-    let answers : IsQuiet p u × IsSelectedWith (sent_by (sp.Terminal e) (answer_of old hears new e)) false p e s u new =
-    subst (λ (o : TributaryStep). AnswersSelection p e s o new) (sym row) (selected_terminal p e s x new (rooms_after (hears e) u).first x.ready is (quiet e there) into) one.modes in
+    let named_there : slice_get x.terminal.selects s ≡ Some address =
+    subst (λ (y : TerminalValue). slice_get y.selects s ≡ Some address) (sym same) named in
+    let its_own : IsAddressOf (terminals c) e (ToTerminal s) address =
     record {
-      quiet = with_others c new e (others_give_up c old hears new e stations quiet each.count one) answers.0;
+      terminal = x.terminal;
+      there = terminal_there c old e stations there;
+      its_own =
+          named_there;
+    } in
+    let one : OneCalled c old hears new e =
+    one_called laws c old hears new addressed e (ToTerminal s) address stations
+    (record { there = there; all = all; exact = exact; its_own = its_own }) each in
+    let called : called_as x.terminal address ≡ Selection s =
+    (laws.selection x.terminal address s is.distinct).1 named_there in
+    let row : record { tributary = u; sent = answer_of old hears new e }
+    ≡ selection_answer x s (rooms_after (hears e) u).first x.ready =
+    called_row x (hears e) u (answer_of old hears new e) address (Selection s) (all e there) called
+    (each.each e there) in
+    let into : s < length x.spools =
+    subst (λ (n : ℕ). s < n) (sym is.spools)
+    (subst (λ (y : TerminalValue). s < length y.selects) (sym same) select) in
+    let answers : IsQuiet p u × IsSelectedWith (sent_by (sp.Terminal e) (answer_of old hears new e))
+    false p e s u new =
+    subst (λ (o : TributaryStep). AnswersSelection p e s o new) (sym row)
+    (selected_terminal p e s x new (rooms_after (hears e) u).first x.ready is (quiet e there)
+    into) one.modes in
+    record {
+      quiet =
+          with_others c new e (others_give_up c old hears new e stations quiet each.count one)
+          answers.0;
       with_pending = rw (one.first) answers.1;
       fresh = tt;
     }
@@ -307,39 +455,67 @@ idle_at_rest (InDoubt k) h e = absurd (cc)
 idle_at_rest (Unanswered b) h e = absurd h
 idle_at_rest (Held end x) h e = absurd h
 
-rests_quiet : (act : Act) (old new : Phase) → FitsAct act old new → act ≡ a.Quiet → IsAtRest old → IsAtRest new
-rests_quiet act old new fits is rest = subst IsAtRest (sym (subst (λ (z : Act). FitsAct z old new) is fits)) rest
+rests_quiet : (act : Act) (old new : Phase) → FitsAct act old new → act ≡ a.Quiet → IsAtRest old
+    → IsAtRest new
+rests_quiet act old new fits is rest =
+    subst IsAtRest (sym (subst (λ (z : Act). FitsAct z old new) is fits)) rest
 
 -- the polled terminal begins a bid
-begins_bid : (laws : BidLaws) (p : PeerValue) (e : ℕ) (d : TributaryValue) → p.receiver ≡ new_receiver true → IsQuiet p d → d.mode ≡ Control → d.sender.phase ≡ Idle → 1 ≤ length (waiting d.queue) →
+begins_bid : (laws : BidLaws) (p : PeerValue) (e : ℕ) (d : TributaryValue) → p.receiver
+    ≡ new_receiver true → IsQuiet p d → d.mode ≡ Control → d.sender.phase ≡ Idle → 1
+    ≤ length (waiting d.queue) →
     let step : SenderStep = begin_step d.sender d.queue in
     HasActedUp p e (act_step d step).tributary (act_step d step).sent
 begins_bid laws p e d new q mode idle some =
     let step : SenderStep = begin_step d.sender d.queue in
-    let rest : IsResting Idle d.queue p.spool.records = subst (λ (k : Phase). IsResting k d.queue p.spool.records) idle q.up in
-    let agrees : SenderAgrees d.queue Even Ack0 p.spool.records step = laws.begin d.sender d.queue p.spool.records rest some in
+    let rest : IsResting Idle d.queue p.spool.records =
+    subst (λ (k : Phase). IsResting k d.queue p.spool.records) idle q.up in
+    let agrees : SenderAgrees d.queue Even Ack0 p.spool.records step =
+    laws.begin d.sender d.queue p.spool.records rest some in
     acts_up laws p e d step step.act refl
     (record {
       down = q.down;
-      continues = subst (λ (r : ReceiverValue). Continues step.sender.phase step.queue r.alternation r.last p.spool.records (sent_flight step.act)) (sym new) agrees.continues;
+      continues =
+          subst (λ (r : ReceiverValue). Continues step.sender.phase step.queue r.alternation r.last
+          p.spool.records (sent_flight step.act)) (sym new) agrees.continues;
       ended = agrees.ended;
     })
-    (λ is. inr (q.mode, rests_quiet step.act d.sender.phase step.sender.phase (laws.fits.begin d.sender d.queue) is (subst IsAtRest (sym idle) tt)))
+    (λ is. inr (
+      q.mode,
+      rests_quiet step.act d.sender.phase step.sender.phase
+          (laws.fits.begin d.sender d.queue) is (subst IsAtRest (sym idle) tt),
+    ))
 
-polled_terminal : (laws : BidLaws) (p : PeerValue) (e : ℕ) (x : TributaryValue) (doubt empty : Bool) → p.receiver ≡ new_receiver true → IsTributary x → IsQuiet p x → is_in_doubt (cut_phase x.sender.phase) ≡ doubt → nat_eq (length (waiting x.queue)) 0 ≡ empty →
+polled_terminal : (laws : BidLaws) (p : PeerValue) (e : ℕ) (x : TributaryValue) (doubt empty : Bool)
+    → p.receiver ≡ new_receiver true → IsTributary x → IsQuiet p x
+    → is_in_doubt (cut_phase x.sender.phase) ≡ doubt → nat_eq (length (waiting x.queue)) 0 ≡ empty →
     HasActedUp p e (poll_answer x doubt empty).tributary (poll_answer x doubt empty).sent
-polled_terminal laws p e x true empty new is q d n = let w : IsQuiet p (without_line x) = without_quiet p x is q in inl (record { mode = w.mode; up = w.up; down = w.down }, inr (refl, refl))
-polled_terminal laws p e x false true new is q d n = let w : IsQuiet p (without_line x) = without_quiet p x is q in inl (record { mode = w.mode; up = w.up; down = w.down }, inr (refl, refl))
+polled_terminal laws p e x true empty new is q d n = let w : IsQuiet p (without_line x) =
+    without_quiet p x is q in
+    inl (record { mode = w.mode; up = w.up; down = w.down }, inr (refl, refl))
+polled_terminal laws p e x false true new is q d n = let w : IsQuiet p (without_line x) =
+    without_quiet p x is q in
+    inl (record { mode = w.mode; up = w.up; down = w.down }, inr (refl, refl))
 polled_terminal laws p e x false false new is q d n =
     let w : IsQuiet p (without_line x) = without_quiet p x is q in
     let differ : length (waiting x.queue) ≢ 0 = eqb-false (length (waiting x.queue)) 0 n in
-    let rest : IsAtRest x.sender.phase = at_rest_in x.mode x.sender.phase (length x.spools) q.mode is.bid in
-    let cut_rest : IsAtRest (cut_phase x.sender.phase) = subst IsAtRest (sym (cut_same x.sender.phase rest)) rest in
-    begins_bid laws p e (record (without_line x) { urgent = false }) new (record { mode = w.mode; up = w.up; down = w.down }) refl (idle_at_rest (cut_phase x.sender.phase) cut_rest d) (omega arith)
+    let rest : IsAtRest x.sender.phase =
+    at_rest_in x.mode x.sender.phase (length x.spools) q.mode is.bid in
+    let cut_rest : IsAtRest (cut_phase x.sender.phase) =
+    subst IsAtRest (sym (cut_same x.sender.phase rest)) rest in
+    begins_bid laws p e (record (without_line x) { urgent = false }) new
+    (record { mode = w.mode; up = w.up; down = w.down }) refl
+    (idle_at_rest (cut_phase x.sender.phase) cut_rest d) (omega arith)
 
 -- the polling address of the present terminal is heard by all: it sends, or ends the poll
-pub polling_heard : (names : NamesOwn) (laws : BidLaws) (c : ControlValue) (old : List TributaryValue) (hears : ℕ → Heard) (new : List TributaryValue) (addressed : Option (ℕ × Way)) → current c < length old → AreStations c old → c.task ≡ Polling Nothing → AllQuiet c old →
-    AllHear (length old) hears (m.Call (peer c).terminal.poll) → ((u : ℕ) (w : Way) → (addressed ≡ Some (u, w)) ↔ IsAddressOf (terminals c) u w (peer c).terminal.poll) → EachHears old hears new →
+pub polling_heard : (names : NamesOwn) (laws : BidLaws) (c : ControlValue)
+    (old : List TributaryValue) (hears : ℕ → Heard) (new : List TributaryValue)
+    (addressed : Option (ℕ × Way)) → current c < length old → AreStations c old → c.task
+    ≡ Polling Nothing → AllQuiet c old →
+    AllHear (length old) hears (m.Call (peer c).terminal.poll)
+    → ((u : ℕ) (w : Way)
+    → (addressed ≡ Some (u, w)) ↔ IsAddressOf (terminals c) u w (peer c).terminal.poll)
+    → EachHears old hears new →
     IsPolling (first_answer old hears new (length old)) c new Nothing
 polling_heard names laws c old hears new addressed there stations task quiet all exact each =
     let e : ℕ = current c in
@@ -348,16 +524,29 @@ polling_heard names laws c old hears new addressed there stations task quiet all
     let u : TributaryValue = terminal_in new e in
     let out : Option Message = answer_of old hears new e in
     let is : IsTributary x = (stations.members e there).tributary in
-    let fresh : p.receiver ≡ new_receiver true = subst (λ (t : Task). SuitsTask t p) task stations.control.orderly.suits in
+    let fresh : p.receiver ≡ new_receiver true =
+    subst (λ (t : Task). SuitsTask t p) task stations.control.orderly.suits in
     let same : x.terminal ≡ p.terminal = (stations.members e there).addresses in
     let poll : p.terminal.poll ≡ x.terminal.poll = ap (λ (y : TerminalValue). y.poll) (sym same) in
-    let its_own : IsAddressOf (terminals c) e FromTerminal p.terminal.poll = record { terminal = x.terminal; there = terminal_there c old e stations there; its_own = ap (λ (z : List ℕ). Some z) (sym poll) } in
-    let one : OneCalled c old hears new e = one_called names c old hears new addressed e FromTerminal p.terminal.poll stations (record { there = there; all = all; exact = exact; its_own = its_own }) each in
-    let row : record { tributary = u; sent = out } ≡ poll_answer x (is_in_doubt (cut_phase x.sender.phase)) (nat_eq (length (waiting x.queue)) 0) =
-    called_row x (hears e) u out p.terminal.poll PollingCalled (all e there) ((names.polling x.terminal p.terminal.poll).1 poll) (each.each e there) in
+    let its_own : IsAddressOf (terminals c) e FromTerminal p.terminal.poll =
+    record {
+      terminal = x.terminal;
+      there = terminal_there c old e stations there;
+      its_own =
+          ap (λ (z : List ℕ). Some z) (sym poll);
+    } in
+    let one : OneCalled c old hears new e =
+    one_called names c old hears new addressed e FromTerminal p.terminal.poll stations
+    (record { there = there; all = all; exact = exact; its_own = its_own }) each in
+    let row : record { tributary = u; sent = out }
+    ≡ poll_answer x (is_in_doubt (cut_phase x.sender.phase))
+    (nat_eq (length (waiting x.queue)) 0) =
+    called_row x (hears e) u out p.terminal.poll PollingCalled (all e there)
+    ((names.polling x.terminal p.terminal.poll).1 poll) (each.each e there) in
     let acted : HasActedUp p e u out =
     subst (λ (o : TributaryStep). HasActedUp p e o.tributary o.sent) (sym row)
-    (polled_terminal laws p e x (is_in_doubt (cut_phase x.sender.phase)) (nat_eq (length (waiting x.queue)) 0) fresh is (quiet e there) refl refl) in
+    (polled_terminal laws p e x (is_in_doubt (cut_phase x.sender.phase))
+    (nat_eq (length (waiting x.queue)) 0) fresh is (quiet e there) refl refl) in
     record {
       others = others_give_up c old hears new e stations quiet each.count one;
       present = rw (one.first) (present_after p e u out Nothing new acted one.modes);

@@ -1,4 +1,5 @@
--- Where no bid goes on, nothing is in doubt and nothing waits, everything that was offered is delivered and known.
+-- Where no bid goes on, nothing is in doubt and nothing waits, everything that was offered is
+-- delivered and known.
 use Rattle.std.proofs.Common.{◌≡◌, ℕ, true, false, nat_eq, List, length, ◌∙◌, arith}
 use Rattle.std.proofs.lemmas.Bool.Decides.{nat_tests}
 use Rattle.std.proofs.lemmas.List.{length-drop, take_all}
@@ -12,16 +13,21 @@ use Rattle.bsc_text.specs.Agreement.{IsResting}
 use Rattle.bsc_line_model.specs.Rounds.{block_count}
 use Rattle.bsc_line_model.proofs.BlockCounts.{CutLaws, no_block}
 
-known_all : (phase : Phase) (known spooled : ℕ) → IsAtRest phase → is_in_doubt phase ≡ false → IsSpooled phase known spooled → spooled ≡ known
+known_all : (phase : Phase) (known spooled : ℕ) → IsAtRest phase → is_in_doubt phase ≡ false
+    → IsSpooled phase known spooled → spooled ≡ known
 known_all Idle known spooled rest sure s = s
 known_all (InDoubt k) known spooled rest sure s = absurd (cc)
 known_all (Unanswered b) known spooled rest sure s = absurd rest
 known_all (Held end p) known spooled rest sure s = absurd rest
 
-pub all_delivered : (laws : CutLaws) (phase : Phase) (q : QueueValue) (spooled : List (List ℕ)) → IsResting phase q spooled → IsAtRest phase → is_in_doubt phase ≡ false → block_count q ≡ 0 → (q.known ≡ length q.offered) × (spooled ≡ q.offered)
+pub all_delivered : (laws : CutLaws) (phase : Phase) (q : QueueValue) (spooled : List (List ℕ))
+    → IsResting phase q spooled → IsAtRest phase → is_in_doubt phase ≡ false → block_count q ≡ 0
+    → (q.known ≡ length q.offered) × (spooled ≡ q.offered)
 all_delivered laws phase q spooled h rest sure none =
     let test : nat_eq (length (waiting q)) 0 ≡ true = no_block laws q h.queue none in
     let empty : length (waiting q) ≡ 0 = grind (arith, nat_tests) in
-    let known : q.known ≡ length q.offered = omega (arith, empty, h.queue.known, length-drop q.known q.offered) in
-    let count : length spooled ≡ q.known = known_all phase q.known (length spooled) rest sure h.sound.spooled in
+    let known : q.known ≡ length q.offered =
+    omega (arith, empty, h.queue.known, length-drop q.known q.offered) in
+    let count : length spooled ≡ q.known =
+    known_all phase q.known (length spooled) rest sure h.sound.spooled in
     (known, h.sound.front ∙ take_all (length spooled) q.offered (omega (arith, known, count)))

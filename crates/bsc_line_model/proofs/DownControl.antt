@@ -1,6 +1,8 @@
--- What the control station does with the replies of a selected terminal where all is heard: ACK0 begins the bid,
+-- What the control station does with the replies of a selected terminal where all is heard: ACK0
+-- begins the bid,
 -- each acknowledgement brings the next block, and that of the last one the next call.
-use Rattle.std.proofs.Common.{◌≡◌, ℕ, zero, suc, ◌+◌, ◌<◌, true, false, Bool, List, length, Option, Some, refl, sym, ◌∙◌, ap, subst, arith, get_or-set_same}
+use Rattle.std.proofs.Common.{◌≡◌, ℕ, zero, suc, ◌+◌, ◌<◌, true, false, Bool, List, length, Option}
+use Rattle.std.proofs.Common.{Some, refl, sym, ◌∙◌, ap, subst, arith, get_or-set_same}
 use Rattle.std.proofs.lemmas.List.{length-set}
 use Rattle.bsc_frame.specs.declared.message.Message.{Message}
 use Rattle.bsc_frame.specs.declared.message.Message.TheVariants as m
@@ -16,17 +18,21 @@ use Rattle.bsc_text.specs.declared.phase.SentBlock.{SentBlock}
 use Rattle.bsc_text.specs.declared.phase.Phase.TheVariants.{Idle, Unanswered}
 use Rattle.bsc_text.specs.Receiver.{new_receiver}
 use Rattle.bsc_text.specs.Reply.{message_of, reply_heard, ack, other}
-use Rattle.bsc_text.specs.Sender.{SenderValue, SenderStep, text_of, sent_next, begin_step, reply_step, accepted, over, with_counts}
+use Rattle.bsc_text.specs.Sender.{SenderValue, SenderStep, text_of, sent_next, begin_step}
+use Rattle.bsc_text.specs.Sender.{reply_step, accepted, over, with_counts}
 use Rattle.bsc_text.specs.Terminal.{TerminalValue}
 use Rattle.bsc_control.specs.declared.task.Task.{Task}
 use Rattle.bsc_control.specs.declared.task.Task.TheVariants.{Selecting, Sending}
 use Rattle.bsc_control.specs.declared.way.Way.{Way}
 use Rattle.bsc_control.specs.declared.way.Way.TheVariants.{FromTerminal, ToTerminal}
-use Rattle.bsc_control.specs.Peer.{PeerValue, OutboundValue, no_peer, no_outbound, outbound_at, with_outbound, outbound_after}
-use Rattle.bsc_control.specs.Control.{ControlValue, ControlStep, peer_at, peer, current, with_current, terminal_of_entry}
+use Rattle.bsc_control.specs.Peer.{PeerValue, OutboundValue, no_peer, no_outbound, outbound_at}
+use Rattle.bsc_control.specs.Peer.{with_outbound, outbound_after}
+use Rattle.bsc_control.specs.Control.{ControlValue, ControlStep, peer_at, peer, current}
+use Rattle.bsc_control.specs.Control.{with_current, terminal_of_entry}
 use Rattle.bsc_control.specs.CallOrder.{After, Selection, way_from}
 use Rattle.bsc_control.specs.Kept.{IsTaskOf}
-use Rattle.bsc_control.specs.Table.{Hears, task_step, bid_step, make_call_step, after_bid, select_address, rooms_after}
+use Rattle.bsc_control.specs.Table.{Hears, task_step, bid_step, make_call_step, after_bid}
+use Rattle.bsc_control.specs.Table.{select_address, rooms_after}
 use Rattle.bsc_line_model.specs.Rounds.{block_count}
 use Rattle.bsc_line_model.proofs.BlockCounts.{CutLaws, HasFirstBlock, IsEnd, has_first}
 use Rattle.bsc_line_model.proofs.Staying.{ControlStays, control_then, call_stays, sender_stays}
@@ -37,29 +43,51 @@ address_at x FromTerminal = x.poll
 address_at x (ToTerminal s) = select_address x s
 
 -- the control station has called so
-pub record HasCalled (c : ControlValue) (sent : Option Message) (place : ℕ) (way : Way) : Type 0 where
-  pub place_is : c.place ≡ place
-  pub task : IsTaskOf way c.task
-  pub call : sent ≡ Some (m.Call (address_at (peer c).terminal way))
+pub record HasCalled (c : ControlValue) (sent : Option Message) (place : ℕ) (way : Way) : Type 0
+  where
+    pub place_is : c.place ≡ place
+    pub task : IsTaskOf way c.task
+    pub call : sent ≡ Some (m.Call (address_at (peer c).terminal way))
 
-pub call_is : (c : ControlValue) (place : ℕ) (way : Way) → terminal_of_entry c place < length c.peers →
-    HasCalled (make_call_step c (record { place = place; way = way })).control (make_call_step c (record { place = place; way = way })).sent place way
+pub call_is : (c : ControlValue) (place : ℕ) (way : Way) → terminal_of_entry c place
+    < length c.peers →
+    HasCalled (make_call_step c (record { place = place; way = way })).control
+    (make_call_step c (record { place = place; way = way })).sent place way
 call_is c place FromTerminal there =
     let t : ℕ = terminal_of_entry c place in
-    record { place_is = refl; task = refl; call = ap (λ (q : PeerValue). Some (m.Call q.terminal.poll)) (sym (get_or-set_same c.peers t (record (peer_at c t) { receiver = new_receiver true }) no_peer there)) }
+    record {
+      place_is = refl;
+      task = refl;
+      call =
+          ap (λ (q : PeerValue). Some (m.Call q.terminal.poll))
+          (sym (get_or-set_same c.peers t (record (peer_at c t) { receiver = new_receiver true })
+          no_peer there));
+    }
 call_is c place (ToTerminal s) there =
     let t : ℕ = terminal_of_entry c place in
-    record { place_is = refl; task = refl; call = ap (λ (q : PeerValue). Some (m.Call (select_address q.terminal s))) (sym (get_or-set_same c.peers t (record (peer_at c t) { urgent = false }) no_peer there)) }
+    record {
+      place_is = refl;
+      task = refl;
+      call =
+          ap (λ (q : PeerValue). Some (m.Call (select_address q.terminal s)))
+          (sym (get_or-set_same c.peers t (record (peer_at c t) { urgent = false }) no_peer
+          there));
+    }
 
 -- a call leaves the lists
-pub call_lists : (c : ControlValue) (place : ℕ) (way : Way) → terminal_of_entry c place < length c.peers →
-    (peer (make_call_step c (record { place = place; way = way })).control).outbounds ≡ (peer_at c (terminal_of_entry c place)).outbounds
+pub call_lists : (c : ControlValue) (place : ℕ) (way : Way) → terminal_of_entry c place
+    < length c.peers →
+    (peer (make_call_step c (record { place = place; way = way })).control).outbounds
+    ≡ (peer_at c (terminal_of_entry c place)).outbounds
 call_lists c place FromTerminal there =
     let t : ℕ = terminal_of_entry c place in
-    ap (λ (q : PeerValue). q.outbounds) (get_or-set_same c.peers t (record (peer_at c t) { receiver = new_receiver true }) no_peer there)
+    ap (λ (q : PeerValue). q.outbounds)
+    (get_or-set_same c.peers t (record (peer_at c t) { receiver = new_receiver true }) no_peer
+    there)
 call_lists c place (ToTerminal s) there =
     let t : ℕ = terminal_of_entry c place in
-    ap (λ (q : PeerValue). q.outbounds) (get_or-set_same c.peers t (record (peer_at c t) { urgent = false }) no_peer there)
+    ap (λ (q : PeerValue). q.outbounds)
+    (get_or-set_same c.peers t (record (peer_at c t) { urgent = false }) no_peer there)
 
 -- the block b of n + 1 is unanswered at selection address s
 pub record IsInBlock (c : ControlValue) (s n : ℕ) (b : SentBlock) : Type 0 where
@@ -79,28 +107,40 @@ pub record SendsDown (c : ControlValue) (sent : Option Message) (place s n : ℕ
 abbrev pub after_step : ControlValue → ℕ → SenderStep → ControlValue
 after_step c s step = with_current c (with_outbound (peer c) s (outbound_after step))
 
-outbound_is : (c : ControlValue) (s : ℕ) (step : SenderStep) → current c < length c.peers → s < length (peer c).outbounds → outbound_at (peer (after_step c s step)) s ≡ outbound_after step
+outbound_is : (c : ControlValue) (s : ℕ) (step : SenderStep) → current c < length c.peers → s
+    < length (peer c).outbounds → outbound_at (peer (after_step c s step)) s ≡ outbound_after step
 outbound_is c s step there select =
-    ap (λ (q : PeerValue). outbound_at q s) (get_or-set_same c.peers (current c) (with_outbound (peer c) s (outbound_after step)) no_peer there)
+    ap (λ (q : PeerValue). outbound_at q s)
+    (get_or-set_same c.peers (current c) (with_outbound (peer c) s (outbound_after step))
+    no_peer there)
     ∙ get_or-set_same (peer c).outbounds s (outbound_after step) no_outbound select
 
 -- a block is sent
-pub sends_block : (laws : CutLaws) (c d : ControlValue) (sent : Option Message) (s n : ℕ) (x : SenderValue) (q : QueueValue) (alternation : Alternation) (after : After) → current c < length c.peers → s < length (peer c).outbounds → IsQueue q → block_count q ≡ suc n →
-    record { control = d; sent = sent } ≡ bid_step c s (sent_next x q alternation (next_block q)) after → SendsDown d sent c.place s n × ControlStays (current c) (ToTerminal s) c d
+pub sends_block : (laws : CutLaws) (c d : ControlValue) (sent : Option Message) (s n : ℕ)
+    (x : SenderValue) (q : QueueValue) (alternation : Alternation) (after : After) → current c
+    < length c.peers → s < length (peer c).outbounds → IsQueue q → block_count q ≡ suc n →
+    record { control = d; sent = sent }
+    ≡ bid_step c s (sent_next x q alternation (next_block q)) after
+    → SendsDown d sent c.place s n × ControlStays (current c) (ToTerminal s) c d
 sends_block laws c d sent s n x q alternation after there select is count row =
     let h : HasFirstBlock q n = has_first laws q n is count in
-    let b : SentBlock = record { count = h.next.count; end = h.next.end; alternation = alternation } in
+    let b : SentBlock =
+    record { count = h.next.count; end = h.next.end; alternation = alternation } in
     let step : SenderStep = sent_next x q alternation (Some h.next) in
-    let exact : record { control = d; sent = sent } ≡ bid_step c s step after = row ∙ ap (λ (o : Option Next). bid_step c s (sent_next x q alternation o) after) h.is in
-    let o : outbound_at (peer (after_step c s step)) s ≡ outbound_after step = outbound_is c s step there select in
-    subst (λ (k : ControlStep). SendsDown k.control k.sent c.place s n × ControlStays (current c) (ToTerminal s) c k.control) (sym exact) (
+    let exact : record { control = d; sent = sent } ≡ bid_step c s step after = row
+    ∙ ap (λ (o : Option Next). bid_step c s (sent_next x q alternation o) after) h.is in
+    let o : outbound_at (peer (after_step c s step)) s ≡ outbound_after step =
+    outbound_is c s step there select in
+    subst (λ (k : ControlStep). SendsDown k.control k.sent c.place s n
+    × ControlStays (current c) (ToTerminal s) c k.control) (sym exact) (
       record {
         place_is = refl;
         block = b;
         in_block = record {
           task = refl;
           phase = ap (λ (z : OutboundValue). z.sender.phase) o;
-          rest = ap (λ (z : OutboundValue). block_count (with_known z.queue h.next.count)) o ∙ h.rest;
+          rest = ap (λ (z : OutboundValue). block_count (with_known z.queue h.next.count)) o
+              ∙ h.rest;
           end = h.end;
         };
         text = ap (λ (z : OutboundValue). Some (m.Text (text_of z.queue b))) (sym o);
@@ -109,19 +149,29 @@ sends_block laws c d sent s n x q alternation after there select is count row =
     )
 
 -- ACK0 begins the bid
-pub begins_bid : (laws : CutLaws) (c d : ControlValue) (sent : Option Message) (s n : ℕ) (enquired : Bool) → current c < length c.peers → s < length (peer c).outbounds → c.task ≡ Selecting s enquired →
-    IsQueue (outbound_at (peer c) s).queue → block_count (outbound_at (peer c) s).queue ≡ suc n → Hears c (Whole m.Ack0) d sent → SendsDown d sent c.place s n × ControlStays (current c) (ToTerminal s) c d
+pub begins_bid : (laws : CutLaws) (c d : ControlValue) (sent : Option Message) (s n : ℕ)
+    (enquired : Bool) → current c < length c.peers → s < length (peer c).outbounds → c.task
+    ≡ Selecting s enquired →
+    IsQueue (outbound_at (peer c) s).queue → block_count (outbound_at (peer c) s).queue ≡ suc n
+    → Hears c (Whole m.Ack0) d sent → SendsDown d sent c.place s n
+    × ControlStays (current c) (ToTerminal s) c d
 begins_bid laws c d sent s n enquired there select task is count h =
     let o : OutboundValue = outbound_at (peer c) s in
-    let row : record { control = d; sent = sent } ≡ bid_step c s (begin_step o.sender o.queue) (Selection s) = h.row ∙ ap (λ (k : Task). task_step c k (Whole m.Ack0) (rooms_after c (Whole m.Ack0) d)) task in
+    let row : record { control = d; sent = sent }
+    ≡ bid_step c s (begin_step o.sender o.queue) (Selection s) = h.row
+    ∙ ap (λ (k : Task). task_step c k (Whole m.Ack0) (rooms_after c (Whole m.Ack0) d)) task in
     sends_block laws c d sent s n o.sender o.queue Odd (Selection s) there select is count row
 
 -- the acknowledgement is the one that is expected
-pub ack_step : (x : SenderValue) (q : QueueValue) (b : SentBlock) (alternation : Alternation) → b.alternation ≡ alternation → x.phase ≡ Unanswered b → reply_step x q (reply_heard (Whole (message_of (ack alternation)))) ≡ accepted x (with_known q b.count) b.end alternation
+pub ack_step : (x : SenderValue) (q : QueueValue) (b : SentBlock) (alternation : Alternation)
+    → b.alternation ≡ alternation → x.phase ≡ Unanswered b
+    → reply_step x q (reply_heard (Whole (message_of (ack alternation))))
+    ≡ accepted x (with_known q b.count) b.end alternation
 ack_step x q b Even p e = rw (e, p) refl
 ack_step x q b Odd p e = rw (e, p) refl
 
-ack_after : (s : ℕ) (alternation : Alternation) → after_bid s (reply_heard (Whole (message_of (ack alternation)))) ≡ Selection s
+ack_after : (s : ℕ) (alternation : Alternation)
+    → after_bid s (reply_heard (Whole (message_of (ack alternation)))) ≡ Selection s
 ack_after s Even = refl
 ack_after s Odd = refl
 
@@ -137,43 +187,71 @@ GoesOnDown c sent place s zero = EndsDown c sent place s
 GoesOnDown c sent place s (suc n) = SendsDown c sent place s n
 
 -- the last one: the next call
-ends_bid : (c d : ControlValue) (sent : Option Message) (s : ℕ) (x : SenderValue) (q : QueueValue) → current c < length c.peers → s < length (peer c).outbounds → block_count q ≡ 0 →
-    record { control = d; sent = sent } ≡ bid_step c s (over x q Idle) (Selection s) → EndsDown d sent c.place s × ControlStays (current c) (ToTerminal s) c d
+ends_bid : (c d : ControlValue) (sent : Option Message) (s : ℕ) (x : SenderValue) (q : QueueValue)
+    → current c < length c.peers → s < length (peer c).outbounds → block_count q ≡ 0 →
+    record { control = d; sent = sent } ≡ bid_step c s (over x q Idle) (Selection s)
+    → EndsDown d sent c.place s × ControlStays (current c) (ToTerminal s) c d
 ends_bid c d sent s x q there select none row =
     let step : SenderStep = over x q Idle in
     let k : ControlValue = after_step c s step in
     let o : outbound_at (peer k) s ≡ outbound_after step = outbound_is c s step there select in
     let way : Way = way_from (peer k) (s + 1) in
-    let named : terminal_of_entry k c.place < length k.peers = subst (λ (z : ℕ). current c < z) (sym (length-set c.peers (current c) (with_outbound (peer c) s (outbound_after step)))) there in
+    let named : terminal_of_entry k c.place < length k.peers =
+    subst (λ (z : ℕ). current c < z)
+    (sym (length-set c.peers (current c) (with_outbound (peer c) s (outbound_after step))))
+    there in
     let r : ControlStep = make_call_step k (record { place = c.place; way = way }) in
     let lists : (peer r.control).outbounds ≡ (peer k).outbounds = call_lists k c.place way named in
-    let now : outbound_at (peer r.control) s ≡ outbound_after step = ap (λ (os : List OutboundValue). outbound_at (record (peer k) { outbounds = os }) s) lists ∙ o in
-    let way_now : way_from (peer k) (s + 1) ≡ way_from (peer r.control) (s + 1) = ap (λ (os : List OutboundValue). way_from (record (peer k) { outbounds = os }) (s + 1)) (sym lists) in
-    subst (λ (z : ControlStep). EndsDown z.control z.sent c.place s × ControlStays (current c) (ToTerminal s) c z.control) (sym row) (
+    let now : outbound_at (peer r.control) s ≡ outbound_after step =
+    ap (λ (os : List OutboundValue). outbound_at (record (peer k) { outbounds = os }) s) lists
+    ∙ o in
+    let way_now : way_from (peer k) (s + 1) ≡ way_from (peer r.control) (s + 1) =
+    ap (λ (os : List OutboundValue). way_from (record (peer k) { outbounds = os }) (s + 1))
+    (sym lists) in
+    subst (λ (z : ControlStep). EndsDown z.control z.sent c.place s
+    × ControlStays (current c) (ToTerminal s) c z.control) (sym row) (
       record {
-        called = subst (λ (w : Way). HasCalled r.control r.sent c.place w) way_now (call_is k c.place way named);
+        called =
+            subst (λ (w : Way). HasCalled r.control r.sent c.place w) way_now
+            (call_is k c.place way named);
         idle = ap (λ (z : OutboundValue). z.sender.phase) now;
         rest = ap (λ (z : OutboundValue). block_count z.queue) now ∙ none;
       },
-      control_then (current c) (ToTerminal s) c k r.control (sender_stays c s (outbound_after step) k there refl refl) (call_stays (current c) (ToTerminal s) k c.place way named),
+      control_then (current c) (ToTerminal s) c k r.control
+          (sender_stays c s (outbound_after step) k there refl refl)
+          (call_stays (current c) (ToTerminal s) k c.place way named),
     )
 
 -- a block is acknowledged
-pub learns : (laws : CutLaws) (c d : ControlValue) (sent : Option Message) (s n : ℕ) (b : SentBlock) → current c < length c.peers → s < length (peer c).outbounds → IsInBlock c s n b → IsQueue (with_known (outbound_at (peer c) s).queue b.count) →
-    Hears c (Whole (message_of (ack b.alternation))) d sent → GoesOnDown d sent c.place s n × ControlStays (current c) (ToTerminal s) c d
+pub learns : (laws : CutLaws) (c d : ControlValue) (sent : Option Message) (s n : ℕ) (b : SentBlock)
+    → current c < length c.peers → s < length (peer c).outbounds → IsInBlock c s n b
+    → IsQueue (with_known (outbound_at (peer c) s).queue b.count) →
+    Hears c (Whole (message_of (ack b.alternation))) d sent → GoesOnDown d sent c.place s n
+    × ControlStays (current c) (ToTerminal s) c d
 learns laws c d sent s n b there select i is h =
     let o : OutboundValue = outbound_at (peer c) s in
     let w : Heard = Whole (message_of (ack b.alternation)) in
     let q : QueueValue = with_known o.queue b.count in
-    let row : record { control = d; sent = sent } ≡ bid_step c s (accepted o.sender q b.end b.alternation) (Selection s) =
+    let row : record { control = d; sent = sent }
+    ≡ bid_step c s (accepted o.sender q b.end b.alternation) (Selection s) =
     h.row ∙ ap (λ (k : Task). task_step c k w (rooms_after c w d)) i.task
-    ∙ ap (λ (z : SenderStep). bid_step c s z (after_bid s (reply_heard w))) (ack_step o.sender o.queue b b.alternation refl i.phase)
-    ∙ ap (λ (z : After). bid_step c s (accepted o.sender q b.end b.alternation) z) (ack_after s b.alternation) in
+    ∙ ap (λ (z : SenderStep). bid_step c s z (after_bid s (reply_heard w)))
+    (ack_step o.sender o.queue b b.alternation refl i.phase)
+    ∙ ap (λ (z : After). bid_step c s (accepted o.sender q b.end b.alternation) z)
+    (ack_after s b.alternation) in
     by_end b.end row n i.rest i.end
   where
-    by_end : (end : End) → record { control = d; sent = sent } ≡ bid_step c s (accepted (outbound_at (peer c) s).sender (with_known (outbound_at (peer c) s).queue b.count) end b.alternation) (Selection s) →
-        (k : ℕ) → block_count (with_known (outbound_at (peer c) s).queue b.count) ≡ k → IsEnd end k → GoesOnDown d sent c.place s k × ControlStays (current c) (ToTerminal s) c d
-    by_end Etx row zero rest e = ends_bid c d sent s (with_counts (outbound_at (peer c) s).sender 0 0) (with_known (outbound_at (peer c) s).queue b.count) there select rest row
+    by_end : (end : End) → record { control = d; sent = sent }
+        ≡ bid_step c s (accepted (outbound_at (peer c) s).sender
+        (with_known (outbound_at (peer c) s).queue b.count) end b.alternation) (Selection s) →
+        (k : ℕ) → block_count (with_known (outbound_at (peer c) s).queue b.count) ≡ k → IsEnd end k
+        → GoesOnDown d sent c.place s k × ControlStays (current c) (ToTerminal s) c d
+    by_end Etx row zero rest e =
+        ends_bid c d sent s (with_counts (outbound_at (peer c) s).sender 0 0)
+        (with_known (outbound_at (peer c) s).queue b.count) there select rest row
     by_end Etx row (suc k) rest e = absurd (omega (arith, e))
     by_end Etb row zero rest e = absurd (omega (arith, e.1))
-    by_end Etb row (suc k) rest e = sends_block laws c d sent s k (outbound_at (peer c) s).sender (with_known (outbound_at (peer c) s).queue b.count) (other b.alternation) (Selection s) there select is rest row
+    by_end Etb row (suc k) rest e =
+        sends_block laws c d sent s k (outbound_at (peer c) s).sender
+        (with_known (outbound_at (peer c) s).queue b.count) (other b.alternation) (Selection s)
+        there select is rest row

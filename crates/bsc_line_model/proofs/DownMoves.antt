@@ -1,6 +1,8 @@
--- The control station's transmission is heard on a trusted line: records land on the addressed channel to a terminal, or
+-- The control station's transmission is heard on a trusted line: records land on the addressed
+-- channel to a terminal, or
 -- the addressed terminal learns; nothing else moves.
-use Rattle.std.proofs.Common.{◌≡◌, ◌⊎◌, inl, inr, ℕ, ◌<◌, true, false, List, length, IsTrue, Option, None, Some, refl, sym, ◌∙◌, ap, subst, get_or-set_same}
+use Rattle.std.proofs.Common.{◌≡◌, ◌⊎◌, inl, inr, ℕ, ◌<◌, true, false, List, length, IsTrue, Option}
+use Rattle.std.proofs.Common.{None, Some, refl, sym, ◌∙◌, ap, subst, get_or-set_same}
 use Rattle.bsc_frame.specs.declared.message.Message.{Message}
 use Rattle.bsc_frame.specs.declared.message.Message.TheVariants as m
 use Rattle.bsc_frame.specs.declared.message.Heard.{Heard}
@@ -20,7 +22,8 @@ use Rattle.bsc_text.specs.Agreement.{Flight, Outward, Back, InBid}
 use Rattle.bsc_text.specs.OneBid.{MovesAtReceiver, MovesAtSender}
 use Rattle.bsc_text.specs.EachStep.{ReceiverAgrees, SenderAgrees}
 use Rattle.bsc_tributary.specs.declared.mode.Mode.{Mode}
-use Rattle.bsc_tributary.specs.Tributary.{TributaryValue, TributaryStep, Hears, mode_step, receive_step, rooms_after, spool_at, empty_spool}
+use Rattle.bsc_tributary.specs.Tributary.{TributaryValue, TributaryStep, Hears, mode_step}
+use Rattle.bsc_tributary.specs.Tributary.{receive_step, rooms_after, spool_at, empty_spool}
 use Rattle.bsc_tributary.specs.Kept.{IsNoCall, Stores}
 use Rattle.bsc_control.specs.declared.task.Task.{Task}
 use Rattle.bsc_control.specs.declared.task.Task.TheVariants.{AtRest, Selecting, Sending, Polling}
@@ -33,7 +36,8 @@ use Rattle.bsc_control.specs.Table.{select_address}
 use Rattle.bsc_tributary.proofs.InMode.{hear_step-no_call}
 use Rattle.bsc_line_model.specs.declared.transmission.Speaker.TheVariants as sp
 use Rattle.bsc_line_model.specs.declared.transmission.Transmission.{Transmission}
-use Rattle.bsc_line_model.specs.Line.{LineValue, terminal_in, terminal_at, terminal_count, channel_of}
+use Rattle.bsc_line_model.specs.Line.{LineValue, terminal_in, terminal_at, terminal_count}
+use Rattle.bsc_line_model.specs.Line.{channel_of}
 use Rattle.bsc_line_model.specs.Terminals.{answer_of}
 use Rattle.bsc_line_model.specs.Trust.{IsMissed, IsHeardFairly, is_call}
 use Rattle.bsc_line_model.specs.Carries.{IsCarriedDown}
@@ -60,18 +64,23 @@ not_cut_to_text m.Nak t f = f
 not_cut_to_text m.Wack t f = f
 not_cut_to_text m.Rvi t f = f
 
-pub text_sent : (w : Message) (h : Heard) (t : TextValue) → h ≡ Whole (m.Text t) → IsFairlyHeard w h → w ≡ m.Text t
+pub text_sent : (w : Message) (h : Heard) (t : TextValue) → h ≡ Whole (m.Text t) → IsFairlyHeard w h
+    → w ≡ m.Text t
 text_sent w h t is fair = by_case (subst (λ (g : Heard). IsFairlyHeard w g) is fair)
   where
     by_case : (m.Text t ≡ w) ⊎ IsCallCutShort w (m.Text t) → w ≡ m.Text t
     by_case (inl e) = sym e
     by_case (inr f) = absurd (not_cut_to_text w t f)
 
-pub text_sent_down : (w : Message) (n : ℕ) (hears : ℕ → Heard) (k : ℕ) (t : TextValue) → k < n → hears k ≡ Whole (m.Text t) → IsHeardFairly w n hears → w ≡ m.Text t
-text_sent_down (m.Call z) n hears k t less is (inl all) = let there : hears k ≡ Whole (m.Call z) = all k less in absurd (cc)
-text_sent_down (m.Call z) n hears k t less is (inr missed) = absurd (subst IsMissed is (missed k less))
+pub text_sent_down : (w : Message) (n : ℕ) (hears : ℕ → Heard) (k : ℕ) (t : TextValue) → k < n
+    → hears k ≡ Whole (m.Text t) → IsHeardFairly w n hears → w ≡ m.Text t
+text_sent_down (m.Call z) n hears k t less is (inl all) = let there : hears k ≡ Whole (m.Call z) =
+    all k less in absurd (cc)
+text_sent_down (m.Call z) n hears k t less is (inr missed) =
+    absurd (subst IsMissed is (missed k less))
 text_sent_down m.Eot n hears k t less is fair = text_sent m.Eot (hears k) t is (fair k less)
-text_sent_down (m.Text z) n hears k t less is fair = text_sent (m.Text z) (hears k) t is (fair k less)
+text_sent_down (m.Text z) n hears k t less is fair =
+    text_sent (m.Text z) (hears k) t is (fair k less)
 text_sent_down m.Enq n hears k t less is fair = text_sent m.Enq (hears k) t is (fair k less)
 text_sent_down m.Ack0 n hears k t less is fair = text_sent m.Ack0 (hears k) t is (fair k less)
 text_sent_down m.Ack1 n hears k t less is fair = text_sent m.Ack1 (hears k) t is (fair k less)
@@ -80,7 +89,8 @@ text_sent_down m.Wack n hears k t less is fair = text_sent m.Wack (hears k) t is
 text_sent_down m.Rvi n hears k t less is fair = text_sent m.Rvi (hears k) t is (fair k less)
 
 -- it is sent in a bid to the present terminal
-pub record IsBidTo (pending : Option Transmission) (c : ControlValue) (ts : List TributaryValue) : Type 0 where
+pub record IsBidTo (pending : Option Transmission) (c : ControlValue)
+    (ts : List TributaryValue) : Type 0 where
   pub select : ℕ
   pub bid : IsInBidDown pending (peer c) (current c) select (terminal_in ts (current c))
 
@@ -91,10 +101,15 @@ text_no_reply t Nak e = cc
 text_no_reply t Wack e = cc
 text_no_reply t Rvi e = cc
 
-bid_to : (task : Task) (t : TextValue) (c : ControlValue) (ts : List TributaryValue) → InTask task (Some (record { speaker = sp.Control; message = m.Text t })) c ts → IsBidTo (Some (record { speaker = sp.Control; message = m.Text t })) c ts
-bid_to AtRest t c ts k = let sent : Transmission = record { speaker = sp.Control; message = m.Text t } in let no : Some sent ≡ None = k.nothing in absurd (cc)
+bid_to : (task : Task) (t : TextValue) (c : ControlValue) (ts : List TributaryValue)
+    → InTask task (Some (record { speaker = sp.Control; message = m.Text t })) c ts
+    → IsBidTo (Some (record { speaker = sp.Control; message = m.Text t })) c ts
+bid_to AtRest t c ts k = let sent : Transmission =
+    record { speaker = sp.Control; message = m.Text t } in let no : Some sent ≡ None = k.nothing in
+    absurd (cc)
 bid_to (Selecting s true) t c ts k = let no : m.Text t ≡ m.Enq = k.with_pending in absurd (cc)
-bid_to (Selecting s false) t c ts k = let no : m.Text t ≡ m.Call (select_address (peer c).terminal s) = k.with_pending in absurd (cc)
+bid_to (Selecting s false) t c ts k = let no : m.Text t
+    ≡ m.Call (select_address (peer c).terminal s) = k.with_pending in absurd (cc)
 bid_to (Sending s) t c ts k = record { select = s; bid = k.bid }
 bid_to (Polling replied) t c ts k =
     elim k.present [
@@ -103,9 +118,13 @@ bid_to (Polling replied) t c ts k =
     ]
 
 -- the terminal that it is sent to has heard it, or noise
-lands_down : (laws : BidLaws) (p : PeerValue) (e s : ℕ) (w : Message) (h : Heard) (x u : TributaryValue) (out : Option Message) → s < length x.spools →
-    IsInBidDown (Some (record { speaker = sp.Control; message = w })) p e s x → IsNoCall h → IsFairlyHeard w h → Hears x h u out →
-    MovesAtReceiver (outbound_at p s).sender.phase (channel (outbound_at p s).queue (spool_at x.spools s).records) (channel (outbound_at p s).queue (spool_at u.spools s).records)
+lands_down : (laws : BidLaws) (p : PeerValue) (e s : ℕ) (w : Message) (h : Heard)
+    (x u : TributaryValue) (out : Option Message) → s < length x.spools →
+    IsInBidDown (Some (record { speaker = sp.Control; message = w })) p e s x → IsNoCall h
+    → IsFairlyHeard w h → Hears x h u out →
+    MovesAtReceiver (outbound_at p s).sender.phase
+    (channel (outbound_at p s).queue (spool_at x.spools s).records)
+    (channel (outbound_at p s).queue (spool_at u.spools s).records)
 lands_down laws p e s w h x u out there b never fair row =
     let spool : SpoolValue = spool_at x.spools s in
     let rooms : Rooms = rooms_after h u in
@@ -113,31 +132,44 @@ lands_down laws p e s w h x u out there b never fair row =
     let o : OutboundValue = outbound_at p s in
     let becomes : record { tributary = u; sent = out } ≡ receive_step x s r =
     row.row ∙ hear_step-no_call x h rooms never ∙ ap (λ (n : Mode). mode_step x n h rooms) b.mode in
-    let flying : InBid o.sender.phase o.queue x.receiver.alternation x.receiver.last spool.records (Outward w) =
-    subst (λ (f : Flight). InBid o.sender.phase o.queue x.receiver.alternation x.receiver.last spool.records f) b.flies b.bid in
-    let agrees : ReceiverAgrees o.sender.phase o.queue spool.records r = laws.hearing o.sender.phase o.queue x.receiver spool w (Some h) x.urgent rooms flying fair in
-    let stored : spool_at u.spools s ≡ r.spool = ap (λ (k : TributaryStep). spool_at k.tributary.spools s) becomes ∙ get_or-set_same x.spools s r.spool empty_spool there in
-    subst (λ (z : SpoolValue). MovesAtReceiver o.sender.phase (channel o.queue spool.records) (channel o.queue z.records)) (sym stored) agrees.moves
+    let flying : InBid o.sender.phase o.queue x.receiver.alternation x.receiver.last spool.records
+    (Outward w) =
+    subst (λ (f : Flight). InBid o.sender.phase o.queue x.receiver.alternation x.receiver.last
+    spool.records f) b.flies b.bid in
+    let agrees : ReceiverAgrees o.sender.phase o.queue spool.records r =
+    laws.hearing o.sender.phase o.queue x.receiver spool w (Some h) x.urgent rooms flying
+    fair in
+    let stored : spool_at u.spools s ≡ r.spool =
+    ap (λ (k : TributaryStep). spool_at k.tributary.spools s) becomes
+    ∙ get_or-set_same x.spools s r.spool empty_spool there in
+    subst (λ (z : SpoolValue). MovesAtReceiver o.sender.phase (channel o.queue spool.records)
+    (channel o.queue z.records)) (sym stored) agrees.moves
 
 -- what lands or is learnt, is so on the addressed channel
-pub if_lands : (phase : Phase) (addressed : Option (ℕ × Way)) (t : ℕ) (way : Way) (old new : Channel) → addressed ≡ Some (t, way) → MovesAtReceiver phase old new → MovesIfAddressed addressed t way old new
+pub if_lands : (phase : Phase) (addressed : Option (ℕ × Way)) (t : ℕ) (way : Way)
+    (old new : Channel) → addressed ≡ Some (t, way) → MovesAtReceiver phase old new
+    → MovesIfAddressed addressed t way old new
 if_lands phase addressed t way old new is (inl same) = inl same
 if_lands phase addressed t way old new is (inr lands) = inr (is, inl (lands.0.count, lands.2))
 
-pub if_learns : (addressed : Option (ℕ × Way)) (t : ℕ) (way : Way) (old new : Channel) → addressed ≡ Some (t, way) → MovesAtSender old new → MovesIfAddressed addressed t way old new
+pub if_learns : (addressed : Option (ℕ × Way)) (t : ℕ) (way : Way) (old new : Channel) → addressed
+    ≡ Some (t, way) → MovesAtSender old new → MovesIfAddressed addressed t way old new
 if_learns addressed t way old new is (inl same) = inl same
 if_learns addressed t way old new is (inr learns) = inr (is, inr learns)
 
 -- two places of the addressed channel
-pub same_terminal : (addressed : Option (ℕ × Way)) (t u : ℕ) (way other : Way) → addressed ≡ Some (t, way) → addressed ≡ Some (u, other) → t ≡ u
+pub same_terminal : (addressed : Option (ℕ × Way)) (t u : ℕ) (way other : Way) → addressed
+    ≡ Some (t, way) → addressed ≡ Some (u, other) → t ≡ u
 same_terminal addressed t u way other a b = ap place_of (sym a ∙ b)
 
 abbrev way_in : Option (ℕ × Way) → Way
 way_in None = FromTerminal
 way_in (Some a) = a.1
 
-same_select : (addressed : Option (ℕ × Way)) (t u s k : ℕ) → addressed ≡ Some (t, ToTerminal s) → addressed ≡ Some (u, ToTerminal k) → s ≡ k
-same_select addressed t u s k a b = let same : ToTerminal s ≡ ToTerminal k = ap way_in (sym a ∙ b) in cc
+same_select : (addressed : Option (ℕ × Way)) (t u s k : ℕ) → addressed ≡ Some (t, ToTerminal s)
+    → addressed ≡ Some (u, ToTerminal k) → s ≡ k
+same_select addressed t u s k a b = let same : ToTerminal s ≡ ToTerminal k =
+    ap way_in (sym a ∙ b) in cc
 
 -- the control station's message is heard on a line
 pub record HearsControl (old new : LineValue) (w : Message) (hears : ℕ → Heard) : Type 0 where
@@ -146,83 +178,161 @@ pub record HearsControl (old new : LineValue) (w : Message) (hears : ℕ → Hea
   pub carried : IsCarriedDown w hears old new
   pub trusted : IsTrue new.trusted
 
-pub was_trusted : (old new : LineValue) (w : Message) (hears : ℕ → Heard) → HearsControl old new w hears → IsTrue old.trusted × IsHeardFairly w (terminal_count old) hears
+pub was_trusted : (old new : LineValue) (w : Message) (hears : ℕ → Heard)
+    → HearsControl old new w hears → IsTrue old.trusted × IsHeardFairly w (terminal_count old) hears
 was_trusted old new w hears k = k.carried.trusted.0 k.trusted
 
 -- how the stations went together
-together_with : (old new : LineValue) (w : Message) (hears : ℕ → Heard) → HearsControl old new w hears → InTask old.control.task (Some (record { speaker = sp.Control; message = w })) old.control old.terminals
+together_with : (old new : LineValue) (w : Message) (hears : ℕ → Heard)
+    → HearsControl old new w hears
+    → InTask old.control.task (Some (record { speaker = sp.Control; message = w })) old.control
+    old.terminals
 together_with old new w hears k =
-    subst (λ (o : Option Transmission). InTask old.control.task o old.control old.terminals) k.pending (k.line.together (was_trusted old new w hears k).0)
+    subst (λ (o : Option Transmission). InTask old.control.task o old.control old.terminals)
+    k.pending (k.line.together (was_trusted old new w hears k).0)
 
 -- the channel from a terminal
-moves_from : (laws : BidLaws) (old new : LineValue) (w : Message) (hears : ℕ → Heard) (t : ℕ) → HearsControl old new w hears → t < terminal_count old →
-    MovesIfAddressed old.addressed t FromTerminal (channel (terminal_at old t).queue (peer_at old.control t).spool.records) (channel (terminal_at new t).queue (peer_at old.control t).spool.records)
+moves_from : (laws : BidLaws) (old new : LineValue) (w : Message) (hears : ℕ → Heard) (t : ℕ)
+    → HearsControl old new w hears → t < terminal_count old →
+    MovesIfAddressed old.addressed t FromTerminal
+    (channel (terminal_at old t).queue (peer_at old.control t).spool.records)
+    (channel (terminal_at new t).queue (peer_at old.control t).spool.records)
 moves_from laws old new w hears t k less =
-    elim (terminal_queue (terminal_at old t) (terminal_at new t) (hears t) (answer_of old.terminals hears new.terminals t) (k.carried.terminals.each t less)) [
-      | inl same ↦ inl (ap (λ (q : QueueValue). channel q (peer_at old.control t).spool.records) same)
+    elim (terminal_queue (terminal_at old t) (terminal_at new t) (hears t)
+    (answer_of old.terminals hears new.terminals t) (k.carried.terminals.each t less)) [
+      | inl same ↦ inl (ap (λ (q : QueueValue). channel q (peer_at old.control t).spool.records)
+          same)
       | inr learns ↦ learnt learns
     ]
   where
     learnt : LearnsUp (terminal_at old t) (hears t) (terminal_at new t) →
-        MovesIfAddressed old.addressed t FromTerminal (channel (terminal_at old t).queue (peer_at old.control t).spool.records) (channel (terminal_at new t).queue (peer_at old.control t).spool.records)
+        MovesIfAddressed old.addressed t FromTerminal
+        (channel (terminal_at old t).queue (peer_at old.control t).spool.records)
+        (channel (terminal_at new t).queue (peer_at old.control t).spool.records)
     learnt l =
         let c : ControlValue = old.control in
         let y : TributaryValue = terminal_at old (current c) in
         let q : PeerValue = peer c in
-        let was : IsTrue old.trusted × IsHeardFairly w (terminal_count old) hears = was_trusted old new w hears k in
-        let of : IsBidOf c.task (Some (record { speaker = sp.Control; message = w })) c old.terminals t =
-        bid_of c.task (Some (record { speaker = sp.Control; message = w })) c old.terminals t less l.mode (together_with old new w hears k) in
+        let was : IsTrue old.trusted × IsHeardFairly w (terminal_count old) hears =
+        was_trusted old new w hears k in
+        let of : IsBidOf c.task (Some (record { speaker = sp.Control; message = w })) c
+        old.terminals t =
+        bid_of c.task (Some (record { speaker = sp.Control; message = w })) c old.terminals t less
+        l.mode (together_with old new w hears k) in
         let r : Reply = of.bid.flies.0 in
         let never : is_call w ≡ false = ap is_call of.bid.flies.1 ∙ reply_is_no_call r in
-        let fair : IsFairlyHeard (message_of r) (hears t) = subst (λ (v : Message). IsFairlyHeard v (hears t)) of.bid.flies.1 (each_fairly w (terminal_count old) hears never was.1 t less) in
-        let bid : InBid y.sender.phase y.queue q.receiver.alternation q.receiver.last q.spool.records (Back r) =
-        subst (λ (f : Flight). InBid y.sender.phase y.queue q.receiver.alternation q.receiver.last q.spool.records f) of.bid.flies.2 of.bid.bid in
-        let agrees : SenderAgrees y.queue q.receiver.alternation q.receiver.last q.spool.records (reply_step y.sender y.queue (reply_heard (hears t))) =
-        laws.answering y.sender y.queue q.receiver.alternation q.receiver.last q.spool.records (Some r) (Some (hears t)) bid fair in
-        let moves : MovesAtSender (channel y.queue q.spool.records) (channel (reply_step y.sender y.queue (reply_heard (hears t))).queue q.spool.records) = agrees.moves in
-        let here : MovesAtSender (channel (terminal_at old t).queue (peer_at c t).spool.records) (channel (reply_step (terminal_at old t).sender (terminal_at old t).queue (reply_heard (hears t))).queue (peer_at c t).spool.records) =
-        subst (λ (n : ℕ). MovesAtSender (channel (terminal_at old n).queue (peer_at c n).spool.records) (channel (reply_step (terminal_at old n).sender (terminal_at old n).queue (reply_heard (hears t))).queue (peer_at c n).spool.records)) (sym of.terminal) moves in
-        let is : old.addressed ≡ Some (t, FromTerminal) = subst (λ (n : Mode). IsTuned old.addressed t n) l.mode (k.line.tuned was.0 t less) in
-        if_learns old.addressed t FromTerminal (channel (terminal_at old t).queue (peer_at c t).spool.records) (channel (terminal_at new t).queue (peer_at c t).spool.records) is
-        (subst (λ (z : QueueValue). MovesAtSender (channel (terminal_at old t).queue (peer_at c t).spool.records) (channel z (peer_at c t).spool.records)) (sym l.queue) here)
+        let fair : IsFairlyHeard (message_of r) (hears t) =
+        subst (λ (v : Message). IsFairlyHeard v (hears t)) of.bid.flies.1
+        (each_fairly w (terminal_count old) hears never was.1 t less) in
+        let bid : InBid y.sender.phase y.queue q.receiver.alternation q.receiver.last
+        q.spool.records (Back r) =
+        subst (λ (f : Flight). InBid y.sender.phase y.queue q.receiver.alternation q.receiver.last
+        q.spool.records f) of.bid.flies.2 of.bid.bid in
+        let agrees : SenderAgrees y.queue q.receiver.alternation q.receiver.last q.spool.records
+        (reply_step y.sender y.queue (reply_heard (hears t))) =
+        laws.answering y.sender y.queue q.receiver.alternation q.receiver.last q.spool.records
+        (Some r) (Some (hears t)) bid fair in
+        let moves : MovesAtSender (channel y.queue q.spool.records)
+        (channel (reply_step y.sender y.queue (reply_heard (hears t))).queue q.spool.records) =
+        agrees.moves in
+        let here : MovesAtSender (channel (terminal_at old t).queue (peer_at c t).spool.records)
+        (channel (reply_step (terminal_at old t).sender (terminal_at old t).queue
+        (reply_heard (hears t))).queue (peer_at c t).spool.records) =
+        subst (λ (n : ℕ). MovesAtSender (channel (terminal_at old n).queue
+        (peer_at c n).spool.records) (channel
+        (reply_step (terminal_at old n).sender (terminal_at old n).queue
+        (reply_heard (hears t))).queue (peer_at c n).spool.records)) (sym of.terminal) moves in
+        let is : old.addressed ≡ Some (t, FromTerminal) =
+        subst (λ (n : Mode). IsTuned old.addressed t n) l.mode (k.line.tuned was.0 t less) in
+        if_learns old.addressed t FromTerminal
+        (channel (terminal_at old t).queue (peer_at c t).spool.records)
+        (channel (terminal_at new t).queue (peer_at c t).spool.records) is
+        (subst (λ (z : QueueValue). MovesAtSender
+        (channel (terminal_at old t).queue (peer_at c t).spool.records)
+        (channel z (peer_at c t).spool.records)) (sym l.queue) here)
 
 -- the channel to a selection address
-moves_to : (laws : BidLaws) (old new : LineValue) (w : Message) (hears : ℕ → Heard) (t s : ℕ) → HearsControl old new w hears → t < terminal_count old →
-    MovesIfAddressed old.addressed t (ToTerminal s) (channel (outbound_of old.control t s).queue (spool_at (terminal_at old t).spools s).records) (channel (outbound_of old.control t s).queue (spool_at (terminal_at new t).spools s).records)
+moves_to : (laws : BidLaws) (old new : LineValue) (w : Message) (hears : ℕ → Heard) (t s : ℕ)
+    → HearsControl old new w hears → t < terminal_count old →
+    MovesIfAddressed old.addressed t (ToTerminal s)
+    (channel (outbound_of old.control t s).queue
+    (spool_at (terminal_at old t).spools s).records)
+    (channel (outbound_of old.control t s).queue
+    (spool_at (terminal_at new t).spools s).records)
 moves_to laws old new w hears t s k less =
     elim ((k.carried.kept t less).grows s) [
-      | inl same ↦ inl (ap (λ (rs : List (List ℕ)). channel (outbound_of old.control t s).queue rs) same)
+      | inl same ↦ inl (ap (λ (rs : List (List ℕ)). channel (outbound_of old.control t s).queue rs)
+          same)
       | inr stores ↦ landed stores
     ]
   where
-    landed : Stores (terminal_at old t).mode (hears t) s (spool_at (terminal_at old t).spools s).records (spool_at (terminal_at new t).spools s).records →
-        MovesIfAddressed old.addressed t (ToTerminal s) (channel (outbound_of old.control t s).queue (spool_at (terminal_at old t).spools s).records) (channel (outbound_of old.control t s).queue (spool_at (terminal_at new t).spools s).records)
+    landed : Stores (terminal_at old t).mode (hears t) s
+        (spool_at (terminal_at old t).spools s).records
+        (spool_at (terminal_at new t).spools s).records →
+        MovesIfAddressed old.addressed t (ToTerminal s)
+        (channel (outbound_of old.control t s).queue
+        (spool_at (terminal_at old t).spools s).records)
+        (channel (outbound_of old.control t s).queue
+        (spool_at (terminal_at new t).spools s).records)
     landed l =
         let c : ControlValue = old.control in
         let e : ℕ = current c in
-        let was : IsTrue old.trusted × IsHeardFairly w (terminal_count old) hears = was_trusted old new w hears k in
-        let text : w ≡ m.Text l.text = text_sent_down w (terminal_count old) hears t l.text less l.heard was.1 in
-        let to : IsBidTo (Some (record { speaker = sp.Control; message = m.Text l.text })) c old.terminals =
-        bid_to c.task l.text c old.terminals (subst (λ (v : Message). InTask c.task (Some (record { speaker = sp.Control; message = v })) c old.terminals) text (together_with old new w hears k)) in
-        let there : e < terminal_count old = subst (λ (n : ℕ). e < n) k.line.stations.count (current_there c (places c k.line.stations.control.entries)) in
-        let is : old.addressed ≡ Some (t, ToTerminal s) = subst (λ (n : Mode). IsTuned old.addressed t n) l.receiving (k.line.tuned was.0 t less) in
-        let this : old.addressed ≡ Some (e, ToTerminal to.select) = subst (λ (n : Mode). IsTuned old.addressed e n) to.bid.mode (k.line.tuned was.0 e there) in
-        let here : e ≡ t = same_terminal old.addressed e t (ToTerminal to.select) (ToTerminal s) this is in
+        let was : IsTrue old.trusted × IsHeardFairly w (terminal_count old) hears =
+        was_trusted old new w hears k in
+        let text : w ≡ m.Text l.text =
+        text_sent_down w (terminal_count old) hears t l.text less l.heard was.1 in
+        let to : IsBidTo (Some (record { speaker = sp.Control; message = m.Text l.text })) c
+        old.terminals =
+        bid_to c.task l.text c old.terminals
+        (subst (λ (v : Message). InTask c.task
+        (Some (record { speaker = sp.Control; message = v })) c old.terminals) text
+        (together_with old new w hears k)) in
+        let there : e < terminal_count old =
+        subst (λ (n : ℕ). e < n) k.line.stations.count
+        (current_there c (places c k.line.stations.control.entries)) in
+        let is : old.addressed ≡ Some (t, ToTerminal s) =
+        subst (λ (n : Mode). IsTuned old.addressed t n) l.receiving
+        (k.line.tuned was.0 t less) in
+        let this : old.addressed ≡ Some (e, ToTerminal to.select) =
+        subst (λ (n : Mode). IsTuned old.addressed e n) to.bid.mode
+        (k.line.tuned was.0 e there) in
+        let here : e ≡ t =
+        same_terminal old.addressed e t (ToTerminal to.select) (ToTerminal s) this is in
         let select : to.select ≡ s = same_select old.addressed e t to.select s this is in
-        let bid : IsInBidDown (Some (record { speaker = sp.Control; message = m.Text l.text })) (peer_at c t) t s (terminal_at old t) =
-        subst (λ (n : ℕ). IsInBidDown (Some (record { speaker = sp.Control; message = m.Text l.text })) (peer_at c t) t n (terminal_at old t)) select
-        (subst (λ (n : ℕ). IsInBidDown (Some (record { speaker = sp.Control; message = m.Text l.text })) (peer_at c n) n to.select (terminal_at old n)) here to.bid) in
-        let fair : IsFairlyHeard (m.Text l.text) (hears t) = each_fairly (m.Text l.text) (terminal_count old) hears refl (subst (λ (v : Message). IsHeardFairly v (terminal_count old) hears) text was.1) t less in
-        let into : s < length (terminal_at old t).spools = receiving_into (terminal_at old t).mode (terminal_at old t).sender.phase (length (terminal_at old t).spools) s l.receiving (k.line.stations.members t less).tributary.bid in
-        if_lands (outbound_of c t s).sender.phase old.addressed t (ToTerminal s) (channel (outbound_of c t s).queue (spool_at (terminal_at old t).spools s).records) (channel (outbound_of c t s).queue (spool_at (terminal_at new t).spools s).records) is
-        (lands_down laws (peer_at c t) t s (m.Text l.text) (hears t) (terminal_at old t) (terminal_at new t) (answer_of old.terminals hears new.terminals t) into bid
+        let bid : IsInBidDown (Some (record { speaker = sp.Control; message = m.Text l.text }))
+        (peer_at c t) t s (terminal_at old t) =
+        subst (λ (n : ℕ). IsInBidDown (Some
+        (record { speaker = sp.Control; message = m.Text l.text })) (peer_at c t) t n
+        (terminal_at old t)) select
+        (subst (λ (n : ℕ). IsInBidDown (Some
+        (record { speaker = sp.Control; message = m.Text l.text })) (peer_at c n) n to.select
+        (terminal_at old n)) here to.bid) in
+        let fair : IsFairlyHeard (m.Text l.text) (hears t) =
+        each_fairly (m.Text l.text) (terminal_count old) hears refl
+        (subst (λ (v : Message). IsHeardFairly v (terminal_count old) hears) text was.1) t
+        less in
+        let into : s < length (terminal_at old t).spools =
+        receiving_into (terminal_at old t).mode (terminal_at old t).sender.phase
+        (length (terminal_at old t).spools) s l.receiving
+        (k.line.stations.members t less).tributary.bid in
+        if_lands (outbound_of c t s).sender.phase old.addressed t (ToTerminal s)
+        (channel (outbound_of c t s).queue (spool_at (terminal_at old t).spools s).records)
+        (channel (outbound_of c t s).queue (spool_at (terminal_at new t).spools s).records) is
+        (lands_down laws (peer_at c t) t s (m.Text l.text) (hears t) (terminal_at old t)
+        (terminal_at new t) (answer_of old.terminals hears new.terminals t) into bid
         (subst IsNoCall (sym l.heard) tt) fair (k.carried.terminals.each t less))
 
 -- each channel
-pub down_moves : (laws : BidLaws) (old new : LineValue) (w : Message) (hears : ℕ → Heard) → HearsControl old new w hears → EachMoves old.addressed old new
+pub down_moves : (laws : BidLaws) (old new : LineValue) (w : Message) (hears : ℕ → Heard)
+    → HearsControl old new w hears → EachMoves old.addressed old new
 down_moves laws old new w hears k t FromTerminal is =
-    subst (λ (c : ControlValue). MovesIfAddressed old.addressed t FromTerminal (channel_of old t FromTerminal) (channel (terminal_at new t).queue (peer_at c t).spool.records)) (sym k.carried.control)
+    subst (λ (c : ControlValue). MovesIfAddressed old.addressed t FromTerminal
+    (channel_of old t FromTerminal) (channel (terminal_at new t).queue
+    (peer_at c t).spool.records)) (sym k.carried.control)
     (moves_from laws old new w hears t k is.there)
 down_moves laws old new w hears k t (ToTerminal s) is =
-    subst (λ (c : ControlValue). MovesIfAddressed old.addressed t (ToTerminal s) (channel_of old t (ToTerminal s)) (channel (outbound_of c t s).queue (spool_at (terminal_at new t).spools s).records)) (sym k.carried.control)
+    subst (λ (c : ControlValue). MovesIfAddressed old.addressed t (ToTerminal s)
+    (channel_of old t (ToTerminal s))
+    (channel (outbound_of c t s).queue (spool_at (terminal_at new t).spools s).records))
+    (sym k.carried.control)
     (moves_to laws old new w hears t s k is.there)

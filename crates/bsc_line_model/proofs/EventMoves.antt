@@ -1,5 +1,6 @@
 -- What each accepted event does to the channels of a line.
-use Rattle.std.proofs.Common.{◌≡◌, ℕ, ◌<◌, Bool, true, List, length, IsTrue, Option, None, Some, Ok, refl, sym, ◌∙◌, ap, subst, arith}
+use Rattle.std.proofs.Common.{◌≡◌, ℕ, ◌<◌, Bool, true, List, length, IsTrue, Option, None, Some, Ok}
+use Rattle.std.proofs.Common.{refl, sym, ◌∙◌, ap, subst, arith}
 use Rattle.bsc_frame.specs.declared.message.Message.{Message}
 use Rattle.bsc_frame.specs.declared.message.Heard.{Heard}
 use Rattle.bsc_frame.specs.declared.message.Heard.TheVariants.{Whole}
@@ -15,18 +16,26 @@ use Rattle.bsc_line_model.specs.declared.transmission.Speaker.{Speaker}
 use Rattle.bsc_line_model.specs.declared.transmission.Speaker.TheVariants.{Control, Terminal}
 use Rattle.bsc_line_model.specs.declared.transmission.Transmission.{Transmission}
 use Rattle.bsc_line_model.specs.declared.event.Event.{Event}
-use Rattle.bsc_line_model.specs.declared.event.Event.TheVariants.{OfferAt, OfferFor, Carry, CarryEach, CarrySent, Silence, Ready, UrgentAt, UrgentFor, Release}
-use Rattle.bsc_line_model.specs.Line.{LineValue, terminal_in, terminal_at, terminal_count, with_terminal, channel_of}
+use Rattle.bsc_line_model.specs.declared.event.Event.TheVariants.{OfferAt, OfferFor, Carry}
+use Rattle.bsc_line_model.specs.declared.event.Event.TheVariants.{CarryEach, CarrySent, Silence}
+use Rattle.bsc_line_model.specs.declared.event.Event.TheVariants.{Ready, UrgentAt, UrgentFor}
+use Rattle.bsc_line_model.specs.declared.event.Event.TheVariants.{Release}
+use Rattle.bsc_line_model.specs.Line.{LineValue, terminal_in, terminal_at, terminal_count}
+use Rattle.bsc_line_model.specs.Line.{with_terminal, channel_of}
 use Rattle.bsc_line_model.specs.Terminals.{line_owner}
 use Rattle.bsc_line_model.specs.Hearing.{heard_in, heard_at, octets_in}
-use Rattle.bsc_line_model.specs.Carries.{IsCarriedBy, TerminalActsAlone, ControlActsAlone, OwnerActs}
-use Rattle.bsc_line_model.specs.Offers.{OffersAt, OffersFor, Sets, ready_set, urgent_set_at, urgent_set_for, ReleasesWay}
+use Rattle.bsc_line_model.specs.Carries.{IsCarriedBy, TerminalActsAlone, ControlActsAlone}
+use Rattle.bsc_line_model.specs.Carries.{OwnerActs}
+use Rattle.bsc_line_model.specs.Offers.{OffersAt, OffersFor, Sets, ready_set, urgent_set_at}
+use Rattle.bsc_line_model.specs.Offers.{urgent_set_for, ReleasesWay}
 use Rattle.bsc_line_model.specs.Runs.{CarriesAs, Does}
 use Rattle.bsc_line_model.specs.Kept.{IsLine}
 use Rattle.bsc_line_model.specs.ChannelSteps.{MovesOne, MovesNothing, MovesAddressed, StepsChannels}
 use Rattle.bsc_line_model.specs.BidLaws.{BidLaws}
 use Rattle.bsc_line_model.proofs.Soundness.{way_there}
-use Rattle.bsc_line_model.proofs.ChannelMoves.{terminal_still, peer_still, offer_at_moves, offer_for_moves, release_from_moves, release_to_moves}
+use Rattle.bsc_line_model.proofs.ChannelMoves.{terminal_still, peer_still, offer_at_moves}
+use Rattle.bsc_line_model.proofs.ChannelMoves.{offer_for_moves, release_from_moves}
+use Rattle.bsc_line_model.proofs.ChannelMoves.{release_to_moves}
 use Rattle.bsc_line_model.proofs.QueueSteps.{terminal_silent_queue}
 use Rattle.bsc_line_model.proofs.OutboundSteps.{outbound_silent_queue}
 use Rattle.bsc_line_model.proofs.Moving.{moves_addressed}
@@ -34,85 +43,146 @@ use Rattle.bsc_line_model.proofs.DownMoves.{down_moves}
 use Rattle.bsc_line_model.proofs.UpMoves.{up_moves}
 
 -- the control station keeps something for each terminal
-pub peer_there : (l : LineValue) (t : ℕ) → IsLine l → t < terminal_count l → t < length l.control.peers
+pub peer_there : (l : LineValue) (t : ℕ) → IsLine l → t < terminal_count l → t
+    < length l.control.peers
 peer_there l t is less = omega (arith, is.stations.count)
 
 -- a transmission is carried
-carry_moves : (laws : BidLaws) (old new : LineValue) (speaker : Speaker) (w : Message) (h : Heard) → IsLine old → old.pending ≡ Some (record { speaker = speaker; message = w }) → IsCarriedBy speaker w h old new → IsTrue new.trusted → MovesAddressed old.addressed old new
+carry_moves : (laws : BidLaws) (old new : LineValue) (speaker : Speaker) (w : Message) (h : Heard)
+    → IsLine old → old.pending ≡ Some (record { speaker = speaker; message = w })
+    → IsCarriedBy speaker w h old new → IsTrue new.trusted → MovesAddressed old.addressed old new
 carry_moves laws old new Control w h is pending carried trusted =
-    moves_addressed old.addressed old new (down_moves laws old new w (λ t. h) (record { line = is; pending = pending; carried = carried; trusted = trusted }))
+    moves_addressed old.addressed old new
+    (down_moves laws old new w (λ t. h)
+    (record { line = is; pending = pending; carried = carried; trusted = trusted }))
 carry_moves laws old new (Terminal t) w h is pending carried trusted =
-    moves_addressed old.addressed old new (up_moves laws old new t w h (record { line = is; pending = pending; carried = carried; trusted = trusted }))
+    moves_addressed old.addressed old new
+    (up_moves laws old new t w h (record {
+      line = is;
+      pending = pending;
+      carried = carried;
+      trusted = trusted;
+    }))
 
-pub carries_moves : (laws : BidLaws) (hear : Transmission → Heard) (old new : LineValue) → IsLine old → CarriesAs hear old new → IsTrue new.trusted → MovesAddressed old.addressed old new
-carries_moves laws hear old new is k trusted = carry_moves laws old new k.sent.speaker k.sent.message (hear k.sent) is k.pending k.carried trusted
+pub carries_moves : (laws : BidLaws) (hear : Transmission → Heard) (old new : LineValue)
+    → IsLine old → CarriesAs hear old new → IsTrue new.trusted
+    → MovesAddressed old.addressed old new
+carries_moves laws hear old new is k trusted =
+    carry_moves laws old new k.sent.speaker k.sent.message (hear k.sent) is k.pending k.carried
+    trusted
 
 -- a silence passes
-control_silent : (old new : LineValue) → IsLine old → ControlActsAlone old new → MovesNothing old new
+control_silent : (old new : LineValue) → IsLine old → ControlActsAlone old new
+    → MovesNothing old new
 control_silent old new is k t FromTerminal there =
-    let same : terminal_at new t ≡ terminal_at old t = ap (λ (l : LineValue). terminal_at l t) k.becomes in
-    ap (λ (x : TributaryValue). channel x.queue (peer_at new.control t).spool.records) same ∙ ap (λ (z : SpoolValue). channel (terminal_at old t).queue z.records) (k.kept.spools t)
+    let same : terminal_at new t ≡ terminal_at old t =
+    ap (λ (l : LineValue). terminal_at l t) k.becomes in
+    ap (λ (x : TributaryValue). channel x.queue (peer_at new.control t).spool.records) same
+    ∙ ap (λ (z : SpoolValue). channel (terminal_at old t).queue z.records) (k.kept.spools t)
 control_silent old new is k t (ToTerminal s) there =
-    let same : terminal_at new t ≡ terminal_at old t = ap (λ (l : LineValue). terminal_at l t) k.becomes in
-    ap (λ (x : TributaryValue). channel (outbound_of new.control t s).queue (spool_at x.spools s).records) same
-    ∙ ap (λ (q : QueueValue). channel q (spool_at (terminal_at old t).spools s).records) (outbound_silent_queue old.control new.control k.sent t s is.stations.control k.row)
+    let same : terminal_at new t ≡ terminal_at old t =
+    ap (λ (l : LineValue). terminal_at l t) k.becomes in
+    ap (λ (x : TributaryValue). channel (outbound_of new.control t s).queue
+    (spool_at x.spools s).records) same
+    ∙ ap (λ (q : QueueValue). channel q (spool_at (terminal_at old t).spools s).records)
+    (outbound_silent_queue old.control new.control k.sent t s is.stations.control k.row)
 
 -- what is on the line and the flag are not seen by the channels
 abbrev same_stations : LineValue → LineValue → Type 0
 same_stations a b = (b.control ≡ a.control) × (b.terminals ≡ a.terminals)
 
-seen : (a b : LineValue) (t : ℕ) (way : Way) → same_stations a b → channel_of b t way ≡ channel_of a t way
+seen : (a b : LineValue) (t : ℕ) (way : Way) → same_stations a b → channel_of b t way
+    ≡ channel_of a t way
 seen a b t FromTerminal e =
-    ap (λ (ts : List TributaryValue). channel (terminal_in ts t).queue (peer_at b.control t).spool.records) e.1 ∙ ap (λ (c : ControlValue). channel (terminal_at a t).queue (peer_at c t).spool.records) e.0
+    ap (λ (ts : List TributaryValue). channel (terminal_in ts t).queue
+    (peer_at b.control t).spool.records) e.1
+    ∙ ap (λ (c : ControlValue). channel (terminal_at a t).queue (peer_at c t).spool.records) e.0
 seen a b t (ToTerminal s) e =
-    ap (λ (ts : List TributaryValue). channel (outbound_of b.control t s).queue (spool_at (terminal_in ts t).spools s).records) e.1 ∙ ap (λ (c : ControlValue). channel (outbound_of c t s).queue (spool_at (terminal_at a t).spools s).records) e.0
+    ap (λ (ts : List TributaryValue). channel (outbound_of b.control t s).queue
+    (spool_at (terminal_in ts t).spools s).records) e.1
+    ∙ ap (λ (c : ControlValue). channel (outbound_of c t s).queue
+    (spool_at (terminal_at a t).spools s).records) e.0
 
 terminal_silent : (old new : LineValue) (t : ℕ) → TerminalActsAlone t old new → MovesNothing old new
 terminal_silent old new t k u way there =
-    seen (with_terminal old t (terminal_at new t)) new u way (ap (λ (l : LineValue). l.control) k.becomes, ap (λ (l : LineValue). l.terminals) k.becomes)
-    ∙ terminal_still old t (terminal_at new t) k.there (terminal_silent_queue (terminal_at old t) (terminal_at new t) k.sent k.row) k.kept.spools u way there
+    seen (with_terminal old t (terminal_at new t)) new u way
+    (ap (λ (l : LineValue). l.control) k.becomes, ap (λ (l : LineValue). l.terminals) k.becomes)
+    ∙ terminal_still old t (terminal_at new t) k.there
+    (terminal_silent_queue (terminal_at old t) (terminal_at new t) k.sent k.row) k.kept.spools u
+    way there
 
-pub silence_moves : (old new : LineValue) (owner : Option ℕ) → IsLine old → OwnerActs owner old new → MovesNothing old new
+pub silence_moves : (old new : LineValue) (owner : Option ℕ) → IsLine old → OwnerActs owner old new
+    → MovesNothing old new
 silence_moves old new None is k = control_silent old new is k
 silence_moves old new (Some t) is k = terminal_silent old new t k
 
 -- a doubt is ended
-pub release_moves : (old new : LineValue) (t : ℕ) (way : Way) → IsLine old → ReleasesWay old t way (Ok tt) new → MovesOne t way Learn old new
-release_moves old new t FromTerminal is k = subst (λ (l : LineValue). MovesOne t FromTerminal Learn old l) (sym k.becomes) (release_from_moves old t tt k.there k.answer)
+pub release_moves : (old new : LineValue) (t : ℕ) (way : Way) → IsLine old
+    → ReleasesWay old t way (Ok tt) new → MovesOne t way Learn old new
+release_moves old new t FromTerminal is k =
+    subst (λ (l : LineValue). MovesOne t FromTerminal Learn old l) (sym k.becomes)
+    (release_from_moves old t tt k.there k.answer)
 release_moves old new t (ToTerminal s) is k =
-    let select : s < length (peer_at old.control t).outbounds = way_there old.control old.terminals t (ToTerminal s) is.stations k.there k.select in
-    subst (λ (l : LineValue). MovesOne t (ToTerminal s) Learn old l) (sym k.becomes) (release_to_moves old t s tt (peer_there old t is k.there) select k.answer)
+    let select : s < length (peer_at old.control t).outbounds =
+    way_there old.control old.terminals t (ToTerminal s) is.stations k.there k.select in
+    subst (λ (l : LineValue). MovesOne t (ToTerminal s) Learn old l) (sym k.becomes)
+    (release_to_moves old t s tt (peer_there old t is k.there) select k.answer)
 
 -- an offer and a flag
-quiet_moves : (old new : LineValue) (set : LineValue) → new ≡ set → MovesNothing old set → MovesNothing old new
+quiet_moves : (old new : LineValue) (set : LineValue) → new ≡ set → MovesNothing old set
+    → MovesNothing old new
 quiet_moves old new set e k = subst (λ (l : LineValue). MovesNothing old l) (sym e) k
 
-pub offer_at_event : (old new : LineValue) (t : ℕ) (r : List ℕ) → OffersAt old t r (Ok tt) new → MovesOne t FromTerminal (Offer r) old new
-offer_at_event old new t r d = subst (λ (l : LineValue). MovesOne t FromTerminal (Offer r) old l) (sym d.2) (offer_at_moves old t r d.0)
+pub offer_at_event : (old new : LineValue) (t : ℕ) (r : List ℕ) → OffersAt old t r (Ok tt) new
+    → MovesOne t FromTerminal (Offer r) old new
+offer_at_event old new t r d =
+    subst (λ (l : LineValue). MovesOne t FromTerminal (Offer r) old l) (sym d.2)
+    (offer_at_moves old t r d.0)
 
-pub offer_for_event : (old new : LineValue) (t s : ℕ) (r : List ℕ) → IsLine old → OffersFor old t s r (Ok tt) new → MovesOne t (ToTerminal s) (Offer r) old new
+pub offer_for_event : (old new : LineValue) (t s : ℕ) (r : List ℕ) → IsLine old
+    → OffersFor old t s r (Ok tt) new → MovesOne t (ToTerminal s) (Offer r) old new
 offer_for_event old new t s r is d =
-    let select : s < length (peer_at old.control t).outbounds = way_there old.control old.terminals t (ToTerminal s) is.stations d.0 d.1 in
-    subst (λ (l : LineValue). MovesOne t (ToTerminal s) (Offer r) old l) (sym d.3) (offer_for_moves old t s r (peer_there old t is d.0) select)
+    let select : s < length (peer_at old.control t).outbounds =
+    way_there old.control old.terminals t (ToTerminal s) is.stations d.0 d.1 in
+    subst (λ (l : LineValue). MovesOne t (ToTerminal s) (Offer r) old l) (sym d.3)
+    (offer_for_moves old t s r (peer_there old t is d.0) select)
 
-pub ready_moves : (old new : LineValue) (t : ℕ) (ready : Bool) → Sets old t (ready_set old t ready) (Ok tt) new → MovesNothing old new
-ready_moves old new t ready d = quiet_moves old new (ready_set old t ready) d.1 (terminal_still old t (record (terminal_at old t) { ready = ready }) d.0 refl refl)
+pub ready_moves : (old new : LineValue) (t : ℕ) (ready : Bool)
+    → Sets old t (ready_set old t ready) (Ok tt) new → MovesNothing old new
+ready_moves old new t ready d =
+    quiet_moves old new (ready_set old t ready) d.1
+    (terminal_still old t (record (terminal_at old t) { ready = ready }) d.0 refl refl)
 
-pub urgent_at_moves : (old new : LineValue) (t : ℕ) → Sets old t (urgent_set_at old t) (Ok tt) new → MovesNothing old new
-urgent_at_moves old new t d = quiet_moves old new (urgent_set_at old t) d.1 (terminal_still old t (record (terminal_at old t) { urgent = true }) d.0 refl refl)
+pub urgent_at_moves : (old new : LineValue) (t : ℕ) → Sets old t (urgent_set_at old t) (Ok tt) new
+    → MovesNothing old new
+urgent_at_moves old new t d =
+    quiet_moves old new (urgent_set_at old t) d.1
+    (terminal_still old t (record (terminal_at old t) { urgent = true }) d.0 refl refl)
 
-pub urgent_for_moves : (old new : LineValue) (t : ℕ) → IsLine old → Sets old t (urgent_set_for old t) (Ok tt) new → MovesNothing old new
-urgent_for_moves old new t is d = quiet_moves old new (urgent_set_for old t) d.1 (peer_still old t (record (peer_at old.control t) { urgent = true }) (peer_there old t is d.0) refl refl)
+pub urgent_for_moves : (old new : LineValue) (t : ℕ) → IsLine old
+    → Sets old t (urgent_set_for old t) (Ok tt) new → MovesNothing old new
+urgent_for_moves old new t is d =
+    quiet_moves old new (urgent_set_for old t) d.1
+    (peer_still old t (record (peer_at old.control t) { urgent = true })
+    (peer_there old t is d.0) refl refl)
 
-pub event_moves : (laws : BidLaws) (event : Event) (old new : LineValue) → IsLine old → Does event old (Ok tt) new → IsTrue new.trusted → StepsChannels event old new
+pub event_moves : (laws : BidLaws) (event : Event) (old new : LineValue) → IsLine old
+    → Does event old (Ok tt) new → IsTrue new.trusted → StepsChannels event old new
 event_moves laws (OfferAt t r) old new is d now = offer_at_event old new t r.now d
 event_moves laws (OfferFor t s r) old new is d now = offer_for_event old new t s r.now is d
-event_moves laws (Carry item) old new is d now = carries_moves laws (λ sent. heard_in (octets_in item)) old new is d now
+event_moves laws (Carry item) old new is d now =
+    carries_moves laws (λ sent. heard_in (octets_in item)) old new is d now
 event_moves laws (CarryEach items) old new is d now =
-    let sent : old.pending ≡ Some (record { speaker = Control; message = d.sent.message }) = d.pending ∙ ap (λ (p : Speaker). Some (record { speaker = p; message = d.sent.message })) d.control in
-    moves_addressed old.addressed old new (down_moves laws old new d.sent.message (heard_at items.now) (record { line = is; pending = sent; carried = d.carried; trusted = now }))
-event_moves laws CarrySent old new is d now = carries_moves laws (λ sent. Whole sent.message) old new is d now
-event_moves laws Silence old new is d now = silence_moves old new (line_owner old.terminals) is d.acts
+    let sent : old.pending ≡ Some (record { speaker = Control; message = d.sent.message }) =
+    d.pending ∙ ap (λ (p : Speaker). Some (record { speaker = p; message = d.sent.message }))
+    d.control in
+    moves_addressed old.addressed old new
+    (down_moves laws old new d.sent.message (heard_at items.now)
+    (record { line = is; pending = sent; carried = d.carried; trusted = now }))
+event_moves laws CarrySent old new is d now =
+    carries_moves laws (λ sent. Whole sent.message) old new is d now
+event_moves laws Silence old new is d now =
+    silence_moves old new (line_owner old.terminals) is d.acts
 event_moves laws (Ready t ready) old new is d now = ready_moves old new t ready d
 event_moves laws (UrgentAt t) old new is d now = urgent_at_moves old new t d
 event_moves laws (UrgentFor t) old new is d now = urgent_for_moves old new t is d

@@ -1,5 +1,6 @@
 -- Who sends on a trusted line: the terminal that is polled; and no count mismatches there.
-use Rattle.std.proofs.Common.{◌≡◌, inl, inr, ℕ, ◌+◌, ◌<◌, Bool, true, false, ◌==◌, ◌||◌, List, length, IsTrue, Option, Err, refl, sym, ◌∙◌, ap, if◌then◌else◌}
+use Rattle.std.proofs.Common.{◌≡◌, inl, inr, ℕ, ◌+◌, ◌<◌, Bool, true, false, ◌==◌, ◌||◌, List}
+use Rattle.std.proofs.Common.{length, IsTrue, Option, Err, refl, sym, ◌∙◌, ap, if◌then◌else◌}
 use Rattle.std.proofs.lemmas.Bool.{eqb-false}
 use Rattle.bsc_spool.specs.Queue.{QueueValue}
 use Rattle.bsc_text.specs.declared.phase.Phase.{Phase}
@@ -20,7 +21,8 @@ use Rattle.bsc_control.specs.Control.{ControlValue, peer_at, peer, current}
 use Rattle.bsc_control.specs.Kept.{outbound_of}
 use Rattle.bsc_line_model.specs.declared.error.LineError.TheVariants as e
 use Rattle.bsc_line_model.specs.declared.transmission.Transmission.{Transmission}
-use Rattle.bsc_line_model.specs.Line.{LineValue, terminal_in, terminal_at, terminal_count, channel_of}
+use Rattle.bsc_line_model.specs.Line.{LineValue, terminal_in, terminal_at, terminal_count}
+use Rattle.bsc_line_model.specs.Line.{channel_of}
 use Rattle.bsc_line_model.specs.Offers.{told, ReleasesFrom, ReleasesTo, ReleasesWay}
 use Rattle.bsc_line_model.specs.Kept.{IsLine}
 use Rattle.bsc_line_model.specs.Together.{IsInBidUp, InTask}
@@ -30,18 +32,22 @@ use Rattle.bsc_line_model.proofs.Soundness.{sound}
 use Rattle.bsc_line_model.proofs.Stations.{same_or_not}
 
 -- terminal t sends: it is the polled one, and its bid goes on
-pub record IsBidOf (task : Task) (pending : Option Transmission) (c : ControlValue) (ts : List TributaryValue) (t : ℕ) : Type 0 where
+pub record IsBidOf (task : Task) (pending : Option Transmission) (c : ControlValue)
+    (ts : List TributaryValue) (t : ℕ) : Type 0 where
   pub terminal : t ≡ current c
   pub replied : Replied
   pub polling : task ≡ Polling replied
   pub bid : IsInBidUp pending (peer c) (current c) (terminal_in ts (current c))
 
-pub bid_of : (task : Task) (pending : Option Transmission) (c : ControlValue) (ts : List TributaryValue) (t : ℕ) → t < length ts → (terminal_in ts t).mode ≡ Sends → InTask task pending c ts → IsBidOf task pending c ts t
+pub bid_of : (task : Task) (pending : Option Transmission) (c : ControlValue)
+    (ts : List TributaryValue) (t : ℕ) → t < length ts → (terminal_in ts t).mode ≡ Sends
+    → InTask task pending c ts → IsBidOf task pending c ts t
 bid_of AtRest pending c ts t less sends k = absurd ((k.quiet t less).mode sends)
 bid_of (Selecting s enquired) pending c ts t less sends k = absurd ((k.quiet t less).mode sends)
 bid_of (Sending s) pending c ts t less sends k =
     elim (same_or_not t (current c)) [
-      | inl same ↦ (let both : Receiving s ≡ Sends = sym k.bid.mode ∙ ap (λ (n : ℕ). (terminal_in ts n).mode) (sym same) ∙ sends in absurd (cc))
+      | inl same ↦ (let both : Receiving s ≡ Sends = sym k.bid.mode
+          ∙ ap (λ (n : ℕ). (terminal_in ts n).mode) (sym same) ∙ sends in absurd (cc))
       | inr differ ↦ absurd ((k.others t less differ).mode sends)
     ]
 bid_of (Polling replied) pending c ts t less sends k =
@@ -60,19 +66,24 @@ holder_sends Sends h = refl
 holder_sends Control h = absurd (cc)
 holder_sends (Receiving s) h = absurd (cc)
 
-pub holds_polled : (l : LineValue) (t : ℕ) → IsLine l → IsTrue l.trusted → t < terminal_count l → IsTrue (holds (terminal_at l t).mode) → IsPolled l t
+pub holds_polled : (l : LineValue) (t : ℕ) → IsLine l → IsTrue l.trusted → t < terminal_count l
+    → IsTrue (holds (terminal_at l t).mode) → IsPolled l t
 holds_polled l t is now less holder =
-    let bid : IsBidOf l.control.task l.pending l.control l.terminals t = bid_of l.control.task l.pending l.control l.terminals t less (holder_sends (terminal_at l t).mode holder) (is.together now) in
+    let bid : IsBidOf l.control.task l.pending l.control l.terminals t =
+    bid_of l.control.task l.pending l.control l.terminals t less
+    (holder_sends (terminal_at l t).mode holder) (is.together now) in
     record { present = bid.terminal; replied = bid.replied; task = bid.polling }
 
 -- where the channel is sound its sender's doubt is released by the spooled count
-counts_match : (s : SenderValue) (q : QueueValue) (n : ℕ) (phase : Phase) → IsSpooled phase q.known n → Err e.CountMismatch ≡ told (release_in s q phase n).answer → ⊥
+counts_match : (s : SenderValue) (q : QueueValue) (n : ℕ) (phase : Phase)
+    → IsSpooled phase q.known n → Err e.CountMismatch ≡ told (release_in s q phase n).answer → ⊥
 counts_match s q n Idle is f = cc
 counts_match s q n (Unanswered b) is f = cc
 counts_match s q n (Held end x) is f = cc
 counts_match s q n (InDoubt k) is f = by_test (n == q.known) (n == (q.known + k)) refl refl f
   where
-    by_test : (a b : Bool) → (n == q.known) ≡ a → (n == (q.known + k)) ≡ b → Err e.CountMismatch ≡ told (if a || b then released s q n else not_released s q r.CountMismatch).answer → ⊥
+    by_test : (a b : Bool) → (n == q.known) ≡ a → (n == (q.known + k)) ≡ b → Err e.CountMismatch
+        ≡ told (if a || b then released s q n else not_released s q r.CountMismatch).answer → ⊥
     by_test true b x y h = cc
     by_test false true x y h = cc
     by_test false false x y h =
@@ -81,17 +92,27 @@ counts_match s q n (InDoubt k) is f = by_test (n == q.known) (n == (q.known + k)
           | inr same ↦ absurd (eqb-false n (q.known + k) y same)
         ]
 
-never_from : (laws : BidLaws) (old new : LineValue) (t : ℕ) → IsLine old → IsTrue old.trusted → ReleasesFrom old t (Err e.CountMismatch) new → ⊥
+never_from : (laws : BidLaws) (old new : LineValue) (t : ℕ) → IsLine old → IsTrue old.trusted
+    → ReleasesFrom old t (Err e.CountMismatch) new → ⊥
 never_from laws old new t is now d =
-    let sounds : IsSound (terminal_at old t).sender.phase (channel_of old t FromTerminal) = sound laws old is.stations (is.together now) t FromTerminal (record { there = d.there; its_way = tt }) in
-    counts_match (terminal_at old t).sender (terminal_at old t).queue (length (peer_at old.control t).spool.records) (terminal_at old t).sender.phase sounds.spooled d.answer
+    let sounds : IsSound (terminal_at old t).sender.phase (channel_of old t FromTerminal) =
+    sound laws old is.stations (is.together now) t FromTerminal
+    (record { there = d.there; its_way = tt }) in
+    counts_match (terminal_at old t).sender (terminal_at old t).queue
+    (length (peer_at old.control t).spool.records) (terminal_at old t).sender.phase
+    sounds.spooled d.answer
 
-never_to : (laws : BidLaws) (old new : LineValue) (t s : ℕ) → IsLine old → IsTrue old.trusted → ReleasesTo old t s (Err e.CountMismatch) new → ⊥
+never_to : (laws : BidLaws) (old new : LineValue) (t s : ℕ) → IsLine old → IsTrue old.trusted
+    → ReleasesTo old t s (Err e.CountMismatch) new → ⊥
 never_to laws old new t s is now d =
     let o : OutboundValue = outbound_of old.control t s in
-    let sounds : IsSound o.sender.phase (channel_of old t (ToTerminal s)) = sound laws old is.stations (is.together now) t (ToTerminal s) (record { there = d.there; its_way = d.select }) in
-    counts_match o.sender o.queue (length (spool_at (terminal_at old t).spools s).records) o.sender.phase sounds.spooled d.answer
+    let sounds : IsSound o.sender.phase (channel_of old t (ToTerminal s)) =
+    sound laws old is.stations (is.together now) t (ToTerminal s)
+    (record { there = d.there; its_way = d.select }) in
+    counts_match o.sender o.queue (length (spool_at (terminal_at old t).spools s).records)
+    o.sender.phase sounds.spooled d.answer
 
-pub never_mismatches : (laws : BidLaws) (old new : LineValue) (t : ℕ) (way : Way) → IsLine old → IsTrue old.trusted → ReleasesWay old t way (Err e.CountMismatch) new → ⊥
+pub never_mismatches : (laws : BidLaws) (old new : LineValue) (t : ℕ) (way : Way) → IsLine old
+    → IsTrue old.trusted → ReleasesWay old t way (Err e.CountMismatch) new → ⊥
 never_mismatches laws old new t FromTerminal is now d = never_from laws old new t is now d
 never_mismatches laws old new t (ToTerminal s) is now d = never_to laws old new t s is now d

@@ -1,10 +1,12 @@
 -- Only the addressed channel moves: from what each channel does to what all do.
-use Rattle.std.proofs.Common.{◌≡◌, ◌⊎◌, inl, inr, ℕ, ◌<◌, ◌≤◌, Bool, true, false, nat_lt, length, Option, None, Some, refl, sym, ap, subst, arith}
+use Rattle.std.proofs.Common.{◌≡◌, ◌⊎◌, inl, inr, ℕ, ◌<◌, ◌≤◌, Bool, true, false, nat_lt, length}
+use Rattle.std.proofs.Common.{Option, None, Some, refl, sym, ap, subst, arith}
 use Rattle.std.proofs.lemmas.Bool.Decides.{nat_tests}
 use Rattle.bsc_text.specs.Channel.{Channel, Land, Learn, Makes}
 use Rattle.bsc_control.specs.declared.way.Way.{Way}
 use Rattle.bsc_control.specs.declared.way.Way.TheVariants.{FromTerminal, ToTerminal}
-use Rattle.bsc_line_model.specs.Line.{LineValue, terminal_at, terminal_count, IsWay, IsChannel, channel_of}
+use Rattle.bsc_line_model.specs.Line.{LineValue, terminal_at, terminal_count, IsWay, IsChannel}
+use Rattle.bsc_line_model.specs.Line.{channel_of}
 use Rattle.bsc_line_model.specs.ChannelSteps.{MovesNothing, MovesAddressed}
 
 -- records landed, or the sending end learnt
@@ -13,10 +15,12 @@ IsMoved old new = ((k : ℕ) × Makes (Land k) old new) ⊎ Makes Learn old new
 
 -- a channel is as it was, or it is the addressed one and moved
 abbrev pub MovesIfAddressed : Option (ℕ × Way) → ℕ → Way → Channel → Channel → Type 0
-MovesIfAddressed addressed t way old new = (new ≡ old) ⊎ ((addressed ≡ Some (t, way)) × IsMoved old new)
+MovesIfAddressed addressed t way old new = (new ≡ old)
+    ⊎ ((addressed ≡ Some (t, way)) × IsMoved old new)
 
 abbrev pub EachMoves : Option (ℕ × Way) → LineValue → LineValue → Type 0
-EachMoves addressed old new = (t : ℕ) (way : Way) → IsChannel old t way → MovesIfAddressed addressed t way (channel_of old t way) (channel_of new t way)
+EachMoves addressed old new = (t : ℕ) (way : Way) → IsChannel old t way
+    → MovesIfAddressed addressed t way (channel_of old t way) (channel_of new t way)
 
 -- there is such a channel or not
 pub less_or_not : (a b : ℕ) → (a < b) ⊎ (a < b → ⊥)
@@ -26,7 +30,8 @@ less_or_not a b = by_test (nat_lt a b) refl
     by_test true is = inl (grind (arith, nat_tests))
     by_test false is = inr (λ less. let far : b ≤ a = grind (arith, nat_tests) in omega arith)
 
-way_or_not : (l : LineValue) (t : ℕ) (way : Way) → IsWay (terminal_at l t) way ⊎ (IsWay (terminal_at l t) way → ⊥)
+way_or_not : (l : LineValue) (t : ℕ) (way : Way) → IsWay (terminal_at l t) way
+    ⊎ (IsWay (terminal_at l t) way → ⊥)
 way_or_not l t FromTerminal = inl tt
 way_or_not l t (ToTerminal s) = less_or_not s (length (terminal_at l t).terminal.selects)
 
@@ -46,7 +51,9 @@ same_channel : (a b : ℕ × Way) → Some a ≡ Some b → a ≡ b
 same_channel a b e = cc
 
 -- the others stay
-others_stay : (a : ℕ × Way) (old new : LineValue) → EachMoves (Some a) old new → (u : ℕ) (other : Way) → IsChannel old u other → (u ≡ a.0 → other ≡ a.1 → ⊥) → channel_of new u other ≡ channel_of old u other
+others_stay : (a : ℕ × Way) (old new : LineValue) → EachMoves (Some a) old new
+    → (u : ℕ) (other : Way) → IsChannel old u other → (u ≡ a.0 → other ≡ a.1 → ⊥)
+    → channel_of new u other ≡ channel_of old u other
 others_stay a old new each u other is apart =
     elim (each u other is) [
       | inl same ↦ same
@@ -59,10 +66,12 @@ none_moves : (old new : LineValue) → EachMoves None old new → MovesNothing o
 none_moves old new each t way is =
     elim (each t way is) [
       | inl same ↦ same
-      | inr moved ↦ (let this : ℕ × Way = (t, way) in let never : None ≡ Some this = moved.0 in absurd (cc))
+      | inr moved ↦ (let this : ℕ × Way = (t, way) in let never : None ≡ Some this = moved.0 in
+          absurd (cc))
     ]
 
-pub moves_addressed : (addressed : Option (ℕ × Way)) (old new : LineValue) → EachMoves addressed old new → MovesAddressed addressed old new
+pub moves_addressed : (addressed : Option (ℕ × Way)) (old new : LineValue)
+    → EachMoves addressed old new → MovesAddressed addressed old new
 moves_addressed None old new each = none_moves old new each
 moves_addressed (Some a) old new each =
     elim (channel_or_not old a.0 a.1) [
@@ -71,8 +80,14 @@ moves_addressed (Some a) old new each =
             | inl same ↦ inl (still_here same)
             | inr moved ↦
                 elim moved.1 [
-                  | inl lands ↦ inr (inl (record { count = lands.0; moves = record { this = lands.1; others = others_stay a old new each } }))
-                  | inr learns ↦ inr (inr (record { this = learns; others = others_stay a old new each }))
+                  | inl lands ↦ inr
+                      (inl (record {
+                        count = lands.0;
+                        moves =
+                            record { this = lands.1; others = others_stay a old new each };
+                      }))
+                  | inr learns ↦ inr
+                      (inr (record { this = learns; others = others_stay a old new each }))
                 ]
           ]
       | inr nowhere ↦ inl (nothing nowhere)

@@ -1,5 +1,7 @@
 -- Delivery by a number: a visit and a round of exactly as many transmissions as their lengths.
-use Rattle.std.proofs.Common.{◌≡◌, ◌≢◌, ◌⊎◌, inl, inr, ℕ, ◌+◌, ◌<◌, ◌≤◌, true, false, Bool, nat_eq, nat_lt, List, [], length, get_or, slice_get, Option, Some, Result, Ok, Err, refl, sym, ◌∙◌, ap, subst, arith, if◌then◌else◌}
+use Rattle.std.proofs.Common.{◌≡◌, ◌≢◌, ◌⊎◌, inl, inr, ℕ, ◌+◌, ◌<◌, ◌≤◌, true, false, Bool, nat_eq}
+use Rattle.std.proofs.Common.{nat_lt, List, [], length, get_or, slice_get, Option, Some, Result, Ok}
+use Rattle.std.proofs.Common.{Err, refl, sym, ◌∙◌, ap, subst, arith, if◌then◌else◌}
 use Rattle.std.proofs.lemmas.Bool.Decides.{nat_tests}
 use Rattle.std.proofs.lemmas.List.{get_or_past}
 use Rattle.std.proofs.lemmas.List.Elements.{All-get_or}
@@ -34,7 +36,10 @@ use Rattle.bsc_line_model.specs.declared.event.Event.{Event}
 use Rattle.bsc_line_model.specs.Line.{LineValue, terminal_at, terminal_count, channel_of, phase_of}
 use Rattle.bsc_line_model.specs.Kept.{IsLine}
 use Rattle.bsc_line_model.specs.Runs.{Runs}
-use Rattle.bsc_line_model.specs.Rounds.{block_count, poll_length, visit_length, round_length, entry_at, place_after, sent_times, IsCalm, BeginsVisit, IsDelivered, SameDelays, IsVisited, IsRoundDone, RunsDeliverVisit, RunsDeliverRound}
+use Rattle.bsc_line_model.specs.Rounds.{block_count, poll_length, visit_length, round_length}
+use Rattle.bsc_line_model.specs.Rounds.{entry_at, place_after, sent_times, IsCalm, BeginsVisit}
+use Rattle.bsc_line_model.specs.Rounds.{IsDelivered, SameDelays, IsVisited, IsRoundDone}
+use Rattle.bsc_line_model.specs.Rounds.{RunsDeliverVisit, RunsDeliverRound}
 use Rattle.bsc_line_model.specs.Together.{IsQuiet, AllQuiet, IsSelecting, InTask}
 use Rattle.bsc_line_model.proofs.Soundness.{way_there}
 use Rattle.bsc_line_model.proofs.Stations.{same_or_not, terminal_there}
@@ -43,35 +48,50 @@ use Rattle.bsc_line_model.proofs.DownSteps.{current_there, terminal_here}
 use Rattle.bsc_line_model.proofs.Walking.{IsGood, Walks}
 use Rattle.bsc_line_model.proofs.Selections.{VisitLaws, Comes, Calls}
 use Rattle.bsc_line_model.proofs.Polls.{all_quiet}
-use Rattle.bsc_line_model.proofs.Visits.{IsCalmAt, IsVisited as Visiting, IsVisitDone, StaysBut, but_same, selections_length, visit_from}
+use Rattle.bsc_line_model.proofs.Visits.{IsCalmAt, IsVisited as Visiting, IsVisitDone, StaysBut}
+use Rattle.bsc_line_model.proofs.Visits.{but_same, selections_length, visit_from}
 use Rattle.bsc_line_model.proofs.VisitCounts.{begins, visit_is}
-use Rattle.bsc_line_model.proofs.RoundSteps.{IsEmptied, IsRoundAt, round_from, still_calm, wrapped, not_last}
+use Rattle.bsc_line_model.proofs.RoundSteps.{IsEmptied, IsRoundAt, round_from, still_calm, wrapped}
+use Rattle.bsc_line_model.proofs.RoundSteps.{not_last}
 use Rattle.bsc_line_model.proofs.Delivered.{all_delivered}
 use Rattle.bsc_line_model.proofs.FairRuns.{walks, good_line}
 
 -- a selection address that is called is one of the terminal's
-selects_count : (l : LineValue) → IsGood l → length (peer l.control).outbounds ≡ length (peer l.control).terminal.selects
+selects_count : (l : LineValue) → IsGood l → length (peer l.control).outbounds
+    ≡ length (peer l.control).terminal.selects
 selects_count l g =
-    let is : IsPeer (peer l.control) = All-get_or IsPeer l.control.peers (current l.control) no_peer (current_there l g) g.line.stations.control.entries.peers in
+    let is : IsPeer (peer l.control) =
+    All-get_or IsPeer l.control.peers (current l.control) no_peer (current_there l g)
+    g.line.stations.control.entries.peers in
     is.outbounds
 
-called_there : (l : LineValue) (s : ℕ) → IsGood l → l.control.task ≡ k.Selecting s false → s < length (peer l.control).terminal.selects
+called_there : (l : LineValue) (s : ℕ) → IsGood l → l.control.task ≡ k.Selecting s false → s
+    < length (peer l.control).terminal.selects
 called_there l s g task =
-    let selected : IsSelected (peer l.control) s = subst (λ (t : Task). SuitsTask t (peer l.control)) task g.line.stations.control.orderly.suits in
+    let selected : IsSelected (peer l.control) s =
+    subst (λ (t : Task). SuitsTask t (peer l.control)) task
+    g.line.stations.control.orderly.suits in
     subst (λ (n : ℕ). s < n) (selects_count l g) selected.there
 
-called_within : (l : LineValue) (way : Way) (s : ℕ) → IsGood l → IsTaskOf way l.control.task → way ≡ ToTerminal s → s < length (peer l.control).terminal.selects
-called_within l way s g task is = called_there l s g (subst (λ (w : Way). IsTaskOf w l.control.task) is task)
+called_within : (l : LineValue) (way : Way) (s : ℕ) → IsGood l → IsTaskOf way l.control.task → way
+    ≡ ToTerminal s → s < length (peer l.control).terminal.selects
+called_within l way s g task is =
+    called_there l s g (subst (λ (w : Way). IsTaskOf w l.control.task) is task)
 
 -- the address of a call that is pending
-own_address : (x : TerminalValue) (way : Way) → ((s : ℕ) → way ≡ ToTerminal s → s < length x.selects) → address_for x way ≡ Some (address_at x way)
+own_address : (x : TerminalValue) (way : Way)
+    → ((s : ℕ) → way ≡ ToTerminal s → s < length x.selects) → address_for x way
+    ≡ Some (address_at x way)
 own_address x FromTerminal within = refl
 own_address x (ToTerminal s) within = slice_get-get_or x.selects s x.poll (within s refl)
 
 -- an entry names a terminal
-entry_there : (l : LineValue) (j : ℕ) → IsGood l → j < length l.control.poll_list → entry_at l j < terminal_count l
+entry_there : (l : LineValue) (j : ℕ) → IsGood l → j < length l.control.poll_list → entry_at l j
+    < terminal_count l
 entry_there l j g less =
-    let peer_there : entry_at l j < length l.control.peers = All-get_or (λ (t : ℕ). t < length l.control.peers) l.control.poll_list j 0 less g.line.stations.control.entries.entries in
+    let peer_there : entry_at l j < length l.control.peers =
+    All-get_or (λ (t : ℕ). t < length l.control.peers) l.control.poll_list j 0 less
+    g.line.stations.control.entries.entries in
     subst (λ (n : ℕ). entry_at l j < n) g.line.stations.count peer_there
 
 -- a visit begins where the first call of an entry is pending
@@ -88,21 +108,36 @@ first_calm l t g there c =
     sure FromTerminal = c.sure_up
     sure (ToTerminal s) = c.sure_down s
 
-begins_next : (l : LineValue) (place : ℕ) → IsGood l → Calls l place (way_from (peer l.control) 0) → ((j : ℕ) → j < length l.control.poll_list → IsCalmAt l (entry_at l j)) → BeginsVisit l place
+begins_next : (l : LineValue) (place : ℕ) → IsGood l → Calls l place (way_from (peer l.control) 0)
+    → ((j : ℕ) → j < length l.control.poll_list → IsCalmAt l (entry_at l j)) → BeginsVisit l place
 begins_next l place g h calm =
     let way : Way = way_from (peer l.control) 0 in
     let address : List ℕ = address_at (peer l.control).terminal way in
-    let same : current l.control ≡ terminal_of_entry l.control place = ap (λ (n : ℕ). terminal_of_entry l.control n) h.called.place_is in
-    let first : way ≡ (first_call l.control place).way = ap (λ (t : ℕ). way_from (peer_at l.control t) 0) same in
-    let there : slice_get (terminals l.control) (current l.control) ≡ Some (peer l.control).terminal =
-    terminal_there l.control l.terminals (current l.control) g.line.stations (terminal_here l g) ∙ ap (λ (x : TerminalValue). Some x) (g.line.stations.members (current l.control) (terminal_here l g)).addresses in
-    let own : IsAddressOf (terminals l.control) (current l.control) way address = record { terminal = (peer l.control).terminal; there = there; its_own = own_address (peer l.control).terminal way (λ s is. called_within l way s g h.called.task is) } in
+    let same : current l.control ≡ terminal_of_entry l.control place =
+    ap (λ (n : ℕ). terminal_of_entry l.control n) h.called.place_is in
+    let first : way ≡ (first_call l.control place).way =
+    ap (λ (t : ℕ). way_from (peer_at l.control t) 0) same in
+    let there : slice_get (terminals l.control) (current l.control)
+    ≡ Some (peer l.control).terminal =
+    terminal_there l.control l.terminals (current l.control) g.line.stations (terminal_here l g)
+    ∙ ap (λ (x : TerminalValue). Some x)
+    (g.line.stations.members (current l.control) (terminal_here l g)).addresses in
+    let own : IsAddressOf (terminals l.control) (current l.control) way address =
+    record {
+      terminal = (peer l.control).terminal;
+      there = there;
+      its_own =
+          own_address (peer l.control).terminal way
+          (λ s is. called_within l way s g h.called.task is);
+    } in
     record {
       address = address;
       pending = h.pending ∙ ap (λ (o : Option Message). sent_by sp.Control o) h.called.call;
       called = record {
         place = h.called.place_is;
-        called = subst (λ (w : Way). IsAddressOf (terminals l.control) (current l.control) w address) first own;
+        called =
+            subst (λ (w : Way). IsAddressOf (terminals l.control) (current l.control) w address)
+            first own;
         task = subst (λ (w : Way). IsTaskOf w l.control.task) first h.called.task;
       };
       trusted = g.trusted;
@@ -110,14 +145,18 @@ begins_next l place g h calm =
     }
 
 -- a visit that begins
-terminal_of : (l : LineValue) (place : ℕ) → BeginsVisit l place → current l.control ≡ entry_at l place
+terminal_of : (l : LineValue) (place : ℕ) → BeginsVisit l place → current l.control
+    ≡ entry_at l place
 terminal_of l place b = ap (λ (n : ℕ). terminal_of_entry l.control n) b.called.place
 
-first_calls : (l : LineValue) (place : ℕ) → IsGood l → (b : BeginsVisit l place) → Calls l place (way_from (peer l.control) 0)
+first_calls : (l : LineValue) (place : ℕ) → IsGood l → (b : BeginsVisit l place)
+    → Calls l place (way_from (peer l.control) 0)
 first_calls l place g b =
     let same : current l.control ≡ entry_at l place = terminal_of l place b in
     let way : Way = (first_call l.control place).way in
-    let calls : Calls l place way = begins l place b.address way g b.called b.pending (λ s is. called_within l way s g b.called.task is) in
+    let calls : Calls l place way =
+    begins l place b.address way g b.called b.pending
+    (λ s is. called_within l way s g b.called.task is) in
     subst (λ (t : ℕ). Calls l place (way_from (peer_at l.control t) 0)) (sym same) calls
 
 less_or_not : (a b : ℕ) → (a < b) ⊎ (b ≤ a)
@@ -137,59 +176,89 @@ calm_at l t g there c =
       sure_down = λ s.
           elim (less_or_not s (length (terminal_at l t).terminal.selects)) [
             | inl less ↦ c.no_doubt (ToTerminal s) (record { there = there; its_way = less })
-            | inr past ↦ ap (λ (o : OutboundValue). is_in_doubt o.sender.phase) (get_or_past (peer_at l.control t).outbounds s no_outbound (beyond s past))
+            | inr past ↦ ap (λ (o : OutboundValue). is_in_doubt o.sender.phase)
+                (get_or_past (peer_at l.control t).outbounds s no_outbound (beyond s past))
           ];
     }
   where
-    beyond : (s : ℕ) → length (terminal_at l t).terminal.selects ≤ s → length (peer_at l.control t).outbounds ≤ s
+    beyond : (s : ℕ) → length (terminal_at l t).terminal.selects ≤ s
+        → length (peer_at l.control t).outbounds ≤ s
     beyond s past =
         let before : t < length l.control.peers = omega (arith, there, g.line.stations.count) in
-        let of_peer : IsPeer (peer_at l.control t) = All-get_or IsPeer l.control.peers t no_peer before g.line.stations.control.entries.peers in
-        let same : length (terminal_at l t).terminal.selects ≡ length (peer_at l.control t).terminal.selects = ap (λ (x : TerminalValue). length x.selects) (g.line.stations.members t there).addresses in
+        let of_peer : IsPeer (peer_at l.control t) =
+        All-get_or IsPeer l.control.peers t no_peer before
+        g.line.stations.control.entries.peers in
+        let same : length (terminal_at l t).terminal.selects
+        ≡ length (peer_at l.control t).terminal.selects =
+        ap (λ (x : TerminalValue). length x.selects)
+        (g.line.stations.members t there).addresses in
         omega (arith, past, same, of_peer.outbounds)
 
 -- while a call is pending no bid goes on
-quiet_by : (l : LineValue) (way : Way) (a : List ℕ) → IsGood l → IsTaskOf way l.control.task → l.pending ≡ Some (record { speaker = sp.Control; message = m.Call a }) → AllQuiet l.control l.terminals
+quiet_by : (l : LineValue) (way : Way) (a : List ℕ) → IsGood l → IsTaskOf way l.control.task
+    → l.pending ≡ Some (record { speaker = sp.Control; message = m.Call a })
+    → AllQuiet l.control l.terminals
 quiet_by l FromTerminal a g task is = all_quiet l a Nothing g task is
 quiet_by l (ToTerminal s) a g task is =
-    let selecting : IsSelecting l.pending l.control l.terminals s false = subst (λ (z : Task). InTask z l.pending l.control l.terminals) task g.together in
+    let selecting : IsSelecting l.pending l.control l.terminals s false =
+    subst (λ (z : Task). InTask z l.pending l.control l.terminals) task g.together in
     selecting.quiet
 
 not_sending : (way : Way) (task : Task) (s : ℕ) → IsTaskOf way task → task ≡ k.Sending s → ⊥
 not_sending FromTerminal task s is e = let both : k.Polling Nothing ≡ k.Sending s = sym is ∙ e in cc
-not_sending (ToTerminal j) task s is e = let both : k.Selecting j false ≡ k.Sending s = sym is ∙ e in cc
+not_sending (ToTerminal j) task s is e = let both : k.Selecting j false ≡ k.Sending s = sym is
+    ∙ e in cc
 
-rests_in : (n : Mode) (phase : Phase) (count : ℕ) → n ≢ mode.Sending → SuitsMode n phase count → IsAtRest phase
+rests_in : (n : Mode) (phase : Phase) (count : ℕ) → n ≢ mode.Sending → SuitsMode n phase count
+    → IsAtRest phase
 rests_in mode.Control phase count never is = is
 rests_in (mode.Receiving s) phase count never is = is.0
 rests_in mode.Sending phase count never is = absurd (never refl)
 
 -- where nothing waits for terminal t all is delivered
-delivered_at : (laws : VisitLaws) (l : LineValue) (place t : ℕ) (way : Way) → IsGood l → Calls l place way → t < terminal_count l → IsCalmAt l t → IsEmptied l t → IsDelivered l t
+delivered_at : (laws : VisitLaws) (l : LineValue) (place t : ℕ) (way : Way) → IsGood l
+    → Calls l place way → t < terminal_count l → IsCalmAt l t → IsEmptied l t → IsDelivered l t
 delivered_at laws l place t called g h there c e = by_way
   where
     quiet : IsQuiet (peer_at l.control t) (terminal_at l t)
-    quiet = quiet_by l called (address_at (peer l.control).terminal called) g h.called.task (h.pending ∙ ap (λ (o : Option Message). sent_by sp.Control o) h.called.call) t there
+    quiet =
+        quiet_by l called (address_at (peer l.control).terminal called) g h.called.task
+        (h.pending ∙ ap (λ (o : Option Message). sent_by sp.Control o) h.called.call) t there
 
     by_way : IsDelivered l t
     by_way FromTerminal is =
-        let rest : IsAtRest (terminal_at l t).sender.phase = rests_in (terminal_at l t).mode (terminal_at l t).sender.phase (length (terminal_at l t).spools) quiet.mode (g.line.stations.members t there).tributary.bid in
-        let x : _ = all_delivered laws.cuts (terminal_at l t).sender.phase (terminal_at l t).queue (peer_at l.control t).spool.records quiet.up rest c.sure_up e.up in
+        let rest : IsAtRest (terminal_at l t).sender.phase =
+        rests_in (terminal_at l t).mode (terminal_at l t).sender.phase
+        (length (terminal_at l t).spools) quiet.mode
+        (g.line.stations.members t there).tributary.bid in
+        let x : _ =
+        all_delivered laws.cuts (terminal_at l t).sender.phase (terminal_at l t).queue
+        (peer_at l.control t).spool.records quiet.up rest c.sure_up e.up in
         record { known = x.0; spooled = x.1 }
     by_way (ToTerminal s) is =
-        let within : s < length (peer_at l.control t).outbounds = way_there l.control l.terminals t (ToTerminal s) g.line.stations there is.its_way in
+        let within : s < length (peer_at l.control t).outbounds =
+        way_there l.control l.terminals t (ToTerminal s) g.line.stations there is.its_way in
         let o : OutboundValue = outbound_of l.control t s in
-        let rest : IsAtRest o.sender.phase = g.line.stations.control.orderly.rests t s (λ used. not_sending called l.control.task s h.called.task used.1) in
-        let x : _ = all_delivered laws.cuts o.sender.phase o.queue (spool_at (terminal_at l t).spools s).records (quiet.down s within) rest (c.sure_down s) (e.down s within) in
+        let rest : IsAtRest o.sender.phase =
+        g.line.stations.control.orderly.rests t s
+        (λ used. not_sending called l.control.task s h.called.task used.1) in
+        let x : _ =
+        all_delivered laws.cuts o.sender.phase o.queue
+        (spool_at (terminal_at l t).spools s).records (quiet.down s within) rest
+        (c.sure_down s) (e.down s within) in
         record { known = x.0; spooled = x.1 }
 
 -- the end of a walk
-ends : (P : LineValue → Type 0) (new : LineValue) (r : Result (Unit {0}) Stopped) → Comes P 0 r new → (r ≡ Ok tt) × P new
+ends : (P : LineValue → Type 0) (new : LineValue) (r : Result (Unit {0}) Stopped) → Comes P 0 r new
+    → (r ≡ Ok tt) × P new
 ends P new (Ok done) x = (refl, subst P (sym x.rest) x.holds)
 ends P new (Err stopped) x = absurd x.rest
 
-place_there : (l : LineValue) (place : ℕ) → IsGood l → BeginsVisit l place → place < length l.control.poll_list
-place_there l place g b = subst (λ (n : ℕ). n < length l.control.poll_list) b.called.place g.line.stations.control.entries.place
+place_there : (l : LineValue) (place : ℕ) → IsGood l → BeginsVisit l place → place
+    < length l.control.poll_list
+place_there l place g b =
+    subst (λ (n : ℕ). n < length l.control.poll_list) b.called.place
+    g.line.stations.control.entries.place
 
 -- the place of an entry, and after the last one the first
 wrap : (n : ℕ) → 0 < n → wrapped n 0 ≡ 0
@@ -206,29 +275,43 @@ round_begins l g b =
       good = g;
       list = refl;
       count = refl;
-      calls = subst (λ (n : ℕ). Calls l n (way_from (peer l.control) 0)) (sym (wrap (length l.control.poll_list) (place_there l 0 g b))) (first_calls l 0 g b);
+      calls =
+          subst (λ (n : ℕ). Calls l n (way_from (peer l.control) 0))
+          (sym (wrap (length l.control.poll_list) (place_there l 0 g b))) (first_calls l 0 g b);
       calm = λ j less. calm_at l (entry_at l j) g (entry_there l j g less) (b.calm j less);
       visited = λ t inside seen. absurd (cc);
       passed = λ j less. absurd (omega arith);
       fresh = λ t inside seen. refl;
     }
 
-round_done : VisitLaws → (old new : LineValue) (result : Result (Unit {0}) Stopped) → IsLine old → BeginsVisit old 0 → Runs old (sent_times (round_length old)) result new → SameDelays old new → (result ≡ Ok tt) × IsRoundDone old new
+round_done : VisitLaws → (old new : LineValue) (result : Result (Unit {0}) Stopped) → IsLine old
+    → BeginsVisit old 0 → Runs old (sent_times (round_length old)) result new → SameDelays old new
+    → (result ≡ Ok tt) × IsRoundDone old new
 round_done laws old new result line b runs delays =
     let g : IsGood old = good_line old line b.trusted in
     let n : ℕ = length old.control.poll_list in
-    let w : Walks 0 (round_length old) old result new = walks 0 (round_length old) old new result line b.trusted runs delays in
+    let w : Walks 0 (round_length old) old result new =
+    walks 0 (round_length old) old new result line b.trusted runs delays in
     let x : Comes (λ z. (seen : List ℕ) × IsRoundAt old z n seen) 0 result new =
-    round_from laws n 0 0 (round_length old) 0 [] old old new result (round_begins old g b) (omega arith) (omega arith) w in
-    let done : (result ≡ Ok tt) × ((seen : List ℕ) × IsRoundAt old new n seen) = ends (λ z. (seen : List ℕ) × IsRoundAt old z n seen) new result x in
+    round_from laws n 0 0 (round_length old) 0 [] old old new result (round_begins old g b)
+    (omega arith) (omega arith) w in
+    let done : (result ≡ Ok tt) × ((seen : List ℕ) × IsRoundAt old new n seen) =
+    ends (λ z. (seen : List ℕ) × IsRoundAt old z n seen) new result x in
     let seen : List ℕ = done.1.0 in
     let h : IsRoundAt old new n seen = done.1.1 in
-    let at_start : Calls new 0 (way_from (peer new.control) 0) = subst (λ (p : ℕ). Calls new p (way_from (peer new.control) 0)) (at_end n (nat_eq n n) refl) h.calls in
-    let same : (j : ℕ) → entry_at new j ≡ entry_at old j = λ j. ap (λ (list : List ℕ). get_or list j 0) h.list in
-    let there : (j : ℕ) → j < n → entry_at old j < terminal_count new = λ j less. subst (λ (c : ℕ). entry_at old j < c) (sym h.count) (entry_there old j g less) in (
+    let at_start : Calls new 0 (way_from (peer new.control) 0) =
+    subst (λ (p : ℕ). Calls new p (way_from (peer new.control) 0)) (at_end n (nat_eq n n) refl)
+    h.calls in
+    let same : (j : ℕ) → entry_at new j ≡ entry_at old j =
+    λ j. ap (λ (list : List ℕ). get_or list j 0) h.list in
+    let there : (j : ℕ) → j < n → entry_at old j < terminal_count new =
+    λ j less. subst (λ (c : ℕ). entry_at old j < c) (sym h.count) (entry_there old j g less) in (
       done.0,
       record {
-        delivered = λ j less. delivered_at laws new 0 (entry_at old j) (way_from (peer new.control) 0) h.good at_start (there j less) (h.calm j less) (h.visited (entry_at old j) (entry_there old j g less) (h.passed j less));
+        delivered =
+            λ j less. delivered_at laws new 0 (entry_at old j) (way_from (peer new.control) 0)
+            h.good at_start (there j less) (h.calm j less)
+            (h.visited (entry_at old j) (entry_there old j g less) (h.passed j less));
         next = begins_next new 0 h.good at_start (λ j less.
             let within : j < n = subst (λ (list : List ℕ). j < length list) h.list less in
             subst (λ (t : ℕ). IsCalmAt new t) (sym (same j)) (h.calm j within));
@@ -236,7 +319,9 @@ round_done laws old new result line b runs delays =
     )
 
 -- a visit
-visit_begins : (laws : VisitLaws) (old new : LineValue) (place : ℕ) (r : Result (Unit {0}) Stopped) → IsGood old → BeginsVisit old place → Walks 0 (visit_length old (entry_at old place)) old r new → Comes (IsVisitDone (entry_at old place) place old) 0 r new
+visit_begins : (laws : VisitLaws) (old new : LineValue) (place : ℕ) (r : Result (Unit {0}) Stopped)
+    → IsGood old → BeginsVisit old place → Walks 0 (visit_length old (entry_at old place)) old r new
+    → Comes (IsVisitDone (entry_at old place) place old) 0 r new
 visit_begins laws old new place r g b w =
     let e : ℕ = entry_at old place in
     let cur : current old.control ≡ e = terminal_of old place b in
@@ -245,42 +330,63 @@ visit_begins laws old new place r g b w =
       good = g;
       present = cur;
       here = b.called.place;
-      calls = subst (λ (z : ℕ). Calls old place (way_from (peer_at old.control z) 0)) cur (first_calls old place g b);
+      calls =
+          subst (λ (z : ℕ). Calls old place (way_from (peer_at old.control z) 0)) cur
+          (first_calls old place g b);
       calm = calm_at old e g there (b.calm place (place_there old place g b));
       done = λ s never. absurd (omega arith);
       blocks_up = refl;
       stays = but_same e old;
     } in
-    let number : visit_length old e ≡ selections_length (peer_at old.control e) 0 (length (peer_at old.control e).outbounds) + poll_length (block_count (terminal_at old e).queue) = visit_is old e in
-    visit_from laws (length (peer_at old.control e).outbounds) 0 0 (visit_length old e) e place 0 (block_count (terminal_at old e).queue) old old new r v there (omega arith) (omega (arith, number)) w
+    let number : visit_length old e ≡ selections_length (peer_at old.control e) 0
+    (length (peer_at old.control e).outbounds)
+    + poll_length (block_count (terminal_at old e).queue) = visit_is old e in
+    visit_from laws (length (peer_at old.control e).outbounds) 0 0 (visit_length old e) e place 0
+    (block_count (terminal_at old e).queue) old old new r v there (omega arith)
+    (omega (arith, number)) w
 
-channel_same : (e t : ℕ) (way : Way) (old new : LineValue) → t < terminal_count old → t ≢ e → StaysBut e old new → channel_of new t way ≡ channel_of old t way
+channel_same : (e t : ℕ) (way : Way) (old new : LineValue) → t < terminal_count old → t ≢ e
+    → StaysBut e old new → channel_of new t way ≡ channel_of old t way
 channel_same e t FromTerminal old new less differ h =
-    ap (λ (q : QueueValue). channel q (peer_at new.control t).spool.records) (h.queue t less differ) ∙ ap (λ (s : SpoolValue). channel (terminal_at old t).queue s.records) (h.spool t differ)
+    ap (λ (q : QueueValue). channel q (peer_at new.control t).spool.records) (h.queue t less differ)
+    ∙ ap (λ (s : SpoolValue). channel (terminal_at old t).queue s.records) (h.spool t differ)
 channel_same e t (ToTerminal s) old new less differ h =
-    ap (λ (o : OutboundValue). channel o.queue (spool_at (terminal_at new t).spools s).records) (h.outbound t s differ) ∙ ap (λ (rs : List (List ℕ)). channel (outbound_of old.control t s).queue rs) (h.spooled t s less differ)
+    ap (λ (o : OutboundValue). channel o.queue (spool_at (terminal_at new t).spools s).records)
+    (h.outbound t s differ)
+    ∙ ap (λ (rs : List (List ℕ)). channel (outbound_of old.control t s).queue rs)
+    (h.spooled t s less differ)
 
-visit_done : VisitLaws → (old new : LineValue) (place : ℕ) (result : Result (Unit {0}) Stopped) → IsLine old → BeginsVisit old place → Runs old (sent_times (visit_length old (entry_at old place))) result new → SameDelays old new → (result ≡ Ok tt) × IsVisited old new place
+visit_done : VisitLaws → (old new : LineValue) (place : ℕ) (result : Result (Unit {0}) Stopped)
+    → IsLine old → BeginsVisit old place
+    → Runs old (sent_times (visit_length old (entry_at old place))) result new → SameDelays old new
+    → (result ≡ Ok tt) × IsVisited old new place
 visit_done laws old new place result line b runs delays =
     let g : IsGood old = good_line old line b.trusted in
     let e : ℕ = entry_at old place in
-    let w : Walks 0 (visit_length old e) old result new = walks 0 (visit_length old e) old new result line b.trusted runs delays in
-    let done : (result ≡ Ok tt) × IsVisitDone e place old new = ends (IsVisitDone e place old) new result (visit_begins laws old new place result g b w) in
+    let w : Walks 0 (visit_length old e) old result new =
+    walks 0 (visit_length old e) old new result line b.trusted runs delays in
+    let done : (result ≡ Ok tt) × IsVisitDone e place old new =
+    ends (IsVisitDone e place old) new result (visit_begins laws old new place result g b w) in
     let h : IsVisitDone e place old new = done.1 in
     let there : e < terminal_count old = entry_there old place g (place_there old place g b) in
     let now : e < terminal_count new = subst (λ (c : ℕ). e < c) (sym h.stays.count) there in
-    let same : (j : ℕ) → entry_at new j ≡ entry_at old j = λ j. ap (λ (list : List ℕ). get_or list j 0) h.stays.poll_list in (
+    let same : (j : ℕ) → entry_at new j ≡ entry_at old j =
+    λ j. ap (λ (list : List ℕ). get_or list j 0) h.stays.poll_list in (
       done.0,
       record {
-        delivered = delivered_at laws new (place_after old place) e (way_from (peer new.control) 0) h.good h.calls now h.calm (record { down = h.down; up = h.up });
+        delivered =
+            delivered_at laws new (place_after old place) e (way_from (peer new.control) 0) h.good
+            h.calls now h.calm (record { down = h.down; up = h.up });
         others = λ t way is differ. channel_same e t way old new is.there differ h.stays;
         next = begins_next new (place_after old place) h.good h.calls (λ j less.
-            let within : j < length old.control.poll_list = subst (λ (list : List ℕ). j < length list) h.stays.poll_list less in
+            let within : j < length old.control.poll_list =
+            subst (λ (list : List ℕ). j < length list) h.stays.poll_list less in
             let inside : entry_at old j < terminal_count old = entry_there old j g within in
             subst (λ (t : ℕ). IsCalmAt new t) (sym (same j))
             (elim (same_or_not (entry_at old j) e) [
               | inl this ↦ subst (λ (t : ℕ). IsCalmAt new t) (sym this) h.calm
-              | inr differ ↦ still_calm e (entry_at old j) old new inside differ h.stays (calm_at old (entry_at old j) g inside (b.calm j within))
+              | inr differ ↦ still_calm e (entry_at old j) old new inside differ h.stays
+                  (calm_at old (entry_at old j) g inside (b.calm j within))
             ]));
       },
     )
@@ -288,8 +394,10 @@ visit_done laws old new place result line b runs delays =
 -- as it is said of runs
 pub delivers_visit : VisitLaws → RunsDeliverVisit
 delivers_visit laws old new events result line runs place h =
-    visit_done laws old new place result line h.begins (subst (λ (es : List Event). Runs old es result new) h.transmissions runs) h.delays
+    visit_done laws old new place result line h.begins
+    (subst (λ (es : List Event). Runs old es result new) h.transmissions runs) h.delays
 
 pub delivers_round : VisitLaws → RunsDeliverRound
 delivers_round laws old new events result line runs h =
-    round_done laws old new result line h.begins (subst (λ (es : List Event). Runs old es result new) h.transmissions runs) h.delays
+    round_done laws old new result line h.begins
+    (subst (λ (es : List Event). Runs old es result new) h.transmissions runs) h.delays

@@ -1,6 +1,8 @@
--- At most one terminal answers a transmission of the control station that is heard fairly: the one whose address all heard
+-- At most one terminal answers a transmission of the control station that is heard fairly: the one
+-- whose address all heard
 -- called, or the addressed one.
-use Rattle.std.proofs.Common.{None, ◌≡◌, ◌⊎◌, inl, inr, ℕ, ◌<◌, true, false, List, IsTrue, is_some, Option, Some, refl, sym, ap, subst}
+use Rattle.std.proofs.Common.{None, ◌≡◌, ◌⊎◌, inl, inr, ℕ, ◌<◌, true, false, List, IsTrue, is_some}
+use Rattle.std.proofs.Common.{Option, Some, refl, sym, ap, subst}
 use Rattle.bsc_frame.specs.declared.message.Message.{Message}
 use Rattle.bsc_frame.specs.declared.message.Message.TheVariants as m
 use Rattle.bsc_frame.specs.declared.message.Heard.{Heard}
@@ -22,7 +24,8 @@ use Rattle.bsc_line_model.specs.Trust.{AllHear, IsMissed, IsHeardFairly, is_call
 use Rattle.bsc_line_model.specs.Carries.{IsCarriedDown}
 use Rattle.bsc_line_model.specs.Kept.{IsTuned, IsLine}
 use Rattle.bsc_line_model.proofs.Stations.{terminal_there}
-use Rattle.bsc_line_model.proofs.Tuning.{NamesOwn, IsNotCalled, IsCalledBy, fair_not_called, each_fairly}
+use Rattle.bsc_line_model.proofs.Tuning.{NamesOwn, IsNotCalled, IsCalledBy, fair_not_called}
+use Rattle.bsc_line_model.proofs.Tuning.{each_fairly}
 use Rattle.bsc_line_model.proofs.DownMoves.{same_terminal}
 
 -- a channel of this terminal is addressed
@@ -37,7 +40,8 @@ no_call_or_eot (Whole (m.Call z)) f = absurd (f z refl)
 no_call_or_eot _ f = inl tt
 
 -- who sends or receives is addressed
-tuned_addressed : (addressed : Option (ℕ × Way)) (t : ℕ) (mode : Mode) → IsTuned addressed t mode → (mode ≡ Control → ⊥) → IsAddressed addressed t
+tuned_addressed : (addressed : Option (ℕ × Way)) (t : ℕ) (mode : Mode) → IsTuned addressed t mode
+    → (mode ≡ Control → ⊥) → IsAddressed addressed t
 tuned_addressed addressed t Control k f = absurd (f refl)
 tuned_addressed addressed t (Receiving s) k f = record { way = ToTerminal s; is = k }
 tuned_addressed addressed t Sending k f = record { way = FromTerminal; is = k }
@@ -48,30 +52,58 @@ silent None e answered = let no : false ≡ true = answered in cc
 silent (Some w) e answered = cc
 
 -- a terminal that answers what is no call is addressed
-answers_addressed : (addressed : Option (ℕ × Way)) (t : ℕ) (x u : TributaryValue) (h : Heard) (sent : Option Message) → AfterHearing x h u sent → IsTrue (is_some sent) → IsTuned addressed t x.mode → IsNotCalled h → IsAddressed addressed t
+answers_addressed : (addressed : Option (ℕ × Way)) (t : ℕ) (x u : TributaryValue) (h : Heard)
+    (sent : Option Message) → AfterHearing x h u sent → IsTrue (is_some sent)
+    → IsTuned addressed t x.mode → IsNotCalled h → IsAddressed addressed t
 answers_addressed addressed t x u h sent after answered tuned never =
     elim (no_call_or_eot h never) [
-      | inl neither ↦ tuned_addressed addressed t x.mode tuned (λ mode. silent sent (after.control mode neither).1 answered)
+      | inl neither ↦ tuned_addressed addressed t x.mode tuned
+          (λ mode. silent sent (after.control mode neither).1 answered)
       | inr eot ↦
-          absurd (silent sent (after.taken (subst (λ (g : Heard). TakesLine x.terminal g) (sym eot) tt)).1 answered)
+          absurd
+          (silent sent
+          (after.taken (subst (λ (g : Heard). TakesLine x.terminal g) (sym eot) tt)).1 answered)
     ]
 
 -- a terminal that answers a call was called by an address of its own, and is addressed then
-called_addressed : (laws : NamesOwn) (new : Option (ℕ × Way)) (ts : List TerminalValue) (t : ℕ) (x u : TributaryValue) (a : List ℕ) (sent : Option Message) → IsCalledBy new ts t x.terminal a → AfterHearing x (Whole (m.Call a)) u sent → IsTrue (is_some sent) →
+called_addressed : (laws : NamesOwn) (new : Option (ℕ × Way)) (ts : List TerminalValue) (t : ℕ)
+    (x u : TributaryValue) (a : List ℕ) (sent : Option Message) → IsCalledBy new ts t x.terminal a
+    → AfterHearing x (Whole (m.Call a)) u sent → IsTrue (is_some sent) →
     (called : Called) → called_as x.terminal a ≡ called → IsAddressed new t
-called_addressed laws new ts t x u a sent b after answered Other e = absurd (silent sent (after.taken e).1 answered)
+called_addressed laws new ts t x u a sent b after answered Other e =
+    absurd (silent sent (after.taken e).1 answered)
 called_addressed laws new ts t x u a sent b after answered Polling e =
-    record { way = FromTerminal; is = (b.exact t FromTerminal).1 (record { terminal = x.terminal; there = b.there; its_own = ap (λ (z : List ℕ). Some z) (sym ((laws.polling x.terminal a).0 e)) }) }
+    record {
+      way = FromTerminal;
+      is =
+          (b.exact t FromTerminal).1 (record {
+            terminal = x.terminal;
+            there = b.there;
+            its_own =
+                ap (λ (z : List ℕ). Some z) (sym ((laws.polling x.terminal a).0 e));
+          });
+    }
 called_addressed laws new ts t x u a sent b after answered (Selection s) e =
-    record { way = ToTerminal s; is = (b.exact t (ToTerminal s)).1 (record { terminal = x.terminal; there = b.there; its_own = (laws.selection x.terminal a s b.distinct).0 e }) }
+    record {
+      way = ToTerminal s;
+      is =
+          (b.exact t (ToTerminal s)).1 (record {
+            terminal = x.terminal;
+            there = b.there;
+            its_own =
+                (laws.selection x.terminal a s b.distinct).0 e;
+          });
+    }
 
 -- nobody answers a call that is missed
-missed_silent : (x u : TributaryValue) (h : Heard) (sent : Option Message) → AfterHearing x h u sent → IsMissed h → sent ≡ None
+missed_silent : (x u : TributaryValue) (h : Heard) (sent : Option Message) → AfterHearing x h u sent
+    → IsMissed h → sent ≡ None
 missed_silent x u Noise sent after f = (after.noise refl).1
 missed_silent x u (Whole m.Eot) sent after f = (after.taken tt).1
 missed_silent x u _ sent after f = absurd f
 
--- what is the case where a transmission of the control station is heard on a line that is trusted after it
+-- what is the case where a transmission of the control station is heard on a line that is trusted
+-- after it
 pub record Carried (w : Message) (hears : ℕ → Heard) (old new : LineValue) : Type 0 where
   pub line : IsLine old
   pub carried : IsCarriedDown w hears old new
@@ -83,37 +115,63 @@ pub record Answers (hears : ℕ → Heard) (old new : LineValue) (t : ℕ) : Typ
   pub sent : IsTrue (is_some (answer_of old.terminals hears new.terminals t))
 
 -- a message that is no call: the addressed one answers
-other_answers : (w : Message) (hears : ℕ → Heard) (old new : LineValue) (t : ℕ) → Carried w hears old new → is_call w ≡ false → Answers hears old new t → IsAddressed old.addressed t
+other_answers : (w : Message) (hears : ℕ → Heard) (old new : LineValue) (t : ℕ)
+    → Carried w hears old new → is_call w ≡ false → Answers hears old new t
+    → IsAddressed old.addressed t
 other_answers w hears old new t k never a =
-    let was : IsTrue old.trusted × IsHeardFairly w (terminal_count old) hears = k.carried.trusted.0 k.trusted in
-    answers_addressed old.addressed t (terminal_at old t) (terminal_at new t) (hears t) (answer_of old.terminals hears new.terminals t) (k.carried.kept t a.there) a.sent (k.line.tuned was.0 t a.there)
-    (fair_not_called w (hears t) never (each_fairly w (terminal_count old) hears never was.1 t a.there))
+    let was : IsTrue old.trusted × IsHeardFairly w (terminal_count old) hears =
+    k.carried.trusted.0 k.trusted in
+    answers_addressed old.addressed t (terminal_at old t) (terminal_at new t) (hears t)
+    (answer_of old.terminals hears new.terminals t) (k.carried.kept t a.there) a.sent
+    (k.line.tuned was.0 t a.there)
+    (fair_not_called w (hears t) never
+    (each_fairly w (terminal_count old) hears never was.1 t a.there))
 
 -- a call that all hear: the called one
-call_answers : (laws : NamesOwn) (w : Message) (z : List ℕ) (hears : ℕ → Heard) (old new : LineValue) (t : ℕ) → Carried w hears old new → AllHear (terminal_count old) hears (m.Call z) → Answers hears old new t → IsAddressed new.addressed t
+call_answers : (laws : NamesOwn) (w : Message) (z : List ℕ) (hears : ℕ → Heard)
+    (old new : LineValue) (t : ℕ) → Carried w hears old new
+    → AllHear (terminal_count old) hears (m.Call z) → Answers hears old new t
+    → IsAddressed new.addressed t
 call_answers laws w z hears old new t k all a =
     let x : TributaryValue = terminal_at old t in
-    called_addressed laws new.addressed (addresses_of old.control) t x (terminal_at new t) z (answer_of old.terminals hears new.terminals t)
-    (record { exact = k.carried.addressed.called z all; there = terminal_there old.control old.terminals t k.line.stations a.there; distinct = (k.line.stations.members t a.there).tributary.distinct })
-    (subst (λ (h : Heard). AfterHearing x h (terminal_at new t) (answer_of old.terminals hears new.terminals t)) (all t a.there) (k.carried.kept t a.there)) a.sent
+    called_addressed laws new.addressed (addresses_of old.control) t x (terminal_at new t) z
+    (answer_of old.terminals hears new.terminals t)
+    (record {
+      exact = k.carried.addressed.called z all;
+      there =
+          terminal_there old.control old.terminals t k.line.stations a.there;
+      distinct =
+          (k.line.stations.members t a.there).tributary.distinct;
+    })
+    (subst (λ (h : Heard). AfterHearing x h (terminal_at new t)
+    (answer_of old.terminals hears new.terminals t)) (all t a.there) (k.carried.kept t a.there))
+    a.sent
     (called_as x.terminal z) refl
 
-same_of : (addressed : Option (ℕ × Way)) (t u : ℕ) → IsAddressed addressed t → IsAddressed addressed u → t ≡ u
+same_of : (addressed : Option (ℕ × Way)) (t u : ℕ) → IsAddressed addressed t
+    → IsAddressed addressed u → t ≡ u
 same_of addressed t u a b = same_terminal addressed t u a.way b.way a.is b.is
 
-pub one_answers : (laws : NamesOwn) (w : Message) (hears : ℕ → Heard) (old new : LineValue) (t u : ℕ) → Carried w hears old new → Answers hears old new t → Answers hears old new u → t ≡ u
+pub one_answers : (laws : NamesOwn) (w : Message) (hears : ℕ → Heard) (old new : LineValue)
+    (t u : ℕ) → Carried w hears old new → Answers hears old new t → Answers hears old new u → t ≡ u
 one_answers laws w hears old new t u k a b = by_message w refl
   where
     other : is_call w ≡ false → t ≡ u
-    other never = same_of old.addressed t u (other_answers w hears old new t k never a) (other_answers w hears old new u k never b)
+    other never =
+        same_of old.addressed t u (other_answers w hears old new t k never a)
+        (other_answers w hears old new u k never b)
 
     call : (z : List ℕ) → w ≡ m.Call z → t ≡ u
     call z is =
-        elim (subst (λ (v : Message). IsHeardFairly v (terminal_count old) hears) is (k.carried.trusted.0 k.trusted).1) [
-          | inl all ↦ same_of new.addressed t u (call_answers laws w z hears old new t k all a) (call_answers laws w z hears old new u k all b)
+        elim (subst (λ (v : Message). IsHeardFairly v (terminal_count old) hears) is
+        (k.carried.trusted.0 k.trusted).1) [
+          | inl all ↦ same_of new.addressed t u (call_answers laws w z hears old new t k all a)
+              (call_answers laws w z hears old new u k all b)
           | inr missed ↦
               absurd (silent (answer_of old.terminals hears new.terminals t)
-              (missed_silent (terminal_at old t) (terminal_at new t) (hears t) (answer_of old.terminals hears new.terminals t) (k.carried.kept t a.there) (missed t a.there)) a.sent)
+              (missed_silent (terminal_at old t) (terminal_at new t) (hears t)
+              (answer_of old.terminals hears new.terminals t) (k.carried.kept t a.there)
+              (missed t a.there)) a.sent)
         ]
 
     by_message : (v : Message) → w ≡ v → t ≡ u

@@ -1,6 +1,9 @@
--- A round of the poll list where all is heard: a visit of each entry, in which nothing waits any more for a terminal
+-- A round of the poll list where all is heard: a visit of each entry, in which nothing waits any
+-- more for a terminal
 -- that was visited before.
-use Rattle.std.proofs.Common.{◌≡◌, ◌≢◌, inl, inr, ℕ, zero, suc, ◌+◌, ◌<◌, true, false, Bool, not, nat_eq, nat_lt, is_some, List, ◌∷◌, length, drop, get_or, None, Some, Result, refl, sym, ◌∙◌, ap, subst, arith, if◌then◌else◌}
+use Rattle.std.proofs.Common.{◌≡◌, ◌≢◌, inl, inr, ℕ, zero, suc, ◌+◌, ◌<◌, true, false, Bool, not}
+use Rattle.std.proofs.Common.{nat_eq, nat_lt, is_some, List, ◌∷◌, length, drop, get_or, None, Some}
+use Rattle.std.proofs.Common.{Result, refl, sym, ◌∙◌, ap, subst, arith, if◌then◌else◌}
 use Rattle.std.proofs.Math.Seq.{drop-cons}
 use Rattle.std.proofs.lemmas.Bool.Decides.{nat_tests}
 use Rattle.std.proofs.lemmas.List.{drop_all}
@@ -14,28 +17,38 @@ use Rattle.bsc_control.specs.CallOrder.{way_from}
 use Rattle.bsc_control.specs.Kept.{outbound_of}
 use Rattle.bsc_line_model.specs.declared.error.Stopped.{Stopped}
 use Rattle.bsc_line_model.specs.Line.{LineValue, terminal_at}
-use Rattle.bsc_line_model.specs.Rounds.{block_count, poll_length, visit_length, entries_length, is_seen}
+use Rattle.bsc_line_model.specs.Rounds.{block_count, poll_length, visit_length, entries_length}
+use Rattle.bsc_line_model.specs.Rounds.{is_seen}
 use Rattle.bsc_line_model.proofs.Stations.{same_or_not}
 use Rattle.bsc_line_model.proofs.Walking.{IsGood, Walks}
 use Rattle.bsc_line_model.proofs.Selections.{VisitLaws, Comes, Calls}
-use Rattle.bsc_line_model.proofs.Visits.{StaysBut, but_same, IsCalmAt, IsVisited, IsVisitDone, selections_length, same_lengths, visit_from}
+use Rattle.bsc_line_model.proofs.Visits.{StaysBut, but_same, IsCalmAt, IsVisited, IsVisitDone}
+use Rattle.bsc_line_model.proofs.Visits.{selections_length, same_lengths, visit_from}
 use Rattle.bsc_line_model.proofs.VisitCounts.{visit_is, no_selections}
 
 -- one more was visited
-same_test : (n e : ℕ) (xs : List ℕ) (a b : Bool) → nat_lt (1 + n) (length (e ∷ xs)) ≡ a → nat_lt n (length xs) ≡ b → a ≡ b
+same_test : (n e : ℕ) (xs : List ℕ) (a b : Bool) → nat_lt (1 + n) (length (e ∷ xs)) ≡ a
+    → nat_lt n (length xs) ≡ b → a ≡ b
 same_test n e xs true true x y = refl
 same_test n e xs false false x y = refl
-same_test n e xs true false x y = absurd (let more : length (e ∷ xs) ≡ length xs + 1 = omega arith in grind (arith, nat_tests))
-same_test n e xs false true x y = absurd (let more : length (e ∷ xs) ≡ length xs + 1 = omega arith in grind (arith, nat_tests))
+same_test n e xs true false x y =
+    absurd (let more : length (e ∷ xs) ≡ length xs + 1 = omega arith in grind (arith, nat_tests))
+same_test n e xs false true x y =
+    absurd (let more : length (e ∷ xs) ≡ length xs + 1 = omega arith in grind (arith, nat_tests))
 
 pub seen_more : (t e : ℕ) (seen : List ℕ) → t ≢ e → is_seen t (e ∷ seen) ≡ is_seen t seen
 seen_more t e seen differ =
     let no : nat_eq t e ≡ false = grind (arith, nat_tests) in
-    let n : position_or_len (nat_eq t) (e ∷ seen) ≡ 1 + position_or_len (nat_eq t) seen = ap (λ (b : Bool). if not b then 1 + position_or_len (nat_eq t) seen else 0) no in
+    let n : position_or_len (nat_eq t) (e ∷ seen) ≡ 1 + position_or_len (nat_eq t) seen =
+    ap (λ (b : Bool). if not b then 1 + position_or_len (nat_eq t) seen else 0) no in
     ap (λ (k : ℕ). is_some (if nat_lt k (length (e ∷ seen)) then Some k else None)) n
-    ∙ by_test (position_or_len (nat_eq t) seen) (nat_lt (1 + position_or_len (nat_eq t) seen) (length (e ∷ seen))) (nat_lt (position_or_len (nat_eq t) seen) (length seen)) (same_test (position_or_len (nat_eq t) seen) e seen _ _ refl refl)
+    ∙ by_test (position_or_len (nat_eq t) seen)
+    (nat_lt (1 + position_or_len (nat_eq t) seen) (length (e ∷ seen)))
+    (nat_lt (position_or_len (nat_eq t) seen) (length seen))
+    (same_test (position_or_len (nat_eq t) seen) e seen _ _ refl refl)
   where
-    by_test : (n : ℕ) (a b : Bool) → a ≡ b → is_some (if a then Some (1 + n) else None) ≡ is_some (if b then Some n else None)
+    by_test : (n : ℕ) (a b : Bool) → a ≡ b → is_some (if a then Some (1 + n) else None)
+        ≡ is_some (if b then Some n else None)
     by_test n true true z = refl
     by_test n false false z = refl
     by_test n true false z = absurd (cc)
@@ -44,9 +57,11 @@ seen_more t e seen differ =
 pub seen_now : (t e : ℕ) (seen : List ℕ) → t ≡ e → is_seen t (e ∷ seen) ≡ true
 seen_now t e seen same =
     let yes : nat_eq t e ≡ true = grind (arith, nat_tests) in
-    let n : position_or_len (nat_eq t) (e ∷ seen) ≡ 0 = ap (λ (b : Bool). if not b then 1 + position_or_len (nat_eq t) seen else 0) yes in
+    let n : position_or_len (nat_eq t) (e ∷ seen) ≡ 0 =
+    ap (λ (b : Bool). if not b then 1 + position_or_len (nat_eq t) seen else 0) yes in
     let some : nat_lt 0 (length (e ∷ seen)) ≡ true = grind (arith, nat_tests) in
-    ap (λ (k : ℕ). is_some (if nat_lt k (length (e ∷ seen)) then Some k else None)) n ∙ ap (λ (b : Bool). is_some {T = ℕ} (if b then Some 0 else None)) some
+    ap (λ (k : ℕ). is_some (if nat_lt k (length (e ∷ seen)) then Some k else None)) n
+    ∙ ap (λ (b : Bool). is_some {T = ℕ} (if b then Some 0 else None)) some
 
 -- after the last entry the first
 abbrev pub wrapped : ℕ → ℕ → ℕ
@@ -54,7 +69,8 @@ wrapped n k = if nat_eq k n then 0 else k
 
 -- nothing waits on the channels of terminal t
 pub record IsEmptied (l : LineValue) (t : ℕ) : Type 0 where
-  pub down : (s : ℕ) → s < length (peer_at l.control t).outbounds → block_count (outbound_of l.control t s).queue ≡ 0
+  pub down : (s : ℕ) → s < length (peer_at l.control t).outbounds
+      → block_count (outbound_of l.control t s).queue ≡ 0
   pub up : block_count (terminal_at l t).queue ≡ 0
 
 -- the round has come to entry k
@@ -63,45 +79,59 @@ pub record IsRoundAt (start l : LineValue) (k : ℕ) (seen : List ℕ) : Type 0 
   pub list : l.control.poll_list ≡ start.control.poll_list
   pub count : length l.terminals ≡ length start.terminals
   pub calls : Calls l (wrapped (length start.control.poll_list) k) (way_from (peer l.control) 0)
-  pub calm : (j : ℕ) → j < length start.control.poll_list → IsCalmAt l (get_or start.control.poll_list j 0)
+  pub calm : (j : ℕ) → j < length start.control.poll_list
+      → IsCalmAt l (get_or start.control.poll_list j 0)
   pub visited : (t : ℕ) → t < length start.terminals → is_seen t seen ≡ true → IsEmptied l t
   pub passed : (j : ℕ) → j < k → is_seen (get_or start.control.poll_list j 0) seen ≡ true
-  pub fresh : (t : ℕ) → t < length start.terminals → is_seen t seen ≡ false → visit_length l t ≡ visit_length start t
+  pub fresh : (t : ℕ) → t < length start.terminals → is_seen t seen ≡ false → visit_length l t
+      ≡ visit_length start t
 
 -- a visited terminal
 emptied_length : (l : LineValue) (t : ℕ) → IsEmptied l t → visit_length l t ≡ 2
 emptied_length l t h =
-    visit_is l t ∙ ap (λ (n : ℕ). n + poll_length (block_count (terminal_at l t).queue)) (no_selections (peer_at l.control t) 0 (length (peer_at l.control t).outbounds) (omega arith) h.down)
+    visit_is l t ∙ ap (λ (n : ℕ). n + poll_length (block_count (terminal_at l t).queue))
+    (no_selections (peer_at l.control t) 0 (length (peer_at l.control t).outbounds)
+    (omega arith) h.down)
     ∙ (let none : block_count (terminal_at l t).queue ≡ 0 = h.up in omega (arith, none))
 
-still_emptied : (e t : ℕ) (a l : LineValue) → t < length a.terminals → t ≢ e → StaysBut e a l → IsEmptied a t → IsEmptied l t
+still_emptied : (e t : ℕ) (a l : LineValue) → t < length a.terminals → t ≢ e → StaysBut e a l
+    → IsEmptied a t → IsEmptied l t
 still_emptied e t a l less differ h x =
     record {
       down = λ s inside.
-          let before : s < length (peer_at a.control t).outbounds = subst (λ (n : ℕ). s < n) (h.lists t) inside in
+          let before : s < length (peer_at a.control t).outbounds =
+          subst (λ (n : ℕ). s < n) (h.lists t) inside in
           ap (λ (o : OutboundValue). block_count o.queue) (h.outbound t s differ) ∙ x.down s before;
       up = ap block_count (h.queue t less differ) ∙ x.up;
     }
 
 -- the others' lengths
-other_length : (e t : ℕ) (a l : LineValue) → t < length a.terminals → t ≢ e → StaysBut e a l → visit_length l t ≡ visit_length a t
+other_length : (e t : ℕ) (a l : LineValue) → t < length a.terminals → t ≢ e → StaysBut e a l
+    → visit_length l t ≡ visit_length a t
 other_length e t a l less differ h =
     let p : PeerValue = peer_at a.control t in
     let q : PeerValue = peer_at l.control t in
-    let sums : selections_length q 0 (length p.outbounds) ≡ selections_length p 0 (length p.outbounds) = same_lengths p q 0 (length p.outbounds) (λ s from. h.outbound t s differ) in
-    visit_is l t ∙ ap (λ (n : ℕ). selections_length q 0 n + poll_length (block_count (terminal_at l t).queue)) (h.lists t)
+    let sums : selections_length q 0 (length p.outbounds)
+    ≡ selections_length p 0 (length p.outbounds) =
+    same_lengths p q 0 (length p.outbounds) (λ s from. h.outbound t s differ) in
+    visit_is l t ∙ ap (λ (n : ℕ). selections_length q 0 n
+    + poll_length (block_count (terminal_at l t).queue)) (h.lists t)
     ∙ ap (λ (n : ℕ). n + poll_length (block_count (terminal_at l t).queue)) sums
-    ∙ ap (λ (x : QueueValue). selections_length p 0 (length p.outbounds) + poll_length (block_count x)) (h.queue t less differ) ∙ sym (visit_is a t)
+    ∙ ap (λ (x : QueueValue). selections_length p 0 (length p.outbounds)
+    + poll_length (block_count x)) (h.queue t less differ) ∙ sym (visit_is a t)
 
 -- the others stay calm
-pub still_calm : (e t : ℕ) (a l : LineValue) → t < length a.terminals → t ≢ e → StaysBut e a l → IsCalmAt a t → IsCalmAt l t
+pub still_calm : (e t : ℕ) (a l : LineValue) → t < length a.terminals → t ≢ e → StaysBut e a l
+    → IsCalmAt a t → IsCalmAt l t
 still_calm e t a l less differ h c =
     record {
       ready = h.ready t less ∙ c.ready;
       urgent_at = h.urgent_at t less c.urgent_at;
       urgent_for = h.urgent_for t c.urgent_for;
       sure_up = ap is_in_doubt (h.phase t less differ) ∙ c.sure_up;
-      sure_down = λ s. ap (λ (o : OutboundValue). is_in_doubt o.sender.phase) (h.outbound t s differ) ∙ c.sure_down s;
+      sure_down =
+          λ s. ap (λ (o : OutboundValue). is_in_doubt o.sender.phase) (h.outbound t s differ)
+          ∙ c.sure_down s;
     }
 
 pub not_last : (k n : ℕ) → k < n → (b : Bool) → nat_eq k n ≡ b → (if b then 0 else k) ≡ k
@@ -109,17 +139,24 @@ not_last k n less true e = absurd (grind (arith, nat_tests))
 not_last k n less false e = refl
 
 -- the visit of entry k
-visit_entry : (laws : VisitLaws) (at more count k : ℕ) (seen : List ℕ) (start l new : LineValue) (r : Result (Unit {0}) Stopped) → IsRoundAt start l k seen → k < length start.control.poll_list →
+visit_entry : (laws : VisitLaws) (at more count k : ℕ) (seen : List ℕ) (start l new : LineValue)
+    (r : Result (Unit {0}) Stopped) → IsRoundAt start l k seen → k < length start.control.poll_list
+    →
     let e : ℕ = get_or start.control.poll_list k 0 in
-    (e < length l.terminals → count ≡ visit_length l e + more → Walks at count l r new → Comes (IsVisitDone e k l) more r new)
+    (e < length l.terminals → count ≡ visit_length l e + more → Walks at count l r new
+    → Comes (IsVisitDone e k l) more r new)
 visit_entry laws at more count k seen start l new r h less there is w =
     let e : ℕ = get_or start.control.poll_list k 0 in
     let p : PeerValue = peer_at l.control e in
     let i : ℕ = block_count (terminal_at l e).queue in
-    let wrap : wrapped (length start.control.poll_list) k ≡ k = not_last k (length start.control.poll_list) less (nat_eq k (length start.control.poll_list)) refl in
+    let wrap : wrapped (length start.control.poll_list) k ≡ k =
+    not_last k (length start.control.poll_list) less (nat_eq k (length start.control.poll_list))
+    refl in
     let here : l.control.place ≡ k = h.calls.called.place_is ∙ wrap in
-    let cur : current l.control ≡ e = ap (λ (n : ℕ). get_or l.control.poll_list n 0) here ∙ ap (λ (list : List ℕ). get_or list k 0) h.list in
-    let calls : Calls l k (way_from (peer l.control) 0) = subst (λ (n : ℕ). Calls l n (way_from (peer l.control) 0)) wrap h.calls in
+    let cur : current l.control ≡ e = ap (λ (n : ℕ). get_or l.control.poll_list n 0) here
+    ∙ ap (λ (list : List ℕ). get_or list k 0) h.list in
+    let calls : Calls l k (way_from (peer l.control) 0) =
+    subst (λ (n : ℕ). Calls l n (way_from (peer l.control) 0)) wrap h.calls in
     let v : IsVisited e k 0 i l l = record {
       good = h.good;
       present = cur;
@@ -130,68 +167,110 @@ visit_entry laws at more count k seen start l new r h less there is w =
       blocks_up = refl;
       stays = but_same e l;
     } in
-    let number : visit_length l e ≡ selections_length p 0 (length p.outbounds) + poll_length i = visit_is l e in
-    visit_from laws (length p.outbounds) at more count e k 0 i l l new r v there (omega arith) (omega (arith, is, number)) w
+    let number : visit_length l e ≡ selections_length p 0 (length p.outbounds) + poll_length i =
+    visit_is l e in
+    visit_from laws (length p.outbounds) at more count e k 0 i l l new r v there (omega arith)
+    (omega (arith, is, number)) w
 
 -- an entry names a terminal
-entry_there : (start l : LineValue) (j : ℕ) → IsGood l → l.control.poll_list ≡ start.control.poll_list → j < length start.control.poll_list → get_or start.control.poll_list j 0 < length l.terminals
+entry_there : (start l : LineValue) (j : ℕ) → IsGood l → l.control.poll_list
+    ≡ start.control.poll_list → j < length start.control.poll_list
+    → get_or start.control.poll_list j 0 < length l.terminals
 entry_there start l j g list inside =
-    let within : j < length l.control.poll_list = subst (λ (ts : List ℕ). j < length ts) (sym list) inside in
-    let peer_there : get_or l.control.poll_list j 0 < length l.control.peers = All-get_or (λ (t : ℕ). t < length l.control.peers) l.control.poll_list j 0 within g.line.stations.control.entries.entries in
-    subst (λ (ts : List ℕ). get_or ts j 0 < length l.terminals) list (subst (λ (n : ℕ). get_or l.control.poll_list j 0 < n) g.line.stations.count peer_there)
+    let within : j < length l.control.poll_list =
+    subst (λ (ts : List ℕ). j < length ts) (sym list) inside in
+    let peer_there : get_or l.control.poll_list j 0 < length l.control.peers =
+    All-get_or (λ (t : ℕ). t < length l.control.peers) l.control.poll_list j 0 within
+    g.line.stations.control.entries.entries in
+    subst (λ (ts : List ℕ). get_or ts j 0 < length l.terminals) list
+    (subst (λ (n : ℕ). get_or l.control.poll_list j 0 < n) g.line.stations.count peer_there)
 
-entry_length : (e : ℕ) (seen : List ℕ) (start l : LineValue) → (is_seen e seen ≡ true → IsEmptied l e) → (is_seen e seen ≡ false → visit_length l e ≡ visit_length start e) → (b : Bool) → is_seen e seen ≡ b → visit_length l e ≡ (if is_seen e seen then 2 else visit_length start e)
-entry_length e seen start l old fresh true is = emptied_length l e (old is) ∙ ap (λ (b : Bool). if b then 2 else visit_length start e) (sym is)
-entry_length e seen start l old fresh false is = fresh is ∙ ap (λ (b : Bool). if b then 2 else visit_length start e) (sym is)
+entry_length : (e : ℕ) (seen : List ℕ) (start l : LineValue)
+    → (is_seen e seen ≡ true → IsEmptied l e)
+    → (is_seen e seen ≡ false → visit_length l e ≡ visit_length start e) → (b : Bool)
+    → is_seen e seen ≡ b → visit_length l e ≡ (if is_seen e seen then 2 else visit_length start e)
+entry_length e seen start l old fresh true is = emptied_length l e (old is)
+    ∙ ap (λ (b : Bool). if b then 2 else visit_length start e) (sym is)
+entry_length e seen start l old fresh false is = fresh is
+    ∙ ap (λ (b : Bool). if b then 2 else visit_length start e) (sym is)
 
 -- the entries from k on
-pub round_from : (laws : VisitLaws) (m at more count k : ℕ) (seen : List ℕ) (start l new : LineValue) (r : Result (Unit {0}) Stopped) → IsRoundAt start l k seen → k + m ≡ length start.control.poll_list →
-    count ≡ entries_length start seen (drop k start.control.poll_list) + more → Walks at count l r new →
-    Comes (λ z. (seen : List ℕ) × IsRoundAt start z (length start.control.poll_list) seen) more r new
+pub round_from : (laws : VisitLaws) (m at more count k : ℕ) (seen : List ℕ)
+    (start l new : LineValue) (r : Result (Unit {0}) Stopped) → IsRoundAt start l k seen → k + m
+    ≡ length start.control.poll_list →
+    count ≡ entries_length start seen (drop k start.control.poll_list) + more
+    → Walks at count l r new →
+    Comes (λ z. (seen : List ℕ) × IsRoundAt start z (length start.control.poll_list) seen) more r
+    new
 round_from laws zero at more count k seen start l new r h number is w =
     let end : k ≡ length start.control.poll_list = omega (arith, number) in
-    let none : entries_length start seen (drop k start.control.poll_list) ≡ 0 = ap (λ (ts : List ℕ). entries_length start seen ts) (drop_all k start.control.poll_list (omega (arith, end))) in
+    let none : entries_length start seen (drop k start.control.poll_list) ≡ 0 =
+    ap (λ (ts : List ℕ). entries_length start seen ts)
+    (drop_all k start.control.poll_list (omega (arith, end))) in
     let left : count ≡ more = omega (arith, is, none) in
-    record { at = at; line = l; holds = (seen, subst (λ (j : ℕ). IsRoundAt start l j seen) end h); rest = subst (λ (j : ℕ). Walks at j l r new) left w }
+    record {
+      at = at;
+      line = l;
+      holds = (seen, subst (λ (j : ℕ). IsRoundAt start l j seen) end h);
+      rest = subst (λ (j : ℕ). Walks at j l r new) left w;
+    }
 round_from laws (suc m) at more count k seen start l new r h number is w =
     let list : List ℕ = start.control.poll_list in
     let e : ℕ = get_or list k 0 in
     let less : k < length list = omega (arith, number) in
-    let there : (j : ℕ) → j < length list → get_or list j 0 < length l.terminals = λ j inside. entry_there start l j h.good h.list inside in
+    let there : (j : ℕ) → j < length list → get_or list j 0 < length l.terminals =
+    λ j inside. entry_there start l j h.good h.list inside in
     let here : e < length l.terminals = there k less in
     let here_first : e < length start.terminals = subst (λ (n : ℕ). e < n) h.count here in
     let next : suc k ≡ k + 1 = omega arith in
-    let cut : drop k list ≡ e ∷ drop (k + 1) list = drop-cons list k 0 less ∙ ap (λ (j : ℕ). e ∷ drop j list) next in
+    let cut : drop k list ≡ e ∷ drop (k + 1) list = drop-cons list k 0 less
+    ∙ ap (λ (j : ℕ). e ∷ drop j list) next in
     let rest : ℕ = entries_length start (e ∷ seen) (drop (k + 1) list) + more in
-    let sum : count ≡ (if is_seen e seen then 2 else visit_length start e) + entries_length start (e ∷ seen) (drop (k + 1) list) + more = is ∙ ap (λ (ts : List ℕ). entries_length start seen ts + more) cut in
-    let this : visit_length l e ≡ (if is_seen e seen then 2 else visit_length start e) = entry_length e seen start l (h.visited e here_first) (h.fresh e here_first) (is_seen e seen) refl in
-    let x : Comes (IsVisitDone e k l) rest r new = visit_entry laws at rest count k seen start l new r h less here (omega (arith, sum, this)) w in
+    let sum : count ≡ (if is_seen e seen then 2 else visit_length start e)
+    + entries_length start (e ∷ seen) (drop (k + 1) list) + more = is
+    ∙ ap (λ (ts : List ℕ). entries_length start seen ts + more) cut in
+    let this : visit_length l e ≡ (if is_seen e seen then 2 else visit_length start e) =
+    entry_length e seen start l (h.visited e here_first) (h.fresh e here_first) (is_seen e seen)
+    refl in
+    let x : Comes (IsVisitDone e k l) rest r new =
+    visit_entry laws at rest count k seen start l new r h less here (omega (arith, sum, this))
+    w in
     let on : IsRoundAt start x.line (k + 1) (e ∷ seen) = record {
       good = x.holds.good;
       list = x.holds.stays.poll_list ∙ h.list;
       count = x.holds.stays.count ∙ h.count;
-      calls = subst (λ (ts : List ℕ). Calls x.line (wrapped (length ts) (k + 1)) (way_from (peer x.line.control) 0)) h.list x.holds.calls;
+      calls =
+          subst (λ (ts : List ℕ). Calls x.line (wrapped (length ts) (k + 1))
+          (way_from (peer x.line.control) 0)) h.list x.holds.calls;
       calm = λ j inside.
           elim (same_or_not (get_or list j 0) e) [
             | inl same ↦ subst (λ (t : ℕ). IsCalmAt x.line t) (sym same) x.holds.calm
-            | inr differ ↦ still_calm e (get_or list j 0) l x.line (there j inside) differ x.holds.stays (h.calm j inside)
+            | inr differ ↦ still_calm e (get_or list j 0) l x.line (there j inside) differ
+                x.holds.stays (h.calm j inside)
           ];
       visited = λ t inside seen_it.
           elim (same_or_not t e) [
-            | inl same ↦ subst (λ (z : ℕ). IsEmptied x.line z) (sym same) (record { down = x.holds.down; up = x.holds.up })
-            | inr differ ↦ still_emptied e t l x.line (subst (λ (n : ℕ). t < n) (sym h.count) inside) differ x.holds.stays (h.visited t inside (sym (seen_more t e seen differ) ∙ seen_it))
+            | inl same ↦ subst (λ (z : ℕ). IsEmptied x.line z) (sym same)
+                (record { down = x.holds.down; up = x.holds.up })
+            | inr differ ↦ still_emptied e t l x.line
+                (subst (λ (n : ℕ). t < n) (sym h.count) inside) differ x.holds.stays
+                (h.visited t inside (sym (seen_more t e seen differ) ∙ seen_it))
           ];
       passed = λ j before.
           elim (same_or_not (get_or list j 0) e) [
             | inl same ↦ seen_now (get_or list j 0) e seen same
             | inr differ ↦
                 (let other : j ≢ k = λ same. differ (ap (λ (n : ℕ). get_or list n 0) same) in
-                seen_more (get_or list j 0) e seen differ ∙ h.passed j (omega (arith, before, other)))
+                seen_more (get_or list j 0) e seen differ
+                ∙ h.passed j (omega (arith, before, other)))
           ];
       fresh = λ t inside not_seen.
           elim (same_or_not t e) [
-            | inl same ↦ absurd (let now : is_seen t (e ∷ seen) ≡ true = seen_now t e seen same in let both : true ≡ false = sym now ∙ not_seen in cc)
-            | inr differ ↦ other_length e t l x.line (subst (λ (n : ℕ). t < n) (sym h.count) inside) differ x.holds.stays ∙ h.fresh t inside (sym (seen_more t e seen differ) ∙ not_seen)
+            | inl same ↦ absurd (let now : is_seen t (e ∷ seen) ≡ true = seen_now t e seen same in
+                let both : true ≡ false = sym now ∙ not_seen in cc)
+            | inr differ ↦ other_length e t l x.line (subst (λ (n : ℕ). t < n) (sym h.count) inside)
+                differ x.holds.stays ∙ h.fresh t inside (sym (seen_more t e seen differ) ∙ not_seen)
           ];
     } in
-    round_from laws m x.at more rest (k + 1) (e ∷ seen) start x.line new r on (omega (arith, number)) refl x.rest
+    round_from laws m x.at more rest (k + 1) (e ∷ seen) start x.line new r on
+    (omega (arith, number)) refl x.rest

@@ -1,6 +1,8 @@
--- A selection where all is heard: after the call, its answer, and two transmissions a block, everything that waited
+-- A selection where all is heard: after the call, its answer, and two transmissions a block,
+-- everything that waited
 -- is delivered and known, and the next call is pending.
-use Rattle.std.proofs.Common.{◌≡◌, ℕ, zero, suc, ◌+◌, ◌*◌, ◌≤◌, ◌<◌, false, IsTrue, List, length, Option, Some, Result, refl, sym, ◌∙◌, ap, subst, arith}
+use Rattle.std.proofs.Common.{◌≡◌, ℕ, zero, suc, ◌+◌, ◌*◌, ◌≤◌, ◌<◌, false, IsTrue, List, length}
+use Rattle.std.proofs.Common.{Option, Some, Result, refl, sym, ◌∙◌, ap, subst, arith}
 use Rattle.std.proofs.lemmas.List.{length-drop}
 use Rattle.std.proofs.lemmas.List.Elements.{All-get_or}
 use Rattle.bsc_frame.specs.declared.message.Message.{Message}
@@ -20,7 +22,8 @@ use Rattle.bsc_control.specs.declared.task.Task.{Task}
 use Rattle.bsc_control.specs.declared.task.Task.TheVariants as k
 use Rattle.bsc_control.specs.declared.way.Way.{Way}
 use Rattle.bsc_control.specs.declared.way.Way.TheVariants.{ToTerminal}
-use Rattle.bsc_control.specs.Peer.{OutboundValue, IsPeer, IsOutbound, no_peer, no_outbound, outbound_at}
+use Rattle.bsc_control.specs.Peer.{OutboundValue, IsPeer, IsOutbound, no_peer, no_outbound}
+use Rattle.bsc_control.specs.Peer.{outbound_at}
 use Rattle.bsc_control.specs.Control.{ControlValue, peer, current}
 use Rattle.bsc_control.specs.CallOrder.{way_from}
 use Rattle.bsc_control.specs.Kept.{SuitsTask, IsInBid, IsSelected}
@@ -33,9 +36,12 @@ use Rattle.bsc_line_model.specs.Carries.{IsCarriedUp}
 use Rattle.bsc_line_model.specs.Rounds.{block_count}
 use Rattle.bsc_line_model.proofs.Tuning.{NamesOwn}
 use Rattle.bsc_line_model.proofs.BlockCounts.{CutLaws}
-use Rattle.bsc_line_model.proofs.Staying.{Stays, ControlStays, terminals_same, terminals_then, stays_then}
-use Rattle.bsc_line_model.proofs.DownControl.{HasCalled, SendsDown, EndsDown, GoesOnDown, begins_bid, learns}
-use Rattle.bsc_line_model.proofs.DownSteps.{OneAnswers, current_there, terminal_here, text_down, call_down}
+use Rattle.bsc_line_model.proofs.Staying.{Stays, ControlStays, terminals_same, terminals_then}
+use Rattle.bsc_line_model.proofs.Staying.{stays_then}
+use Rattle.bsc_line_model.proofs.DownControl.{HasCalled, SendsDown, EndsDown, GoesOnDown}
+use Rattle.bsc_line_model.proofs.DownControl.{begins_bid, learns}
+use Rattle.bsc_line_model.proofs.DownSteps.{OneAnswers, current_there, terminal_here, text_down}
+use Rattle.bsc_line_model.proofs.DownSteps.{call_down}
 use Rattle.bsc_line_model.proofs.Walking.{IsGood, Walks, Stepped, one_step}
 
 -- the laws that a visit rests on
@@ -44,7 +50,8 @@ pub record VisitLaws : Type 0 where
   pub names : NamesOwn
 
 -- the walk has come to a line of which this holds, with n transmissions left
-pub record Comes (P : LineValue → Type 0) (n : ℕ) (r : Result (Unit {0}) Stopped) (new : LineValue) : Type 0 where
+pub record Comes (P : LineValue → Type 0) (n : ℕ) (r : Result (Unit {0}) Stopped)
+    (new : LineValue) : Type 0 where
   pub at : ℕ
   pub line : LineValue
   pub holds : P line
@@ -56,7 +63,8 @@ pub record Calls (l : LineValue) (place : ℕ) (way : Way) : Type 0 where
   pub pending : l.pending ≡ sent_by sp.Control sent
   pub called : HasCalled l.control sent place way
 
--- the channel to selection address s of terminal e is delivered, all others are as they were, and the next call of
+-- the channel to selection address s of terminal e is delivered, all others are as they were, and
+-- the next call of
 -- the entry is pending
 pub record IsSelectionDone (e place s : ℕ) (old new : LineValue) : Type 0 where
   pub good : IsGood new
@@ -70,24 +78,40 @@ enough : (b : SentBlock) (n k : ℕ) (end : End) → AreWaiting k end n → k �
 enough b n k Etb h = omega (arith, h)
 enough b n k Etx h = h
 
-pub known_queue : (q : QueueValue) (phase : Phase) (b : SentBlock) → IsQueue q → phase ≡ Unanswered b → CountsOn phase (length (waiting q)) → IsQueue (with_known q b.count)
+pub known_queue : (q : QueueValue) (phase : Phase) (b : SentBlock) → IsQueue q → phase
+    ≡ Unanswered b → CountsOn phase (length (waiting q)) → IsQueue (with_known q b.count)
 known_queue q phase b is e counts =
-    let on : AreWaiting b.count b.end (length (waiting q)) = subst (λ (z : Phase). CountsOn z (length (waiting q))) e counts in
+    let on : AreWaiting b.count b.end (length (waiting q)) =
+    subst (λ (z : Phase). CountsOn z (length (waiting q))) e counts in
     let within : b.count ≤ length (waiting q) = enough b (length (waiting q)) b.count b.end on in
-    record { format = is.format; known = omega (arith, within, is.known, length-drop q.known q.offered); short = is.short }
+    record {
+      format = is.format;
+      known =
+          omega (arith, within, is.known, length-drop q.known q.offered);
+      short = is.short;
+    }
 
 -- what a sender of the control station has
-outbound_ready : (l : LineValue) (s : ℕ) → IsGood l → s < length (peer l.control).outbounds → IsOutbound (outbound_at (peer l.control) s)
+outbound_ready : (l : LineValue) (s : ℕ) → IsGood l → s < length (peer l.control).outbounds
+    → IsOutbound (outbound_at (peer l.control) s)
 outbound_ready l s g select =
-    let is : IsPeer (peer l.control) = All-get_or IsPeer l.control.peers (current l.control) no_peer (current_there l g) g.line.stations.control.entries.peers in
+    let is : IsPeer (peer l.control) =
+    All-get_or IsPeer l.control.peers (current l.control) no_peer (current_there l g)
+    g.line.stations.control.entries.peers in
     All-get_or IsOutbound (peer l.control).outbounds s no_outbound select is.ready
 
 -- the address that is sent to is there
-sent_to : (l : LineValue) (s : ℕ) → IsGood l → l.control.task ≡ k.Sending s → s < length (peer l.control).outbounds
-sent_to l s g task = (let h : IsInBid (peer l.control) s = subst (λ (t : Task). SuitsTask t (peer l.control)) task g.line.stations.control.orderly.suits in h.there)
+sent_to : (l : LineValue) (s : ℕ) → IsGood l → l.control.task ≡ k.Sending s → s
+    < length (peer l.control).outbounds
+sent_to l s g task =
+    (let h : IsInBid (peer l.control) s =
+    subst (λ (t : Task). SuitsTask t (peer l.control)) task
+    g.line.stations.control.orderly.suits in h.there)
 
-pub current_same : (c d : ControlValue) → d.poll_list ≡ c.poll_list → d.place ≡ c.place → current d ≡ current c
-current_same c d list place = ap (λ (ps : List ℕ). current (record d { poll_list = ps })) list ∙ ap (λ (n : ℕ). current (record c { place = n })) place
+pub current_same : (c d : ControlValue) → d.poll_list ≡ c.poll_list → d.place ≡ c.place → current d
+    ≡ current c
+current_same c d list place = ap (λ (ps : List ℕ). current (record d { poll_list = ps })) list
+    ∙ ap (λ (n : ℕ). current (record c { place = n })) place
 
 -- what one exchange leaves: the terminal took a block, and the control station learns of it
 pub record Exchanged (e place s n : ℕ) (old new : LineValue) : Type 0 where
@@ -103,7 +127,9 @@ pub record SendsBlocks (l : LineValue) (place s n : ℕ) : Type 0 where
   pub pending : l.pending ≡ sent_by sp.Control sent
   pub sends : SendsDown l.control sent place s n
 
-exchange : (laws : VisitLaws) (at m : ℕ) (l new : LineValue) (r : Result (Unit {0}) Stopped) (s n : ℕ) → IsGood l → SendsBlocks l l.control.place s n → (terminal_at l (current l.control)).urgent ≡ false → Walks at (suc (suc m)) l r new →
+exchange : (laws : VisitLaws) (at m : ℕ) (l new : LineValue) (r : Result (Unit {0}) Stopped)
+    (s n : ℕ) → IsGood l → SendsBlocks l l.control.place s n
+    → (terminal_at l (current l.control)).urgent ≡ false → Walks at (suc (suc m)) l r new →
     Comes (Exchanged (current l.control) l.control.place s n l) m r new
 exchange laws at m l new r s n g h calm w =
     let c : ControlValue = l.control in
@@ -111,17 +137,33 @@ exchange laws at m l new r s n g h calm w =
     let b : SentBlock = h.sends.block in
     let o : OutboundValue = outbound_at (peer c) s in
     let t : TextValue = text_of o.queue b in
-    let is : l.pending ≡ Some (record { speaker = sp.Control; message = msg.Text t }) = h.pending ∙ ap (λ (z : Option Message). sent_by sp.Control z) h.sends.text in
-    let one : Stepped (record { speaker = sp.Control; message = msg.Text t }) l (λ mid. Walks (at + 1) (suc m) mid r new) = one_step at (suc m) (suc (suc m)) (record { speaker = sp.Control; message = msg.Text t }) l new r is refl w in
-    let answered : OneAnswers e (ToTerminal s) (message_of (ack b.alternation)) l one.mid = text_down l one.mid s n b g h.sends.in_block calm one.delays is one.carried in
-    let two : Stepped (record { speaker = sp.Terminal e; message = message_of (ack b.alternation) }) one.mid (λ mid. Walks (at + 1 + 1) m mid r new) =
-    one_step (at + 1) m (suc m) (record { speaker = sp.Terminal e; message = message_of (ack b.alternation) }) one.mid new r answered.pending refl one.rest in
-    let up : IsCarriedUp (message_of (ack b.alternation)) (Whole (message_of (ack b.alternation))) one.mid two.mid = two.carried in
-    let heard : Hears c (Whole (message_of (ack b.alternation))) two.mid.control up.sent = subst (λ (d : ControlValue). Hears d (Whole (message_of (ack b.alternation))) two.mid.control up.sent) answered.control up.control in
+    let is : l.pending ≡ Some (record { speaker = sp.Control; message = msg.Text t }) = h.pending
+    ∙ ap (λ (z : Option Message). sent_by sp.Control z) h.sends.text in
+    let one : Stepped (record { speaker = sp.Control; message = msg.Text t }) l
+    (λ mid. Walks (at + 1) (suc m) mid r new) =
+    one_step at (suc m) (suc (suc m)) (record { speaker = sp.Control; message = msg.Text t }) l
+    new r is refl w in
+    let answered : OneAnswers e (ToTerminal s) (message_of (ack b.alternation)) l one.mid =
+    text_down l one.mid s n b g h.sends.in_block calm one.delays is one.carried in
+    let two : Stepped (record { speaker = sp.Terminal e; message = message_of (ack b.alternation) })
+    one.mid (λ mid. Walks (at + 1 + 1) m mid r new) =
+    one_step (at + 1) m (suc m) (record {
+      speaker = sp.Terminal e;
+      message =
+          message_of (ack b.alternation);
+    }) one.mid new r answered.pending refl one.rest in
+    let up : IsCarriedUp (message_of (ack b.alternation)) (Whole (message_of (ack b.alternation)))
+    one.mid two.mid = two.carried in
+    let heard : Hears c (Whole (message_of (ack b.alternation))) two.mid.control up.sent =
+    subst (λ (d : ControlValue). Hears d (Whole (message_of (ack b.alternation)))
+    two.mid.control up.sent) answered.control up.control in
     let select : s < length (peer c).outbounds = sent_to l s g h.sends.in_block.task in
     let ready : IsOutbound o = outbound_ready l s g select in
-    let learnt : GoesOnDown two.mid.control up.sent c.place s n × ControlStays e (ToTerminal s) c two.mid.control =
-    learns laws.cuts c two.mid.control up.sent s n b (current_there l g) select h.sends.in_block (known_queue o.queue o.sender.phase b ready.queue h.sends.in_block.phase ready.counts) heard in
+    let learnt : GoesOnDown two.mid.control up.sent c.place s n
+    × ControlStays e (ToTerminal s) c two.mid.control =
+    learns laws.cuts c two.mid.control up.sent s n b (current_there l g) select h.sends.in_block
+    (known_queue o.queue o.sender.phase b ready.queue h.sends.in_block.phase ready.counts)
+    heard in
     record {
       at = at + 1 + 1;
       line = two.mid;
@@ -130,28 +172,53 @@ exchange laws at m l new r s n g h calm w =
         sent = up.sent;
         pending = up.pending;
         goes_on = learnt.0;
-        stays = record { control = learnt.1; terminals = terminals_then e (ToTerminal s) l.terminals one.mid.terminals two.mid.terminals answered.terminals (terminals_same e (ToTerminal s) one.mid.terminals two.mid.terminals up.terminals) };
+        stays =
+            record {
+              control = learnt.1;
+              terminals =
+                  terminals_then e (ToTerminal s) l.terminals one.mid.terminals two.mid.terminals
+                  answered.terminals (terminals_same e (ToTerminal s) one.mid.terminals
+                  two.mid.terminals up.terminals);
+            };
       };
       rest = two.rest;
     }
 
-exchange_at : (laws : VisitLaws) (at m e place : ℕ) (l new : LineValue) (r : Result (Unit {0}) Stopped) (s n : ℕ) → IsGood l → current l.control ≡ e → l.control.place ≡ place → SendsBlocks l place s n → (terminal_at l e).urgent ≡ false → Walks at (suc (suc m)) l r new →
+exchange_at : (laws : VisitLaws) (at m e place : ℕ) (l new : LineValue)
+    (r : Result (Unit {0}) Stopped) (s n : ℕ) → IsGood l → current l.control ≡ e → l.control.place
+    ≡ place → SendsBlocks l place s n → (terminal_at l e).urgent ≡ false
+    → Walks at (suc (suc m)) l r new →
     Comes (Exchanged e place s n l) m r new
 exchange_at laws at m e place l new r s n g is here h calm w =
     subst (λ (p : ℕ). Comes (Exchanged e p s n l) m r new) here
     (subst (λ (z : ℕ). Comes (Exchanged z l.control.place s n l) m r new) is
-    (exchange laws at m l new r s n g (subst (λ (p : ℕ). SendsBlocks l p s n) (sym here) h) (subst (λ (z : ℕ). (terminal_at l z).urgent ≡ false) (sym is) calm) w))
+    (exchange laws at m l new r s n g (subst (λ (p : ℕ). SendsBlocks l p s n) (sym here) h)
+    (subst (λ (z : ℕ). (terminal_at l z).urgent ≡ false) (sym is) calm) w))
 
 -- the channel was moved before, too
-done_since : (e place s : ℕ) (a b c : LineValue) → Stays e (ToTerminal s) a b → IsSelectionDone e place s b c → IsSelectionDone e place s a c
-done_since e place s a b c x y = record { good = y.good; calls = y.calls; idle = y.idle; delivered = y.delivered; stays = stays_then e (ToTerminal s) a b c x y.stays }
+done_since : (e place s : ℕ) (a b c : LineValue) → Stays e (ToTerminal s) a b
+    → IsSelectionDone e place s b c → IsSelectionDone e place s a c
+done_since e place s a b c x y =
+    record {
+      good = y.good;
+      calls = y.calls;
+      idle = y.idle;
+      delivered = y.delivered;
+      stays =
+          stays_then e (ToTerminal s) a b c x y.stays;
+    }
 
 -- n + 1 blocks, two transmissions each
-pub blocks_down : (laws : VisitLaws) (n at m count e place : ℕ) (l new : LineValue) (r : Result (Unit {0}) Stopped) (s : ℕ) → IsGood l → current l.control ≡ e → l.control.place ≡ place → SendsBlocks l place s n → (terminal_at l e).urgent ≡ false → count ≡ 2 * (n + 1) + m → Walks at count l r new →
+pub blocks_down : (laws : VisitLaws) (n at m count e place : ℕ) (l new : LineValue)
+    (r : Result (Unit {0}) Stopped) (s : ℕ) → IsGood l → current l.control ≡ e → l.control.place
+    ≡ place → SendsBlocks l place s n → (terminal_at l e).urgent ≡ false → count ≡ 2 * (n + 1) + m
+    → Walks at count l r new →
     Comes (IsSelectionDone e place s l) m r new
 blocks_down laws zero at m count e place l new r s g is here h calm number w =
     let left : count ≡ suc (suc m) = omega (arith, number) in
-    let x : Comes (Exchanged e place s 0 l) m r new = exchange_at laws at m e place l new r s 0 g is here h calm (subst (λ (j : ℕ). Walks at j l r new) left w) in
+    let x : Comes (Exchanged e place s 0 l) m r new =
+    exchange_at laws at m e place l new r s 0 g is here h calm
+    (subst (λ (j : ℕ). Walks at j l r new) left w) in
     let y : Exchanged e place s 0 l x.line = x.holds in
     let ends : EndsDown x.line.control y.sent place s = y.goes_on in
     record {
@@ -168,42 +235,87 @@ blocks_down laws zero at m count e place l new r s g is here h calm number w =
     }
 blocks_down laws (suc n) at m count e place l new r s g is here h calm number w =
     let left : count ≡ suc (suc (2 * (n + 1) + m)) = omega (arith, number) in
-    let x : Comes (Exchanged e place s (suc n) l) (2 * (n + 1) + m) r new = exchange_at laws at (2 * (n + 1) + m) e place l new r s (suc n) g is here h calm (subst (λ (j : ℕ). Walks at j l r new) left w) in
+    let x : Comes (Exchanged e place s (suc n) l) (2 * (n + 1) + m) r new =
+    exchange_at laws at (2 * (n + 1) + m) e place l new r s (suc n) g is here h calm
+    (subst (λ (j : ℕ). Walks at j l r new) left w) in
     let y : Exchanged e place s (suc n) l x.line = x.holds in
     let sends : SendsDown x.line.control y.sent place s n = y.goes_on in
-    let there : e < length l.terminals = subst (λ (z : ℕ). z < length l.terminals) is (terminal_here l g) in
+    let there : e < length l.terminals =
+    subst (λ (z : ℕ). z < length l.terminals) is (terminal_here l g) in
     let z : Comes (IsSelectionDone e place s x.line) m r new =
-    blocks_down laws n x.at m (2 * (n + 1) + m) e place x.line new r s y.good (current_same l.control x.line.control y.stays.control.poll_list (sends.place_is ∙ sym here) ∙ is) sends.place_is
-    (record { sent = y.sent; pending = y.pending; sends = sends }) ((y.stays.terminals.terminals e there).urgent calm) refl x.rest in
-    record { at = z.at; line = z.line; holds = done_since e place s l x.line z.line y.stays z.holds; rest = z.rest }
+    blocks_down laws n x.at m (2 * (n + 1) + m) e place x.line new r s y.good
+    (current_same l.control x.line.control y.stays.control.poll_list (sends.place_is ∙ sym here)
+    ∙ is) sends.place_is
+    (record { sent = y.sent; pending = y.pending; sends = sends })
+    ((y.stays.terminals.terminals e there).urgent calm) refl x.rest in
+    record {
+      at = z.at;
+      line = z.line;
+      holds = done_since e place s l x.line z.line y.stays z.holds;
+      rest = z.rest;
+    }
 
 -- the selection address that was called is there
-selected_there : (l : LineValue) (s : ℕ) → IsGood l → l.control.task ≡ k.Selecting s false → s < length (peer l.control).outbounds
-selected_there l s g task = (let h : IsSelected (peer l.control) s = subst (λ (t : Task). SuitsTask t (peer l.control)) task g.line.stations.control.orderly.suits in h.there)
+selected_there : (l : LineValue) (s : ℕ) → IsGood l → l.control.task ≡ k.Selecting s false → s
+    < length (peer l.control).outbounds
+selected_there l s g task =
+    (let h : IsSelected (peer l.control) s =
+    subst (λ (t : Task). SuitsTask t (peer l.control)) task
+    g.line.stations.control.orderly.suits in h.there)
 
 -- a selection with n + 1 blocks
-pub selection : (laws : VisitLaws) (n at m count : ℕ) (l new : LineValue) (r : Result (Unit {0}) Stopped) (s : ℕ) → IsGood l → Calls l l.control.place (ToTerminal s) → IsTrue (terminal_at l (current l.control)).ready → (terminal_at l (current l.control)).urgent ≡ false →
-    block_count (outbound_at (peer l.control) s).queue ≡ suc n → count ≡ 2 + 2 * suc n + m → Walks at count l r new → Comes (IsSelectionDone (current l.control) l.control.place s l) m r new
+pub selection : (laws : VisitLaws) (n at m count : ℕ) (l new : LineValue)
+    (r : Result (Unit {0}) Stopped) (s : ℕ) → IsGood l → Calls l l.control.place (ToTerminal s)
+    → IsTrue (terminal_at l (current l.control)).ready → (terminal_at l (current l.control)).urgent
+    ≡ false →
+    block_count (outbound_at (peer l.control) s).queue ≡ suc n → count ≡ 2 + 2 * suc n + m
+    → Walks at count l r new
+    → Comes (IsSelectionDone (current l.control) l.control.place s l) m r new
 selection laws n at m count l new r s g h ready calm number is w =
     let c : ControlValue = l.control in
     let e : ℕ = current c in
     let o : OutboundValue = outbound_at (peer c) s in
     let a : List ℕ = select_address (peer c).terminal s in
     let left : count ≡ suc (suc (2 * (n + 1) + m)) = omega (arith, is) in
-    let calls : l.pending ≡ Some (record { speaker = sp.Control; message = msg.Call a }) = h.pending ∙ ap (λ (z : Option Message). sent_by sp.Control z) h.called.call in
+    let calls : l.pending ≡ Some (record { speaker = sp.Control; message = msg.Call a }) = h.pending
+    ∙ ap (λ (z : Option Message). sent_by sp.Control z) h.called.call in
     let select : s < length (peer c).outbounds = selected_there l s g h.called.task in
-    let one : Stepped (record { speaker = sp.Control; message = msg.Call a }) l (λ mid. Walks (at + 1) (suc (2 * (n + 1) + m)) mid r new) =
-    one_step at (suc (2 * (n + 1) + m)) count (record { speaker = sp.Control; message = msg.Call a }) l new r calls left w in
-    let answered : OneAnswers e (ToTerminal s) msg.Ack0 l one.mid = call_down laws.names l one.mid s g h.called.task select ready one.delays one.carried in
-    let two : Stepped (record { speaker = sp.Terminal e; message = msg.Ack0 }) one.mid (λ mid. Walks (at + 1 + 1) (2 * (n + 1) + m) mid r new) =
-    one_step (at + 1) (2 * (n + 1) + m) (suc (2 * (n + 1) + m)) (record { speaker = sp.Terminal e; message = msg.Ack0 }) one.mid new r answered.pending refl one.rest in
+    let one : Stepped (record { speaker = sp.Control; message = msg.Call a }) l
+    (λ mid. Walks (at + 1) (suc (2 * (n + 1) + m)) mid r new) =
+    one_step at (suc (2 * (n + 1) + m)) count
+    (record { speaker = sp.Control; message = msg.Call a }) l new r calls left w in
+    let answered : OneAnswers e (ToTerminal s) msg.Ack0 l one.mid =
+    call_down laws.names l one.mid s g h.called.task select ready one.delays one.carried in
+    let two : Stepped (record { speaker = sp.Terminal e; message = msg.Ack0 }) one.mid
+    (λ mid. Walks (at + 1 + 1) (2 * (n + 1) + m) mid r new) =
+    one_step (at + 1) (2 * (n + 1) + m) (suc (2 * (n + 1) + m))
+    (record { speaker = sp.Terminal e; message = msg.Ack0 }) one.mid new r answered.pending refl
+    one.rest in
     let up : IsCarriedUp msg.Ack0 (Whole msg.Ack0) one.mid two.mid = two.carried in
-    let heard : Hears c (Whole msg.Ack0) two.mid.control up.sent = subst (λ (d : ControlValue). Hears d (Whole msg.Ack0) two.mid.control up.sent) answered.control up.control in
-    let begun : SendsDown two.mid.control up.sent c.place s n × ControlStays e (ToTerminal s) c two.mid.control =
-    begins_bid laws.cuts c two.mid.control up.sent s n false (current_there l g) select h.called.task (outbound_ready l s g select).queue number heard in
+    let heard : Hears c (Whole msg.Ack0) two.mid.control up.sent =
+    subst (λ (d : ControlValue). Hears d (Whole msg.Ack0) two.mid.control up.sent)
+    answered.control up.control in
+    let begun : SendsDown two.mid.control up.sent c.place s n
+    × ControlStays e (ToTerminal s) c two.mid.control =
+    begins_bid laws.cuts c two.mid.control up.sent s n false (current_there l g) select
+    h.called.task (outbound_ready l s g select).queue number heard in
     let stays : Stays e (ToTerminal s) l two.mid =
-    record { control = begun.1; terminals = terminals_then e (ToTerminal s) l.terminals one.mid.terminals two.mid.terminals answered.terminals (terminals_same e (ToTerminal s) one.mid.terminals two.mid.terminals up.terminals) } in
+    record {
+      control = begun.1;
+      terminals =
+          terminals_then e (ToTerminal s) l.terminals one.mid.terminals two.mid.terminals
+          answered.terminals (terminals_same e (ToTerminal s) one.mid.terminals two.mid.terminals
+          up.terminals);
+    } in
     let z : Comes (IsSelectionDone e c.place s two.mid) m r new =
-    blocks_down laws n (at + 1 + 1) m (2 * (n + 1) + m) e c.place two.mid new r s two.good (current_same c two.mid.control begun.1.poll_list begun.0.place_is) begun.0.place_is
-    (record { sent = up.sent; pending = up.pending; sends = begun.0 }) ((stays.terminals.terminals e (terminal_here l g)).urgent calm) refl two.rest in
-    record { at = z.at; line = z.line; holds = done_since e c.place s l two.mid z.line stays z.holds; rest = z.rest }
+    blocks_down laws n (at + 1 + 1) m (2 * (n + 1) + m) e c.place two.mid new r s two.good
+    (current_same c two.mid.control begun.1.poll_list begun.0.place_is) begun.0.place_is
+    (record { sent = up.sent; pending = up.pending; sends = begun.0 })
+    ((stays.terminals.terminals e (terminal_here l g)).urgent calm) refl two.rest in
+    record {
+      at = z.at;
+      line = z.line;
+      holds =
+          done_since e c.place s l two.mid z.line stays z.holds;
+      rest = z.rest;
+    }

@@ -1,5 +1,8 @@
--- The control station's text or ENQ is heard: the terminal that it sends to receives, and the others do nothing.
-use Rattle.std.proofs.Common.{◌≡◌, ◌≢◌, ◌⊎◌, inl, inr, ℕ, zero, suc, ◌+◌, ◌<◌, ◌≤◌, List, length, Option, None, Some, option_map, slice_set, refl, sym, ◌∙◌, ap, subst, arith, get_or-set_same}
+-- The control station's text or ENQ is heard: the terminal that it sends to receives, and the
+-- others do nothing.
+use Rattle.std.proofs.Common.{◌≡◌, ◌≢◌, ◌⊎◌, inl, inr, ℕ, zero, suc, ◌+◌, ◌<◌, ◌≤◌, List, length}
+use Rattle.std.proofs.Common.{Option, None, Some, option_map, slice_set, refl, sym, ◌∙◌, ap, subst}
+use Rattle.std.proofs.Common.{arith, get_or-set_same}
 use Rattle.bsc_frame.specs.declared.message.Message.{Message}
 use Rattle.bsc_frame.specs.declared.message.Message.TheVariants as m
 use Rattle.bsc_frame.specs.declared.message.Heard.{Heard}
@@ -14,7 +17,8 @@ use Rattle.bsc_text.specs.Agreement.{Flight, Outward, InBid, IsResting, reply_fl
 use Rattle.bsc_text.specs.EachStep.{ReceiverAgrees}
 use Rattle.bsc_tributary.specs.declared.mode.Mode.{Mode}
 use Rattle.bsc_tributary.specs.declared.mode.Mode.TheVariants.{Control, Receiving, Sending}
-use Rattle.bsc_tributary.specs.Tributary.{TributaryValue, TributaryStep, Hears, mode_step, receive_step, rooms_after, spool_at, empty_spool}
+use Rattle.bsc_tributary.specs.Tributary.{TributaryValue, TributaryStep, Hears, mode_step}
+use Rattle.bsc_tributary.specs.Tributary.{receive_step, rooms_after, spool_at, empty_spool}
 use Rattle.bsc_tributary.specs.Kept.{AfterHearing, IsNoCall, SuitsMode}
 use Rattle.bsc_control.specs.declared.way.Way.{Way}
 use Rattle.bsc_control.specs.declared.way.Way.TheVariants.{ToTerminal}
@@ -63,7 +67,8 @@ no_call m.Wack b = tt
 no_call m.Rvi b = tt
 
 pub no_call_heard : (w : Message) (h : Heard) → IsBidMessage w → IsFairlyHeard w h → IsNoCall h
-no_call_heard w (Whole v) b (inl e) = subst (λ (x : Message). IsNoCall (Whole x)) (sym e) (no_call w b)
+no_call_heard w (Whole v) b (inl e) =
+    subst (λ (x : Message). IsNoCall (Whole x)) (sym e) (no_call w b)
 no_call_heard w (Whole v) b (inr f) = absurd (never_cut w v b f)
 no_call_heard w Failed b f = tt
 no_call_heard w Noise b f = tt
@@ -73,110 +78,176 @@ place_of None = 0
 place_of (Some a) = a.0
 
 -- another terminal than the addressed one is in control mode
-pub others_in_control : (addressed : Option (ℕ × Way)) (e t : ℕ) (way : Way) (mode : Mode) → addressed ≡ Some (e, way) → t ≢ e → IsTuned addressed t mode → mode ≡ Control
+pub others_in_control : (addressed : Option (ℕ × Way)) (e t : ℕ) (way : Way) (mode : Mode)
+    → addressed ≡ Some (e, way) → t ≢ e → IsTuned addressed t mode → mode ≡ Control
 others_in_control addressed e t way Control is differ k = refl
-others_in_control addressed e t way (Receiving s) is differ k = absurd (differ (ap place_of (sym k ∙ is)))
+others_in_control addressed e t way (Receiving s) is differ k =
+    absurd (differ (ap place_of (sym k ∙ is)))
 others_in_control addressed e t way Sending is differ k = absurd (differ (ap place_of (sym k ∙ is)))
 
 -- where nobody else answers, the first answer is that of one terminal
-pub none_before : (old : List TributaryValue) (hears : ℕ → Heard) (new : List TributaryValue) (e n : ℕ) → n ≤ e → ((k : ℕ) → k < n → k ≢ e → answer_of old hears new k ≡ None) → first_answer old hears new n ≡ None
+pub none_before : (old : List TributaryValue) (hears : ℕ → Heard) (new : List TributaryValue)
+    (e n : ℕ) → n ≤ e → ((k : ℕ) → k < n → k ≢ e → answer_of old hears new k ≡ None)
+    → first_answer old hears new n ≡ None
 none_before old hears new e zero less f = refl
 none_before old hears new e (suc n) less f =
     let differ : n ≢ e = omega arith in
-    rw (none_before old hears new e n (omega arith) (λ k l ne. f k (omega arith) ne), f n (omega arith) differ) refl
+    rw (
+      none_before old hears new e n (omega arith) (λ k l ne. f k (omega arith) ne),
+      f n (omega arith) differ,
+    ) refl
 
 same_or_before : (e n : ℕ) → e < n + 1 → (e ≡ n) ⊎ (e < n)
 same_or_before e n less = grind (arith)
 
-pub first_stays : (e n : ℕ) (out : Option Message) → or_first (sent_by (sp.Terminal e) out) None ≡ sent_by (sp.Terminal e) out
+pub first_stays : (e n : ℕ) (out : Option Message) → or_first (sent_by (sp.Terminal e) out) None
+    ≡ sent_by (sp.Terminal e) out
 first_stays e n None = refl
 first_stays e n (Some w) = refl
 
-pub one_answers : (old : List TributaryValue) (hears : ℕ → Heard) (new : List TributaryValue) (e n : ℕ) → e < n → ((k : ℕ) → k < n → k ≢ e → answer_of old hears new k ≡ None) → first_answer old hears new n ≡ sent_by (sp.Terminal e) (answer_of old hears new e)
+pub one_answers : (old : List TributaryValue) (hears : ℕ → Heard) (new : List TributaryValue)
+    (e n : ℕ) → e < n → ((k : ℕ) → k < n → k ≢ e → answer_of old hears new k ≡ None)
+    → first_answer old hears new n ≡ sent_by (sp.Terminal e) (answer_of old hears new e)
 one_answers old hears new e zero less f = absurd (omega arith)
 one_answers old hears new e (suc n) less f =
     elim (same_or_before e n (omega arith)) [
       | inl same ↦
-          rw (none_before old hears new e n (omega arith) (λ k l ne. f k (omega arith) ne), ← same) refl
+          rw (none_before old hears new e n (omega arith) (λ k l ne. f k (omega arith) ne), ← same)
+          refl
       | inr before ↦
           (let differ : n ≢ e = omega arith in
-          rw (one_answers old hears new e n before (λ k l ne. f k (omega arith) ne), f n (omega arith) differ) (first_stays e n (answer_of old hears new e)))
+          rw (
+            one_answers old hears new e n before (λ k l ne. f k (omega arith) ne),
+            f n (omega arith) differ,
+          ) (first_stays e n (answer_of old hears new e)))
     ]
 
 -- a terminal in control mode does nothing with it
-pub stays_quiet : (t : TributaryValue) (h : Heard) (u : TributaryValue) (out : Option Message) → AfterHearing t h u out → t.mode ≡ Control → IsNoCall h → (u ≡ t) × (out ≡ None)
+pub stays_quiet : (t : TributaryValue) (h : Heard) (u : TributaryValue) (out : Option Message)
+    → AfterHearing t h u out → t.mode ≡ Control → IsNoCall h → (u ≡ t) × (out ≡ None)
 stays_quiet t h u out after mode never = after.control mode never
 
 -- what happens to the terminals while only terminal e is out of control mode
-pub record OneHears (old : List TributaryValue) (hears : ℕ → Heard) (new : List TributaryValue) (e : ℕ) : Type 0 where
+pub record OneHears (old : List TributaryValue) (hears : ℕ → Heard) (new : List TributaryValue)
+    (e : ℕ) : Type 0 where
   pub others : (t : ℕ) → t < length old → t ≢ e → terminal_in new t ≡ terminal_in old t
-  pub first : first_answer old hears new (length old) ≡ sent_by (sp.Terminal e) (answer_of old hears new e)
+  pub first : first_answer old hears new (length old)
+      ≡ sent_by (sp.Terminal e) (answer_of old hears new e)
 
-pub one_hears : (old : List TributaryValue) (hears : ℕ → Heard) (new : List TributaryValue) (addressed : Option (ℕ × Way)) (e : ℕ) (way : Way) → e < length old → addressed ≡ Some (e, way) → AreTuned addressed old →
-    EachOf (length old) (λ t. IsNoCall (hears t)) → EachKeeps old hears new → OneHears old hears new e
+pub one_hears : (old : List TributaryValue) (hears : ℕ → Heard) (new : List TributaryValue)
+    (addressed : Option (ℕ × Way)) (e : ℕ) (way : Way) → e < length old → addressed ≡ Some (e, way)
+    → AreTuned addressed old →
+    EachOf (length old) (λ t. IsNoCall (hears t)) → EachKeeps old hears new
+    → OneHears old hears new e
 one_hears old hears new addressed e way there is tuned never keeps =
-    let quiet : (t : ℕ) → t < length old → t ≢ e → (terminal_in new t ≡ terminal_in old t) × (answer_of old hears new t ≡ None) =
-    λ t less differ. stays_quiet (terminal_in old t) (hears t) (terminal_in new t) (answer_of old hears new t) (keeps t less)
-    (others_in_control addressed e t way (terminal_in old t).mode is differ (tuned t less)) (never t less) in
+    let quiet : (t : ℕ) → t < length old → t ≢ e → (terminal_in new t ≡ terminal_in old t)
+    × (answer_of old hears new t ≡ None) =
+    λ t less differ. stays_quiet (terminal_in old t) (hears t) (terminal_in new t)
+    (answer_of old hears new t) (keeps t less)
+    (others_in_control addressed e t way (terminal_in old t).mode is differ (tuned t less))
+    (never t less) in
     record {
       others = λ t less differ. (quiet t less differ).0;
-      first = one_answers old hears new e (length old) there (λ t less differ. (quiet t less differ).1);
+      first =
+          one_answers old hears new e (length old) there (λ t less differ. (quiet t less differ).1);
     }
 
 -- the reply is on the line
-reply_flies : (e : ℕ) (reply : Option Reply) → FliesDown (sent_by (sp.Terminal e) (option_map message_of reply)) e (reply_flight reply)
+reply_flies : (e : ℕ) (reply : Option Reply)
+    → FliesDown (sent_by (sp.Terminal e) (option_map message_of reply)) e (reply_flight reply)
 reply_flies e None = refl
 reply_flies e (Some r) = (refl, (r, refl, refl))
 
 -- the terminal that is sent to has heard
-pub receives_down : (laws : BidLaws) (p : PeerValue) (e s : ℕ) (w : Message) (h : Heard) (t u : TributaryValue) (out : Option Message) → s < length t.spools →
-    IsInBidDown (Some (record { speaker = sp.Control; message = w })) p e s t → IsBidMessage w → IsFairlyHeard w h → Hears t h u out → AfterHearing t h u out →
+pub receives_down : (laws : BidLaws) (p : PeerValue) (e s : ℕ) (w : Message) (h : Heard)
+    (t u : TributaryValue) (out : Option Message) → s < length t.spools →
+    IsInBidDown (Some (record { speaker = sp.Control; message = w })) p e s t → IsBidMessage w
+    → IsFairlyHeard w h → Hears t h u out → AfterHearing t h u out →
     IsInBidDown (sent_by (sp.Terminal e) out) p e s u
 receives_down laws p e s w h t u out there b bid fair x after =
     let spool : SpoolValue = spool_at t.spools s in
     let rooms : Rooms = rooms_after h u in
     let r : ReceiverStep = heard_step t.receiver spool h t.urgent rooms in
     let row : record { tributary = u; sent = out } ≡ receive_step t s r =
-    x.row ∙ hear_step-no_call t h rooms (no_call_heard w h bid fair) ∙ ap (λ (n : Mode). mode_step t n h rooms) b.mode in
-    let flying : InBid (outbound_at p s).sender.phase (outbound_at p s).queue t.receiver.alternation t.receiver.last spool.records (Outward w) =
-    subst (λ (f : Flight). InBid (outbound_at p s).sender.phase (outbound_at p s).queue t.receiver.alternation t.receiver.last spool.records f) b.flies b.bid in
-    let agrees : ReceiverAgrees (outbound_at p s).sender.phase (outbound_at p s).queue spool.records r =
-    laws.hearing (outbound_at p s).sender.phase (outbound_at p s).queue t.receiver spool w (Some h) t.urgent rooms flying fair in
-    let stored : spool_at (slice_set t.spools s r.spool) s ≡ r.spool = get_or-set_same t.spools s r.spool empty_spool there in
-    let becomes : u ≡ (receive_step t s r).tributary = ap (λ (o : TributaryStep). o.tributary) row in
-    let made : IsInBidDown (sent_by (sp.Terminal e) (option_map message_of r.reply)) p e s (receive_step t s r).tributary = record {
+    x.row ∙ hear_step-no_call t h rooms (no_call_heard w h bid fair)
+    ∙ ap (λ (n : Mode). mode_step t n h rooms) b.mode in
+    let flying : InBid (outbound_at p s).sender.phase (outbound_at p s).queue t.receiver.alternation
+    t.receiver.last spool.records (Outward w) =
+    subst (λ (f : Flight). InBid (outbound_at p s).sender.phase (outbound_at p s).queue
+    t.receiver.alternation t.receiver.last spool.records f) b.flies b.bid in
+    let agrees : ReceiverAgrees (outbound_at p s).sender.phase (outbound_at p s).queue spool.records
+    r =
+    laws.hearing (outbound_at p s).sender.phase (outbound_at p s).queue t.receiver spool w (Some h)
+    t.urgent rooms flying fair in
+    let stored : spool_at (slice_set t.spools s r.spool) s ≡ r.spool =
+    get_or-set_same t.spools s r.spool empty_spool there in
+    let becomes : u ≡ (receive_step t s r).tributary =
+    ap (λ (o : TributaryStep). o.tributary) row in
+    let made : IsInBidDown (sent_by (sp.Terminal e) (option_map message_of r.reply)) p e s
+    (receive_step t s r).tributary = record {
       mode = b.mode;
       up = b.up;
       down = λ k less differ.
-          let moved : u.mode ≢ Receiving k = λ same. differ (let e1 : Receiving s ≡ Receiving k = sym b.mode ∙ sym (ap (λ (v : TributaryValue). v.mode) becomes) ∙ same in sym (let e2 : s ≡ k = cc in e2)) in
-          let same : spool_at (receive_step t s r).tributary.spools k ≡ spool_at t.spools k = ap (λ (v : TributaryValue). spool_at v.spools k) (sym becomes) ∙ after.other_spools k moved in
-          subst (λ (z : SpoolValue). IsResting (outbound_at p k).sender.phase (outbound_at p k).queue z.records) (sym same) (b.down k less differ);
+          let moved : u.mode ≢ Receiving k =
+          λ same. differ (let e1 : Receiving s ≡ Receiving k = sym b.mode
+          ∙ sym (ap (λ (v : TributaryValue). v.mode) becomes) ∙ same in
+          sym (let e2 : s ≡ k = cc in e2)) in
+          let same : spool_at (receive_step t s r).tributary.spools k ≡ spool_at t.spools k =
+          ap (λ (v : TributaryValue). spool_at v.spools k) (sym becomes)
+          ∙ after.other_spools k moved in
+          subst (λ (z : SpoolValue). IsResting (outbound_at p k).sender.phase
+          (outbound_at p k).queue z.records) (sym same) (b.down k less differ);
       flight = reply_flight r.reply;
       flies = reply_flies e r.reply;
-      bid = subst (λ (z : SpoolValue). InBid (outbound_at p s).sender.phase (outbound_at p s).queue r.receiver.alternation r.receiver.last z.records (reply_flight r.reply)) (sym stored) agrees.bid;
+      bid =
+          subst (λ (z : SpoolValue). InBid (outbound_at p s).sender.phase (outbound_at p s).queue
+          r.receiver.alternation r.receiver.last z.records (reply_flight r.reply)) (sym stored)
+          agrees.bid;
     } in
-    subst (λ (o : TributaryStep). IsInBidDown (sent_by (sp.Terminal e) o.sent) p e s o.tributary) (sym row) made
+    subst (λ (o : TributaryStep). IsInBidDown (sent_by (sp.Terminal e) o.sent) p e s o.tributary)
+    (sym row) made
 
-pub receiving_into : (mode : Mode) (phase : Phase) (spools s : ℕ) → mode ≡ Receiving s → SuitsMode mode phase spools → s < spools
+pub receiving_into : (mode : Mode) (phase : Phase) (spools s : ℕ) → mode ≡ Receiving s
+    → SuitsMode mode phase spools → s < spools
 receiving_into mode phase spools s is k = (subst (λ (n : Mode). SuitsMode n phase spools) is k).1
 
 -- the control station goes on sending
-pub sends_down : (laws : BidLaws) (c : ControlValue) (old : List TributaryValue) (addressed : Option (ℕ × Way)) (s : ℕ) (w : Message) (hears : ℕ → Heard) (new : List TributaryValue) → current c < length old →
-    AreStations c old → AreTuned addressed old → IsSending (Some (record { speaker = sp.Control; message = w })) c old s → EachOf (length old) (λ t. IsFairlyHeard w (hears t)) →
-    EachHears old hears new → EachKeeps old hears new → IsSending (first_answer old hears new (length old)) c new s
+pub sends_down : (laws : BidLaws) (c : ControlValue) (old : List TributaryValue)
+    (addressed : Option (ℕ × Way)) (s : ℕ) (w : Message) (hears : ℕ → Heard)
+    (new : List TributaryValue) → current c < length old →
+    AreStations c old → AreTuned addressed old
+    → IsSending (Some (record { speaker = sp.Control; message = w })) c old s
+    → EachOf (length old) (λ t. IsFairlyHeard w (hears t)) →
+    EachHears old hears new → EachKeeps old hears new
+    → IsSending (first_answer old hears new (length old)) c new s
 sends_down laws c old addressed s w hears new there stations tuned sending fair each keeps =
     let e : ℕ = current c in
     let x : TributaryValue = terminal_in old e in
-    let b : IsInBidDown (Some (record { speaker = sp.Control; message = w })) (peer c) e s x = sending.bid in
-    let bid : IsBidMessage w = laws.outward (outbound_at (peer c) s).sender.phase (outbound_at (peer c) s).queue x.receiver.alternation x.receiver.last (spool_at x.spools s).records w
-    (subst (λ (f : Flight). InBid (outbound_at (peer c) s).sender.phase (outbound_at (peer c) s).queue x.receiver.alternation x.receiver.last (spool_at x.spools s).records f) b.flies b.bid) in
-    let is : addressed ≡ Some (e, ToTerminal s) = subst (λ (n : Mode). IsTuned addressed e n) b.mode (tuned e there) in
-    let one : OneHears old hears new e = one_hears old hears new addressed e (ToTerminal s) there is tuned (λ t less. no_call_heard w (hears t) bid (fair t less)) keeps in
-    let into : s < length x.spools = receiving_into x.mode x.sender.phase (length x.spools) s b.mode (stations.members e there).tributary.bid in
+    let b : IsInBidDown (Some (record { speaker = sp.Control; message = w })) (peer c) e s x =
+    sending.bid in
+    let bid : IsBidMessage w =
+    laws.outward (outbound_at (peer c) s).sender.phase (outbound_at (peer c) s).queue
+    x.receiver.alternation x.receiver.last (spool_at x.spools s).records w
+    (subst (λ (f : Flight). InBid (outbound_at (peer c) s).sender.phase
+    (outbound_at (peer c) s).queue x.receiver.alternation x.receiver.last
+    (spool_at x.spools s).records f) b.flies b.bid) in
+    let is : addressed ≡ Some (e, ToTerminal s) =
+    subst (λ (n : Mode). IsTuned addressed e n) b.mode (tuned e there) in
+    let one : OneHears old hears new e =
+    one_hears old hears new addressed e (ToTerminal s) there is tuned
+    (λ t less. no_call_heard w (hears t) bid (fair t less)) keeps in
+    let into : s < length x.spools =
+    receiving_into x.mode x.sender.phase (length x.spools) s b.mode
+    (stations.members e there).tributary.bid in
     record {
       others = λ t less differ.
           let before : t < length old = omega (arith, each.count) in
-          subst (λ (y : TributaryValue). IsQuiet (peer_at c t) y) (sym (one.others t before differ)) (sending.others t before differ);
-      bid = subst (λ (q : Option Transmission). IsInBidDown q (peer c) e s (terminal_in new e)) (sym one.first)
-          (receives_down laws (peer c) e s w (hears e) x (terminal_in new e) (answer_of old hears new e) into b bid (fair e there) (each.each e there) (keeps e there));
+          subst (λ (y : TributaryValue). IsQuiet (peer_at c t) y) (sym (one.others t before differ))
+          (sending.others t before differ);
+      bid =
+          subst (λ (q : Option Transmission). IsInBidDown q (peer c) e s (terminal_in new e))
+          (sym one.first)
+          (receives_down laws (peer c) e s w (hears e) x (terminal_in new e)
+          (answer_of old hears new e) into b bid (fair e there) (each.each e there)
+          (keeps e there));
     }

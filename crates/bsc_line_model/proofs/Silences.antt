@@ -1,5 +1,8 @@
--- A silence comes to the owner of the line, with nothing on the line: the terminal that sends, else the control station.
-use Rattle.std.proofs.Common.{◌≡◌, ◌≢◌, ◌⊎◌, inl, inr, ℕ, ◌+◌, ◌<◌, Bool, true, false, nat_lt, List, length, Option, None, Some, slice_set, refl, sym, ◌∙◌, ap, subst, arith, get_or-set_other, get_or-set_same, if◌then◌else◌}
+-- A silence comes to the owner of the line, with nothing on the line: the terminal that sends, else
+-- the control station.
+use Rattle.std.proofs.Common.{◌≡◌, ◌≢◌, ◌⊎◌, inl, inr, ℕ, ◌+◌, ◌<◌, Bool, true, false, nat_lt, List}
+use Rattle.std.proofs.Common.{length, Option, None, Some, slice_set, refl, sym, ◌∙◌, ap, subst}
+use Rattle.std.proofs.Common.{arith, get_or-set_other, get_or-set_same, if◌then◌else◌}
 use Rattle.std.proofs.lemmas.List.{length-set}
 use Rattle.bsc_frame.specs.declared.message.Message.{Message}
 use Rattle.bsc_text.specs.Sender.{SenderStep, silence_step}
@@ -7,7 +10,9 @@ use Rattle.bsc_text.specs.Agreement.{Flight, Still, InBid}
 use Rattle.bsc_text.specs.EachStep.{SenderAgrees}
 use Rattle.bsc_tributary.specs.declared.mode.Mode.{Mode}
 use Rattle.bsc_tributary.specs.declared.mode.Mode.TheVariants.{Control, Receiving, Sending as Sends}
-use Rattle.bsc_tributary.specs.Tributary.{TributaryValue, TributaryStep, silence_in as terminal_silence, act_step, ActsOnSilence as TerminalActs}
+use Rattle.bsc_tributary.specs.Tributary.{TributaryValue, TributaryStep}
+use Rattle.bsc_tributary.specs.Tributary.{silence_in as terminal_silence, act_step}
+use Rattle.bsc_tributary.specs.Tributary.{ActsOnSilence as TerminalActs}
 use Rattle.bsc_control.specs.declared.task.Replied.{Replied}
 use Rattle.bsc_control.specs.declared.task.Replied.TheVariants.{Nothing, WithoutRvi, WithRvi}
 use Rattle.bsc_control.specs.declared.task.Task.{Task}
@@ -17,12 +22,14 @@ use Rattle.bsc_control.specs.declared.way.Way.TheVariants.{FromTerminal}
 use Rattle.bsc_control.specs.Peer.{PeerValue}
 use Rattle.bsc_control.specs.Control.{ControlValue, ControlStep, peer_at, peer, current}
 use Rattle.bsc_control.specs.CallOrder.{Start, Selection, Poll}
-use Rattle.bsc_control.specs.Table.{ActsOnSilence as ControlActs, silence_in, next_call_step, poll_call_step, repeated}
+use Rattle.bsc_control.specs.Table.{ActsOnSilence as ControlActs, silence_in, next_call_step}
+use Rattle.bsc_control.specs.Table.{poll_call_step, repeated}
 use Rattle.bsc_line_model.specs.declared.transmission.Speaker.TheVariants as sp
 use Rattle.bsc_line_model.specs.Transmission.{sent_by}
 use Rattle.bsc_line_model.specs.Line.{terminal_in, no_terminal}
 use Rattle.bsc_line_model.specs.Kept.{IsTuned, AreTuned, AreStations}
-use Rattle.bsc_line_model.specs.Together.{IsQuiet, AllQuiet, OthersQuiet, AllInControlMode, IsSelecting, IsPolling, IsInBidUp, IsPolledWith, InTask}
+use Rattle.bsc_line_model.specs.Together.{IsQuiet, AllQuiet, OthersQuiet, AllInControlMode}
+use Rattle.bsc_line_model.specs.Together.{IsSelecting, IsPolling, IsInBidUp, IsPolledWith, InTask}
 use Rattle.bsc_line_model.specs.BidLaws.{BidLaws}
 use Rattle.bsc_line_model.proofs.Entries.{places, current_there}
 use Rattle.bsc_line_model.proofs.Stations.{same_or_not}
@@ -34,104 +41,169 @@ use Rattle.bsc_line_model.proofs.CallsHeard.{with_others}
 use Rattle.bsc_line_model.proofs.AnswersHeard.{StepsTo, next_made}
 
 -- a selection is called again, or given up after too many tries
-selects_again : (c : ControlValue) (ts : List TributaryValue) (s : ℕ) (enquired over : Bool) → AreStations c ts → c.task ≡ Selecting s enquired → IsSelecting None c ts s enquired →
-    StepsTo (if over then next_call_step c (Selection s) else record { control = record c { failures = c.failures + 1 }; sent = Some (repeated c s enquired) }) ts
+selects_again : (c : ControlValue) (ts : List TributaryValue) (s : ℕ) (enquired over : Bool)
+    → AreStations c ts → c.task ≡ Selecting s enquired → IsSelecting None c ts s enquired →
+    StepsTo (if over then next_call_step c (Selection s)
+    else record {
+      control = record c { failures = c.failures + 1 };
+      sent =
+          Some (repeated c s enquired);
+    }) ts
 selects_again c ts s enquired true stations is k = next_made c ts (Selection s) stations k.quiet
 selects_again c ts s true false stations is k =
-    subst (λ (t : Task). InTask t (Some (record { speaker = sp.Control; message = repeated c s true })) (record c { failures = c.failures + 1 }) ts) (sym is)
+    subst (λ (t : Task). InTask t (Some
+    (record { speaker = sp.Control; message = repeated c s true }))
+    (record c { failures = c.failures + 1 }) ts) (sym is)
     (record { quiet = k.quiet; with_pending = refl; fresh = k.fresh })
 selects_again c ts s false false stations is k =
-    subst (λ (t : Task). InTask t (Some (record { speaker = sp.Control; message = repeated c s false })) (record c { failures = c.failures + 1 }) ts) (sym is)
+    subst (λ (t : Task). InTask t (Some
+    (record { speaker = sp.Control; message = repeated c s false }))
+    (record c { failures = c.failures + 1 }) ts) (sym is)
     (record { quiet = k.quiet; with_pending = refl; fresh = k.fresh })
 
 -- a poll is called again, or given up
-polls_again : (c : ControlValue) (ts : List TributaryValue) (over : Bool) → AreStations c ts → AllQuiet c ts → StepsTo (if over then next_call_step c (Poll false) else poll_call_step c c.place (c.failures + 1)) ts
+polls_again : (c : ControlValue) (ts : List TributaryValue) (over : Bool) → AreStations c ts
+    → AllQuiet c ts
+    → StepsTo (if over then next_call_step c (Poll false) else poll_call_step c c.place
+    (c.failures + 1)) ts
 polls_again c ts true stations all = next_made c ts (Poll false) stations all
-polls_again c ts false stations all = polled_next c ts c.place (c.failures + 1) (current_there c (places c stations.control.entries)) stations.count all
+polls_again c ts false stations all =
+    polled_next c ts c.place (c.failures + 1) (current_there c (places c stations.control.entries))
+    stations.count all
 
 -- the control station acts on a silence where no terminal sends
-pub silent_control : (laws : BidLaws) (c d : ControlValue) (ts : List TributaryValue) (out : Option Message) → AreStations c ts → ((t : ℕ) → t < length ts → (terminal_in ts t).mode ≢ Sends) → InTask c.task None c ts → ControlActs c d out →
+pub silent_control : (laws : BidLaws) (c d : ControlValue) (ts : List TributaryValue)
+    (out : Option Message) → AreStations c ts
+    → ((t : ℕ) → t < length ts → (terminal_in ts t).mode ≢ Sends) → InTask c.task None c ts
+    → ControlActs c d out →
     InTask d.task (sent_by sp.Control out) d ts
 silent_control laws c d ts out stations nobody together row = by_task c.task refl together
   where
-    by_row : (task : Task) → c.task ≡ task → StepsTo (silence_in c task) ts → InTask d.task (sent_by sp.Control out) d ts
+    by_row : (task : Task) → c.task ≡ task → StepsTo (silence_in c task) ts
+        → InTask d.task (sent_by sp.Control out) d ts
     by_row task is steps =
-        let step : record { control = d; sent = out } ≡ silence_in c task = row ∙ ap (λ (k : Task). silence_in c k) is in
+        let step : record { control = d; sent = out } ≡ silence_in c task = row
+        ∙ ap (λ (k : Task). silence_in c k) is in
         subst (λ (o : ControlStep). StepsTo o ts) (sym step) steps
 
     all_quiet : (replied : Replied) → IsPolling None c ts replied → AllQuiet c ts
     all_quiet replied k =
         elim k.present [
           | inl q ↦ with_others c ts (current c) k.others q.0
-          | inr b ↦ absurd (nobody (current c) (subst (λ (n : ℕ). current c < n) stations.count (current_there c (places c stations.control.entries))) b.mode)
+          | inr b ↦ absurd (nobody (current c)
+              (subst (λ (n : ℕ). current c < n) stations.count
+              (current_there c (places c stations.control.entries))) b.mode)
         ]
 
-    by_task : (task : Task) → c.task ≡ task → InTask task None c ts → InTask d.task (sent_by sp.Control out) d ts
+    by_task : (task : Task) → c.task ≡ task → InTask task None c ts
+        → InTask d.task (sent_by sp.Control out) d ts
     by_task AtRest is k = by_row AtRest is (next_made c ts Start stations k.quiet)
-    by_task (Selecting s enquired) is k = by_row (Selecting s enquired) is (selects_again c ts s enquired (nat_lt c.setup.tries (c.failures + 1)) stations is k)
+    by_task (Selecting s enquired) is k =
+        by_row (Selecting s enquired) is (selects_again c ts s enquired
+        (nat_lt c.setup.tries (c.failures + 1)) stations is k)
     by_task (Sending s) is k = by_row (Sending s) is (times_out_down laws c ts s stations is k)
-    by_task (Polling Nothing) is k = by_row (Polling Nothing) is (polls_again c ts (nat_lt c.setup.tries (c.failures + 1)) stations (all_quiet Nothing k))
-    by_task (Polling WithoutRvi) is k = by_row (Polling WithoutRvi) is (next_made c ts (Poll false) stations (all_quiet WithoutRvi k))
-    by_task (Polling WithRvi) is k = by_row (Polling WithRvi) is (next_made c ts (Poll true) stations (all_quiet WithRvi k))
+    by_task (Polling Nothing) is k =
+        by_row (Polling Nothing) is (polls_again c ts (nat_lt c.setup.tries (c.failures + 1))
+        stations (all_quiet Nothing k))
+    by_task (Polling WithoutRvi) is k =
+        by_row (Polling WithoutRvi) is (next_made c ts (Poll false) stations
+        (all_quiet WithoutRvi k))
+    by_task (Polling WithRvi) is k =
+        by_row (Polling WithRvi) is (next_made c ts (Poll true) stations (all_quiet WithRvi k))
 
 -- the sending terminal acts on a silence: it is the polled one
-times_out_up : (laws : BidLaws) (c : ControlValue) (ts : List TributaryValue) (addressed : Option (ℕ × Way)) (u : TributaryValue) (out : Option Message) (replied : Replied) → current c < length ts → AreTuned addressed ts → OthersQuiet c ts (current c) →
-    IsInBidUp None (peer c) (current c) (terminal_in ts (current c)) → TerminalActs (terminal_in ts (current c)) u out → IsPolling (sent_by (sp.Terminal (current c)) out) c (slice_set ts (current c) u) replied
+times_out_up : (laws : BidLaws) (c : ControlValue) (ts : List TributaryValue)
+    (addressed : Option (ℕ × Way)) (u : TributaryValue) (out : Option Message) (replied : Replied)
+    → current c < length ts → AreTuned addressed ts → OthersQuiet c ts (current c) →
+    IsInBidUp None (peer c) (current c) (terminal_in ts (current c))
+    → TerminalActs (terminal_in ts (current c)) u out
+    → IsPolling (sent_by (sp.Terminal (current c)) out) c (slice_set ts (current c) u) replied
 times_out_up laws c ts addressed u out replied there tuned others b row =
     let e : ℕ = current c in
     let p : PeerValue = peer c in
     let x : TributaryValue = terminal_in ts e in
     let us : List TributaryValue = slice_set ts e u in
     let step : SenderStep = silence_step x.sender x.queue in
-    let bid : InBid x.sender.phase x.queue p.receiver.alternation p.receiver.last p.spool.records Still =
-    subst (λ (f : Flight). InBid x.sender.phase x.queue p.receiver.alternation p.receiver.last p.spool.records f) b.flies b.bid in
+    let bid : InBid x.sender.phase x.queue p.receiver.alternation p.receiver.last p.spool.records
+    Still =
+    subst (λ (f : Flight). InBid x.sender.phase x.queue p.receiver.alternation p.receiver.last
+    p.spool.records f) b.flies b.bid in
     let agrees : SenderAgrees x.queue p.receiver.alternation p.receiver.last p.spool.records step =
-    laws.silence x.sender x.queue p.receiver.alternation p.receiver.last p.spool.records (laws.continues x.sender.phase x.queue p.receiver.alternation p.receiver.last p.spool.records Still bid) in
-    let becomes : record { tributary = u; sent = out } ≡ act_step x step = row ∙ ap (λ (n : Mode). terminal_silence x n) b.mode in
+    laws.silence x.sender x.queue p.receiver.alternation p.receiver.last p.spool.records
+    (laws.continues x.sender.phase x.queue p.receiver.alternation p.receiver.last
+    p.spool.records Still bid) in
+    let becomes : record { tributary = u; sent = out } ≡ act_step x step = row
+    ∙ ap (λ (n : Mode). terminal_silence x n) b.mode in
     let acted : HasActedUp p e u out =
     subst (λ (o : TributaryStep). HasActedUp p e o.tributary o.sent) (sym becomes)
-    (acts_up laws p e x step step.act refl (record { down = b.down; continues = agrees.continues; ended = agrees.ended })
-    (λ quiet. inl (b.mode, keeps_going step.act x.sender.phase step.sender.phase (laws.fits.silence x.sender x.queue) quiet (going_in x.sender.phase x.queue p.receiver.alternation p.receiver.last p.spool.records Still bid)))) in
-    let is : addressed ≡ Some (e, FromTerminal) = subst (λ (n : Mode). IsTuned addressed e n) b.mode (tuned e there) in
+    (acts_up laws p e x step step.act refl
+    (record { down = b.down; continues = agrees.continues; ended = agrees.ended })
+    (λ quiet. inl (
+      b.mode,
+      keeps_going step.act x.sender.phase step.sender.phase
+          (laws.fits.silence x.sender x.queue) quiet
+          (going_in x.sender.phase x.queue p.receiver.alternation p.receiver.last p.spool.records
+          Still bid),
+    ))) in
+    let is : addressed ≡ Some (e, FromTerminal) =
+    subst (λ (n : Mode). IsTuned addressed e n) b.mode (tuned e there) in
     let this : terminal_in us e ≡ u = get_or-set_same ts e u no_terminal there in
     let modes : u.mode ≡ Control → AllInControlMode us = λ here t less.
     elim (same_or_not t e) [
       | inl same ↦ rw (same, this) here
       | inr differ ↦
           (let before : t < length ts = omega (arith, length-set ts e u) in
-          subst (λ (y : TributaryValue). y.mode ≡ Control) (sym (get_or-set_other ts e t u no_terminal differ)) (others_in_control addressed e t FromTerminal (terminal_in ts t).mode is differ (tuned t before)))
+          subst (λ (y : TributaryValue). y.mode ≡ Control)
+          (sym (get_or-set_other ts e t u no_terminal differ))
+          (others_in_control addressed e t FromTerminal (terminal_in ts t).mode is differ
+          (tuned t before)))
     ] in
     record {
       others = λ t less differ.
           let before : t < length ts = omega (arith, length-set ts e u) in
-          subst (λ (y : TributaryValue). IsQuiet (peer_at c t) y) (sym (get_or-set_other ts e t u no_terminal differ)) (others t before differ);
-      present = subst (λ (y : TributaryValue). (IsQuiet p y × IsPolledWith (sent_by (sp.Terminal e) out) replied p e us) ⊎ IsInBidUp (sent_by (sp.Terminal e) out) p e y) (sym this)
+          subst (λ (y : TributaryValue). IsQuiet (peer_at c t) y)
+          (sym (get_or-set_other ts e t u no_terminal differ)) (others t before differ);
+      present =
+          subst (λ (y : TributaryValue). (IsQuiet p y
+          × IsPolledWith (sent_by (sp.Terminal e) out) replied p e us)
+          ⊎ IsInBidUp (sent_by (sp.Terminal e) out) p e y) (sym this)
           (present_after p e u out replied us acted modes);
     }
 
-pub silent_terminal : (laws : BidLaws) (c : ControlValue) (ts : List TributaryValue) (addressed : Option (ℕ × Way)) (t : ℕ) (u : TributaryValue) (out : Option Message) → AreStations c ts → t < length ts → AreTuned addressed ts → (terminal_in ts t).mode ≡ Sends → InTask c.task None c ts → TerminalActs (terminal_in ts t) u out →
+pub silent_terminal : (laws : BidLaws) (c : ControlValue) (ts : List TributaryValue)
+    (addressed : Option (ℕ × Way)) (t : ℕ) (u : TributaryValue) (out : Option Message)
+    → AreStations c ts → t < length ts → AreTuned addressed ts → (terminal_in ts t).mode ≡ Sends
+    → InTask c.task None c ts → TerminalActs (terminal_in ts t) u out →
     InTask c.task (sent_by (sp.Terminal t) out) c (slice_set ts t u)
-silent_terminal laws c ts addressed t u out stations less tuned sends together row = by_task c.task together
+silent_terminal laws c ts addressed t u out stations less tuned sends together row =
+    by_task c.task together
   where
     there : current c < length ts
-    there = subst (λ (n : ℕ). current c < n) stations.count (current_there c (places c stations.control.entries))
+    there =
+        subst (λ (n : ℕ). current c < n) stations.count
+        (current_there c (places c stations.control.entries))
 
-    by_task : (task : Task) → InTask task None c ts → InTask task (sent_by (sp.Terminal t) out) c (slice_set ts t u)
+    by_task : (task : Task) → InTask task None c ts
+        → InTask task (sent_by (sp.Terminal t) out) c (slice_set ts t u)
     by_task AtRest k = absurd ((k.quiet t less).mode sends)
     by_task (Selecting s enquired) k = absurd ((k.quiet t less).mode sends)
     by_task (Sending s) k =
         elim (same_or_not t (current c)) [
-          | inl same ↦ (let both : Receiving s ≡ Sends = sym k.bid.mode ∙ ap (λ (n : ℕ). (terminal_in ts n).mode) (sym same) ∙ sends in absurd (cc))
+          | inl same ↦ (let both : Receiving s ≡ Sends = sym k.bid.mode
+              ∙ ap (λ (n : ℕ). (terminal_in ts n).mode) (sym same) ∙ sends in absurd (cc))
           | inr differ ↦ absurd ((k.others t less differ).mode sends)
         ]
     by_task (Polling replied) k =
         elim (same_or_not t (current c)) [
           | inl same ↦
               elim k.present [
-                | inl q ↦ absurd (q.0.mode (ap (λ (n : ℕ). (terminal_in ts n).mode) (sym same) ∙ sends))
+                | inl q ↦ absurd (q.0.mode (ap (λ (n : ℕ). (terminal_in ts n).mode) (sym same)
+                    ∙ sends))
                 | inr b ↦
-                    subst (λ (n : ℕ). IsPolling (sent_by (sp.Terminal n) out) c (slice_set ts n u) replied) (sym same)
-                    (times_out_up laws c ts addressed u out replied there tuned k.others b (subst (λ (n : ℕ). TerminalActs (terminal_in ts n) u out) same row))
+                    subst (λ (n : ℕ). IsPolling (sent_by (sp.Terminal n) out) c (slice_set ts n u)
+                    replied) (sym same)
+                    (times_out_up laws c ts addressed u out replied there tuned k.others b
+                    (subst (λ (n : ℕ). TerminalActs (terminal_in ts n) u out) same row))
               ]
           | inr differ ↦ absurd ((k.others t less differ).mode sends)
         ]

@@ -1,5 +1,7 @@
 -- The stations of a line stay its stations, whatever happens.
-use Rattle.std.proofs.Common.{◌≡◌, ◌≢◌, ◌⊎◌, inl, inr, ℕ, ◌<◌, Bool, List, length, Option, Some, get_or, slice_get, slice_set, refl, sym, ◌∙◌, ap, subst, arith, get_or-set_other, get_or-set_same, nat_eq, true, false}
+use Rattle.std.proofs.Common.{◌≡◌, ◌≢◌, ◌⊎◌, inl, inr, ℕ, ◌<◌, Bool, List, length, Option, Some}
+use Rattle.std.proofs.Common.{get_or, slice_get, slice_set, refl, sym, ◌∙◌, ap, subst, arith}
+use Rattle.std.proofs.Common.{get_or-set_other, get_or-set_same, nat_eq, true, false}
 use Rattle.std.proofs.lemmas.Bool.Decides.{nat_tests}
 use Rattle.std.proofs.lemmas.List.{get_or-map, length-map, length-set}
 use Rattle.std.proofs.lemmas.Option.{slice_get-get_or}
@@ -18,18 +20,26 @@ use Rattle.bsc_line_model.specs.Terminals.{EachHears, EachKeeps}
 use Rattle.bsc_line_model.specs.Kept.{IsMember, AreStations, IsTuned, AreTuned}
 
 -- the addresses of a peer are those of its terminal
-pub peer_terminal : (c : ControlValue) (t : ℕ) → t < length c.peers → get_or (terminals c) t no_peer.terminal ≡ (peer_at c t).terminal
-peer_terminal c t less = get_or-map (λ (p : PeerValue). p.terminal) c.peers t no_peer no_peer.terminal less
+pub peer_terminal : (c : ControlValue) (t : ℕ) → t < length c.peers
+    → get_or (terminals c) t no_peer.terminal ≡ (peer_at c t).terminal
+peer_terminal c t less =
+    get_or-map (λ (p : PeerValue). p.terminal) c.peers t no_peer no_peer.terminal less
 
 -- the addresses of a terminal stand in the control station's list
-pub terminal_there : (c : ControlValue) (ts : List TributaryValue) (t : ℕ) → AreStations c ts → t < length ts → slice_get (terminals c) t ≡ Some (terminal_in ts t).terminal
+pub terminal_there : (c : ControlValue) (ts : List TributaryValue) (t : ℕ) → AreStations c ts → t
+    < length ts → slice_get (terminals c) t ≡ Some (terminal_in ts t).terminal
 terminal_there c ts t s less =
     let before : t < length c.peers = omega (arith, s.count) in
-    let there : t < length (terminals c) = rw (length-map c.peers (λ (p : PeerValue). p.terminal)) before in
-    slice_get-get_or (terminals c) t no_peer.terminal there ∙ ap (λ (x : TerminalValue). Some x) (peer_terminal c t before ∙ sym (s.members t less).addresses)
+    let there : t < length (terminals c) =
+    rw (length-map c.peers (λ (p : PeerValue). p.terminal)) before in
+    slice_get-get_or (terminals c) t no_peer.terminal there
+    ∙ ap (λ (x : TerminalValue). Some x)
+    (peer_terminal c t before ∙ sym (s.members t less).addresses)
 
 -- the terminals have heard
-pub stations_down : (c : ControlValue) (ts : List TributaryValue) (hears : ℕ → Heard) (us : List TributaryValue) → AreStations c ts → EachHears ts hears us → EachKeeps ts hears us → AreStations c us
+pub stations_down : (c : ControlValue) (ts : List TributaryValue) (hears : ℕ → Heard)
+    (us : List TributaryValue) → AreStations c ts → EachHears ts hears us → EachKeeps ts hears us
+    → AreStations c us
 stations_down c ts hears us s e k =
     record {
       control = s.control;
@@ -38,11 +48,16 @@ stations_down c ts hears us s e k =
           let before : t < length ts = omega (arith, e.count) in
           let after : AfterHearing (terminal_in ts t) (hears t) (terminal_in us t) _ = k t before in
           let was : IsMember c t (terminal_in ts t) = s.members t before in
-          record { tributary = after.tributary; addresses = after.keeps.terminal ∙ was.addresses; setup = after.keeps.setup ∙ was.setup };
+          record {
+            tributary = after.tributary;
+            addresses = after.keeps.terminal ∙ was.addresses;
+            setup = after.keeps.setup ∙ was.setup;
+          };
     }
 
 -- the control station has heard, or acted
-pub stations_up : (c d : ControlValue) (ts : List TributaryValue) → AreStations c ts → IsControl d → ControlKeeps c d → AreStations d ts
+pub stations_up : (c d : ControlValue) (ts : List TributaryValue) → AreStations c ts → IsControl d
+    → ControlKeeps c d → AreStations d ts
 stations_up c d ts s is k =
     record {
       control = is;
@@ -52,8 +67,15 @@ stations_up c d ts s is k =
           let before : t < length c.peers = omega (arith, s.count) in
           let after : t < length d.peers = omega (arith, k.peers) in
           let same : (peer_at c t).terminal ≡ (peer_at d t).terminal =
-          sym (peer_terminal c t before) ∙ ap (λ (xs : List TerminalValue). get_or xs t no_peer.terminal) (sym k.terminals) ∙ peer_terminal d t after in
-          record { tributary = was.tributary; addresses = was.addresses ∙ same; setup = was.setup ∙ sym k.setup };
+          sym (peer_terminal c t before)
+          ∙ ap (λ (xs : List TerminalValue). get_or xs t no_peer.terminal) (sym k.terminals)
+          ∙ peer_terminal d t after in
+          record {
+            tributary = was.tributary;
+            addresses = was.addresses ∙ same;
+            setup = was.setup
+                ∙ sym k.setup;
+          };
     }
 
 -- two places are the same or not
@@ -65,35 +87,54 @@ same_or_not a b = by_test (nat_eq a b) refl
     by_test false is = inr (grind (arith, nat_tests))
 
 -- what holds of one terminal that changed, and of the others as they were
-pub one_changed : (P : ℕ → TributaryValue → Type 0) (ts : List TributaryValue) (e : ℕ) (u : TributaryValue) → e < length ts → P e u → ((t : ℕ) → t < length ts → P t (terminal_in ts t)) → (t : ℕ) → t < length (slice_set ts e u) → P t (terminal_in (slice_set ts e u) t)
+pub one_changed : (P : ℕ → TributaryValue → Type 0) (ts : List TributaryValue) (e : ℕ)
+    (u : TributaryValue) → e < length ts → P e u
+    → ((t : ℕ) → t < length ts → P t (terminal_in ts t)) → (t : ℕ) → t < length (slice_set ts e u)
+    → P t (terminal_in (slice_set ts e u) t)
 one_changed P ts e u there new others t less =
     elim (same_or_not t e) [
       | inl same ↦
           subst (λ (n : ℕ). P n (terminal_in (slice_set ts e u) n)) (sym same)
-          (subst (λ (x : TributaryValue). P e x) (sym (get_or-set_same ts e u no_terminal there)) new)
+          (subst (λ (x : TributaryValue). P e x) (sym (get_or-set_same ts e u no_terminal there))
+          new)
       | inr differ ↦
           (let before : t < length ts = omega (arith, length-set ts e u) in
-          subst (λ (x : TributaryValue). P t x) (sym (get_or-set_other ts e t u no_terminal differ)) (others t before))
+          subst (λ (x : TributaryValue). P t x) (sym (get_or-set_other ts e t u no_terminal differ))
+          (others t before))
     ]
 
 -- something changed at a terminal that keeps its addresses and settings
-pub stations_set : (c : ControlValue) (ts : List TributaryValue) (e : ℕ) (u : TributaryValue) → AreStations c ts → e < length ts → IsTributary u → u.terminal ≡ (terminal_in ts e).terminal → u.sender.setup ≡ (terminal_in ts e).sender.setup → AreStations c (slice_set ts e u)
+pub stations_set : (c : ControlValue) (ts : List TributaryValue) (e : ℕ) (u : TributaryValue)
+    → AreStations c ts → e < length ts → IsTributary u → u.terminal ≡ (terminal_in ts e).terminal
+    → u.sender.setup ≡ (terminal_in ts e).sender.setup → AreStations c (slice_set ts e u)
 stations_set c ts e u s there is terminal setup =
     let was : IsMember c e (terminal_in ts e) = s.members e there in
     record {
       control = s.control;
       count = s.count ∙ sym (length-set ts e u);
-      members = one_changed (IsMember c) ts e u there (record { tributary = is; addresses = terminal ∙ was.addresses; setup = setup ∙ was.setup }) s.members;
+      members =
+          one_changed (IsMember c) ts e u there
+          (record {
+            tributary = is;
+            addresses = terminal ∙ was.addresses;
+            setup = setup
+                ∙ was.setup;
+          }) s.members;
     }
 
-pub stations_at : (c : ControlValue) (ts : List TributaryValue) (e : ℕ) (u : TributaryValue) → AreStations c ts → e < length ts → IsTributary u → TerminalKeeps (terminal_in ts e) u → AreStations c (slice_set ts e u)
+pub stations_at : (c : ControlValue) (ts : List TributaryValue) (e : ℕ) (u : TributaryValue)
+    → AreStations c ts → e < length ts → IsTributary u → TerminalKeeps (terminal_in ts e) u
+    → AreStations c (slice_set ts e u)
 stations_at c ts e u s there is k = stations_set c ts e u s there is k.terminal k.setup
 
 -- after a silence its mode is control mode or as it was
-pub tuned_at : (addressed : Option (ℕ × Way)) (ts : List TributaryValue) (e : ℕ) (u : TributaryValue) → e < length ts → ((u.mode ≡ Control) ⊎ (u.mode ≡ (terminal_in ts e).mode)) → AreTuned addressed ts → AreTuned addressed (slice_set ts e u)
+pub tuned_at : (addressed : Option (ℕ × Way)) (ts : List TributaryValue) (e : ℕ)
+    (u : TributaryValue) → e < length ts → ((u.mode ≡ Control) ⊎ (u.mode ≡ (terminal_in ts e).mode))
+    → AreTuned addressed ts → AreTuned addressed (slice_set ts e u)
 tuned_at addressed ts e u there mode tuned =
     one_changed (λ t x. IsTuned addressed t x.mode) ts e u there (still_tuned mode) tuned
   where
-    still_tuned : ((u.mode ≡ Control) ⊎ (u.mode ≡ (terminal_in ts e).mode)) → IsTuned addressed e u.mode
+    still_tuned : ((u.mode ≡ Control) ⊎ (u.mode ≡ (terminal_in ts e).mode))
+        → IsTuned addressed e u.mode
     still_tuned (inl m) = subst (λ (n : Mode). IsTuned addressed e n) (sym m) tt
     still_tuned (inr m) = subst (λ (n : Mode). IsTuned addressed e n) (sym m) (tuned e there)

@@ -1,6 +1,8 @@
--- What the control station does in a poll where all is heard and no room is refused: each block is acknowledged, and
+-- What the control station does in a poll where all is heard and no room is refused: each block is
+-- acknowledged, and
 -- after EOT the next entry is called.
-use Rattle.std.proofs.Common.{◌≡◌, ℕ, ◌^◌, ◌-◌, ◌<◌, false, Bool, List, length, Option, Some, option_map, refl, sym, ◌∙◌, ap, subst, if◌then◌else◌, get_or-set_same}
+use Rattle.std.proofs.Common.{◌≡◌, ℕ, ◌^◌, ◌-◌, ◌<◌, false, Bool, List, length, Option, Some}
+use Rattle.std.proofs.Common.{option_map, refl, sym, ◌∙◌, ap, subst, if◌then◌else◌, get_or-set_same}
 use Rattle.bsc_frame.specs.declared.message.Message.{Message}
 use Rattle.bsc_frame.specs.declared.message.Message.TheVariants as m
 use Rattle.bsc_frame.specs.declared.message.Heard.{Heard}
@@ -18,9 +20,11 @@ use Rattle.bsc_control.specs.declared.task.Task.TheVariants.{Polling}
 use Rattle.bsc_control.specs.declared.way.Way.{Way}
 use Rattle.bsc_control.specs.declared.way.Way.TheVariants.{FromTerminal}
 use Rattle.bsc_control.specs.Peer.{PeerValue, OutboundValue, no_peer}
-use Rattle.bsc_control.specs.Control.{ControlValue, ControlStep, peer_at, peer, current, terminal_of_entry}
+use Rattle.bsc_control.specs.Control.{ControlValue, ControlStep, peer_at, peer, current}
+use Rattle.bsc_control.specs.Control.{terminal_of_entry}
 use Rattle.bsc_control.specs.CallOrder.{Poll, way_from, next_place}
-use Rattle.bsc_control.specs.Table.{Hears, task_step, receiving_step, make_call_step, next_call_step, replied_after, has_rvi, rooms_after}
+use Rattle.bsc_control.specs.Table.{Hears, task_step, receiving_step, make_call_step}
+use Rattle.bsc_control.specs.Table.{next_call_step, replied_after, has_rvi, rooms_after}
 use Rattle.bsc_line_model.proofs.Staying.{ControlStays, peer_written, call_stays}
 use Rattle.bsc_line_model.proofs.DownControl.{HasCalled, call_is, call_lists}
 use Rattle.bsc_line_model.proofs.DownTerminals.{calm, twice_other, taken_exact}
@@ -33,7 +37,8 @@ pub record IsPolled (c : ControlValue) (place : ℕ) : Type 0 where
   pub without_rvi : has_rvi replied ≡ false
 
 -- an acknowledgement is no RVI
-without : (r : Replied) (p : Alternation) → has_rvi r ≡ false → has_rvi (replied_after r (Some (ack p))) ≡ false
+without : (r : Replied) (p : Alternation) → has_rvi r ≡ false
+    → has_rvi (replied_after r (Some (ack p))) ≡ false
 without Nothing Even e = refl
 without Nothing Odd e = refl
 without WithoutRvi Even e = refl
@@ -41,30 +46,58 @@ without WithoutRvi Odd e = refl
 without WithRvi p e = absurd (cc)
 
 -- a block is taken
-pub takes_up : (c d : ControlValue) (sent : Option Message) (t : TextValue) (alternation : Alternation) (place : ℕ) → current c < length c.peers → IsPolled c place → (peer c).urgent ≡ false → (peer c).receiver.alternation ≡ other alternation →
-    (peer_at d (current c)).spool.delays ≡ (peer c).spool.delays → (peer c).spool.delays < 2 ^ 64 - 1 → Hears c (Whole (m.Text t)) d sent → (sent ≡ Some (message_of (ack alternation))) × IsPolled d place × ControlStays (current c) FromTerminal c d
+pub takes_up : (c d : ControlValue) (sent : Option Message) (t : TextValue)
+    (alternation : Alternation) (place : ℕ) → current c < length c.peers → IsPolled c place
+    → (peer c).urgent ≡ false → (peer c).receiver.alternation ≡ other alternation →
+    (peer_at d (current c)).spool.delays ≡ (peer c).spool.delays → (peer c).spool.delays < 2 ^ 64
+    - 1 → Hears c (Whole (m.Text t)) d sent → (sent ≡ Some (message_of (ack alternation)))
+    × IsPolled d place × ControlStays (current c) FromTerminal c d
 takes_up c d sent t alternation place there i not_urgent counted same less h =
     let e : ℕ = current c in
     let p : PeerValue = peer c in
     let w : Heard = Whole (m.Text t) in
     let rooms : Rooms = rooms_after c w d in
     let r : ReceiverStep = text_step p.receiver p.spool t false rooms in
-    let q : PeerValue = record p { receiver = r.receiver; spool = r.spool; urgent = if sends_rvi r.reply then false else p.urgent } in
+    let q : PeerValue =
+    record p {
+      receiver = r.receiver;
+      spool = r.spool;
+      urgent =
+          if sends_rvi r.reply then false else p.urgent;
+    } in
     let row : record { control = d; sent = sent } ≡ receiving_step c i.replied r =
-    h.row ∙ ap (λ (k : Task). task_step c k w rooms) i.task ∙ ap (λ (b : Bool). receiving_step c i.replied (text_step p.receiver p.spool t b rooms)) not_urgent in
-    let now : peer_at d e ≡ q = ap (λ (o : ControlStep). peer_at o.control e) row ∙ get_or-set_same c.peers e q no_peer there in
-    let delays : r.spool.delays ≡ p.spool.delays = ap (λ (z : PeerValue). z.spool.delays) (sym now) ∙ same in
-    let parity_is : other p.receiver.alternation ≡ alternation = ap other counted ∙ twice_other alternation in
-    let reply : r.reply ≡ Some (ack alternation) = taken_exact p.receiver p.spool t rooms.first rooms.after delays less ∙ ap (λ (z : Alternation). Some (ack z)) parity_is in (
-      ap (λ (o : ControlStep). o.sent) row ∙ ap (λ (z : Option Reply). option_map message_of z) reply,
+    h.row ∙ ap (λ (k : Task). task_step c k w rooms) i.task
+    ∙ ap (λ (b : Bool). receiving_step c i.replied (text_step p.receiver p.spool t b rooms))
+    not_urgent in
+    let now : peer_at d e ≡ q = ap (λ (o : ControlStep). peer_at o.control e) row
+    ∙ get_or-set_same c.peers e q no_peer there in
+    let delays : r.spool.delays ≡ p.spool.delays = ap (λ (z : PeerValue). z.spool.delays) (sym now)
+    ∙ same in
+    let parity_is : other p.receiver.alternation ≡ alternation = ap other counted
+    ∙ twice_other alternation in
+    let reply : r.reply ≡ Some (ack alternation) =
+    taken_exact p.receiver p.spool t rooms.first rooms.after delays less
+    ∙ ap (λ (z : Alternation). Some (ack z)) parity_is in (
+      ap (λ (o : ControlStep). o.sent) row
+          ∙ ap (λ (z : Option Reply). option_map message_of z) reply,
       record {
         place_is = ap (λ (o : ControlStep). o.control.place) row ∙ i.place_is;
         replied = replied_after i.replied (Some (ack alternation));
-        task = ap (λ (o : ControlStep). o.control.task) row ∙ ap (λ (z : Option Reply). Polling (replied_after i.replied z)) reply;
+        task = ap (λ (o : ControlStep). o.control.task) row
+            ∙ ap (λ (z : Option Reply). Polling (replied_after i.replied z)) reply;
         without_rvi = without i.replied alternation i.without_rvi;
       },
-      peer_written e FromTerminal c d e q there (record { terminal = refl; urgent = λ k. calm (sends_rvi r.reply) p.urgent k; count = refl; down = λ s k. refl; up = λ k. absurd (k refl refl) })
-          (ap (λ (o : ControlStep). o.control.peers) row) (ap (λ (o : ControlStep). o.control.poll_list) row),
+      peer_written e FromTerminal c d e q there
+          (record {
+            terminal = refl;
+            urgent = λ k. calm (sends_rvi r.reply) p.urgent k;
+            count =
+                refl;
+            down = λ s k. refl;
+            up = λ k. absurd (k refl refl);
+          })
+          (ap (λ (o : ControlStep). o.control.peers) row)
+          (ap (λ (o : ControlStep). o.control.poll_list) row),
     )
 
 -- the next entry is called, by the lists as they are
@@ -72,14 +105,28 @@ pub record CallsNext (c : ControlValue) (sent : Option Message) (place : ℕ) : 
   pub called : HasCalled c sent place (way_from (peer c) 0)
 
 -- EOT ends the poll
-pub polled_out : (c d : ControlValue) (sent : Option Message) (place : ℕ) → terminal_of_entry c (next_place c) < length c.peers → IsPolled c place → Hears c (Whole m.Eot) d sent → CallsNext d sent (next_place c) × ControlStays (current c) FromTerminal c d
+pub polled_out : (c d : ControlValue) (sent : Option Message) (place : ℕ)
+    → terminal_of_entry c (next_place c) < length c.peers → IsPolled c place
+    → Hears c (Whole m.Eot) d sent → CallsNext d sent (next_place c)
+    × ControlStays (current c) FromTerminal c d
 polled_out c d sent place there i h =
     let t : ℕ = terminal_of_entry c (next_place c) in
     let way : Way = way_from (peer_at c t) 0 in
     let r : ControlStep = make_call_step c (record { place = next_place c; way = way }) in
     let row : record { control = d; sent = sent } ≡ r =
-    h.row ∙ ap (λ (k : Task). task_step c k (Whole m.Eot) (rooms_after c (Whole m.Eot) d)) i.task ∙ ap (λ (b : Bool). next_call_step c (Poll b)) i.without_rvi in
-    let lists : (peer r.control).outbounds ≡ (peer_at c t).outbounds = call_lists c (next_place c) way there in
-    let way_now : way ≡ way_from (peer r.control) 0 = ap (λ (os : List OutboundValue). way_from (record (peer_at c t) { outbounds = os }) 0) (sym lists) in
-    subst (λ (z : ControlStep). CallsNext z.control z.sent (next_place c) × ControlStays (current c) FromTerminal c z.control) (sym row)
-    (record { called = subst (λ (w : Way). HasCalled r.control r.sent (next_place c) w) way_now (call_is c (next_place c) way there) }, call_stays (current c) FromTerminal c (next_place c) way there)
+    h.row ∙ ap (λ (k : Task). task_step c k (Whole m.Eot) (rooms_after c (Whole m.Eot) d)) i.task
+    ∙ ap (λ (b : Bool). next_call_step c (Poll b)) i.without_rvi in
+    let lists : (peer r.control).outbounds ≡ (peer_at c t).outbounds =
+    call_lists c (next_place c) way there in
+    let way_now : way ≡ way_from (peer r.control) 0 =
+    ap (λ (os : List OutboundValue). way_from (record (peer_at c t) { outbounds = os }) 0)
+    (sym lists) in
+    subst (λ (z : ControlStep). CallsNext z.control z.sent (next_place c)
+    × ControlStays (current c) FromTerminal c z.control) (sym row) (
+      record {
+        called =
+            subst (λ (w : Way). HasCalled r.control r.sent (next_place c) w) way_now
+            (call_is c (next_place c) way there);
+      },
+      call_stays (current c) FromTerminal c (next_place c) way there,
+    )

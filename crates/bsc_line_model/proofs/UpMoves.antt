@@ -1,6 +1,8 @@
--- A terminal's transmission is heard on a trusted line: records land on the addressed channel from the polled terminal, or
+-- A terminal's transmission is heard on a trusted line: records land on the addressed channel from
+-- the polled terminal, or
 -- the control station learns of the addressed channel; nothing else moves.
-use Rattle.std.proofs.Common.{◌≡◌, inl, inr, ℕ, ◌<◌, List, length, IsTrue, Option, Some, false, refl, sym, ◌∙◌, ap, subst, get_or-set_same, if◌then◌else◌}
+use Rattle.std.proofs.Common.{◌≡◌, inl, inr, ℕ, ◌<◌, List, length, IsTrue, Option, Some, false}
+use Rattle.std.proofs.Common.{refl, sym, ◌∙◌, ap, subst, get_or-set_same, if◌then◌else◌}
 use Rattle.bsc_frame.specs.declared.message.Message.{Message}
 use Rattle.bsc_frame.specs.declared.message.Message.TheVariants as m
 use Rattle.bsc_frame.specs.declared.message.Heard.{Heard}
@@ -29,7 +31,8 @@ use Rattle.bsc_control.specs.Kept.{outbound_of, Stores}
 use Rattle.bsc_control.specs.Table.{Hears, task_step, receiving_step, rooms_after}
 use Rattle.bsc_line_model.specs.declared.transmission.Speaker.TheVariants as sp
 use Rattle.bsc_line_model.specs.declared.transmission.Transmission.{Transmission}
-use Rattle.bsc_line_model.specs.Line.{LineValue, terminal_in, terminal_at, terminal_count, channel_of}
+use Rattle.bsc_line_model.specs.Line.{LineValue, terminal_in, terminal_at, terminal_count}
+use Rattle.bsc_line_model.specs.Line.{channel_of}
 use Rattle.bsc_line_model.specs.Carries.{IsCarriedUp}
 use Rattle.bsc_line_model.specs.Kept.{IsTuned, IsLine}
 use Rattle.bsc_line_model.specs.Together.{IsInBidDown, IsInBidUp, IsPolling, IsSending, InTask}
@@ -46,19 +49,29 @@ pub record HearsTerminal (old new : LineValue) (from : ℕ) (w : Message) (h : H
   pub carried : IsCarriedUp w h old new
   pub trusted : IsTrue new.trusted
 
-was_trusted : (old new : LineValue) (from : ℕ) (w : Message) (h : Heard) → HearsTerminal old new from w h → IsTrue old.trusted × IsFairlyHeard w h
+was_trusted : (old new : LineValue) (from : ℕ) (w : Message) (h : Heard)
+    → HearsTerminal old new from w h → IsTrue old.trusted × IsFairlyHeard w h
 was_trusted old new from w h k = k.carried.trusted.0 k.trusted
 
-together_with : (old new : LineValue) (from : ℕ) (w : Message) (h : Heard) → HearsTerminal old new from w h → InTask old.control.task (Some (record { speaker = sp.Terminal from; message = w })) old.control old.terminals
+together_with : (old new : LineValue) (from : ℕ) (w : Message) (h : Heard)
+    → HearsTerminal old new from w h
+    → InTask old.control.task (Some (record { speaker = sp.Terminal from; message = w }))
+    old.control old.terminals
 together_with old new from w h k =
-    subst (λ (o : Option Transmission). InTask old.control.task o old.control old.terminals) k.pending (k.line.together (was_trusted old new from w h k).0)
+    subst (λ (o : Option Transmission). InTask old.control.task o old.control old.terminals)
+    k.pending (k.line.together (was_trusted old new from w h k).0)
 
 present_there : (l : LineValue) → IsLine l → current l.control < terminal_count l
-present_there l is = subst (λ (n : ℕ). current l.control < n) is.stations.count (current_there l.control (places l.control is.stations.control.entries))
+present_there l is =
+    subst (λ (n : ℕ). current l.control < n) is.stations.count
+    (current_there l.control (places l.control is.stations.control.entries))
 
 -- a text in a poll is of the bid of the polled terminal
-bid_from : (c : ControlValue) (ts : List TributaryValue) (from : ℕ) (t : TextValue) (replied : Replied) → IsPolling (Some (record { speaker = sp.Terminal from; message = m.Text t })) c ts replied →
-    IsInBidUp (Some (record { speaker = sp.Terminal from; message = m.Text t })) (peer c) (current c) (terminal_in ts (current c))
+bid_from : (c : ControlValue) (ts : List TributaryValue) (from : ℕ) (t : TextValue)
+    (replied : Replied)
+    → IsPolling (Some (record { speaker = sp.Terminal from; message = m.Text t })) c ts replied →
+    IsInBidUp (Some (record { speaker = sp.Terminal from; message = m.Text t })) (peer c)
+    (current c) (terminal_in ts (current c))
 bid_from c ts from t replied k =
     elim k.present [
       | inl q ↦ (let no : m.Text t ≡ m.Eot = q.1.1 in absurd (cc))
@@ -66,27 +79,43 @@ bid_from c ts from t replied k =
     ]
 
 -- the spool that the text comes into
-spool_after : (c d : ControlValue) (t : TextValue) (out : Option Message) (replied : Replied) → Hears c (Whole (m.Text t)) d out → c.task ≡ Polling replied → current c < length c.peers →
-    (peer_at d (current c)).spool ≡ (heard_step (peer c).receiver (peer c).spool (Whole (m.Text t)) (peer c).urgent (rooms_after c (Whole (m.Text t)) d)).spool
+spool_after : (c d : ControlValue) (t : TextValue) (out : Option Message) (replied : Replied)
+    → Hears c (Whole (m.Text t)) d out → c.task ≡ Polling replied → current c < length c.peers →
+    (peer_at d (current c)).spool
+    ≡ (heard_step (peer c).receiver (peer c).spool (Whole (m.Text t)) (peer c).urgent
+    (rooms_after c (Whole (m.Text t)) d)).spool
 spool_after c d t out replied row task there =
     let p : PeerValue = peer c in
     let rooms : Rooms = rooms_after c (Whole (m.Text t)) d in
     let step : ReceiverStep = heard_step p.receiver p.spool (Whole (m.Text t)) p.urgent rooms in
-    let becomes : record { control = d; sent = out } ≡ receiving_step c replied step = row.row ∙ ap (λ (k : Task). task_step c k (Whole (m.Text t)) rooms) task in
+    let becomes : record { control = d; sent = out } ≡ receiving_step c replied step = row.row
+    ∙ ap (λ (k : Task). task_step c k (Whole (m.Text t)) rooms) task in
     ap (λ (o : ControlStep). (peer_at o.control (current c)).spool) becomes
-    ∙ ap (λ (q : PeerValue). q.spool) (get_or-set_same c.peers (current c) (record p { receiver = step.receiver; spool = step.spool; urgent = if sends_rvi step.reply then false else p.urgent }) no_peer there)
+    ∙ ap (λ (q : PeerValue). q.spool) (get_or-set_same c.peers (current c)
+    (record p {
+      receiver = step.receiver;
+      spool = step.spool;
+      urgent =
+          if sends_rvi step.reply then false else p.urgent;
+    }) no_peer there)
 
 -- the channel from a terminal
-moves_from : (laws : BidLaws) (old new : LineValue) (from : ℕ) (w : Message) (h : Heard) (t : ℕ) → HearsTerminal old new from w h →
-    MovesIfAddressed old.addressed t FromTerminal (channel (terminal_at old t).queue (peer_at old.control t).spool.records) (channel (terminal_at old t).queue (peer_at new.control t).spool.records)
+moves_from : (laws : BidLaws) (old new : LineValue) (from : ℕ) (w : Message) (h : Heard) (t : ℕ)
+    → HearsTerminal old new from w h →
+    MovesIfAddressed old.addressed t FromTerminal
+    (channel (terminal_at old t).queue (peer_at old.control t).spool.records)
+    (channel (terminal_at old t).queue (peer_at new.control t).spool.records)
 moves_from laws old new from w h t k =
     elim (k.carried.kept.spools t) [
       | inl same ↦ inl (ap (λ (rs : List (List ℕ)). channel (terminal_at old t).queue rs) same)
       | inr stores ↦ landed stores
     ]
   where
-    landed : Stores old.control h t (peer_at old.control t).spool.records (peer_at new.control t).spool.records →
-        MovesIfAddressed old.addressed t FromTerminal (channel (terminal_at old t).queue (peer_at old.control t).spool.records) (channel (terminal_at old t).queue (peer_at new.control t).spool.records)
+    landed : Stores old.control h t (peer_at old.control t).spool.records
+        (peer_at new.control t).spool.records →
+        MovesIfAddressed old.addressed t FromTerminal
+        (channel (terminal_at old t).queue (peer_at old.control t).spool.records)
+        (channel (terminal_at old t).queue (peer_at new.control t).spool.records)
     landed l =
         let c : ControlValue = old.control in
         let d : ControlValue = new.control in
@@ -95,35 +124,67 @@ moves_from laws old new from w h t k =
         let x : TributaryValue = terminal_at old e in
         let was : IsTrue old.trusted × IsFairlyHeard w h = was_trusted old new from w h k in
         let text : w ≡ m.Text l.text = text_sent w h l.text l.heard was.1 in
-        let polling : IsPolling (Some (record { speaker = sp.Terminal from; message = m.Text l.text })) c old.terminals l.replied =
-        subst (λ (v : Message). IsPolling (Some (record { speaker = sp.Terminal from; message = v })) c old.terminals l.replied) text
-        (subst (λ (z : Task). InTask z (Some (record { speaker = sp.Terminal from; message = w })) c old.terminals) l.polling (together_with old new from w h k)) in
-        let b : IsInBidUp (Some (record { speaker = sp.Terminal from; message = m.Text l.text })) p e x = bid_from c old.terminals from l.text l.replied polling in
-        let bid : InBid x.sender.phase x.queue p.receiver.alternation p.receiver.last p.spool.records (Outward (m.Text l.text)) =
-        subst (λ (f : Flight). InBid x.sender.phase x.queue p.receiver.alternation p.receiver.last p.spool.records f) b.flies.1 b.bid in
+        let polling : IsPolling
+        (Some (record { speaker = sp.Terminal from; message = m.Text l.text })) c old.terminals
+        l.replied =
+        subst (λ (v : Message). IsPolling
+        (Some (record { speaker = sp.Terminal from; message = v })) c old.terminals l.replied)
+        text
+        (subst (λ (z : Task). InTask z (Some (record { speaker = sp.Terminal from; message = w })) c
+        old.terminals) l.polling (together_with old new from w h k)) in
+        let b : IsInBidUp (Some (record { speaker = sp.Terminal from; message = m.Text l.text })) p
+        e x = bid_from c old.terminals from l.text l.replied polling in
+        let bid : InBid x.sender.phase x.queue p.receiver.alternation p.receiver.last
+        p.spool.records (Outward (m.Text l.text)) =
+        subst (λ (f : Flight). InBid x.sender.phase x.queue p.receiver.alternation p.receiver.last
+        p.spool.records f) b.flies.1 b.bid in
         let rooms : Rooms = rooms_after c (Whole (m.Text l.text)) d in
-        let step : ReceiverStep = heard_step p.receiver p.spool (Whole (m.Text l.text)) p.urgent rooms in
-        let agrees : ReceiverAgrees x.sender.phase x.queue p.spool.records step = laws.hearing x.sender.phase x.queue p.receiver p.spool (m.Text l.text) (Some (Whole (m.Text l.text))) p.urgent rooms bid (inl refl) in
-        let row : Hears c (Whole (m.Text l.text)) d k.carried.sent = subst (λ (g : Heard). Hears c g d k.carried.sent) l.heard k.carried.control in
-        let there : e < length c.peers = current_there c (places c k.line.stations.control.entries) in
-        let stored : (peer_at d e).spool ≡ step.spool = spool_after c d l.text k.carried.sent l.replied row l.polling there in
-        let moves : MovesAtReceiver x.sender.phase (channel x.queue p.spool.records) (channel x.queue (peer_at d e).spool.records) =
-        subst (λ (z : SpoolValue). MovesAtReceiver x.sender.phase (channel x.queue p.spool.records) (channel x.queue z.records)) (sym stored) agrees.moves in
-        let is : old.addressed ≡ Some (e, FromTerminal) = subst (λ (n : Mode). IsTuned old.addressed e n) b.mode (k.line.tuned was.0 e (present_there old k.line)) in
-        subst (λ (n : ℕ). MovesIfAddressed old.addressed n FromTerminal (channel (terminal_at old n).queue (peer_at c n).spool.records) (channel (terminal_at old n).queue (peer_at d n).spool.records)) (sym l.polled)
-        (if_lands x.sender.phase old.addressed e FromTerminal (channel x.queue p.spool.records) (channel x.queue (peer_at d e).spool.records) is moves)
+        let step : ReceiverStep =
+        heard_step p.receiver p.spool (Whole (m.Text l.text)) p.urgent rooms in
+        let agrees : ReceiverAgrees x.sender.phase x.queue p.spool.records step =
+        laws.hearing x.sender.phase x.queue p.receiver p.spool (m.Text l.text)
+        (Some (Whole (m.Text l.text))) p.urgent rooms bid (inl refl) in
+        let row : Hears c (Whole (m.Text l.text)) d k.carried.sent =
+        subst (λ (g : Heard). Hears c g d k.carried.sent) l.heard k.carried.control in
+        let there : e < length c.peers =
+        current_there c (places c k.line.stations.control.entries) in
+        let stored : (peer_at d e).spool ≡ step.spool =
+        spool_after c d l.text k.carried.sent l.replied row l.polling there in
+        let moves : MovesAtReceiver x.sender.phase (channel x.queue p.spool.records)
+        (channel x.queue (peer_at d e).spool.records) =
+        subst (λ (z : SpoolValue). MovesAtReceiver x.sender.phase (channel x.queue p.spool.records)
+        (channel x.queue z.records)) (sym stored) agrees.moves in
+        let is : old.addressed ≡ Some (e, FromTerminal) =
+        subst (λ (n : Mode). IsTuned old.addressed e n) b.mode
+        (k.line.tuned was.0 e (present_there old k.line)) in
+        subst (λ (n : ℕ). MovesIfAddressed old.addressed n FromTerminal
+        (channel (terminal_at old n).queue (peer_at c n).spool.records)
+        (channel (terminal_at old n).queue (peer_at d n).spool.records)) (sym l.polled)
+        (if_lands x.sender.phase old.addressed e FromTerminal (channel x.queue p.spool.records)
+        (channel x.queue (peer_at d e).spool.records) is moves)
 
 -- the channel to a selection address
-moves_to : (laws : BidLaws) (old new : LineValue) (from : ℕ) (w : Message) (h : Heard) (t s : ℕ) → HearsTerminal old new from w h →
-    MovesIfAddressed old.addressed t (ToTerminal s) (channel (outbound_of old.control t s).queue (spool_at (terminal_at old t).spools s).records) (channel (outbound_of new.control t s).queue (spool_at (terminal_at old t).spools s).records)
+moves_to : (laws : BidLaws) (old new : LineValue) (from : ℕ) (w : Message) (h : Heard) (t s : ℕ)
+    → HearsTerminal old new from w h →
+    MovesIfAddressed old.addressed t (ToTerminal s)
+    (channel (outbound_of old.control t s).queue
+    (spool_at (terminal_at old t).spools s).records)
+    (channel (outbound_of new.control t s).queue
+    (spool_at (terminal_at old t).spools s).records)
 moves_to laws old new from w h t s k =
-    elim (outbound_queue old.control new.control h k.carried.sent t s k.line.stations.control k.carried.control) [
-      | inl same ↦ inl (ap (λ (q : QueueValue). channel q (spool_at (terminal_at old t).spools s).records) same)
+    elim (outbound_queue old.control new.control h k.carried.sent t s k.line.stations.control
+    k.carried.control) [
+      | inl same ↦ inl
+          (ap (λ (q : QueueValue). channel q (spool_at (terminal_at old t).spools s).records) same)
       | inr learns ↦ learnt learns
     ]
   where
     learnt : LearnsDown old.control h new.control t s →
-        MovesIfAddressed old.addressed t (ToTerminal s) (channel (outbound_of old.control t s).queue (spool_at (terminal_at old t).spools s).records) (channel (outbound_of new.control t s).queue (spool_at (terminal_at old t).spools s).records)
+        MovesIfAddressed old.addressed t (ToTerminal s)
+        (channel (outbound_of old.control t s).queue
+        (spool_at (terminal_at old t).spools s).records)
+        (channel (outbound_of new.control t s).queue
+        (spool_at (terminal_at old t).spools s).records)
     learnt l =
         let c : ControlValue = old.control in
         let d : ControlValue = new.control in
@@ -132,27 +193,50 @@ moves_to laws old new from w h t s k =
         let o : OutboundValue = outbound_at (peer c) s in
         let spooled : List (List ℕ) = (spool_at x.spools s).records in
         let was : IsTrue old.trusted × IsFairlyHeard w h = was_trusted old new from w h k in
-        let sending : IsSending (Some (record { speaker = sp.Terminal from; message = w })) c old.terminals s =
-        subst (λ (z : Task). InTask z (Some (record { speaker = sp.Terminal from; message = w })) c old.terminals) l.task (together_with old new from w h k) in
-        let b : IsInBidDown (Some (record { speaker = sp.Terminal from; message = w })) (peer c) e s x = sending.bid in
+        let sending : IsSending (Some (record { speaker = sp.Terminal from; message = w })) c
+        old.terminals s =
+        subst (λ (z : Task). InTask z (Some (record { speaker = sp.Terminal from; message = w })) c
+        old.terminals) l.task (together_with old new from w h k) in
+        let b : IsInBidDown (Some (record { speaker = sp.Terminal from; message = w })) (peer c) e s
+        x = sending.bid in
         let r : Reply = b.flies.1.0 in
-        let bid : InBid o.sender.phase o.queue x.receiver.alternation x.receiver.last spooled (Back r) =
-        subst (λ (f : Flight). InBid o.sender.phase o.queue x.receiver.alternation x.receiver.last spooled f) b.flies.1.2 b.bid in
-        let fair : IsFairlyHeard (message_of r) h = subst (λ (v : Message). IsFairlyHeard v h) b.flies.1.1 was.1 in
+        let bid : InBid o.sender.phase o.queue x.receiver.alternation x.receiver.last spooled
+        (Back r) =
+        subst (λ (f : Flight). InBid o.sender.phase o.queue x.receiver.alternation x.receiver.last
+        spooled f) b.flies.1.2 b.bid in
+        let fair : IsFairlyHeard (message_of r) h =
+        subst (λ (v : Message). IsFairlyHeard v h) b.flies.1.1 was.1 in
         let step : SenderStep = reply_step o.sender o.queue (reply_heard h) in
-        let agrees : SenderAgrees o.queue x.receiver.alternation x.receiver.last spooled step = laws.answering o.sender o.queue x.receiver.alternation x.receiver.last spooled (Some r) (Some h) bid fair in
-        let left : (outbound_of d e s).queue ≡ step.queue = ap (λ (n : ℕ). (outbound_of d n s).queue) (sym l.terminal) ∙ l.queue in
-        let moves : MovesAtSender (channel o.queue spooled) (channel (outbound_of d e s).queue spooled) =
-        subst (λ (q : QueueValue). MovesAtSender (channel o.queue spooled) (channel q spooled)) (sym left) agrees.moves in
-        let is : old.addressed ≡ Some (e, ToTerminal s) = subst (λ (n : Mode). IsTuned old.addressed e n) b.mode (k.line.tuned was.0 e (present_there old k.line)) in
-        subst (λ (n : ℕ). MovesIfAddressed old.addressed n (ToTerminal s) (channel (outbound_of c n s).queue (spool_at (terminal_at old n).spools s).records) (channel (outbound_of d n s).queue (spool_at (terminal_at old n).spools s).records)) (sym l.terminal)
-        (if_learns old.addressed e (ToTerminal s) (channel o.queue spooled) (channel (outbound_of d e s).queue spooled) is moves)
+        let agrees : SenderAgrees o.queue x.receiver.alternation x.receiver.last spooled step =
+        laws.answering o.sender o.queue x.receiver.alternation x.receiver.last spooled (Some r)
+        (Some h) bid fair in
+        let left : (outbound_of d e s).queue ≡ step.queue =
+        ap (λ (n : ℕ). (outbound_of d n s).queue) (sym l.terminal) ∙ l.queue in
+        let moves : MovesAtSender (channel o.queue spooled)
+        (channel (outbound_of d e s).queue spooled) =
+        subst (λ (q : QueueValue). MovesAtSender (channel o.queue spooled) (channel q spooled))
+        (sym left) agrees.moves in
+        let is : old.addressed ≡ Some (e, ToTerminal s) =
+        subst (λ (n : Mode). IsTuned old.addressed e n) b.mode
+        (k.line.tuned was.0 e (present_there old k.line)) in
+        subst (λ (n : ℕ). MovesIfAddressed old.addressed n (ToTerminal s)
+        (channel (outbound_of c n s).queue (spool_at (terminal_at old n).spools s).records)
+        (channel (outbound_of d n s).queue (spool_at (terminal_at old n).spools s).records))
+        (sym l.terminal)
+        (if_learns old.addressed e (ToTerminal s) (channel o.queue spooled)
+        (channel (outbound_of d e s).queue spooled) is moves)
 
 -- each channel
-pub up_moves : (laws : BidLaws) (old new : LineValue) (from : ℕ) (w : Message) (h : Heard) → HearsTerminal old new from w h → EachMoves old.addressed old new
+pub up_moves : (laws : BidLaws) (old new : LineValue) (from : ℕ) (w : Message) (h : Heard)
+    → HearsTerminal old new from w h → EachMoves old.addressed old new
 up_moves laws old new from w h k t FromTerminal is =
-    subst (λ (ts : List TributaryValue). MovesIfAddressed old.addressed t FromTerminal (channel_of old t FromTerminal) (channel (terminal_in ts t).queue (peer_at new.control t).spool.records)) (sym k.carried.terminals)
+    subst (λ (ts : List TributaryValue). MovesIfAddressed old.addressed t FromTerminal
+    (channel_of old t FromTerminal) (channel (terminal_in ts t).queue
+    (peer_at new.control t).spool.records)) (sym k.carried.terminals)
     (moves_from laws old new from w h t k)
 up_moves laws old new from w h k t (ToTerminal s) is =
-    subst (λ (ts : List TributaryValue). MovesIfAddressed old.addressed t (ToTerminal s) (channel_of old t (ToTerminal s)) (channel (outbound_of new.control t s).queue (spool_at (terminal_in ts t).spools s).records)) (sym k.carried.terminals)
+    subst (λ (ts : List TributaryValue). MovesIfAddressed old.addressed t (ToTerminal s)
+    (channel_of old t (ToTerminal s))
+    (channel (outbound_of new.control t s).queue
+    (spool_at (terminal_in ts t).spools s).records)) (sym k.carried.terminals)
     (moves_to laws old new from w h t s k)

@@ -1,5 +1,6 @@
 -- The number of a visit, and of a visit of a terminal for which nothing waits any more.
-use Rattle.std.proofs.Common.{◌≡◌, ℕ, zero, suc, ◌+◌, ◌<◌, ◌≤◌, List, ◌∷◌, length, drop, sum_by, slice_get, Some, refl, sym, ◌∙◌, ap, subst, arith}
+use Rattle.std.proofs.Common.{◌≡◌, ℕ, zero, suc, ◌+◌, ◌<◌, ◌≤◌, List, ◌∷◌, length, drop, sum_by}
+use Rattle.std.proofs.Common.{slice_get, Some, refl, sym, ◌∙◌, ap, subst, arith}
 use Rattle.std.proofs.Math.Seq.{drop-cons}
 use Rattle.std.proofs.lemmas.List.{drop_all}
 use Rattle.std.proofs.lemmas.List.Sums.{sum_by-cons}
@@ -14,7 +15,8 @@ use Rattle.bsc_control.specs.Control.{peer_at, peer, current, terminals}
 use Rattle.bsc_control.specs.Table.{select_address}
 use Rattle.bsc_line_model.specs.declared.transmission.Speaker.TheVariants as sp
 use Rattle.bsc_line_model.specs.Line.{LineValue, terminal_at}
-use Rattle.bsc_line_model.specs.Rounds.{block_count, selection_length, poll_length, visit_length, HasMadeCall}
+use Rattle.bsc_line_model.specs.Rounds.{block_count, selection_length, poll_length, visit_length}
+use Rattle.bsc_line_model.specs.Rounds.{HasMadeCall}
 use Rattle.bsc_line_model.proofs.Stations.{terminal_there}
 use Rattle.bsc_line_model.proofs.DownControl.{address_at}
 use Rattle.bsc_line_model.proofs.DownSteps.{terminal_here}
@@ -25,45 +27,77 @@ use Rattle.bsc_line_model.proofs.Visits.{selections_length}
 abbrev length_of : OutboundValue → ℕ
 length_of o = selection_length (block_count o.queue)
 
-sum_from : (p : PeerValue) (from k : ℕ) → from + k ≡ length p.outbounds → sum_by length_of (drop from p.outbounds) ≡ selections_length p from k
+sum_from : (p : PeerValue) (from k : ℕ) → from + k ≡ length p.outbounds
+    → sum_by length_of (drop from p.outbounds) ≡ selections_length p from k
 sum_from p from zero is =
-    ap (λ (os : List OutboundValue). sum_by length_of os) (drop_all from p.outbounds (omega (arith, is)))
+    ap (λ (os : List OutboundValue). sum_by length_of os)
+    (drop_all from p.outbounds (omega (arith, is)))
 sum_from p from (suc k) is =
     let inside : from < length p.outbounds = omega (arith, is) in
-    let first : drop from p.outbounds ≡ outbound_at p from ∷ drop (suc from) p.outbounds = drop-cons p.outbounds from no_outbound inside in
+    let first : drop from p.outbounds ≡ outbound_at p from ∷ drop (suc from) p.outbounds =
+    drop-cons p.outbounds from no_outbound inside in
     let next : suc from ≡ from + 1 = omega arith in
-    let rest : sum_by length_of (drop (suc from) p.outbounds) ≡ selections_length p (from + 1) k = ap (λ (j : ℕ). sum_by length_of (drop j p.outbounds)) next ∙ sum_from p (from + 1) k (omega (arith, is)) in
-    ap (λ (os : List OutboundValue). sum_by length_of os) first ∙ sum_by-cons length_of (outbound_at p from) (drop (suc from) p.outbounds) ∙ ap (λ (j : ℕ). length_of (outbound_at p from) + j) rest
+    let rest : sum_by length_of (drop (suc from) p.outbounds) ≡ selections_length p (from + 1) k =
+    ap (λ (j : ℕ). sum_by length_of (drop j p.outbounds)) next
+    ∙ sum_from p (from + 1) k (omega (arith, is)) in
+    ap (λ (os : List OutboundValue). sum_by length_of os) first
+    ∙ sum_by-cons length_of (outbound_at p from) (drop (suc from) p.outbounds)
+    ∙ ap (λ (j : ℕ). length_of (outbound_at p from) + j) rest
 
 -- the number is that of the visit
-pub visit_is : (l : LineValue) (t : ℕ) → visit_length l t ≡ selections_length (peer_at l.control t) 0 (length (peer_at l.control t).outbounds) + poll_length (block_count (terminal_at l t).queue)
-visit_is l t = ap (λ (n : ℕ). n + poll_length (block_count (terminal_at l t).queue)) (sum_from (peer_at l.control t) 0 (length (peer_at l.control t).outbounds) (omega arith))
+pub visit_is : (l : LineValue) (t : ℕ) → visit_length l t
+    ≡ selections_length (peer_at l.control t) 0 (length (peer_at l.control t).outbounds)
+    + poll_length (block_count (terminal_at l t).queue)
+visit_is l t =
+    ap (λ (n : ℕ). n + poll_length (block_count (terminal_at l t).queue))
+    (sum_from (peer_at l.control t) 0 (length (peer_at l.control t).outbounds) (omega arith))
 
 -- where nothing waits no address is called
-pub no_selections : (p : PeerValue) (from k : ℕ) → from + k ≤ length p.outbounds → ((s : ℕ) → s < length p.outbounds → block_count (outbound_at p s).queue ≡ 0) → selections_length p from k ≡ 0
+pub no_selections : (p : PeerValue) (from k : ℕ) → from + k ≤ length p.outbounds
+    → ((s : ℕ) → s < length p.outbounds → block_count (outbound_at p s).queue ≡ 0)
+    → selections_length p from k ≡ 0
 no_selections p from zero within none = refl
 no_selections p from (suc k) within none =
-    rw (none from (omega (arith, within)), no_selections p (from + 1) k (omega (arith, within)) none) refl
+    rw (
+      none from (omega (arith, within)),
+      no_selections p (from + 1) k (omega (arith, within)) none,
+    ) refl
 
 -- the first call of an entry, as it is pending
 some_same : (a b : List ℕ) → Some a ≡ Some b → a ≡ b
 some_same a b e = cc
 
-address_is : (x : TerminalValue) (way : Way) (a : List ℕ) → address_for x way ≡ Some a → ((s : ℕ) → way ≡ ToTerminal s → s < length x.selects) → a ≡ address_at x way
+address_is : (x : TerminalValue) (way : Way) (a : List ℕ) → address_for x way ≡ Some a
+    → ((s : ℕ) → way ≡ ToTerminal s → s < length x.selects) → a ≡ address_at x way
 address_is x FromTerminal a e within = some_same a x.poll (sym e)
-address_is x (ToTerminal s) a e within = some_same a (select_address x s) (sym e ∙ slice_get-get_or x.selects s x.poll (within s refl))
+address_is x (ToTerminal s) a e within =
+    some_same a (select_address x s) (sym e ∙ slice_get-get_or x.selects s x.poll (within s refl))
 
 -- a visit of an entry begins: its first call is pending
-pub begins : (l : LineValue) (place : ℕ) (address : List ℕ) (way : Way) → IsGood l → HasMadeCall l.control (record { place = place; way = way }) address → l.pending ≡ Some (record { speaker = sp.Control; message = m.Call address }) →
-    ((s : ℕ) → way ≡ ToTerminal s → s < length (peer l.control).terminal.selects) → Calls l place way
+pub begins : (l : LineValue) (place : ℕ) (address : List ℕ) (way : Way) → IsGood l
+    → HasMadeCall l.control (record { place = place; way = way }) address → l.pending
+    ≡ Some (record { speaker = sp.Control; message = m.Call address }) →
+    ((s : ℕ) → way ≡ ToTerminal s → s < length (peer l.control).terminal.selects)
+    → Calls l place way
 begins l place address way g h is within =
     let e : ℕ = current l.control in
-    let there : slice_get (terminals l.control) e ≡ Some (terminal_at l e).terminal = terminal_there l.control l.terminals e g.line.stations (terminal_here l g) in
-    let both : Some h.called.terminal ≡ Some (peer l.control).terminal = sym h.called.there ∙ there ∙ ap (λ (x : TerminalValue). Some x) (g.line.stations.members e (terminal_here l g)).addresses in
+    let there : slice_get (terminals l.control) e ≡ Some (terminal_at l e).terminal =
+    terminal_there l.control l.terminals e g.line.stations (terminal_here l g) in
+    let both : Some h.called.terminal ≡ Some (peer l.control).terminal = sym h.called.there ∙ there
+    ∙ ap (λ (x : TerminalValue). Some x)
+    (g.line.stations.members e (terminal_here l g)).addresses in
     let same : h.called.terminal ≡ (peer l.control).terminal = cc in
-    let own : address_for (peer l.control).terminal way ≡ Some address = subst (λ (x : TerminalValue). address_for x way ≡ Some address) same h.called.its_own in
+    let own : address_for (peer l.control).terminal way ≡ Some address =
+    subst (λ (x : TerminalValue). address_for x way ≡ Some address) same h.called.its_own in
     record {
       sent = Some (m.Call address);
       pending = is;
-      called = record { place_is = h.place; task = h.task; call = ap (λ (a : List ℕ). Some (m.Call a)) (address_is (peer l.control).terminal way address own within) };
+      called =
+          record {
+            place_is = h.place;
+            task = h.task;
+            call =
+                ap (λ (a : List ℕ). Some (m.Call a))
+                (address_is (peer l.control).terminal way address own within);
+          };
     }

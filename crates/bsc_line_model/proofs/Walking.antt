@@ -1,5 +1,6 @@
 -- A walk: transmissions in a row that are each heard as they were sent, and no room is refused.
-use Rattle.std.proofs.Common.{◌≡◌, ◌⊎◌, inl, inr, ℕ, zero, suc, ◌+◌, IsTrue, None, Some, Result, Ok, Err, sym, ◌∙◌, subst}
+use Rattle.std.proofs.Common.{◌≡◌, ◌⊎◌, inl, inr, ℕ, zero, suc, ◌+◌, IsTrue, None, Some, Result, Ok}
+use Rattle.std.proofs.Common.{Err, sym, ◌∙◌, subst}
 use Rattle.bsc_frame.specs.declared.message.Heard.TheVariants.{Whole}
 use Rattle.bsc_line_model.specs.declared.transmission.Transmission.{Transmission}
 use Rattle.bsc_line_model.specs.declared.error.LineError.{LineError}
@@ -35,11 +36,14 @@ abbrev pub Walks : ℕ → ℕ → LineValue → Result (Unit {0}) Stopped → L
 Walks at zero old (Ok done) new = new ≡ old
 Walks at zero old (Err e) new = ⊥
 Walks at (suc n) old (Ok done) new = Goes old (λ mid. Walks (at + 1) n mid (Ok done) new)
-Walks at (suc n) old (Err e) new = Halts at old e new ⊎ Goes old (λ mid. Walks (at + 1) n mid (Err e) new)
+Walks at (suc n) old (Err e) new = Halts at old e new
+    ⊎ Goes old (λ mid. Walks (at + 1) n mid (Err e) new)
 
 -- what is pending is not refused
-never_refused : (old new : LineValue) (why : LineError) (s : Transmission) → old.pending ≡ Some s → Carries (λ (sent : Transmission). Whole sent.message) old (Err why) new → ⊥
-never_refused old new e.NothingSent s is h = let none : old.pending ≡ None = h.0 in let both : Some s ≡ None = sym is ∙ none in cc
+never_refused : (old new : LineValue) (why : LineError) (s : Transmission) → old.pending ≡ Some s
+    → Carries (λ (sent : Transmission). Whole sent.message) old (Err why) new → ⊥
+never_refused old new e.NothingSent s is h = let none : old.pending ≡ None = h.0 in
+    let both : Some s ≡ None = sym is ∙ none in cc
 never_refused old new e.NotControl s is h = h
 never_refused old new e.WrongCount s is h = h
 never_refused old new e.Pending s is h = h
@@ -58,17 +62,31 @@ pub record Stepped (s : Transmission) (old : LineValue) (Rest : LineValue → Ty
   pub good : IsGood mid
   pub rest : Rest mid
 
-stepped : (s : Transmission) (old : LineValue) (Rest : LineValue → Type 0) → old.pending ≡ Some s → Goes old Rest → Stepped s old Rest
+stepped : (s : Transmission) (old : LineValue) (Rest : LineValue → Type 0) → old.pending ≡ Some s
+    → Goes old Rest → Stepped s old Rest
 stepped s old Rest is g =
     let h : CarriesAs (λ (sent : Transmission). Whole sent.message) old g.mid = g.carried in
     let both : Some h.sent ≡ Some s = sym h.pending ∙ is in
     let same : h.sent ≡ s = cc in
-    record { mid = g.mid; carried = subst (λ (z : Transmission). IsCarriedBy z.speaker z.message (Whole z.message) old g.mid) same h.carried; delays = g.delays; good = g.good; rest = g.rest }
+    record {
+      mid = g.mid;
+      carried =
+          subst (λ (z : Transmission). IsCarriedBy z.speaker z.message (Whole z.message) old g.mid)
+          same h.carried;
+      delays = g.delays;
+      good = g.good;
+      rest = g.rest;
+    }
 
-pub one_step : (at n k : ℕ) (s : Transmission) (old new : LineValue) (r : Result (Unit {0}) Stopped) → old.pending ≡ Some s → k ≡ suc n → Walks at k old r new → Stepped s old (λ mid. Walks (at + 1) n mid r new)
-one_step at n k s old new r is count w = by_result r (subst (λ (j : ℕ). Walks at j old r new) count w)
+pub one_step : (at n k : ℕ) (s : Transmission) (old new : LineValue) (r : Result (Unit {0}) Stopped)
+    → old.pending ≡ Some s → k ≡ suc n → Walks at k old r new
+    → Stepped s old (λ mid. Walks (at + 1) n mid r new)
+one_step at n k s old new r is count w =
+    by_result r (subst (λ (j : ℕ). Walks at j old r new) count w)
   where
-    by_result : (r : Result (Unit {0}) Stopped) → Walks at (suc n) old r new → Stepped s old (λ mid. Walks (at + 1) n mid r new)
+    by_result : (r : Result (Unit {0}) Stopped) → Walks at (suc n) old r new
+        → Stepped s old (λ mid. Walks (at + 1) n mid r new)
     by_result (Ok done) g = stepped s old (λ mid. Walks (at + 1) n mid (Ok done) new) is g
     by_result (Err stopped) (inl h) = absurd (never_refused old new stopped.why s is h.refused)
-    by_result (Err stopped) (inr g) = stepped s old (λ mid. Walks (at + 1) n mid (Err stopped) new) is g
+    by_result (Err stopped) (inr g) =
+        stepped s old (λ mid. Walks (at + 1) n mid (Err stopped) new) is g

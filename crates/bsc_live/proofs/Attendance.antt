@@ -18,17 +18,27 @@ module _ {S R W F T : Type 0}
     (ends : F → Bool → F → Type 0) (awaits : F → Bool) (last : F → List ℕ)
     (framed : List ℕ → List ℕ) (waits : T → Wait → Result Awaited LiveError → T → Type 0) where
   -- a step that was done, whatever is answered
-  pub one_step : (old : Attended S (ConnectionValue R W F) T) (r : Result Bool LiveError) (new : Attended S (ConnectionValue R W F) T)
-      → StepsOrFails hears acts remaining contents starts feeds ends awaits last framed waits old r new
-      → (history : List Happening) × Attends hears acts remaining contents starts feeds ends awaits last framed waits old history new
+  pub one_step : (old : Attended S (ConnectionValue R W F) T) (r : Result Bool LiveError)
+      (new : Attended S (ConnectionValue R W F) T)
+      → StepsOrFails hears acts remaining contents starts feeds ends awaits last framed waits old r
+      new
+      → (history : List Happening) × Attends hears acts remaining contents starts feeds ends awaits
+      last framed waits old history new
   one_step old (Ok b) new (happened, step) = (happened ++ [], goes_on step (ended refl refl))
   one_step old (Err e) new (inl (happened, step)) = (happened ++ [], goes_on step (ended refl refl))
   one_step old (Err e) new (inr (station, connections)) = ([], ended station connections)
 
   -- a step that was done, and what goes on after it
-  pub step_first : (old : Attended S (ConnectionValue R W F) T) (r : Result Bool LiveError) (b : Bool) (new last_one : Attended S (ConnectionValue R W F) T)
-      (history : List Happening) → r ≡ Ok b → StepsOrFails hears acts remaining contents starts feeds ends awaits last framed waits old r new
-      → Attends hears acts remaining contents starts feeds ends awaits last framed waits new history last_one
-      → (whole : List Happening) × Attends hears acts remaining contents starts feeds ends awaits last framed waits old whole last_one
-  step_first old (Ok c) b new last_one history is (happened, step) rest = (happened ++ history, goes_on step rest)
-  step_first old (Err e) b new last_one history is step rest = let clash : Err e ≡ Ok b = is in absurd cc
+  pub step_first : (old : Attended S (ConnectionValue R W F) T) (r : Result Bool LiveError)
+      (b : Bool) (new last_one : Attended S (ConnectionValue R W F) T)
+      (history : List Happening) → r ≡ Ok b
+      → StepsOrFails hears acts remaining contents starts feeds ends awaits last framed waits
+      old r new
+      → Attends hears acts remaining contents starts feeds ends awaits last framed waits new history
+      last_one
+      → (whole : List Happening) × Attends hears acts remaining contents starts feeds ends awaits
+      last framed waits old whole last_one
+  step_first old (Ok c) b new last_one history is (happened, step) rest =
+      (happened ++ history, goes_on step rest)
+  step_first old (Err e) b new last_one history is step rest = let clash : Err e ≡ Ok b = is in
+      absurd cc

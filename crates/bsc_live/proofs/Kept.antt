@@ -1,9 +1,11 @@
 -- The octets that are kept of a transmission, as a piece is added.
-use Rattle.std.proofs.Common.{◌≡◌, ℕ, ◌+◌, ◌-◌, ◌≤◌, min, List, ◌++◌, length, take, sym, ◌∙◌, ap, arith}
+use Rattle.std.proofs.Common.{◌≡◌, ℕ, ◌+◌, ◌-◌, ◌≤◌, min, List, ◌++◌, length, take, sym, ◌∙◌, ap}
+use Rattle.std.proofs.Common.{arith}
 use Rattle.std.proofs.lemmas.List.{take_min}
 use Rattle.std.proofs.Math.Seq.{take-append-add}
 
-pub kept_of_both : (n : ℕ) (held piece : List ℕ) → length held ≤ n → take n (held ++ piece) ≡ held ++ take (min (n - length held) (length piece)) piece
+pub kept_of_both : (n : ℕ) (held piece : List ℕ) → length held ≤ n → take n (held ++ piece) ≡ held
+    ++ take (min (n - length held) (length piece)) piece
 kept_of_both n held piece fits =
     let split : n ≡ length held + (n - length held) = omega (arith, fits) in
     ap (λ (k : ℕ). take k (held ++ piece)) split

@@ -1,5 +1,7 @@
 -- A walk over a list: what holds of the places that it has passed, and of all once it has ended.
-use Rattle.std.proofs.Common.{◌≡◌, ◌≢◌, ℕ, suc, ◌+◌, ◌<◌, ◌≤◌, List, [], ◌∷◌, length, get_or, slice_set, refl, sym, ◌∙◌, subst, arith, get_or-set_other, get_or-set_same, below_more}
+use Rattle.std.proofs.Common.{◌≡◌, ◌≢◌, ℕ, suc, ◌+◌, ◌<◌, ◌≤◌, List, [], ◌∷◌, length, get_or}
+use Rattle.std.proofs.Common.{slice_set, refl, sym, ◌∙◌, subst, arith, get_or-set_other}
+use Rattle.std.proofs.Common.{get_or-set_same, below_more}
 use Rattle.std.proofs.lemmas.List.{get_or_default}
 use Rattle.std.specs.List.{AllZip}
 
@@ -14,21 +16,33 @@ module _ {S : Type 0} (R : S → S → Type 0) where
   none_passed old = (λ i d below. absurd (omega (arith, below)), λ i d beyond. refl)
 
   -- the element at the next place goes on so
-  pub one_passed : (old new : List S) (k : ℕ) (e y : S) → length new ≡ length old → k < length old → R (get_or new k e) y → IsPassed R old new k → IsPassed R old (slice_set new k y) (k + 1)
+  pub one_passed : (old new : List S) (k : ℕ) (e y : S) → length new ≡ length old → k < length old
+      → R (get_or new k e) y → IsPassed R old new k → IsPassed R old (slice_set new k y) (k + 1)
   one_passed old new k e y long there step (passed, rest) =
       let inside : k < length new = subst (λ (n : ℕ). k < n) (sym long) there in (
         λ i d below.
-            let before : get_or new k e ≡ get_or old k d = get_or_default new k e d inside ∙ rest k d (omega arith) in
-            let after : y ≡ get_or (slice_set new k y) k d = sym (get_or-set_same new k y d inside) in
+            let before : get_or new k e ≡ get_or old k d = get_or_default new k e d inside
+            ∙ rest k d (omega arith) in
+            let after : y ≡ get_or (slice_set new k y) k d =
+            sym (get_or-set_same new k y d inside) in
             below_more (λ (j : ℕ). R (get_or old j d) (get_or (slice_set new k y) j d)) k
-            (λ j less. let other : j ≢ k = omega arith in subst (λ (z : S). R (get_or old j d) z) (sym (get_or-set_other new k j y d other)) (passed j d less))
-            (subst (λ (z : S). R (get_or old k d) z) after (subst (λ (z : S). R z y) before step)) i below,
-        λ i d beyond. let other : i ≢ k = omega (arith, beyond) in get_or-set_other new k i y d other ∙ rest i d (omega (arith, beyond)),
+            (λ j less. let other : j ≢ k = omega arith in
+            subst (λ (z : S). R (get_or old j d) z) (sym (get_or-set_other new k j y d other))
+            (passed j d less))
+            (subst (λ (z : S). R (get_or old k d) z) after (subst (λ (z : S). R z y) before step)) i
+            below,
+        λ i d beyond. let other : i ≢ k = omega (arith, beyond) in
+            get_or-set_other new k i y d other ∙ rest i d (omega (arith, beyond)),
       )
 
-pub AllZip-from_places : {S : Type 0} (R : S → S → Type 0) (old new : List S) → length new ≡ length old → ((i : ℕ) (d : S) → i < length old → R (get_or old i d) (get_or new i d)) → AllZip R old new
+pub AllZip-from_places : {S : Type 0} (R : S → S → Type 0) (old new : List S) → length new
+    ≡ length old → ((i : ℕ) (d : S) → i < length old → R (get_or old i d) (get_or new i d))
+    → AllZip R old new
 AllZip-from_places R [] [] long each = tt
 AllZip-from_places R [] (y ∷ new) long each = absurd (omega (arith, long))
 AllZip-from_places R (x ∷ old) [] long each = absurd (omega (arith, long))
-AllZip-from_places R (x ∷ old) (y ∷ new) long each =
-    (each 0 x (omega arith), AllZip-from_places R old new (omega (arith, long)) (λ i d below. each (suc i) d (omega (arith, below))))
+AllZip-from_places R (x ∷ old) (y ∷ new) long each = (
+  each 0 x (omega arith),
+  AllZip-from_places R old new (omega (arith, long))
+      (λ i d below. each (suc i) d (omega (arith, below))),
+)

@@ -1,5 +1,7 @@
 -- What is heard of the octets that a connection gives, with either framing.
-use Rattle.std.proofs.Common.{◌≡◌, ◌≢◌, ℕ, Bool, true, false, List, [], ◌∷◌, ◌++◌, length, take, Result, Ok, refl, sym, ◌∙◌, ap, ap₂, subst, append_assoc, append-nil, arith}
+use Rattle.std.proofs.Common.{◌≡◌, ◌≢◌, ℕ, Bool, true, false, List, [], ◌∷◌, ◌++◌, length, take}
+use Rattle.std.proofs.Common.{Result, Ok, refl, sym, ◌∙◌, ap, ap₂, subst, append_assoc, append-nil}
+use Rattle.std.proofs.Common.{arith}
 use Rattle.std.proofs.lemmas.List.{take_all, map-append}
 use Rattle.std.proofs.lemmas.List.Folds.{concat-append}
 use Rattle.std.proofs.lemmas.List.Concat.{flat_map-append}
@@ -17,7 +19,8 @@ use Rattle.bsc_live.proofs.Gathered.{take_of_front}
 use Rattle.bsc_live.proofs.Sessions.{all_of_both}
 
 -- what a feed of socket records answers, and what else a station over them does
-abbrev pub record_feeds : SocketRecords → List ℕ → Result (ℕ × Bool) CarrierError → SocketRecords → Type 0
+abbrev pub record_feeds : SocketRecords → List ℕ → Result (ℕ × Bool) CarrierError → SocketRecords
+    → Type 0
 record_feeds old piece result new = Fed old.assembler piece result new.assembler
 
 abbrev pub record_ends : SocketRecords → Bool → SocketRecords → Type 0
@@ -29,7 +32,8 @@ record_last records = records.assembler.complete
 pub records_nothing : (f : SocketRecords) → GivesRecords f [] [] f
 records_nothing f = record { records = append-nil (begun_of f); carried = tt; rest = λ none. none }
 
-pub records_both : (a b c : SocketRecords) (g k : List ℕ) (h t : List (List ℕ)) → GivesRecords a g h b → GivesRecords b k t c → GivesRecords a (g ++ k) (h ++ t) c
+pub records_both : (a b c : SocketRecords) (g k : List ℕ) (h t : List (List ℕ))
+    → GivesRecords a g h b → GivesRecords b k t c → GivesRecords a (g ++ k) (h ++ t) c
 records_both a b c g k h t p q = record {
   records = sym (append_assoc (begun_of a) g k)
       ∙ ap (λ (l : List ℕ). l ++ k) p.records
@@ -41,28 +45,35 @@ records_both a b c g k h t p q = record {
   rest = λ none. q.rest (p.rest none);
 }
 
-pub records_part : (a b : SocketRecords) (piece : List ℕ) → record_feeds a piece (Ok (length piece, false)) b → GivesRecords a piece [] b
+pub records_part : (a b : SocketRecords) (piece : List ℕ)
+    → record_feeds a piece (Ok (length piece, false)) b → GivesRecords a piece [] b
 records_part a b piece fed = record {
   records = sym fed.2;
   carried = tt;
   rest = λ none whole. not_whole_and_partial (begun_of b) whole fed.1;
 }
 
-pub records_whole : (a b : SocketRecords) (piece : List ℕ) → record_feeds a piece (Ok (length piece, true)) b → GivesRecords a piece (record_last b ∷ []) b
+pub records_whole : (a b : SocketRecords) (piece : List ℕ)
+    → record_feeds a piece (Ok (length piece, true)) b → GivesRecords a piece (record_last b ∷ []) b
 records_whole a b piece fed =
     let none_begun : begun_of b ≡ [] = fed.3 in
     let complete : List ℕ = record_last b in
-    let all : begun_of a ++ piece ≡ socket_record complete = ap (λ (l : List ℕ). begun_of a ++ l) (sym (take_all (length piece) piece (omega arith))) ∙ fed.2 in
+    let all : begun_of a ++ piece ≡ socket_record complete =
+    ap (λ (l : List ℕ). begun_of a ++ l) (sym (take_all (length piece) piece (omega arith)))
+    ∙ fed.2 in
     record {
       records = all
           ∙ sym (append-nil (socket_record complete))
           ∙ sym (append-nil (socket_record complete ++ []))
           ∙ ap (λ (l : List ℕ). (socket_record complete ++ []) ++ l) (sym none_begun);
       carried = (fed.1, tt);
-      rest = λ none whole. not_whole_and_partial [] (subst BeginsRecord none_begun whole) IsPartial-nil;
+      rest =
+          λ none whole. not_whole_and_partial [] (subst BeginsRecord none_begun whole)
+          IsPartial-nil;
     }
 
-pub records_gap : (a b : SocketRecords) → record_ends a true b → GivesRecords a [] (record_last b ∷ []) b
+pub records_gap : (a b : SocketRecords) → record_ends a true b
+    → GivesRecords a [] (record_last b ∷ []) b
 records_gap a b (ends, same) = let clash : true ≡ false = ends in absurd cc
 
 -- ---- gaps
@@ -77,7 +88,8 @@ gaps_nothing f = λ sooner begun. record {
   kept_of = begun;
 }
 
-pub gaps_both : (a b c : GapsValue) (g k : List ℕ) (h t : List (List ℕ)) → GivesByGaps a g h b → GivesByGaps b k t c → GivesByGaps a (g ++ k) (h ++ t) c
+pub gaps_both : (a b c : GapsValue) (g k : List ℕ) (h t : List (List ℕ)) → GivesByGaps a g h b
+    → GivesByGaps b k t c → GivesByGaps a (g ++ k) (h ++ t) c
 gaps_both a b c g k h t p q = λ sooner begun.
     let front = p sooner begun in
     let back = q front.later front.kept_of in
@@ -91,21 +103,25 @@ gaps_both a b c g k h t p q = λ sooner begun.
           ∙ sym (append_assoc (concat front.between) (concat back.between) back.later)
           ∙ ap (λ (l : List ℕ). l ++ back.later) (sym (concat-append front.between back.between));
       some = all_of_both (λ octets. octets ≢ []) front.between back.between front.some back.some;
-      first = ap₂ (λ (x y : List (List ℕ)). x ++ y) front.first back.first ∙ sym (map-append (take KEPT) front.between back.between);
+      first = ap₂ (λ (x y : List (List ℕ)). x ++ y) front.first back.first
+          ∙ sym (map-append (take KEPT) front.between back.between);
       kept_of = back.kept_of;
     }
 
-pub gaps_part : (a b : GapsValue) (piece : List ℕ) → Gathers a piece (Ok (length piece, false)) b → GivesByGaps a piece [] b
+pub gaps_part : (a b : GapsValue) (piece : List ℕ) → Gathers a piece (Ok (length piece, false)) b
+    → GivesByGaps a piece [] b
 gaps_part a b piece fed = λ sooner begun. record {
   between = [];
   later = sooner ++ piece;
   whole = refl;
   some = tt;
   first = refl;
-  kept_of = ap (λ (v : GapsValue). v.begun) fed.3 ∙ ap (λ (front : List ℕ). take KEPT (front ++ piece)) begun ∙ take_of_front KEPT sooner piece;
+  kept_of = ap (λ (v : GapsValue). v.begun) fed.3
+      ∙ ap (λ (front : List ℕ). take KEPT (front ++ piece)) begun ∙ take_of_front KEPT sooner piece;
 }
 
-pub gaps_whole : (a b : GapsValue) (piece : List ℕ) → Gathers a piece (Ok (length piece, true)) b → GivesByGaps a piece (b.complete ∷ []) b
+pub gaps_whole : (a b : GapsValue) (piece : List ℕ) → Gathers a piece (Ok (length piece, true)) b
+    → GivesByGaps a piece (b.complete ∷ []) b
 gaps_whole a b piece fed = let clash : true ≡ false = fed.1 in absurd cc
 
 pub gaps_gap : (a b : GapsValue) → EndsAtGap a true b → GivesByGaps a [] (b.complete ∷ []) b

@@ -1,5 +1,6 @@
 -- What `odd_octet` makes of a code, and which octets come from a code.
-use Rattle.std.proofs.Common.{◌≡◌, ◌⊎◌, inl, inr, ℕ, zero, suc, ◌+◌, ◌-◌, ◌*◌, ◌^◌, ◌%◌, ◌<◌, ◌≤◌, ◌==◌, cond}
+use Rattle.std.proofs.Common.{◌≡◌, ◌⊎◌, inl, inr, ℕ, zero, suc, ◌+◌, ◌-◌, ◌*◌, ◌^◌, ◌%◌, ◌<◌, ◌≤◌}
+use Rattle.std.proofs.Common.{◌==◌, cond}
 use Rattle.std.proofs.Common.{refl, sym, ap, ◌∙◌, arith, count_ones, Bool, true, false, Some, None}
 use Rattle.std.proofs.lemmas.Nat.{ones_cat}
 use Rattle.std.proofs.lemmas.Bool.{cases_lt, eq-eqb, eqb-true}
@@ -14,14 +15,16 @@ ones-high c h =
     ap count_ones e ∙ ones_cat 7 1 c h ∙ ap (λ n. n + count_ones c) (ones-ones 1)
 
 one_or_none : (c r : ℕ) → r < 2
-    → ((cond (r == 1) c (c + 128) ≡ c) × (r ≡ 1)) ⊎ ((cond (r == 1) c (c + 128) ≡ c + 128) × (r ≡ 0))
+    → ((cond (r == 1) c (c + 128) ≡ c) × (r ≡ 1))
+    ⊎ ((cond (r == 1) c (c + 128) ≡ c + 128) × (r ≡ 0))
 one_or_none c zero h = inr (refl, refl)
 one_or_none c (suc zero) h = inl (refl, refl)
 one_or_none c (suc (suc r)) h = absurd (omega arith)
 
 -- a code is carried as it is, or with the eighth bit set
 pub odd_cases : (c : ℕ)
-    → ((odd_octet c ≡ c) × (count_ones c % 2 ≡ 1)) ⊎ ((odd_octet c ≡ c + 128) × (count_ones c % 2 ≡ 0))
+    → ((odd_octet c ≡ c) × (count_ones c % 2 ≡ 1))
+    ⊎ ((odd_octet c ≡ c + 128) × (count_ones c % 2 ≡ 0))
 unfolding odd_octet
 odd_cases c = one_or_none c (count_ones c % 2) (omega arith)
 
@@ -66,7 +69,8 @@ code_of_even o n =
 pub code_of_some : (o c : ℕ) → code_of o ≡ Some c → (c < 128) × (odd_octet c ≡ o)
 code_of_some o c e = by_test (odd_octet (o % 128) == o) refl e
   where
-    by_test : (b : Bool) → (odd_octet (o % 128) == o) ≡ b → cond b (Some (o % 128)) None ≡ Some c → (c < 128) × (odd_octet c ≡ o)
+    by_test : (b : Bool) → (odd_octet (o % 128) == o) ≡ b → cond b (Some (o % 128)) None ≡ Some c
+        → (c < 128) × (odd_octet c ≡ o)
     by_test true t h =
         let k : c ≡ o % 128 = cc in
         (omega arith, ap odd_octet k ∙ eqb-true (odd_octet (o % 128)) o t)

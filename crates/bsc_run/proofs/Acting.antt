@@ -22,10 +22,13 @@ use Rattle.bsc_run.proofs.Speaking.{fits_after}
 
 module _ {S : Type 0} (contents remaining : S → Option (List ℕ)) where
   -- nothing is heard, so that the event of the line is told by that of the script
-  acts_plainly : (asked : Asked) (e : Event) (old new : LineValue) (c : CableValue S) (r : Result (Unit {0}) LineError)
+  acts_plainly : (asked : Asked) (e : Event) (old new : LineValue) (c : CableValue S)
+      (r : Result (Unit {0}) LineError)
       → Crossing contents remaining asked e old c c
-      → ((x : Event) (w : LineError) → MayBe asked x → Does e old (Err w) new → Does x old (Err w) new)
-      → Fits old c → Does e old r new → IsLine new → Acts contents remaining asked old c (told r) new c
+      → ((x : Event) (w : LineError) → MayBe asked x → Does e old (Err w) new
+      → Does x old (Err w) new)
+      → Fits old c → Does e old r new → IsLine new
+      → Acts contents remaining asked old c (told r) new c
   acts_plainly asked e old new c (Ok done) crossing alike f d line = record {
     accepted = record { event = e; crossing = crossing; done = d };
     fits = fits_after e old new c c f d line refl;
@@ -34,60 +37,90 @@ module _ {S : Type 0} (contents remaining : S → Option (List ℕ)) where
   acts_plainly asked e old new c (Err w) crossing alike f d line = record {
     accepted = tt;
     fits = tt;
-    refused = λ v q. let same : w ≡ v = cc in (λ x m. subst (λ (k : LineError). Does x old (Err k) new) same (alike x w m d), refl);
+    refused = λ v q. let same : w ≡ v = cc in
+        (λ x m. subst (λ (k : LineError). Does x old (Err k) new) same (alike x w m d), refl);
   }
 
   -- there is one event of the line
-  pub acts_as : (asked : Asked) (e : Event) (old new : LineValue) (c : CableValue S) (r : Result (Unit {0}) LineError)
+  pub acts_as : (asked : Asked) (e : Event) (old new : LineValue) (c : CableValue S)
+      (r : Result (Unit {0}) LineError)
       → Crossing contents remaining asked e old c c → ((x : Event) → MayBe asked x → x ≡ e)
-      → Fits old c → Does e old r new → IsLine new → Acts contents remaining asked old c (told r) new c
+      → Fits old c → Does e old r new → IsLine new
+      → Acts contents remaining asked old c (told r) new c
   acts_as asked e old new c r crossing alike f d line =
-      acts_plainly asked e old new c r crossing (λ x w m q. subst (λ (y : Event). Does y old (Err w) new) (sym (alike x m)) q) f d line
+      acts_plainly asked e old new c r crossing
+      (λ x w m q. subst (λ (y : Event). Does y old (Err w) new) (sym (alike x m)) q) f d line
 
   -- an offer goes by its codes
-  pub offers_at : (t : ℕ) (codes : Bor (List ℕ)) (old new : LineValue) (c : CableValue S) (r : Result (Unit {0}) LineError)
-      → Fits old c → Does (event.OfferAt t codes) old r new → IsLine new → Acts contents remaining (offer_at t codes.now) old c (told r) new c
+  pub offers_at : (t : ℕ) (codes : Bor (List ℕ)) (old new : LineValue) (c : CableValue S)
+      (r : Result (Unit {0}) LineError)
+      → Fits old c → Does (event.OfferAt t codes) old r new → IsLine new
+      → Acts contents remaining (offer_at t codes.now) old c (told r) new c
   offers_at t codes old new c r f d line =
-      acts_plainly (offer_at t codes.now) (event.OfferAt t codes) old new c r ((codes, refl, refl), refl)
-      (λ x w m q. subst (λ (y : Event). Does y old (Err w) new) (sym m.2) (subst (λ (k : List ℕ). OffersAt old t k (Err w) new) (sym m.1) q)) f d line
+      acts_plainly (offer_at t codes.now) (event.OfferAt t codes) old new c r
+      ((codes, refl, refl), refl)
+      (λ x w m q. subst (λ (y : Event). Does y old (Err w) new) (sym m.2)
+      (subst (λ (k : List ℕ). OffersAt old t k (Err w) new) (sym m.1) q)) f d line
 
-  pub offers_for : (t s : ℕ) (codes : Bor (List ℕ)) (old new : LineValue) (c : CableValue S) (r : Result (Unit {0}) LineError)
-      → Fits old c → Does (event.OfferFor t s codes) old r new → IsLine new → Acts contents remaining (offer_for t s codes.now) old c (told r) new c
+  pub offers_for : (t s : ℕ) (codes : Bor (List ℕ)) (old new : LineValue) (c : CableValue S)
+      (r : Result (Unit {0}) LineError)
+      → Fits old c → Does (event.OfferFor t s codes) old r new → IsLine new
+      → Acts contents remaining (offer_for t s codes.now) old c (told r) new c
   offers_for t s codes old new c r f d line =
-      acts_plainly (offer_for t s codes.now) (event.OfferFor t s codes) old new c r ((codes, refl, refl), refl)
-      (λ x w m q. subst (λ (y : Event). Does y old (Err w) new) (sym m.2) (subst (λ (k : List ℕ). OffersFor old t s k (Err w) new) (sym m.1) q)) f d line
+      acts_plainly (offer_for t s codes.now) (event.OfferFor t s codes) old new c r
+      ((codes, refl, refl), refl)
+      (λ x w m q. subst (λ (y : Event). Does y old (Err w) new) (sym m.2)
+      (subst (λ (k : List ℕ). OffersFor old t s k (Err w) new) (sym m.1) q)) f d line
 
   -- octets cross the cable, and what is pending is heard as those that were read
-  pub hears_octets : (asked : Asked) (sent : Message → List ℕ) (old new : LineValue) (before after : CableValue S) (octets : Bor (List ℕ)) (read : List ℕ)
-      → ((e : Event) → HearsOctets contents remaining sent e old before after → Crossing contents remaining asked e old before after)
+  pub hears_octets : (asked : Asked) (sent : Message → List ℕ) (old new : LineValue)
+      (before after : CableValue S) (octets : Bor (List ℕ)) (read : List ℕ)
+      → ((e : Event) → HearsOctets contents remaining sent e old before after
+      → Crossing contents remaining asked e old before after)
       → Fits old before → octets.now ≡ read → Sends contents remaining sent old read before after
       → connection_count after ≡ connection_count before
-      → Does (event.Carry (Some octets)) old (Ok tt) new → IsLine new → Acts contents remaining asked old before (Ok tt) new after
-  hears_octets asked sent old new before after octets read crossing f same sends count d line = record {
-    accepted = record {
-      event = event.Carry (Some octets);
-      crossing = crossing (event.Carry (Some octets)) record { octets = octets; sends = rw same sends; is = refl };
-      done = d;
-    };
-    fits = fits_after (event.Carry (Some octets)) old new before after f d line count;
-    refused = λ w q. cc;
-  }
+      → Does (event.Carry (Some octets)) old (Ok tt) new → IsLine new
+      → Acts contents remaining asked old before (Ok tt) new after
+  hears_octets asked sent old new before after octets read crossing f same sends count d line =
+      record {
+        accepted = record {
+          event = event.Carry (Some octets);
+          crossing =
+              crossing (event.Carry (Some octets))
+              record { octets = octets; sends = rw same sends; is = refl };
+          done = d;
+        };
+        fits = fits_after (event.Carry (Some octets)) old new before after f d line count;
+        refused = λ w q. cc;
+      }
 
   -- items cross the cable, and each terminal hears the octets that were read
-  pub hears_items : (items : List (Option (List ℕ))) (old new : LineValue) (before after : CableValue S) (words : Bor (List (Option (Bor (List ℕ)))))
+  pub hears_items : (items : List (Option (List ℕ))) (old new : LineValue)
+      (before after : CableValue S) (words : Bor (List (Option (Bor (List ℕ)))))
       → Fits old before → ItemsCross contents remaining items (map octets_in words.now) before after
       → connection_count after ≡ connection_count before
-      → Does (event.CarryEach words) old (Ok tt) new → IsLine new → Acts contents remaining (heard_each items) old before (Ok tt) new after
+      → Does (event.CarryEach words) old (Ok tt) new → IsLine new
+      → Acts contents remaining (heard_each items) old before (Ok tt) new after
   hears_items items old new before after words f crossed count d line = record {
-    accepted = record { event = event.CarryEach words; crossing = record { words = words; crossed = crossed; is = refl }; done = d };
+    accepted =
+        record {
+          event = event.CarryEach words;
+          crossing =
+              record { words = words; crossed = crossed; is = refl };
+          done = d;
+        };
     fits = fits_after (event.CarryEach words) old new before after f d line count;
     refused = λ w q. cc;
   }
 
 -- a fault breaks it off
-pub acts_fault : {S : Type 0} (contents remaining : S → Option (List ℕ)) (asked : Asked) (old new : LineValue) (before after : CableValue S) (e : StepError)
+pub acts_fault : {S : Type 0} (contents remaining : S → Option (List ℕ)) (asked : Asked)
+    (old new : LineValue) (before after : CableValue S) (e : StepError)
     → IsFault e → Acts contents remaining asked old before (Err e) new after
 acts_fault contents remaining asked old new before after (step.Refused w) h = absurd h
-acts_fault contents remaining asked old new before after step.Output h = record { accepted = tt; fits = tt; refused = λ w q. cc }
-acts_fault contents remaining asked old new before after step.Socket h = record { accepted = tt; fits = tt; refused = λ w q. cc }
-acts_fault contents remaining asked old new before after step.Memory h = record { accepted = tt; fits = tt; refused = λ w q. cc }
+acts_fault contents remaining asked old new before after step.Output h =
+    record { accepted = tt; fits = tt; refused = λ w q. cc }
+acts_fault contents remaining asked old new before after step.Socket h =
+    record { accepted = tt; fits = tt; refused = λ w q. cc }
+acts_fault contents remaining asked old new before after step.Memory h =
+    record { accepted = tt; fits = tt; refused = λ w q. cc }

@@ -10,17 +10,22 @@ on_ok (Ok x) f p = f p
 on_ok (Err e) f p = p
 
 -- the last of two texts, where it was written
-pub two_on_ok : {T E : Type 0} (a b c : Option (List ℕ)) (x y : List ℕ) (r : Result T E) → Appends a b x
+pub two_on_ok : {T E : Type 0} (a b c : Option (List ℕ)) (x y : List ℕ) (r : Result T E)
+    → Appends a b x
     → OnOk r (Appends b c y) → OnOk r (Appends a c (x ++ y))
 two_on_ok a b c x y r p q = on_ok r (Appends-trans a b c x y p) q
 
 -- the last of four texts, where it was written
-pub four_on_ok : {T E : Type 0} (a b c d e : Option (List ℕ)) (w x y z : List ℕ) (r : Result T E) → Appends a b w
-    → Appends b c x → Appends c d y → OnOk r (Appends d e z) → OnOk r (Appends a e (w ++ x ++ y ++ z))
+pub four_on_ok : {T E : Type 0} (a b c d e : Option (List ℕ)) (w x y z : List ℕ) (r : Result T E)
+    → Appends a b w
+    → Appends b c x → Appends c d y → OnOk r (Appends d e z)
+    → OnOk r (Appends a e (w ++ x ++ y ++ z))
 four_on_ok a b c d e w x y z r p q s t =
-    on_ok r (Appends-trans a d e (w ++ x ++ y) z (Appends-trans a c d (w ++ x) y (Appends-trans a b c w x p q) s)) t
+    on_ok r (Appends-trans a d e (w ++ x ++ y) z
+    (Appends-trans a c d (w ++ x) y (Appends-trans a b c w x p q) s)) t
 
 -- one more of the texts of the numbers in order
-pub each_below_more : (a b c : Option (List ℕ)) (text : ℕ → List ℕ) (n : ℕ) → Appends a b (each_below text n)
+pub each_below_more : (a b c : Option (List ℕ)) (text : ℕ → List ℕ) (n : ℕ)
+    → Appends a b (each_below text n)
     → Appends b c (text n) → Appends a c (each_below text (n + 1))
 each_below_more a b c text n p q = rw add-one (Appends-trans a b c (each_below text n) (text n) p q)

@@ -1,5 +1,6 @@
 -- Items that cross a cable one after the other.
-use Rattle.std.proofs.Common.{◌≡◌, ◌<◌, ℕ, ◌+◌, List, ◌∷◌, [], ◌++◌, length, take, map, Option, get_or, refl, sym, ◌∙◌, ap, subst, arith, length-append}
+use Rattle.std.proofs.Common.{◌≡◌, ◌<◌, ℕ, ◌+◌, List, ◌∷◌, [], ◌++◌, length, take, map, Option}
+use Rattle.std.proofs.Common.{get_or, refl, sym, ◌∙◌, ap, subst, arith, length-append}
 use Rattle.std.proofs.lemmas.List.{take_more, length-take-le, map-append, length-map}
 use Rattle.std.specs.Borrow.{Bor}
 use Rattle.bsc_carrier.specs.Cable.{CableValue}
@@ -7,29 +8,39 @@ use Rattle.bsc_line_model.specs.Hearing.{octets_in}
 use Rattle.bsc_run.specs.Crossing.{ItemCrosses, ItemsCross, none, one_more}
 
 -- the next item crosses
-pub items_cross_more : {S W : Type 0} (contents remaining : S → Option (List ℕ)) (octets : Option W → Option (List ℕ))
-    (items : List (Option (List ℕ))) (words : List (Option W)) (t : ℕ) (item : Option (List ℕ)) (word : Option W)
+pub items_cross_more : {S W : Type 0} (contents remaining : S → Option (List ℕ))
+    (octets : Option W → Option (List ℕ))
+    (items : List (Option (List ℕ))) (words : List (Option W)) (t : ℕ) (item : Option (List ℕ))
+    (word : Option W)
     (old mid new : CableValue S) → t < length items → item ≡ get_or items t item
     → ItemsCross contents remaining (take t items) (map octets words) old mid
     → ItemCrosses contents remaining t item (octets word) mid new
     → ItemsCross contents remaining (take (t + 1) items) (map octets (words ++ word ∷ [])) old new
-items_cross_more {S} contents remaining octets items words t item word old mid new below is before crossed =
+items_cross_more {S} contents remaining octets items words t item word old mid new below is before
+    crossed =
     let all : take (t + 1) items ≡ take t items ++ item ∷ [] =
     take_more items t item below ∙ ap (λ x. take t items ++ x ∷ []) (sym is) in
     let place : length (take t items) ≡ t = length-take-le t items (omega arith) in
     rw (all, map-append octets words (word ∷ []))
-    (one_more item (octets word) before (subst (λ (k : ℕ). ItemCrosses contents remaining k item (octets word) mid new) (sym place) crossed))
+    (one_more item (octets word) before
+    (subst (λ (k : ℕ). ItemCrosses contents remaining k item (octets word) mid new) (sym place)
+    crossed))
 
 -- as many words come as items went
-length_crossed : {S : Type 0} {contents remaining : S → Option (List ℕ)} {items heard : List (Option (List ℕ))} {old new : CableValue S}
+length_crossed : {S : Type 0} {contents remaining : S → Option (List ℕ)}
+    {items heard : List (Option (List ℕ))} {old new : CableValue S}
     → ItemsCross contents remaining items heard old new → length heard ≡ length items
 length_crossed none = refl
 length_crossed (one_more {items} {heard} item word before crossed) =
-    length-append heard (word ∷ []) ∙ ap (λ (n : ℕ). n + 1) (length_crossed before) ∙ sym (length-append items (item ∷ []))
+    length-append heard (word ∷ []) ∙ ap (λ (n : ℕ). n + 1) (length_crossed before)
+    ∙ sym (length-append items (item ∷ []))
 
-pub slices_count : {S W : Type 0} (contents remaining : S → Option (List ℕ)) (octets : Option W → Option (List ℕ))
-    (items : List (Option (List ℕ))) (words : List (Option W)) (slices : List (Option (Bor (List ℕ)))) (old new : CableValue S)
-    → ItemsCross contents remaining items (map octets words) old new → map octets_in slices ≡ map octets words
+pub slices_count : {S W : Type 0} (contents remaining : S → Option (List ℕ))
+    (octets : Option W → Option (List ℕ))
+    (items : List (Option (List ℕ))) (words : List (Option W))
+    (slices : List (Option (Bor (List ℕ)))) (old new : CableValue S)
+    → ItemsCross contents remaining items (map octets words) old new → map octets_in slices
+    ≡ map octets words
     → length slices ≡ length items
 slices_count contents remaining octets items words slices old new crossed same =
     sym (length-map slices octets_in) ∙ ap length same ∙ length_crossed crossed

@@ -1,5 +1,6 @@
 -- A run of a script is a run of the line, of the events that were done.
-use Rattle.std.proofs.Common.{◌≡◌, ℕ, ◌+◌, List, [], ◌∷◌, length, map, inl, inr, Option, None, Some, Result, Ok, Err, refl, ◌∙◌, ap}
+use Rattle.std.proofs.Common.{◌≡◌, ℕ, ◌+◌, List, [], ◌∷◌, length, map, inl, inr, Option, None, Some}
+use Rattle.std.proofs.Common.{Result, Ok, Err, refl, ◌∙◌, ap}
 use Rattle.std.proofs.lemmas.List.{length-map}
 use Rattle.std.specs.Borrow.{Bor}
 use Rattle.bsc_carrier.specs.Cable.{CableValue}
@@ -10,7 +11,8 @@ use Rattle.bsc_line_model.specs.Line.{LineValue}
 use Rattle.bsc_line_model.specs.Kept.{IsLine}
 use Rattle.bsc_line_model.specs.Runs.{Does, RunsFrom}
 use Rattle.bsc_script.specs.Actions.{NumberedEvent}
-use Rattle.bsc_script.specs.Events.{Event as Asked, offer_at, offer_for, carry, lose, heard, heard_each, silence, ready, urgent_at, urgent_for, release}
+use Rattle.bsc_script.specs.Events.{Event as Asked, offer_at, offer_for, carry, lose, heard}
+use Rattle.bsc_script.specs.Events.{heard_each, silence, ready, urgent_at, urgent_for, release}
 use Rattle.bsc_run.specs.declared.error.RunError.{RunError}
 use Rattle.bsc_run.specs.LineRuns.{RunsLineFrom, RunsLine}
 use Rattle.bsc_run.specs.Plays.{Plays, Runs}
@@ -32,8 +34,15 @@ may_be carry = (event.Carry (Some (lent [])), (lent [], refl))
 may_be lose = (event.Carry None, refl)
 may_be (heard given) = (event.Carry (Some (lent [])), (lent [], refl))
 may_be (heard_each items) =
-    let words : List (Option (Bor (List ℕ))) = map (λ item. None) items in
-    (event.CarryEach (lent words), (lent words, ap length (lent-now words) ∙ length-map items (λ item. None), refl))
+    let words : List (Option (Bor (List ℕ))) = map (λ item. None) items in (
+      event.CarryEach (lent words),
+      (
+        lent words,
+        ap length (lent-now words)
+            ∙ length-map items (λ item. None),
+        refl,
+      ),
+    )
 may_be silence = (event.Silence, refl)
 may_be (ready t takes) = (event.Ready t takes, refl)
 may_be (urgent_at t) = (event.UrgentAt t, refl)
@@ -41,16 +50,23 @@ may_be (urgent_for t) = (event.UrgentFor t, refl)
 may_be (release t way) = (event.Release t way, refl)
 
 -- an accepted event before a run
-runs_after : (at : ℕ) (e : Event) (old mid new : LineValue) (events : List Event) (answer : Result (Unit {0}) Stopped) → IsLine mid
-    → Does e old (Ok tt) mid → RunsFrom (at + 1) mid events answer new → RunsFrom at old (e ∷ events) answer new
-runs_after at e old mid new events (Ok d) line done rest = record { mid = mid; line = line; done = done; rest = rest }
-runs_after at e old mid new events (Err s) line done rest = inr record { mid = mid; line = line; done = done; rest = rest }
+runs_after : (at : ℕ) (e : Event) (old mid new : LineValue) (events : List Event)
+    (answer : Result (Unit {0}) Stopped) → IsLine mid
+    → Does e old (Ok tt) mid → RunsFrom (at + 1) mid events answer new
+    → RunsFrom at old (e ∷ events) answer new
+runs_after at e old mid new events (Ok d) line done rest =
+    record { mid = mid; line = line; done = done; rest = rest }
+runs_after at e old mid new events (Err s) line done rest =
+    inr record { mid = mid; line = line; done = done; rest = rest }
 
 module _ {S : Type 0} (contents remaining : S → Option (List ℕ)) where
-  runs_line_from : (at : ℕ) (steps : List NumberedEvent) (old : LineValue) (before : CableValue S) (result : Result (Unit {0}) RunError)
-      (new : LineValue) (after : CableValue S) (text : List ℕ) → Plays contents remaining steps old before result new after text
+  runs_line_from : (at : ℕ) (steps : List NumberedEvent) (old : LineValue) (before : CableValue S)
+      (result : Result (Unit {0}) RunError)
+      (new : LineValue) (after : CableValue S) (text : List ℕ)
+      → Plays contents remaining steps old before result new after text
       → RunsLineFrom at old result new
-  runs_line_from at [] old before (Ok done) new after text p = record { events = []; answer = Ok tt; runs = p.0; alike = tt }
+  runs_line_from at [] old before (Ok done) new after text p =
+      record { events = []; answer = Ok tt; runs = p.0; alike = tt }
   runs_line_from at [] old before (Err e) new after text p = absurd p
   runs_line_from at (step ∷ steps) old before result new after text (inl s) =
       let e = may_be step.event in
@@ -65,12 +81,17 @@ module _ {S : Type 0} (contents remaining : S → Option (List ℕ)) where
       record {
         events = g.accepted.event ∷ more.events;
         answer = more.answer;
-        runs = runs_after at g.accepted.event old g.mid new more.events more.answer g.line g.accepted.done more.runs;
+        runs =
+            runs_after at g.accepted.event old g.mid new more.events more.answer g.line
+            g.accepted.done more.runs;
         alike = more.alike;
       }
 
   -- what a run of a script prints and leaves is of a run of the line
-  pub runs_line : (steps : List NumberedEvent) (old : LineValue) (before : CableValue S) (result : Result (Unit {0}) RunError)
-      (new : LineValue) (after : CableValue S) (held holds : Option (List ℕ)) → Runs contents remaining steps old before result new after held holds
+  pub runs_line : (steps : List NumberedEvent) (old : LineValue) (before : CableValue S)
+      (result : Result (Unit {0}) RunError)
+      (new : LineValue) (after : CableValue S) (held holds : Option (List ℕ))
+      → Runs contents remaining steps old before result new after held holds
       → RunsLine old result new
-  runs_line steps old before result new after held holds r = runs_line_from 0 steps old before result new after r.text r.plays
+  runs_line steps old before result new after held holds r =
+      runs_line_from 0 steps old before result new after r.text r.plays

@@ -1,5 +1,7 @@
 -- What has been played of a script so far.
-use Rattle.std.proofs.Common.{◌≡◌, ◌<◌, ◌≤◌, ℕ, zero, suc, ◌+◌, List, [], ◌∷◌, ◌++◌, length, map, drop, get_or, inl, inr, Option, Result, Ok, Err, refl, sym, ap, subst, arith, append_assoc, append-nil, add-one}
+use Rattle.std.proofs.Common.{◌≡◌, ◌<◌, ◌≤◌, ℕ, zero, suc, ◌+◌, List, [], ◌∷◌, ◌++◌, length, map}
+use Rattle.std.proofs.Common.{drop, get_or, inl, inr, Option, Result, Ok, Err, refl, sym, ap, subst}
+use Rattle.std.proofs.Common.{arith, append_assoc, append-nil, add-one}
 use Rattle.std.specs.Io.KnownBytes.{Appends}
 use Rattle.std.proofs.KnownBytes.{Appends-nil, Appends-trans}
 use Rattle.bsc_carrier.specs.Cable.{CableValue}
@@ -18,33 +20,42 @@ use Rattle.bsc_run.specs.Printed.{report_of}
 use Rattle.bsc_run.specs.Plays.{Plays, Played, Runs, TakesStep, WhereWhole}
 use Rattle.bsc_run.specs.Steps.{Accepts, Acts, Refuses, trace_after}
 
-drop_map_suc : {X Y : Type 0} (f : X → Y) (xs : List X) (i : ℕ) (x : X) → i < length xs → x ≡ get_or xs i x → drop i (map f xs) ≡ f x ∷ drop (suc i) (map f xs)
+drop_map_suc : {X Y : Type 0} (f : X → Y) (xs : List X) (i : ℕ) (x : X) → i < length xs → x
+    ≡ get_or xs i x → drop i (map f xs) ≡ f x ∷ drop (suc i) (map f xs)
 drop_map_suc f [] i x h e = absurd (omega arith)
 drop_map_suc f (y ∷ ys) zero x h e = ap (λ z. f z ∷ map f ys) (sym e)
 drop_map_suc f (y ∷ ys) (suc i) x h e = drop_map_suc f ys i x (omega arith) e
 
 -- the first of what is left
-pub drop_map : {X Y : Type 0} (f : X → Y) (xs : List X) (i : ℕ) (x : X) → i < length xs → x ≡ get_or xs i x → drop i (map f xs) ≡ f x ∷ drop (i + 1) (map f xs)
+pub drop_map : {X Y : Type 0} (f : X → Y) (xs : List X) (i : ℕ) (x : X) → i < length xs → x
+    ≡ get_or xs i x → drop i (map f xs) ≡ f x ∷ drop (i + 1) (map f xs)
 drop_map f xs i x h e = rw add-one (drop_map_suc f xs i x h e)
 
 -- nothing is left
-pub drop_map_all : {X Y : Type 0} (f : X → Y) (xs : List X) (i : ℕ) → length xs ≤ i → drop i (map f xs) ≡ []
+pub drop_map_all : {X Y : Type 0} (f : X → Y) (xs : List X) (i : ℕ) → length xs ≤ i
+    → drop i (map f xs) ≡ []
 drop_map_all f [] zero h = refl
 drop_map_all f [] (suc i) h = refl
 drop_map_all f (x ∷ xs) zero h = absurd (omega arith)
 drop_map_all f (x ∷ xs) (suc i) h = drop_map_all f xs i (omega arith)
 
-module _ {S : Type 0} (contents remaining : S → Option (List ℕ)) (all : List NumberedEvent) (first : LineValue) (before : CableValue S) where
+module _ {S : Type 0} (contents remaining : S → Option (List ℕ)) (all : List NumberedEvent)
+    (first : LineValue) (before : CableValue S) where
   -- what was written so far, and a run of what is left makes a run of all
-  pub record HasPlayed (left : List NumberedEvent) (mid : LineValue) (between : CableValue S) (held holds : Option (List ℕ)) : Type 0 where
+  pub record HasPlayed (left : List NumberedEvent) (mid : LineValue) (between : CableValue S)
+      (held holds : Option (List ℕ)) : Type 0 where
     pub text : List ℕ
     pub written : Appends held holds text
-    pub goes : (result : Result (Unit {0}) RunError) (new : LineValue) (after : CableValue S) (rest : List ℕ)
-        → Plays contents remaining left mid between result new after rest → Plays contents remaining all first before result new after (text ++ rest)
+    pub goes : (result : Result (Unit {0}) RunError) (new : LineValue) (after : CableValue S)
+        (rest : List ℕ)
+        → Plays contents remaining left mid between result new after rest
+        → Plays contents remaining all first before result new after (text ++ rest)
 
   -- an event is accepted
-  pub has_played_more : (step : NumberedEvent) (left : List NumberedEvent) (mid new : LineValue) (between after : CableValue S) (a b c : Option (List ℕ))
-      → HasPlayed (step ∷ left) mid between a b → IsLine new → Accepts contents remaining step.event mid between new after
+  pub has_played_more : (step : NumberedEvent) (left : List NumberedEvent) (mid new : LineValue)
+      (between after : CableValue S) (a b c : Option (List ℕ))
+      → HasPlayed (step ∷ left) mid between a b → IsLine new
+      → Accepts contents remaining step.event mid between new after
       → Appends b c (trace_after step.event new) → HasPlayed left new after a c
   has_played_more step left mid new between after a b c h line accepted written = record {
     text = h.text ++ trace_after step.event new;
@@ -52,11 +63,20 @@ module _ {S : Type 0} (contents remaining : S → Option (List ℕ)) (all : List
     goes = λ result last end rest p.
         rw (append_assoc h.text (trace_after step.event new) rest)
         (h.goes result last end (trace_after step.event new ++ rest)
-        (inr record { mid = new; between = after; rest = rest; line = line; accepted = accepted; printed = refl; goes = p }));
+        (inr record {
+          mid = new;
+          between = after;
+          rest = rest;
+          line = line;
+          accepted = accepted;
+          printed = refl;
+          goes = p;
+        }));
   }
 
   -- no event is left
-  pub has_played_all : (mid : LineValue) (between : CableValue S) (a b : Option (List ℕ)) → HasPlayed [] mid between a b
+  pub has_played_all : (mid : LineValue) (between : CableValue S) (a b : Option (List ℕ))
+      → HasPlayed [] mid between a b
       → Played contents remaining all first before (Ok tt) mid between a b
   has_played_all mid between a b h = record {
     text = h.text ++ [];
@@ -65,9 +85,12 @@ module _ {S : Type 0} (contents remaining : S → Option (List ℕ)) (all : List
   }
 
   -- the next event is refused, or a fault breaks it off
-  pub has_played_stop : (step : NumberedEvent) (left : List NumberedEvent) (mid new : LineValue) (between after : CableValue S) (a b c : Option (List ℕ)) (error : RunError)
-      → HasPlayed (step ∷ left) mid between a b → TakesStep contents remaining step mid between (Err error) new after b c
-      → WhereWhole (Err error) (Played contents remaining all first before (Err error) new after a c)
+  pub has_played_stop : (step : NumberedEvent) (left : List NumberedEvent) (mid new : LineValue)
+      (between after : CableValue S) (a b c : Option (List ℕ)) (error : RunError)
+      → HasPlayed (step ∷ left) mid between a b
+      → TakesStep contents remaining step mid between (Err error) new after b c
+      → WhereWhole (Err error) (Played contents remaining all first before (Err error) new after a
+      c)
   has_played_stop step left mid new between after a b c (Refused line why) h t =
       let r = t.refused line why refl in
       record {
@@ -84,22 +107,32 @@ module _ {S : Type 0} (contents remaining : S → Option (List ℕ)) (all : List
   has_played_stop step left mid new between after a b c _ h t = tt
 
 -- nothing was played yet
-pub has_played_none : {S : Type 0} (contents remaining : S → Option (List ℕ)) (all : List NumberedEvent) (first : LineValue) (before : CableValue S) (a : Option (List ℕ))
+pub has_played_none : {S : Type 0} (contents remaining : S → Option (List ℕ))
+    (all : List NumberedEvent) (first : LineValue) (before : CableValue S) (a : Option (List ℕ))
     → HasPlayed contents remaining all first before all first before a a
-has_played_none contents remaining all first before a = record { text = []; written = Appends-nil a; goes = λ result new after rest p. p }
+has_played_none contents remaining all first before a =
+    record { text = []; written = Appends-nil a; goes = λ result new after rest p. p }
 
-module _ {S : Type 0} (contents remaining : S → Option (List ℕ)) (step : NumberedEvent) (old new : LineValue) (before after : CableValue S) where
+module _ {S : Type 0} (contents remaining : S → Option (List ℕ)) (step : NumberedEvent)
+    (old new : LineValue) (before after : CableValue S) where
   -- an event that is accepted, with what is printed after it
-  pub takes_step : (a b : Option (List ℕ)) → Acts contents remaining step.event old before (Ok tt) new after
-      → Appends a b (trace_after step.event new) → TakesStep contents remaining step old before (Ok tt) new after a b
-  takes_step a b h written = record { accepted = h.accepted; fits = h.fits; printed = written; refused = λ line why q. cc }
+  pub takes_step : (a b : Option (List ℕ))
+      → Acts contents remaining step.event old before (Ok tt) new after
+      → Appends a b (trace_after step.event new)
+      → TakesStep contents remaining step old before (Ok tt) new after a b
+  takes_step a b h written =
+      record { accepted = h.accepted; fits = h.fits; printed = written; refused = λ line why q. cc }
 
   -- an event that is refused, or broken off by a fault
-  pub takes_error : (a : Option (List ℕ)) (e : StepError) → Acts contents remaining step.event old before (Err e) new after
+  pub takes_error : (a : Option (List ℕ)) (e : StepError)
+      → Acts contents remaining step.event old before (Err e) new after
       → TakesStep contents remaining step old before (Err (fault_at step.line e)) new after a a
-  takes_error a fault.Output h = record { accepted = tt; fits = tt; printed = tt; refused = λ line why q. cc }
-  takes_error a fault.Socket h = record { accepted = tt; fits = tt; printed = tt; refused = λ line why q. cc }
-  takes_error a fault.Memory h = record { accepted = tt; fits = tt; printed = tt; refused = λ line why q. cc }
+  takes_error a fault.Output h =
+      record { accepted = tt; fits = tt; printed = tt; refused = λ line why q. cc }
+  takes_error a fault.Socket h =
+      record { accepted = tt; fits = tt; printed = tt; refused = λ line why q. cc }
+  takes_error a fault.Memory h =
+      record { accepted = tt; fits = tt; printed = tt; refused = λ line why q. cc }
   takes_error a (fault.Refused w) h = record {
     accepted = tt;
     fits = tt;
@@ -107,18 +140,27 @@ module _ {S : Type 0} (contents remaining : S → Option (List ℕ)) (step : Num
     refused = λ line why q.
         let place : line ≡ step.line = cc in
         let same : w ≡ why = cc in
-        let r = h.refused w refl in
-        (place, subst (λ (k : LineError). Refuses step.event k old new) same r.0, r.1, Appends-nil a);
+        let r = h.refused w refl in (
+          place,
+          subst (λ (k : LineError). Refuses step.event k old new) same r.0,
+          r.1,
+          Appends-nil a,
+        );
   }
 
   -- what was to be printed was not
-  pub takes_unprinted : (a b : Option (List ℕ)) (e : PrintError) → TakesStep contents remaining step old before (Err (run_fault e)) new after a b
-  takes_unprinted a b print.Output = record { accepted = tt; fits = tt; printed = tt; refused = λ line why q. cc }
-  takes_unprinted a b print.Memory = record { accepted = tt; fits = tt; printed = tt; refused = λ line why q. cc }
+  pub takes_unprinted : (a b : Option (List ℕ)) (e : PrintError)
+      → TakesStep contents remaining step old before (Err (run_fault e)) new after a b
+  takes_unprinted a b print.Output =
+      record { accepted = tt; fits = tt; printed = tt; refused = λ line why q. cc }
+  takes_unprinted a b print.Memory =
+      record { accepted = tt; fits = tt; printed = tt; refused = λ line why q. cc }
 
 -- the report is written after what was played
-pub runs_reported : {S : Type 0} (contents remaining : S → Option (List ℕ)) (steps : List NumberedEvent) (old new : LineValue) (before after : CableValue S)
-    (result : Result (Unit {0}) RunError) (a b c : Option (List ℕ)) → Played contents remaining steps old before result new after a b
+pub runs_reported : {S : Type 0} (contents remaining : S → Option (List ℕ))
+    (steps : List NumberedEvent) (old new : LineValue) (before after : CableValue S)
+    (result : Result (Unit {0}) RunError) (a b c : Option (List ℕ))
+    → Played contents remaining steps old before result new after a b
     → Appends b c (report_of new) → Runs contents remaining steps old before result new after a c
 runs_reported contents remaining steps old new before after result a b c p written = record {
   text = p.text;
@@ -127,7 +169,8 @@ runs_reported contents remaining steps old new before after result a b c p writt
 }
 
 -- what holds of a run that no fault broke off
-pub where_whole : {P Q : Type 0} (r : Result (Unit {0}) RunError) → (P → Q) → WhereWhole r P → WhereWhole r Q
+pub where_whole : {P Q : Type 0} (r : Result (Unit {0}) RunError) → (P → Q) → WhereWhole r P
+    → WhereWhole r Q
 where_whole (Ok done) f p = f p
 where_whole (Err (Refused line why)) f p = f p
 where_whole (Err _) f p = p

@@ -1,5 +1,7 @@
--- Every accepted event keeps the number of terminals, and who speaks after it is a station of the line.
-use Rattle.std.proofs.Common.{◌≡◌, ◌≤◌, ℕ, zero, suc, List, length, Option, None, Some, Ok, sym, ◌∙◌, ap, subst, arith}
+-- Every accepted event keeps the number of terminals, and who speaks after it is a station of the
+-- line.
+use Rattle.std.proofs.Common.{◌≡◌, ◌≤◌, ℕ, zero, suc, List, length, Option, None, Some, Ok, sym}
+use Rattle.std.proofs.Common.{◌∙◌, ap, subst, arith}
 use Rattle.std.proofs.lemmas.List.{length-set}
 use Rattle.bsc_frame.specs.declared.message.Message.{Message}
 use Rattle.bsc_frame.specs.declared.message.Heard.{Heard}
@@ -12,7 +14,10 @@ use Rattle.bsc_line_model.specs.declared.transmission.Speaker.{Speaker}
 use Rattle.bsc_line_model.specs.declared.transmission.Speaker.TheVariants.{Control, Terminal}
 use Rattle.bsc_line_model.specs.declared.transmission.Transmission.{Transmission}
 use Rattle.bsc_line_model.specs.declared.event.Event.{Event}
-use Rattle.bsc_line_model.specs.declared.event.Event.TheVariants.{OfferAt, OfferFor, Carry, CarryEach, CarrySent, Silence, Ready, UrgentAt, UrgentFor, Release}
+use Rattle.bsc_line_model.specs.declared.event.Event.TheVariants.{OfferAt, OfferFor, Carry}
+use Rattle.bsc_line_model.specs.declared.event.Event.TheVariants.{CarryEach, CarrySent, Silence}
+use Rattle.bsc_line_model.specs.declared.event.Event.TheVariants.{Ready, UrgentAt, UrgentFor}
+use Rattle.bsc_line_model.specs.declared.event.Event.TheVariants.{Release}
 use Rattle.bsc_line_model.specs.Line.{LineValue, terminal_count, terminal_at}
 use Rattle.bsc_line_model.specs.Transmission.{sent_by}
 use Rattle.bsc_line_model.specs.Hearing.{heard_at}
@@ -25,19 +30,24 @@ use Rattle.bsc_run.specs.Crossing.{connection_count}
 use Rattle.bsc_run.specs.Speaking.{IsStation, IsSpeakerThere, Fits}
 
 -- the number of terminals stays
-carried_count : (s : Speaker) (message : Message) (h : Heard) (old new : LineValue) → IsCarriedBy s message h old new → terminal_count new ≡ terminal_count old
+carried_count : (s : Speaker) (message : Message) (h : Heard) (old new : LineValue)
+    → IsCarriedBy s message h old new → terminal_count new ≡ terminal_count old
 carried_count Control message h old new c = c.terminals.count
 carried_count (Terminal t) message h old new c = ap length c.terminals
 
-owner_count : (o : Option ℕ) (old new : LineValue) → OwnerActs o old new → terminal_count new ≡ terminal_count old
+owner_count : (o : Option ℕ) (old new : LineValue) → OwnerActs o old new → terminal_count new
+    ≡ terminal_count old
 owner_count None old new a = ap terminal_count a.becomes
-owner_count (Some t) old new a = ap terminal_count a.becomes ∙ length-set old.terminals t (terminal_at new t)
+owner_count (Some t) old new a = ap terminal_count a.becomes
+    ∙ length-set old.terminals t (terminal_at new t)
 
-release_count : (old : LineValue) (t : ℕ) (way : Way) (new : LineValue) → ReleasesWay old t way (Ok tt) new → terminal_count new ≡ terminal_count old
+release_count : (old : LineValue) (t : ℕ) (way : Way) (new : LineValue)
+    → ReleasesWay old t way (Ok tt) new → terminal_count new ≡ terminal_count old
 release_count old t FromTerminal new r = ap terminal_count r.becomes ∙ length-set old.terminals t _
 release_count old t (ToTerminal s) new r = ap terminal_count r.becomes
 
-count_kept : (e : Event) (old new : LineValue) → Does e old (Ok tt) new → terminal_count new ≡ terminal_count old
+count_kept : (e : Event) (old new : LineValue) → Does e old (Ok tt) new → terminal_count new
+    ≡ terminal_count old
 count_kept (OfferAt t codes) old new d = ap terminal_count d.2 ∙ length-set old.terminals t _
 count_kept (OfferFor t s codes) old new d = ap terminal_count d.3
 count_kept (Carry item) old new d = carried_count d.sent.speaker d.sent.message _ old new d.carried
@@ -50,68 +60,101 @@ count_kept (UrgentFor t) old new d = ap terminal_count d.1
 count_kept (Release t way) old new d = release_count old t way new d
 
 -- who speaks is a station
-or_first_there : (l : LineValue) (a b : Option Transmission) → IsSpeakerThere l a → IsSpeakerThere l b → IsSpeakerThere l (or_first a b)
+or_first_there : (l : LineValue) (a b : Option Transmission) → IsSpeakerThere l a
+    → IsSpeakerThere l b → IsSpeakerThere l (or_first a b)
 or_first_there l (Some x) b p q = p
 or_first_there l None b p q = q
 
-sent_by_there : (l : LineValue) (s : Speaker) (m : Option Message) → IsStation l s → IsSpeakerThere l (sent_by s m)
+sent_by_there : (l : LineValue) (s : Speaker) (m : Option Message) → IsStation l s
+    → IsSpeakerThere l (sent_by s m)
 sent_by_there l s None h = tt
 sent_by_there l s (Some m) h = h
 
-first_answer_there : (l new : LineValue) (hears : ℕ → Heard) (n : ℕ) → n ≤ terminal_count l → IsSpeakerThere l (first_answer l.terminals hears new.terminals n)
+first_answer_there : (l new : LineValue) (hears : ℕ → Heard) (n : ℕ) → n ≤ terminal_count l
+    → IsSpeakerThere l (first_answer l.terminals hears new.terminals n)
 first_answer_there l new hears zero h = tt
 first_answer_there l new hears (suc n) h =
-    or_first_there l (first_answer l.terminals hears new.terminals n) (sent_by (Terminal n) (answer_of l.terminals hears new.terminals n))
+    or_first_there l (first_answer l.terminals hears new.terminals n)
+    (sent_by (Terminal n) (answer_of l.terminals hears new.terminals n))
     (first_answer_there l new hears n (omega arith))
     (sent_by_there l (Terminal n) (answer_of l.terminals hears new.terminals n) (omega arith))
 
-there_by : (l : LineValue) (p q : Option Transmission) → p ≡ q → IsSpeakerThere l q → IsSpeakerThere l p
+there_by : (l : LineValue) (p q : Option Transmission) → p ≡ q → IsSpeakerThere l q
+    → IsSpeakerThere l p
 there_by l p q e h = subst (IsSpeakerThere l) (sym e) h
 
-carried_there : (s : Speaker) (message : Message) (h : Heard) (old new : LineValue) → IsCarriedBy s message h old new → IsSpeakerThere old new.pending
-carried_there Control message h old new c = there_by old new.pending _ c.pending (first_answer_there old new (λ t. h) (terminal_count old) (omega arith))
-carried_there (Terminal t) message h old new c = there_by old new.pending _ c.pending (sent_by_there old Control c.sent tt)
+carried_there : (s : Speaker) (message : Message) (h : Heard) (old new : LineValue)
+    → IsCarriedBy s message h old new → IsSpeakerThere old new.pending
+carried_there Control message h old new c =
+    there_by old new.pending _ c.pending
+    (first_answer_there old new (λ t. h) (terminal_count old) (omega arith))
+carried_there (Terminal t) message h old new c =
+    there_by old new.pending _ c.pending (sent_by_there old Control c.sent tt)
 
-owner_there : (o : Option ℕ) (old new : LineValue) → OwnerActs o old new → IsSpeakerThere old new.pending
-owner_there None old new a = there_by old new.pending _ (ap (λ (l : LineValue). l.pending) a.becomes) (sent_by_there old Control a.sent tt)
-owner_there (Some t) old new a = there_by old new.pending _ (ap (λ (l : LineValue). l.pending) a.becomes) (sent_by_there old (Terminal t) a.sent a.there)
+owner_there : (o : Option ℕ) (old new : LineValue) → OwnerActs o old new
+    → IsSpeakerThere old new.pending
+owner_there None old new a =
+    there_by old new.pending _ (ap (λ (l : LineValue). l.pending) a.becomes)
+    (sent_by_there old Control a.sent tt)
+owner_there (Some t) old new a =
+    there_by old new.pending _ (ap (λ (l : LineValue). l.pending) a.becomes)
+    (sent_by_there old (Terminal t) a.sent a.there)
 
-release_there : (old : LineValue) (t : ℕ) (way : Way) (new : LineValue) → ReleasesWay old t way (Ok tt) new → new.pending ≡ old.pending
+release_there : (old : LineValue) (t : ℕ) (way : Way) (new : LineValue)
+    → ReleasesWay old t way (Ok tt) new → new.pending ≡ old.pending
 release_there old t FromTerminal new r = ap (λ (l : LineValue). l.pending) r.becomes
 release_there old t (ToTerminal s) new r = ap (λ (l : LineValue). l.pending) r.becomes
 
-speaker_there : (e : Event) (old new : LineValue) → Does e old (Ok tt) new → IsSpeakerThere old old.pending → IsSpeakerThere old new.pending
-speaker_there (OfferAt t codes) old new d h = there_by old new.pending old.pending (ap (λ (l : LineValue). l.pending) d.2) h
-speaker_there (OfferFor t s codes) old new d h = there_by old new.pending old.pending (ap (λ (l : LineValue). l.pending) d.3) h
-speaker_there (Carry item) old new d h = carried_there d.sent.speaker d.sent.message _ old new d.carried
-speaker_there (CarryEach items) old new d h = there_by old new.pending _ d.carried.pending (first_answer_there old new (heard_at items.now) (terminal_count old) (omega arith))
-speaker_there CarrySent old new d h = carried_there d.sent.speaker d.sent.message _ old new d.carried
+speaker_there : (e : Event) (old new : LineValue) → Does e old (Ok tt) new
+    → IsSpeakerThere old old.pending → IsSpeakerThere old new.pending
+speaker_there (OfferAt t codes) old new d h =
+    there_by old new.pending old.pending (ap (λ (l : LineValue). l.pending) d.2) h
+speaker_there (OfferFor t s codes) old new d h =
+    there_by old new.pending old.pending (ap (λ (l : LineValue). l.pending) d.3) h
+speaker_there (Carry item) old new d h =
+    carried_there d.sent.speaker d.sent.message _ old new d.carried
+speaker_there (CarryEach items) old new d h =
+    there_by old new.pending _ d.carried.pending
+    (first_answer_there old new (heard_at items.now) (terminal_count old) (omega arith))
+speaker_there CarrySent old new d h =
+    carried_there d.sent.speaker d.sent.message _ old new d.carried
 speaker_there Silence old new d h = owner_there (line_owner old.terminals) old new d.acts
-speaker_there (Ready t ready) old new d h = there_by old new.pending old.pending (ap (λ (l : LineValue). l.pending) d.1) h
-speaker_there (UrgentAt t) old new d h = there_by old new.pending old.pending (ap (λ (l : LineValue). l.pending) d.1) h
-speaker_there (UrgentFor t) old new d h = there_by old new.pending old.pending (ap (λ (l : LineValue). l.pending) d.1) h
-speaker_there (Release t way) old new d h = there_by old new.pending old.pending (release_there old t way new d) h
+speaker_there (Ready t ready) old new d h =
+    there_by old new.pending old.pending (ap (λ (l : LineValue). l.pending) d.1) h
+speaker_there (UrgentAt t) old new d h =
+    there_by old new.pending old.pending (ap (λ (l : LineValue). l.pending) d.1) h
+speaker_there (UrgentFor t) old new d h =
+    there_by old new.pending old.pending (ap (λ (l : LineValue). l.pending) d.1) h
+speaker_there (Release t way) old new d h =
+    there_by old new.pending old.pending (release_there old t way new d) h
 
 -- a line with as many terminals has the same stations
-station_moved : (old new : LineValue) (s : Speaker) → terminal_count new ≡ terminal_count old → IsStation old s → IsStation new s
+station_moved : (old new : LineValue) (s : Speaker) → terminal_count new ≡ terminal_count old
+    → IsStation old s → IsStation new s
 station_moved old new Control e h = tt
 station_moved old new (Terminal t) e h = omega (arith, e, h)
 
-speaker_moved : (old new : LineValue) (p : Option Transmission) → terminal_count new ≡ terminal_count old → IsSpeakerThere old p → IsSpeakerThere new p
+speaker_moved : (old new : LineValue) (p : Option Transmission) → terminal_count new
+    ≡ terminal_count old → IsSpeakerThere old p → IsSpeakerThere new p
 speaker_moved old new None e h = tt
 speaker_moved old new (Some sent) e h = station_moved old new sent.speaker e h
 
 -- the cable fits the line after an accepted event
-pub fits_after : {S : Type 0} (e : Event) (old new : LineValue) (before after : CableValue S) → Fits old before
-    → Does e old (Ok tt) new → IsLine new → connection_count after ≡ connection_count before → Fits new after
+pub fits_after : {S : Type 0} (e : Event) (old new : LineValue) (before after : CableValue S)
+    → Fits old before
+    → Does e old (Ok tt) new → IsLine new → connection_count after ≡ connection_count before
+    → Fits new after
 fits_after e old new before after f d line count = record {
   line = line;
   connections = count ∙ f.connections ∙ sym (count_kept e old new d);
-  speaker = speaker_moved old new new.pending (count_kept e old new d) (speaker_there e old new d f.speaker);
+  speaker =
+      speaker_moved old new new.pending (count_kept e old new d)
+      (speaker_there e old new d f.speaker);
 }
 
 -- nobody speaks on a new line
-pub new_line_fits : {S : Type 0} (setup : SetupValue) (given : List TerminalValue) (poll_list : List ℕ) (l : LineValue) (c : CableValue S)
+pub new_line_fits : {S : Type 0} (setup : SetupValue) (given : List TerminalValue)
+    (poll_list : List ℕ) (l : LineValue) (c : CableValue S)
     → IsNewLine setup given poll_list l → IsLine l → connection_count c ≡ length given → Fits l c
 new_line_fits setup given poll_list l c new line count = record {
   line = line;

@@ -1,5 +1,6 @@
 -- Numbers of a few digits.
-use Rattle.std.proofs.Common.{◌≡◌, ◌<◌, ◌≤◌, ◌^◌, ◌+◌, ◌==◌, ◌&&◌, ℕ, List, [], ◌∷◌, Bool, true, false, not, length, take, get_or, arith, refl}
+use Rattle.std.proofs.Common.{◌≡◌, ◌<◌, ◌≤◌, ◌^◌, ◌+◌, ◌==◌, ◌&&◌, ℕ, List, [], ◌∷◌, Bool, true}
+use Rattle.std.proofs.Common.{false, not, length, take, get_or, arith, refl}
 use Rattle.std.specs.Prelude.{nat_le}
 use Rattle.std.specs.Char.{is_ascii_digit, digit_value}
 use Rattle.std.specs.Int.{IsInRange}
@@ -29,18 +30,30 @@ all_digits (c ∷ word) e =
     (omega arith, all_digits word p.1)
 
 -- the digit at a place
-pub digit_at : (most : ℕ) (word : List ℕ) (i : ℕ) → has_digits most word ≡ true → i < length word → (48 ≤ get_or word i 0) × (get_or word i 0 ≤ 57) × (digit_value (get_or word i 0) + 48 ≡ get_or word i 0)
+pub digit_at : (most : ℕ) (word : List ℕ) (i : ℕ) → has_digits most word ≡ true → i < length word
+    → (48 ≤ get_or word i 0) × (get_or word i 0 ≤ 57)
+    × (digit_value (get_or word i 0) + 48 ≡ get_or word i 0)
 digit_at most word i e below =
-    let tests = both (not (length word == 0) && nat_le (length word) most) (list_all is_ascii_digit word) e in
-    let range = digit_range (get_or word i 0) (AllPass-from_list_all is_ascii_digit word tests.1 i 0 below) in
+    let tests =
+    both (not (length word == 0) && nat_le (length word) most) (list_all is_ascii_digit word)
+    e in
+    let range =
+    digit_range (get_or word i 0) (AllPass-from_list_all is_ascii_digit word tests.1 i 0
+    below) in
     (range.0, range.1, digit_value_digit (get_or word i 0) range)
 
 -- at most three digits are below a thousand, and so are those at their front
-pub below_thousand : (most : ℕ) (word : List ℕ) (i : ℕ) → most ≤ 3 → has_digits most word ≡ true → digits_value 10 (take i word) < 1000
+pub below_thousand : (most : ℕ) (word : List ℕ) (i : ℕ) → most ≤ 3 → has_digits most word ≡ true
+    → digits_value 10 (take i word) < 1000
 below_thousand most word i few e =
-    let tests = both (not (length word == 0) && nat_le (length word) most) (list_all is_ascii_digit word) e in
-    let short = leb-true (length word) most (both (not (length word == 0)) (nat_le (length word) most) tests.0).1 in
+    let tests =
+    both (not (length word == 0) && nat_le (length word) most) (list_all is_ascii_digit word)
+    e in
+    let short =
+    leb-true (length word) most (both (not (length word == 0)) (nat_le (length word) most)
+    tests.0).1 in
     let front = digits_value-take-le 10 word i (omega arith) in
     let whole = digits_value-lt 10 word (all_digits word tests.1) in
-    let power : 10 ^ length word ≤ 10 ^ 3 = pow-le-pow_right {n = 10} (omega arith) {i = length word} {j = 3} (omega arith) in
+    let power : 10 ^ length word ≤ 10 ^ 3 =
+    pow-le-pow_right {n = 10} (omega arith) {i = length word} {j = 3} (omega arith) in
     omega arith

@@ -1,5 +1,6 @@
 -- What the next block of a queue is.
-use Rattle.std.proofs.Common.{◌≡◌, ◌≢◌, ℕ, ◌<◌, ◌≤◌, arith, Bool, true, false, List, [], ◌∷◌, length, refl, Some, nat_eq, if◌then◌else◌}
+use Rattle.std.proofs.Common.{◌≡◌, ◌≢◌, ℕ, ◌<◌, ◌≤◌, arith, Bool, true, false, List, [], ◌∷◌}
+use Rattle.std.proofs.Common.{length, refl, Some, nat_eq, if◌then◌else◌}
 use Rattle.std.proofs.lemmas.Bool.{eqb-true, eqb-false}
 use Rattle.bsc_frame.specs.declared.text.End.TheVariants.{Etb, Etx}
 use Rattle.bsc_block.specs.Format.{FormatValue}
@@ -13,18 +14,38 @@ record IsAfter (f : FormatValue) (rs : List (List ℕ)) (n : Next) : Type 0 wher
   pub last : n.end ≡ Etx → n.count ≡ length rs
   pub more : n.end ≡ Etb → n.count < length rs
 
-ends : (f : FormatValue) (rs : List (List ℕ)) (b : Bool) → IsTaken f rs (taken f rs) → nat_eq (taken f rs) (length rs) ≡ b
+ends : (f : FormatValue) (rs : List (List ℕ)) (b : Bool) → IsTaken f rs (taken f rs)
+    → nat_eq (taken f rs) (length rs) ≡ b
     → IsAfter f rs (record { count = taken f rs; end = if b then Etx else Etb })
-ends f rs true t e = record { count = refl; last = λ _. eqb-true (taken f rs) (length rs) e; more = λ h. absurd (cc) }
-ends f rs false t e = record { count = refl; last = λ h. absurd (cc); more = λ _. let apart : taken f rs ≢ length rs = eqb-false (taken f rs) (length rs) e in omega (arith, t.there) }
+ends f rs true t e =
+    record {
+      count = refl;
+      last = λ _. eqb-true (taken f rs) (length rs) e;
+      more =
+          λ h. absurd (cc);
+    }
+ends f rs false t e =
+    record {
+      count = refl;
+      last = λ h. absurd (cc);
+      more = λ _. let apart : taken f rs ≢ length rs =
+          eqb-false (taken f rs) (length rs) e in omega (arith, t.there);
+    }
 
-after : (f : FormatValue) (rs : List (List ℕ)) (n : Next) → IsTaken f rs (taken f rs) → next_after f rs ≡ Some n → (rs ≢ []) × IsAfter f rs n
+after : (f : FormatValue) (rs : List (List ℕ)) (n : Next) → IsTaken f rs (taken f rs)
+    → next_after f rs ≡ Some n → (rs ≢ []) × IsAfter f rs n
 after f [] n t e = absurd (cc)
 after f (r ∷ rs) n t e =
-    let same : record { count = taken f (r ∷ rs); end = if nat_eq (taken f (r ∷ rs)) (length (r ∷ rs)) then Etx else Etb } ≡ n = cc in
+    let same : record {
+      count = taken f (r ∷ rs);
+      end =
+          if nat_eq (taken f (r ∷ rs)) (length (r ∷ rs)) then Etx else Etb;
+    } ≡ n = cc in
     (λ h. cc, rw (← same) (ends f (r ∷ rs) (nat_eq (taken f (r ∷ rs)) (length (r ∷ rs))) t refl))
 
-pub next_block-IsNext : (q : QueueValue) (n : Next) → ((waiting q ≢ []) → 1 ≤ taken q.format (waiting q)) → IsTaken q.format (waiting q) (taken q.format (waiting q))
+pub next_block-IsNext : (q : QueueValue) (n : Next)
+    → ((waiting q ≢ []) → 1 ≤ taken q.format (waiting q))
+    → IsTaken q.format (waiting q) (taken q.format (waiting q))
     → next_block q ≡ Some n → IsNext q n
 next_block-IsNext q n some t e =
     let a : (waiting q ≢ []) × IsAfter q.format (waiting q) n = after q.format (waiting q) n t e in

@@ -12,7 +12,8 @@ all_short full (x ∷ xs) r all short = (all.0, all_short full xs r all.1 short)
 pub is_queue_offered : (q : QueueValue) (r : List ℕ) → IsQueue q → length r ≤ q.format.full
     → IsQueue (with_offered q r)
 is_queue_offered q r h short =
-    let longer : length (q.offered ++ r ∷ []) ≡ length q.offered + 1 = length-append q.offered (r ∷ []) in
+    let longer : length (q.offered ++ r ∷ []) ≡ length q.offered + 1 =
+    length-append q.offered (r ∷ []) in
     let known : q.known ≤ length q.offered = h.known in
     record {
       format = h.format;

@@ -1,5 +1,6 @@
 -- What the sender does keeps that both ends agree, and at most learns of what was spooled.
-use Rattle.std.proofs.Common.{◌≡◌, ◌⊎◌, inl, inr, ℕ, ◌+◌, ◌≤◌, List, [], length, take, Option, None, Some, refl, sym, ◌∙◌, ap, subst, arith}
+use Rattle.std.proofs.Common.{◌≡◌, ◌⊎◌, inl, inr, ℕ, ◌+◌, ◌≤◌, List, [], length, take, Option, None}
+use Rattle.std.proofs.Common.{Some, refl, sym, ◌∙◌, ap, subst, arith}
 use Rattle.std.proofs.lemmas.List.{length-take-le}
 use Rattle.bsc_frame.specs.declared.message.Message.{Message}
 use Rattle.bsc_frame.specs.declared.message.Message.TheVariants as m
@@ -19,13 +20,17 @@ use Rattle.bsc_text.specs.declared.phase.SentBlock.{SentBlock}
 use Rattle.bsc_text.specs.declared.phase.Phase.{Phase}
 use Rattle.bsc_text.specs.declared.phase.Phase.TheVariants.{Idle, Unanswered, Held, InDoubt}
 use Rattle.bsc_text.specs.Reply.{other, answer_of, message_of, reply_in, reply_heard}
-use Rattle.bsc_text.specs.Sender.{SenderValue, SenderStep, unmoved, over, text_of, sent_next, begin_step, accepted, failed, delayed, unanswered_step, held_step, answered_step, reply_step, silent_in}
+use Rattle.bsc_text.specs.Sender.{SenderValue, SenderStep, unmoved, over, text_of, sent_next}
+use Rattle.bsc_text.specs.Sender.{begin_step, accepted, failed, delayed, unanswered_step, held_step}
+use Rattle.bsc_text.specs.Sender.{answered_step, reply_step, silent_in}
 use Rattle.bsc_text.specs.Ready.{AreWaiting}
 use Rattle.bsc_text.specs.Channel.{channel, IsSound}
 use Rattle.bsc_text.specs.Fair.{IsTextMessage, IsCallCutShort, IsFairlyHeard}
 use Rattle.bsc_text.specs.Bid.{IsFairTo, reply_message, answered, unless_quiet}
 use Rattle.bsc_text.specs.OneBid.{MovesAtSender}
-use Rattle.bsc_text.specs.Agreement.{Flight, Still, Outward, Back, IsReplyBefore, IsReplyAfter, NotLanded, HasLanded, Agree, InBid, IsResting, Continues, reply_flight, sent_flight}
+use Rattle.bsc_text.specs.Agreement.{Flight, Still, Outward, Back, IsReplyBefore, IsReplyAfter}
+use Rattle.bsc_text.specs.Agreement.{NotLanded, HasLanded, Agree, InBid, IsResting, Continues}
+use Rattle.bsc_text.specs.Agreement.{reply_flight, sent_flight}
 use Rattle.bsc_text.proofs.Choice.{choose}
 use Rattle.bsc_text.proofs.ReadyLemmas.{counts_next, within_offered, is_queue_marked, still_waiting}
 use Rattle.bsc_text.proofs.Hearing.{fits, agree_still}
@@ -52,7 +57,8 @@ has_next law q h some = next_by law q h some (next_block q) refl
 -- what a step of the sender leaves: the bid goes on or is over, and the channel moved as it may
 abbrev pub Leaves : QueueValue → Alternation → Reply → List (List ℕ) → SenderStep → Type 0
 Leaves q alternation last spooled t =
-    Continues t.sender.phase t.queue alternation last spooled (sent_flight t.act) × MovesAtSender (channel q spooled)
+    Continues t.sender.phase t.queue alternation last spooled (sent_flight t.act)
+    × MovesAtSender (channel q spooled)
     (channel t.queue spooled)
 
 -- the same, at a queue that the step does not change
@@ -65,8 +71,15 @@ at_rest : (q : QueueValue) (spooled : List (List ℕ)) → IsQueue q
     → spooled ≡ take q.known q.offered → IsResting Idle q spooled × (Still ≡ Still)
 at_rest q spooled h e =
     let known : q.known ≤ length q.offered = h.known in
-    let long : length spooled ≡ q.known = ap length e ∙ length-take-le q.known q.offered known in
-    (record { queue = h; counts = tt; sound = record { front = rw long e; known = omega arith; spooled = long } }, refl)
+    let long : length spooled ≡ q.known = ap length e ∙ length-take-le q.known q.offered known in (
+      record {
+        queue = h;
+        counts = tt;
+        sound =
+            record { front = rw long e; known = omega arith; spooled = long };
+      },
+      refl,
+    )
 
 -- the next block is sent
 next_keeps : NextLaw → (s : SenderValue) (q : QueueValue) (expected alternation : Alternation)
@@ -91,15 +104,19 @@ learns : (q : QueueValue) (k : ℕ) (spooled : List (List ℕ)) → q.known + k 
     → spooled ≡ take (q.known + k) q.offered
     → MovesAtSender (channel q spooled) (channel (with_known q k) spooled)
 learns q k spooled within e =
-    let long : length spooled ≡ q.known + k = ap length e ∙ length-take-le (q.known + k) q.offered within in
-    inr (ap (λ n. channel (record { format = q.format; offered = q.offered; known = n }) spooled) (sym long))
+    let long : length spooled ≡ q.known + k = ap length e
+    ∙ length-take-le (q.known + k) q.offered within in
+    inr (ap (λ n. channel (record { format = q.format; offered = q.offered; known = n }) spooled)
+    (sym long))
 
 -- the queue stays
 pub at_same : (q : QueueValue) (alternation : Alternation) (last : Reply) (spooled : List (List ℕ))
-    (t : SenderStep) → LeavesQueue q alternation last spooled t → Leaves q alternation last spooled t
+    (t : SenderStep) → LeavesQueue q alternation last spooled t
+    → Leaves q alternation last spooled t
 at_same q alternation last spooled t h = (h.0, inl (ap (λ (u : QueueValue). channel u spooled) h.1))
 
-at_learnt : (q : QueueValue) (k : ℕ) (alternation : Alternation) (last : Reply) (spooled : List (List ℕ))
+at_learnt : (q : QueueValue) (k : ℕ) (alternation : Alternation) (last : Reply)
+    (spooled : List (List ℕ))
     (t : SenderStep) → q.known + k ≤ length q.offered → spooled ≡ take (q.known + k) q.offered →
     LeavesQueue (with_known q k) alternation last spooled t → Leaves q alternation last spooled t
 at_learnt q k alternation last spooled t within front h = (
@@ -114,9 +131,11 @@ accepted_keeps : NextLaw → (s : SenderValue) (q : QueueValue) (e : End)
     → spooled ≡ take q.known q.offered → AreWaiting 0 e (length (waiting q))
     → alternation ≡ other (other expected) → IsReplyBefore last (other expected) →
     LeavesQueue q alternation last spooled (accepted s q e expected)
-accepted_keeps law s q Etx expected alternation last spooled h front more counted reply = (at_rest q spooled h front, refl)
+accepted_keeps law s q Etx expected alternation last spooled h front more counted reply =
+    (at_rest q spooled h front, refl)
 accepted_keeps law s q Etb expected alternation last spooled h front more counted reply =
-    next_keeps law (s) q (other expected) alternation last spooled h front (omega arith) counted reply
+    next_keeps law (s) q (other expected) alternation last spooled h front (omega arith) counted
+    reply
 
 -- WACK came
 delayed_keeps : (s : SenderValue) (q : QueueValue) (e : End) (expected alternation : Alternation)
@@ -125,8 +144,16 @@ delayed_keeps : (s : SenderValue) (q : QueueValue) (e : End) (expected alternati
     LeavesQueue q alternation Wack spooled (delayed s q e expected)
 delayed_keeps s q e expected alternation spooled h front more counted =
     choose (LeavesQueue q alternation Wack spooled) _ _ _
-    (at_rest q spooled h front, refl)
-    (record { queue = h; block = tt; counts = more; agree = record { front = front; counted = counted; reply = tt; flight = tt } }, refl)
+    (at_rest q spooled h front, refl) (
+      record {
+        queue = h;
+        block = tt;
+        counts = more;
+        agree =
+            record { front = front; counted = counted; reply = tt; flight = tt };
+      },
+      refl,
+    )
 
 other_twice : (x y : Alternation) → x ≡ y → x ≡ other (other y)
 other_twice x Odd e = e
@@ -139,7 +166,8 @@ record Marked (b : SentBlock) (q : QueueValue) (spooled : List (List ℕ)) : Typ
   pub queue : IsQueue (with_known q b.count)
   pub more : AreWaiting 0 b.end (length (waiting (with_known q b.count)))
 
-is_marked : (b : SentBlock) (q : QueueValue) (alternation : Alternation) (last : Reply) (spooled : List (List ℕ))
+is_marked : (b : SentBlock) (q : QueueValue) (alternation : Alternation) (last : Reply)
+    (spooled : List (List ℕ))
     → InBid (Unanswered b) q alternation last spooled (Back last)
     → HasLanded b q alternation last spooled (Back last) → Marked b q spooled
 is_marked b q alternation last spooled i h =
@@ -151,27 +179,34 @@ is_marked b q alternation last spooled i h =
       more = still_waiting q b.count b.end i.counts;
     }
 
-landed_accepted : NextLaw → (s : SenderValue) (b : SentBlock) (q : QueueValue) (alternation : Alternation)
+landed_accepted : NextLaw
+    → (s : SenderValue) (b : SentBlock) (q : QueueValue) (alternation : Alternation)
     (last : Reply) (spooled : List (List ℕ)) → Marked b q spooled → alternation ≡ b.alternation
     → IsReplyBefore last (other b.alternation)
     → Leaves q alternation last spooled (accepted s (with_known q b.count) b.end b.alternation)
 landed_accepted law s b q alternation last spooled m counted reply =
-    at_learnt q b.count alternation last spooled (accepted s (with_known q b.count) b.end b.alternation) m.within m.front
-    (accepted_keeps law s (with_known q b.count) b.end b.alternation alternation last spooled m.queue m.front m.more
+    at_learnt q b.count alternation last spooled
+    (accepted s (with_known q b.count) b.end b.alternation) m.within m.front
+    (accepted_keeps law s (with_known q b.count) b.end b.alternation alternation last spooled
+    m.queue m.front m.more
     (other_twice alternation b.alternation counted) reply)
 
 landed_delayed : (s : SenderValue) (b : SentBlock) (q : QueueValue) (alternation : Alternation)
     (spooled : List (List ℕ)) → Marked b q spooled → alternation ≡ b.alternation
     → Leaves q alternation Wack spooled (delayed s (with_known q b.count) b.end b.alternation)
 landed_delayed s b q alternation spooled m counted =
-    at_learnt q b.count alternation Wack spooled (delayed s (with_known q b.count) b.end b.alternation) m.within m.front
-    (delayed_keeps s (with_known q b.count) b.end b.alternation alternation spooled m.queue m.front m.more counted)
+    at_learnt q b.count alternation Wack spooled
+    (delayed s (with_known q b.count) b.end b.alternation) m.within m.front
+    (delayed_keeps s (with_known q b.count) b.end b.alternation alternation spooled m.queue m.front
+    m.more counted)
 
-landed_over : (s : SenderValue) (b : SentBlock) (q : QueueValue) (alternation : Alternation) (last : Reply)
+landed_over : (s : SenderValue) (b : SentBlock) (q : QueueValue) (alternation : Alternation)
+    (last : Reply)
     (spooled : List (List ℕ)) → Marked b q spooled
     → Leaves q alternation last spooled (over s (with_known q b.count) Idle)
 landed_over s b q alternation last spooled m =
-    at_learnt q b.count alternation last spooled (over s (with_known q b.count) Idle) m.within m.front
+    at_learnt q b.count alternation last spooled (over s (with_known q b.count) Idle) m.within
+    m.front
     (at_rest (with_known q b.count) spooled m.queue m.front, refl)
 
 landed_by : NextLaw → (s : SenderValue) (k : ℕ) (e : End) (expected : Alternation) (q : QueueValue)
@@ -179,23 +214,32 @@ landed_by : NextLaw → (s : SenderValue) (k : ℕ) (e : End) (expected : Altern
     let b : SentBlock = record { count = k; end = e; alternation = expected } in
     Marked b q spooled → alternation ≡ expected → IsReplyAfter last expected
     → Leaves q alternation last spooled (unanswered_step s q b (answer_of expected last))
-landed_by law s k e Odd q alternation Ack1 spooled m c r = landed_accepted law s _ q alternation Ack1 spooled m c tt
-landed_by law s k e Even q alternation Ack0 spooled m c r = landed_accepted law s _ q alternation Ack0 spooled m c tt
-landed_by law s k e Odd q alternation Wack spooled m c r = landed_delayed s _ q alternation spooled m c
-landed_by law s k e Even q alternation Wack spooled m c r = landed_delayed s _ q alternation spooled m c
-landed_by law s k e Odd q alternation Rvi spooled m c r = landed_over s _ q alternation Rvi spooled m
-landed_by law s k e Even q alternation Rvi spooled m c r = landed_over s _ q alternation Rvi spooled m
+landed_by law s k e Odd q alternation Ack1 spooled m c r =
+    landed_accepted law s _ q alternation Ack1 spooled m c tt
+landed_by law s k e Even q alternation Ack0 spooled m c r =
+    landed_accepted law s _ q alternation Ack0 spooled m c tt
+landed_by law s k e Odd q alternation Wack spooled m c r =
+    landed_delayed s _ q alternation spooled m c
+landed_by law s k e Even q alternation Wack spooled m c r =
+    landed_delayed s _ q alternation spooled m c
+landed_by law s k e Odd q alternation Rvi spooled m c r =
+    landed_over s _ q alternation Rvi spooled m
+landed_by law s k e Even q alternation Rvi spooled m c r =
+    landed_over s _ q alternation Rvi spooled m
 landed_by law s k e Odd q alternation Ack0 spooled m c r = absurd r
 landed_by law s k e Odd q alternation Nak spooled m c r = absurd r
 landed_by law s k e Even q alternation Ack1 spooled m c r = absurd r
 landed_by law s k e Even q alternation Nak spooled m c r = absurd r
 
-landed_keeps : NextLaw → (s : SenderValue) (b : SentBlock) (q : QueueValue) (alternation : Alternation)
-    (last : Reply) (spooled : List (List ℕ)) → InBid (Unanswered b) q alternation last spooled (Back last)
+landed_keeps : NextLaw
+    → (s : SenderValue) (b : SentBlock) (q : QueueValue) (alternation : Alternation)
+    (last : Reply) (spooled : List (List ℕ))
+    → InBid (Unanswered b) q alternation last spooled (Back last)
     → HasLanded b q alternation last spooled (Back last)
     → Leaves q alternation last spooled (unanswered_step s q b (answer_of b.alternation last))
 landed_keeps law s b q alternation last spooled i h =
-    landed_by law s b.count b.end b.alternation q alternation last spooled (is_marked b q alternation last spooled i h) h.counted h.reply
+    landed_by law s b.count b.end b.alternation q alternation last spooled
+    (is_marked b q alternation last spooled i h) h.counted h.reply
 
 -- a reply to a block that has not landed: it is sent again
 refused_keeps : (s : SenderValue) (b : SentBlock) (q : QueueValue) (alternation : Alternation)
@@ -215,15 +259,21 @@ refused_keeps s b q alternation last spooled e i h =
       inl refl,
     )
 
-before_keeps : (s : SenderValue) (b : SentBlock) (q : QueueValue) (alternation expected : Alternation)
+before_keeps : (s : SenderValue) (b : SentBlock) (q : QueueValue)
+    (alternation expected : Alternation)
     (last : Reply) (spooled : List (List ℕ)) → s.phase ≡ Unanswered b
     → IsReplyBefore last expected →
-    InBid (Unanswered b) q alternation last spooled (Back last) → NotLanded b q alternation last spooled (Back last) →
+    InBid (Unanswered b) q alternation last spooled (Back last)
+    → NotLanded b q alternation last spooled (Back last) →
     Leaves q alternation last spooled (unanswered_step s q b (answer_of expected last))
-before_keeps s b q alternation Odd Ack0 spooled e r i h = refused_keeps s b q alternation Ack0 spooled e i h
-before_keeps s b q alternation Even Ack1 spooled e r i h = refused_keeps s b q alternation Ack1 spooled e i h
-before_keeps s b q alternation Odd Nak spooled e r i h = refused_keeps s b q alternation Nak spooled e i h
-before_keeps s b q alternation Even Nak spooled e r i h = refused_keeps s b q alternation Nak spooled e i h
+before_keeps s b q alternation Odd Ack0 spooled e r i h =
+    refused_keeps s b q alternation Ack0 spooled e i h
+before_keeps s b q alternation Even Ack1 spooled e r i h =
+    refused_keeps s b q alternation Ack1 spooled e i h
+before_keeps s b q alternation Odd Nak spooled e r i h =
+    refused_keeps s b q alternation Nak spooled e i h
+before_keeps s b q alternation Even Nak spooled e r i h =
+    refused_keeps s b q alternation Nak spooled e i h
 before_keeps s b q alternation Odd Ack1 spooled e r i h = absurd r
 before_keeps s b q alternation Odd Wack spooled e r i h = absurd r
 before_keeps s b q alternation Odd Rvi spooled e r i h = absurd r
@@ -267,15 +317,20 @@ back_last (Unanswered b) q alternation last r spooled (inl h) = h.flight
 back_last (Unanswered b) q alternation last r spooled (inr h) = h.flight
 
 -- a reply comes
-answered_keeps : NextLaw → (s : SenderValue) (phase : Phase) (q : QueueValue) (alternation : Alternation)
+answered_keeps : NextLaw
+    → (s : SenderValue) (phase : Phase) (q : QueueValue) (alternation : Alternation)
     (last : Reply) (spooled : List (List ℕ)) → s.phase ≡ phase
     → InBid phase q alternation last spooled (Back last) →
     Leaves q alternation last spooled (answered_step s q phase last)
 answered_keeps law s Idle q alternation last spooled e i = absurd i.agree
 answered_keeps law s (InDoubt k) q alternation last spooled e i = absurd i.agree
-answered_keeps law s (Held end x) q alternation last spooled e i = held_keeps law s end x q alternation last spooled i
+answered_keeps law s (Held end x) q alternation last spooled e i =
+    held_keeps law s end x q alternation last spooled i
 answered_keeps law s (Unanswered b) q alternation last spooled e i =
-    elim i.agree [ inl h ↦ before_keeps s b q alternation b.alternation last spooled e h.reply i h | inr h ↦ landed_keeps law s b q alternation last spooled i h ]
+    elim i.agree [
+      | inl h ↦ before_keeps s b q alternation b.alternation last spooled e h.reply i h
+      | inr h ↦ landed_keeps law s b q alternation last spooled i h
+    ]
 
 -- a silence comes, and nothing is on its way
 in_doubt : (b : SentBlock) (q : QueueValue) (alternation : Alternation) (last : Reply)
@@ -286,12 +341,27 @@ in_doubt b q alternation last spooled i =
     let known : q.known ≤ length q.offered = i.queue.known in
     elim i.agree [
       | inl h ↦
-          (let long : length spooled ≡ q.known = ap length h.front ∙ length-take-le q.known q.offered known in
-          (record { queue = i.queue; counts = short; sound = record { front = rw long h.front; known = omega arith; spooled = inl long } }, refl))
+          (let long : length spooled ≡ q.known = ap length h.front
+          ∙ length-take-le q.known q.offered known in (
+            record {
+              queue = i.queue;
+              counts = short;
+              sound =
+                  record { front = rw long h.front; known = omega arith; spooled = inl long };
+            },
+            refl,
+          ))
       | inr h ↦
           (let long : length spooled ≡ q.known + b.count = ap length h.front ∙ length-take-le
-          (q.known + b.count) q.offered (within_offered q b.count i.queue short) in
-          (record { queue = i.queue; counts = short; sound = record { front = rw long h.front; known = omega arith; spooled = inr long } }, refl))
+          (q.known + b.count) q.offered (within_offered q b.count i.queue short) in (
+            record {
+              queue = i.queue;
+              counts = short;
+              sound =
+                  record { front = rw long h.front; known = omega arith; spooled = inr long };
+            },
+            refl,
+          ))
     ]
 
 enq_sent : (b : SentBlock) (q : QueueValue) (alternation : Alternation) (last : Reply)
@@ -309,11 +379,35 @@ silent_keeps : (s : SenderValue) (phase : Phase) (q : QueueValue) (alternation :
 silent_keeps s Idle q alternation last spooled e i = absurd i.agree
 silent_keeps s (InDoubt k) q alternation last spooled e i = absurd i.agree
 silent_keeps s (Held end x) q alternation last spooled e i =
-    choose (LeavesQueue q alternation last spooled) _ _ _ (at_rest q spooled i.queue i.agree.front, refl)
-    (rw e (record { queue = i.queue; block = tt; counts = i.counts; agree = record { front = i.agree.front; counted = i.agree.counted; reply = i.agree.reply; flight = tt } }), refl)
+    choose (LeavesQueue q alternation last spooled) _ _ _
+    (at_rest q spooled i.queue i.agree.front, refl) (
+      rw e (record {
+        queue = i.queue;
+        block = tt;
+        counts = i.counts;
+        agree =
+            record {
+              front = i.agree.front;
+              counted = i.agree.counted;
+              reply = i.agree.reply;
+              flight =
+                  tt;
+            };
+      }),
+      refl,
+    )
 silent_keeps s (Unanswered b) q alternation last spooled e i =
-    choose (LeavesQueue q alternation last spooled) _ _ _ (in_doubt b q alternation last spooled i, refl)
-    (rw e (record { queue = i.queue; block = i.block; counts = i.counts; agree = enq_sent b q alternation last spooled i.agree }), refl)
+    choose (LeavesQueue q alternation last spooled) _ _ _
+    (in_doubt b q alternation last spooled i, refl) (
+      rw e (record {
+        queue = i.queue;
+        block = i.block;
+        counts = i.counts;
+        agree =
+            enq_sent b q alternation last spooled i.agree;
+      }),
+      refl,
+    )
 
 no_text : (r : Reply) → IsTextMessage (message_of r) → ⊥
 no_text Ack0 f = f
@@ -355,14 +449,21 @@ goes_on (Unanswered b) q alternation last spooled i = i
 quiet_keeps : (s : SenderValue) (q : QueueValue) (alternation : Alternation) (last : Reply)
     (spooled : List (List ℕ)) → InBid s.phase q alternation last spooled Still
     → Leaves q alternation last spooled (unmoved s q)
-quiet_keeps s q alternation last spooled i = (goes_on s.phase q alternation last spooled i, inl refl)
+quiet_keeps s q alternation last spooled i =
+    (goes_on s.phase q alternation last spooled i, inl refl)
 
 -- what was on its way is lost
 pub still_on : (phase : Phase) (q : QueueValue) (alternation : Alternation) (last : Reply)
     (spooled : List (List ℕ)) (f : Flight) → InBid phase q alternation last spooled f
     → InBid phase q alternation last spooled Still
 still_on phase q alternation last spooled f i =
-    record { queue = i.queue; block = i.block; counts = i.counts; agree = agree_still phase q alternation last spooled f i.agree }
+    record {
+      queue = i.queue;
+      block = i.block;
+      counts = i.counts;
+      agree =
+          agree_still phase q alternation last spooled f i.agree;
+    }
 
 -- the reply is heard, or not
 pub sender_keeps : NextLaw
@@ -370,10 +471,12 @@ pub sender_keeps : NextLaw
     (spooled : List (List ℕ)) (r : Option Reply) (h : Option Heard)
     → InBid s.phase q alternation last spooled (reply_flight r) → IsFairTo (reply_message r) h →
     Leaves q alternation last spooled (answered s q r h)
-sender_keeps law s q alternation last spooled None None i f = quiet_keeps s q alternation last spooled i
+sender_keeps law s q alternation last spooled None None i f =
+    quiet_keeps s q alternation last spooled i
 sender_keeps law s q alternation last spooled None (Some h) i f = absurd f
 sender_keeps law s q alternation last spooled (Some r) None i f =
-    quiet_keeps s q alternation last spooled (still_on s.phase q alternation last spooled (Back r) i)
+    quiet_keeps s q alternation last spooled
+    (still_on s.phase q alternation last spooled (Back r) i)
 sender_keeps law s q alternation last spooled (Some r) (Some h) i f =
     let same : r ≡ last = back_last s.phase q alternation last r spooled i.agree in
     let there : InBid s.phase q alternation last spooled (Back last) =
@@ -382,8 +485,10 @@ sender_keeps law s q alternation last spooled (Some r) (Some h) i f =
       | inl e ↦ subst (λ (o : Option Reply). Leaves q alternation last spooled (reply_step s q o))
           (sym (e ∙ ap (λ (x : Reply). Some x) same))
           (answered_keeps law s s.phase q alternation last spooled refl there)
-      | inr e ↦ subst (λ (o : Option Reply). Leaves q alternation last spooled (reply_step s q o)) (sym e)
-          (quiet_keeps s q alternation last spooled (still_on s.phase q alternation last spooled (Back last) there))
+      | inr e ↦ subst (λ (o : Option Reply). Leaves q alternation last spooled (reply_step s q o))
+          (sym e)
+          (quiet_keeps s q alternation last spooled
+          (still_on s.phase q alternation last spooled (Back last) there))
     ]
 
 -- a bid with something on its way goes on
@@ -402,11 +507,14 @@ pub silence_keeps : (s : SenderValue) (phase : Phase) (q : QueueValue) (alternat
     LeavesQueue q alternation last spooled (silent_in s q phase)
 silence_keeps s Idle q alternation last spooled e h = (rw e h, refl)
 silence_keeps s (InDoubt k) q alternation last spooled e h = (rw e h, refl)
-silence_keeps s (Held end x) q alternation last spooled e h = silent_keeps s (Held end x) q alternation last spooled e h
-silence_keeps s (Unanswered b) q alternation last spooled e h = silent_keeps s (Unanswered b) q alternation last spooled e h
+silence_keeps s (Held end x) q alternation last spooled e h =
+    silent_keeps s (Held end x) q alternation last spooled e h
+silence_keeps s (Unanswered b) q alternation last spooled e h =
+    silent_keeps s (Unanswered b) q alternation last spooled e h
 
 -- where nothing was sent a silence comes
-pub settled_keeps : (q : QueueValue) (alternation : Alternation) (last : Reply) (spooled : List (List ℕ))
+pub settled_keeps : (q : QueueValue) (alternation : Alternation) (last : Reply)
+    (spooled : List (List ℕ))
     (t : SenderStep) (x : Act) → t.act ≡ x → Leaves q alternation last spooled t
     → Leaves q alternation last spooled (unless_quiet t x)
 settled_keeps q alternation last spooled t (a.Send b) e h = h
@@ -414,10 +522,15 @@ settled_keeps q alternation last spooled t a.Enq e h = h
 settled_keeps q alternation last spooled t a.Over e h = h
 settled_keeps q alternation last spooled t a.Quiet e h =
     let on : Continues t.sender.phase t.queue alternation last spooled Still =
-    subst (λ (x : Act). Continues t.sender.phase t.queue alternation last spooled (sent_flight x)) e h.0 in
-    let k : LeavesQueue t.queue alternation last spooled (silent_in t.sender t.queue t.sender.phase) =
-    silence_keeps t.sender t.sender.phase t.queue alternation last spooled refl on in
-    (k.0, subst (λ (u : QueueValue). MovesAtSender (channel q spooled) (channel u spooled)) (sym k.1) h.1)
+    subst (λ (x : Act). Continues t.sender.phase t.queue alternation last spooled (sent_flight x)) e
+    h.0 in
+    let k : LeavesQueue t.queue alternation last spooled
+    (silent_in t.sender t.queue t.sender.phase) =
+    silence_keeps t.sender t.sender.phase t.queue alternation last spooled refl on in (
+      k.0,
+      subst (λ (u : QueueValue). MovesAtSender (channel q spooled) (channel u spooled))
+          (sym k.1) h.1,
+    )
 
 -- a bid begins
 pub begin_keeps : NextLaw → (s : SenderValue) (q : QueueValue) (spooled : List (List ℕ))

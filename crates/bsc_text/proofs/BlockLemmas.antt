@@ -1,5 +1,6 @@
 -- Each text of a bid is the unanswered block, and a bid that ended knows of all that was spooled.
-use Rattle.std.proofs.Common.{◌≡◌, ◌⊎◌, inl, inr, ℕ, ◌+◌, Bool, true, false, ◌||◌, ◌==◌, List, length, take, Option, refl, sym, ◌∙◌, ap, subst, arith, if◌then◌else◌}
+use Rattle.std.proofs.Common.{◌≡◌, ◌⊎◌, inl, inr, ℕ, ◌+◌, Bool, true, false, ◌||◌, ◌==◌, List}
+use Rattle.std.proofs.Common.{length, take, Option, refl, sym, ◌∙◌, ap, subst, arith, if◌then◌else◌}
 use Rattle.std.proofs.lemmas.Bool.Decides.{nat_tests}
 use Rattle.bsc_frame.specs.declared.message.Message.{Message}
 use Rattle.bsc_frame.specs.declared.message.Message.TheVariants as m
@@ -14,13 +15,15 @@ use Rattle.bsc_text.specs.declared.reply.Reply.{Reply}
 use Rattle.bsc_text.specs.declared.phase.SentBlock.{SentBlock}
 use Rattle.bsc_text.specs.declared.phase.Phase.{Phase}
 use Rattle.bsc_text.specs.declared.phase.Phase.TheVariants.{Idle, Unanswered, Held, InDoubt}
-use Rattle.bsc_text.specs.Sender.{SenderValue, ReleaseStep, text_of, is_in_doubt, released, release_in}
+use Rattle.bsc_text.specs.Sender.{SenderValue, ReleaseStep, text_of, is_in_doubt, released}
+use Rattle.bsc_text.specs.Sender.{release_in}
 use Rattle.bsc_text.specs.Ready.{IsAtRest}
 use Rattle.bsc_text.specs.Channel.{channel, IsSpooled, IsSound}
 use Rattle.bsc_text.specs.Fair.{IsFair, IsFairlyHeard}
 use Rattle.bsc_text.specs.Act.{message_for}
 use Rattle.bsc_text.specs.Bid.{Bid}
-use Rattle.bsc_text.specs.OneBid.{CarriesBlock, SendsItsBlocks, HearsItsBlocks, EndsKnowing, ReleaseEndsDoubt}
+use Rattle.bsc_text.specs.OneBid.{CarriesBlock, SendsItsBlocks, HearsItsBlocks, EndsKnowing}
+use Rattle.bsc_text.specs.OneBid.{ReleaseEndsDoubt}
 use Rattle.bsc_text.specs.EachStep.{IsEnded}
 use Rattle.bsc_text.specs.Agreement.{Outward, InBid}
 use Rattle.bsc_text.proofs.Hearing.{RecordsBack, block_records, senders, no_call}
@@ -52,27 +55,34 @@ is_block law (Unanswered b) q alternation last spooled t i =
     ]
 
 carries : LawsBelow → (c : Bid) (t : TextValue)
-    → InBid c.sender.phase c.queue c.receiver.alternation c.receiver.last c.spool.records (Outward (m.Text t))
+    → InBid c.sender.phase c.queue c.receiver.alternation c.receiver.last c.spool.records
+    (Outward (m.Text t))
     → CarriesBlock c t
 carries law c t i =
     let b : IsBlock c.sender.phase c.queue t =
-    is_block law.records c.sender.phase c.queue c.receiver.alternation c.receiver.last c.spool.records t i in
+    is_block law.records c.sender.phase c.queue c.receiver.alternation c.receiver.last
+    c.spool.records t i in
     record { block = b.block; unanswered = b.unanswered; text = b.text; records = b.records }
 
 pub sends_its_blocks : LawsBelow → SendsItsBlocks
-sends_its_blocks law b es c t h e = carries law c t (going c (m.Text t) (ap message_for e) (reached_holds law b es c h))
+sends_its_blocks law b es c t h e =
+    carries law c t (going c (m.Text t) (ap message_for e) (reached_holds law b es c h))
 
 pub hears_its_blocks : LawsBelow → HearsItsBlocks
 hears_its_blocks law b es c turn t h fair e =
-    let i : InBid c.sender.phase c.queue c.receiver.alternation c.receiver.last c.spool.records (Outward fair.sent) =
+    let i : InBid c.sender.phase c.queue c.receiver.alternation c.receiver.last c.spool.records
+    (Outward fair.sent) =
     going c fair.sent fair.goes_on (reached_holds law b es c h) in
-    let f : IsFairlyHeard fair.sent (Whole (m.Text t)) = subst (λ (o : Option Heard). IsFair fair.sent o) e fair.there in
+    let f : IsFairlyHeard fair.sent (Whole (m.Text t)) =
+    subst (λ (o : Option Heard). IsFair fair.sent o) e fair.there in
     elim f [
       | inl same ↦ carries law c t
-          (subst (λ (w : Message). InBid c.sender.phase c.queue c.receiver.alternation c.receiver.last c.spool.records
+          (subst (λ (w : Message). InBid c.sender.phase c.queue c.receiver.alternation
+          c.receiver.last c.spool.records
           (Outward w)) (sym same) i)
       | inr short ↦ absurd (no_call fair.sent (m.Text t)
-          (senders c.sender.phase c.queue c.receiver.alternation c.receiver.last c.spool.records fair.sent i.agree) short)
+          (senders c.sender.phase c.queue c.receiver.alternation c.receiver.last c.spool.records
+          fair.sent i.agree) short)
     ]
 
 -- a sender at rest without doubt is idle, and all that was spooled is known
@@ -109,4 +119,5 @@ released_by s q (InDoubt k) n d h = pick _ _ _ (one_of n q.known k h)
 
 pub release_ends_doubt : LawsBelow → ReleaseEndsDoubt
 release_ends_doubt law b es c h d =
-    released_by c.sender c.queue c.sender.phase (length c.spool.records) d (stays_sound law b es c h).spooled
+    released_by c.sender c.queue c.sender.phase (length c.spool.records) d
+    (stays_sound law b es c h).spooled

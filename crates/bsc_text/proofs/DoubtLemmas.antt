@@ -1,5 +1,6 @@
 -- Doubt begins exactly where the sender gives up on a silence with a block unanswered.
-use Rattle.std.proofs.Common.{◌≡◌, ℕ, ◌+◌, ◌<◌, Bool, true, false, nat_lt, List, Option, None, Some, refl, sym, subst, arith, if◌then◌else◌}
+use Rattle.std.proofs.Common.{◌≡◌, ℕ, ◌+◌, ◌<◌, Bool, true, false, nat_lt, List, Option, None, Some}
+use Rattle.std.proofs.Common.{refl, sym, subst, arith, if◌then◌else◌}
 use Rattle.std.proofs.lemmas.Bool.Decides.{nat_tests}
 use Rattle.bsc_frame.specs.declared.message.Heard.{Heard}
 use Rattle.bsc_frame.specs.declared.text.End.{End}
@@ -11,12 +12,15 @@ use Rattle.bsc_text.specs.Act as a
 use Rattle.bsc_text.specs.declared.alternation.Alternation.{Alternation}
 use Rattle.bsc_text.specs.declared.reply.Reply.{Reply}
 use Rattle.bsc_text.specs.declared.reply.Answer.{Answer}
-use Rattle.bsc_text.specs.declared.reply.Answer.TheVariants.{Accepted, Refused, Delayed, Interrupted}
+use Rattle.bsc_text.specs.declared.reply.Answer.TheVariants.{Accepted, Refused, Delayed}
+use Rattle.bsc_text.specs.declared.reply.Answer.TheVariants.{Interrupted}
 use Rattle.bsc_text.specs.declared.phase.SentBlock.{SentBlock}
 use Rattle.bsc_text.specs.declared.phase.Phase.{Phase}
 use Rattle.bsc_text.specs.declared.phase.Phase.TheVariants.{Idle, Unanswered, Held, InDoubt}
 use Rattle.bsc_text.specs.Reply.{other, answer_of, reply_heard}
-use Rattle.bsc_text.specs.Sender.{SenderValue, SenderStep, sent_next, accepted, delayed, unanswered_step, held_step, answered_step, reply_step, silent_in, is_in_doubt}
+use Rattle.bsc_text.specs.Sender.{SenderValue, SenderStep, sent_next, accepted, delayed}
+use Rattle.bsc_text.specs.Sender.{unanswered_step, held_step, answered_step, reply_step, silent_in}
+use Rattle.bsc_text.specs.Sender.{is_in_doubt}
 use Rattle.bsc_text.specs.Bid.{answered, unless_quiet, receiver_in, sender_in}
 use Rattle.bsc_text.specs.OneBid.{GivesUpUnanswered, DoubtsAtSilence}
 use Rattle.bsc_text.specs.Agreement.{Flight, InBid}
@@ -48,14 +52,16 @@ certain_delayed s q e x = choose (IsCertain s) (nat_lt s.setup.waits (s.wacks + 
 certain_unanswered : (s : SenderValue) (q : QueueValue) (b : SentBlock) (x : Answer)
     → is_in_doubt s.phase ≡ false → IsCertain s (unanswered_step s q b x)
 certain_unanswered s q b Accepted d = certain_accepted s (with_known q b.count) b.end b.alternation
-certain_unanswered s q b Refused d = choose (IsCertain s) (nat_lt s.setup.tries (s.failures + 1)) _ _ refl d
+certain_unanswered s q b Refused d =
+    choose (IsCertain s) (nat_lt s.setup.tries (s.failures + 1)) _ _ refl d
 certain_unanswered s q b Delayed d = certain_delayed s (with_known q b.count) b.end b.alternation
 certain_unanswered s q b Interrupted d = refl
 
 certain_held : (s : SenderValue) (q : QueueValue) (e : End) (y : Alternation) (x : Answer)
     → is_in_doubt s.phase ≡ false → IsCertain s (held_step s q e y x)
 certain_held s q e y Accepted d = certain_accepted s q e y
-certain_held s q e y Refused d = choose (IsCertain s) (nat_lt s.setup.tries (s.failures + 1)) _ _ refl d
+certain_held s q e y Refused d =
+    choose (IsCertain s) (nat_lt s.setup.tries (s.failures + 1)) _ _ refl d
 certain_held s q e y Delayed d = certain_delayed s q e y
 certain_held s q e y Interrupted d = refl
 
@@ -134,7 +140,8 @@ doubt_by s t a.Over e c d k = absurd (cc (c, k))
 doubt_by s t a.Quiet e c d k = (
   refl,
   silent_doubt s t.queue s.phase d d
-      (subst (λ (u : SenderValue). is_in_doubt (silent_in u t.queue u.phase).sender.phase ≡ true) c k),
+      (subst (λ (u : SenderValue). is_in_doubt (silent_in u t.queue u.phase).sender.phase ≡ true) c
+      k),
 )
 
 -- and back
@@ -146,22 +153,33 @@ gives_up s t a.Enq b e c p over = absurd (cc e)
 gives_up s t a.Over b e c p over = absurd (cc e)
 gives_up s t a.Quiet b e c p over =
     let there : is_in_doubt (silent_in s t.queue (Unanswered b)).sender.phase ≡ true =
-    second_out (nat_lt s.setup.tries (s.failures + 1)) _ _ (test_by s.setup.tries (s.failures + 1) over) refl in
+    second_out (nat_lt s.setup.tries (s.failures + 1)) _ _
+    (test_by s.setup.tries (s.failures + 1) over) refl in
     let here : is_in_doubt (silent_in s t.queue s.phase).sender.phase ≡ true =
     subst (λ (y : Phase). is_in_doubt (silent_in s t.queue y).sender.phase ≡ true) (sym p) there in
-    subst (λ (u : SenderValue). is_in_doubt (silent_in u t.queue u.phase).sender.phase ≡ true) (sym c) here
+    subst (λ (u : SenderValue). is_in_doubt (silent_in u t.queue u.phase).sender.phase ≡ true)
+    (sym c) here
 
 pub doubts_at_silence : LawsBelow → DoubtsAtSilence
 doubts_at_silence law b es c t h fair =
     let i = going c fair.sent fair.goes_on (reached_holds law b es c h) in
     let d : is_in_doubt c.sender.phase ≡ false =
-    certain_going c.sender.phase c.queue c.receiver.alternation c.receiver.last c.spool.records _ i in
-    let k : IsCertain c.sender (sender_in c t) = certain_heard c.sender c.queue (receiver_in c t).reply t.answer d in (
+    certain_going c.sender.phase c.queue c.receiver.alternation c.receiver.last c.spool.records _
+    i in
+    let k : IsCertain c.sender (sender_in c t) =
+    certain_heard c.sender c.queue (receiver_in c t).reply t.answer d in (
       d,
       (
-        λ e. let g : ((sender_in c t).act ≡ a.Quiet) × GivesUp c.sender c.sender.phase = doubt_by c.sender
+        λ e. let g : ((sender_in c t).act ≡ a.Quiet) × GivesUp c.sender c.sender.phase =
+            doubt_by c.sender
             (sender_in c t) (sender_in c t).act refl k d e in
-            record { block = g.1.block; unanswered = g.1.unanswered; silence = g.0; over = g.1.over },
+            record {
+              block = g.1.block;
+              unanswered = g.1.unanswered;
+              silence = g.0;
+              over =
+                  g.1.over;
+            },
         λ (g : GivesUpUnanswered c t). gives_up c.sender (sender_in c t)
             (sender_in c t).act g.block g.silence k g.unanswered g.over,
       ),

@@ -10,12 +10,15 @@ use Rattle.bsc_text.specs.Act as a
 use Rattle.bsc_text.specs.declared.alternation.Alternation.{Alternation}
 use Rattle.bsc_text.specs.declared.reply.Reply.{Reply}
 use Rattle.bsc_text.specs.declared.reply.Answer.{Answer}
-use Rattle.bsc_text.specs.declared.reply.Answer.TheVariants.{Accepted, Refused, Delayed, Interrupted}
+use Rattle.bsc_text.specs.declared.reply.Answer.TheVariants.{Accepted, Refused, Delayed}
+use Rattle.bsc_text.specs.declared.reply.Answer.TheVariants.{Interrupted}
 use Rattle.bsc_text.specs.declared.phase.SentBlock.{SentBlock}
 use Rattle.bsc_text.specs.declared.phase.Phase.{Phase}
 use Rattle.bsc_text.specs.declared.phase.Phase.TheVariants.{Idle, Unanswered, Held, InDoubt}
 use Rattle.bsc_text.specs.Reply.{other, answer_of, reply_heard}
-use Rattle.bsc_text.specs.Sender.{SenderValue, SenderStep, text_of, sent_next, accepted, failed, delayed, unanswered_step, held_step, answered_step, reply_step, silent_in, silence_step, begin_step}
+use Rattle.bsc_text.specs.Sender.{SenderValue, SenderStep, text_of, sent_next, accepted, failed}
+use Rattle.bsc_text.specs.Sender.{delayed, unanswered_step, held_step, answered_step, reply_step}
+use Rattle.bsc_text.specs.Sender.{silent_in, silence_step, begin_step}
 use Rattle.bsc_text.specs.Ready.{IsGoing, IsAtRest, FitsAct}
 use Rattle.bsc_text.specs.Bid.{answered, unless_quiet}
 use Rattle.bsc_text.proofs.Choice.{choose}
@@ -40,7 +43,8 @@ fits_failed : (s : SenderValue) (q : QueueValue) (left : Phase) (act : Act) → 
     → FitsAct act s.phase s.phase → Fits s (failed s q left act)
 fits_failed s q left act h k = choose (Fits s) (nat_lt s.setup.tries (s.failures + 1)) _ _ h k
 
-fits_delayed : (s : SenderValue) (q : QueueValue) (e : End) (x : Alternation) → Fits s (delayed s q e x)
+fits_delayed : (s : SenderValue) (q : QueueValue) (e : End) (x : Alternation)
+    → Fits s (delayed s q e x)
 fits_delayed s q e x = choose (Fits s) (nat_lt s.setup.waits (s.wacks + 1)) _ _ tt tt
 
 fits_unanswered : (s : SenderValue) (q : QueueValue) (b : SentBlock) (x : Answer)
@@ -61,7 +65,8 @@ fits_answered : (s : SenderValue) (q : QueueValue) (p : Phase) (r : Reply) → s
     → Fits s (answered_step s q p r)
 fits_answered s q Idle r e = refl
 fits_answered s q (InDoubt k) r e = refl
-fits_answered s q (Unanswered b) r e = fits_unanswered s q b (answer_of b.alternation r) (subst IsGoing (sym e) tt)
+fits_answered s q (Unanswered b) r e =
+    fits_unanswered s q b (answer_of b.alternation r) (subst IsGoing (sym e) tt)
 fits_answered s q (Held end x) r e = fits_held s q end x (answer_of x r) (subst IsGoing (sym e) tt)
 
 pub fits_reply : (s : SenderValue) (q : QueueValue) (r : Option Reply) → Fits s (reply_step s q r)
@@ -72,7 +77,8 @@ fits_silent : (s : SenderValue) (q : QueueValue) (p : Phase) → s.phase ≡ p
     → Fits s (silent_in s q p)
 fits_silent s q Idle e = refl
 fits_silent s q (InDoubt k) e = refl
-fits_silent s q (Unanswered b) e = fits_failed s q (InDoubt b.count) a.Enq tt (subst IsGoing (sym e) tt)
+fits_silent s q (Unanswered b) e =
+    fits_failed s q (InDoubt b.count) a.Enq tt (subst IsGoing (sym e) tt)
 fits_silent s q (Held end x) e = fits_failed s q Idle a.Enq tt (subst IsGoing (sym e) tt)
 
 pub fits_silence : (s : SenderValue) (q : QueueValue) → Fits s (silence_step s q)
@@ -92,5 +98,6 @@ fits_settled s t a.Enq e h = h
 fits_settled s t a.Over e h = h
 fits_settled s t a.Quiet e h =
     let u : SenderStep = silence_step t.sender t.queue in
-    let same : t.sender.phase ≡ s.phase = subst (λ (x : Act). FitsAct x s.phase t.sender.phase) e h in
+    let same : t.sender.phase ≡ s.phase =
+    subst (λ (x : Act). FitsAct x s.phase t.sender.phase) e h in
     subst (λ (p : Phase). FitsAct u.act p u.sender.phase) same (fits_silence t.sender t.queue)

@@ -1,5 +1,7 @@
 -- What the receiver hears keeps that both ends agree, and at most lands the unanswered block.
-use Rattle.std.proofs.Common.{◌≡◌, inl, inr, ℕ, ◌+◌, ◌≤◌, Bool, true, false, List, ◌++◌, length, take, drop, map, Option, None, Some, refl, sym, ◌∙◌, ap, subst, arith, length-drop}
+use Rattle.std.proofs.Common.{◌≡◌, inl, inr, ℕ, ◌+◌, ◌≤◌, Bool, true, false, List, ◌++◌, length}
+use Rattle.std.proofs.Common.{take, drop, map, Option, None, Some, refl, sym, ◌∙◌, ap, subst, arith}
+use Rattle.std.proofs.Common.{length-drop}
 use Rattle.std.proofs.Math.Seq.{take-add}
 use Rattle.std.proofs.lemmas.List.{length-take-le}
 use Rattle.bsc_frame.specs.declared.message.Message.{Message}
@@ -19,13 +21,16 @@ use Rattle.bsc_text.specs.declared.phase.Phase.{Phase}
 use Rattle.bsc_text.specs.declared.phase.Phase.TheVariants.{Idle, Unanswered, Held, InDoubt}
 use Rattle.bsc_text.specs.Reply.{other, ack}
 use Rattle.bsc_text.specs.Sender.{text_of}
-use Rattle.bsc_text.specs.Receiver.{ReceiverValue, ReceiverStep, Rooms, text_step, enq_step, heard_step}
+use Rattle.bsc_text.specs.Receiver.{ReceiverValue, ReceiverStep, Rooms, text_step, enq_step}
+use Rattle.bsc_text.specs.Receiver.{heard_step}
 use Rattle.bsc_text.specs.Ready.{HasBlock, CountsOn}
 use Rattle.bsc_text.specs.Channel.{channel}
 use Rattle.bsc_text.specs.Fair.{IsTextMessage, IsCallCutShort, IsFairlyHeard, IsFair}
 use Rattle.bsc_text.specs.Bid.{received}
 use Rattle.bsc_text.specs.OneBid.{MovesAtReceiver}
-use Rattle.bsc_text.specs.Agreement.{Flight, Still, Outward, Back, IsReplyAfter, IsReplyHeld, IsFlightBefore, IsFlightAfter, NotLanded, HasLanded, IsHeld, Agree, InBid, reply_flight}
+use Rattle.bsc_text.specs.Agreement.{Flight, Still, Outward, Back, IsReplyAfter, IsReplyHeld}
+use Rattle.bsc_text.specs.Agreement.{IsFlightBefore, IsFlightAfter, NotLanded, HasLanded, IsHeld}
+use Rattle.bsc_text.specs.Agreement.{Agree, InBid, reply_flight}
 use Rattle.bsc_text.proofs.ReadyLemmas.{all_waiting}
 
 -- the units that are built for records hold these records
@@ -35,7 +40,8 @@ RecordsBack = (full : ℕ) (rs : List (List ℕ)) → 1 ≤ full → records_in 
 -- what hearing leaves: the ends agree with the reply on its way, and the channel moved as it may
 abbrev pub Keeps : Phase → QueueValue → List (List ℕ) → ReceiverStep → Type 0
 Keeps phase q spooled out =
-    Agree phase q out.receiver.alternation out.receiver.last out.spool.records (reply_flight out.reply) × MovesAtReceiver phase
+    Agree phase q out.receiver.alternation out.receiver.last out.spool.records
+    (reply_flight out.reply) × MovesAtReceiver phase
     (channel q spooled) (channel q out.spool.records)
 
 -- the records of a block that is sent
@@ -63,17 +69,25 @@ landed : RecordsBack → (b : SentBlock) (q : QueueValue) (alternation : Alterna
     (spooled : List (List ℕ)) (t : TextValue) → IsQueue q → HasBlock (Unanswered b)
     → CountsOn (Unanswered b) (length (waiting q))
     → NotLanded b q alternation last spooled (Outward (m.Text t)) → IsReplyAfter x b.alternation →
-    (Agree (Unanswered b) q (other alternation) x (spooled ++ records_in t.units) (Back x)) × MovesAtReceiver
+    (Agree (Unanswered b) q (other alternation) x (spooled ++ records_in t.units) (Back x))
+    × MovesAtReceiver
     (Unanswered b) (channel q spooled) (channel q (spooled ++ records_in t.units))
 landed law b q alternation last x spooled t queue block counts h a =
     let known : q.known ≤ length q.offered = queue.known in
     let fit : b.count ≤ length (waiting q) = fits b _ counts in
     let there : records_in t.units ≡ take b.count (drop q.known q.offered) =
     ap (λ (u : TextValue). records_in u.units) h.flight ∙ block_records law q b queue in
-    let long : length spooled ≡ q.known = ap length h.front ∙ length-take-le q.known q.offered known in
+    let long : length spooled ≡ q.known = ap length h.front
+    ∙ length-take-le q.known q.offered known in
     let all : spooled ++ records_in t.units ≡ take (q.known + b.count) q.offered =
     rw (h.front, there, take-add q.known b.count q.offered) in (
-      inr (record { front = all; counted = other_other alternation b.alternation h.counted; reply = a; flight = refl }),
+      inr (record {
+        front = all;
+        counted = other_other alternation b.alternation h.counted;
+        reply =
+            a;
+        flight = refl;
+      }),
       inr (
         b,
         refl,
@@ -89,16 +103,19 @@ landed law b q alternation last x spooled t queue block counts h a =
     )
 
 -- a text is heard
-text_keeps : RecordsBack → (b : SentBlock) (q : QueueValue) (alternation : Alternation) (last : Reply)
+text_keeps : RecordsBack
+    → (b : SentBlock) (q : QueueValue) (alternation : Alternation) (last : Reply)
     (s : SpoolValue) (t : TextValue) (urgent first after : Bool) → IsQueue q
     → HasBlock (Unanswered b) → CountsOn (Unanswered b) (length (waiting q))
     → NotLanded b q alternation last s.records (Outward (m.Text t)) →
     Keeps (Unanswered b) q s.records
-    (text_step (record { alternation = alternation; last = last }) s t urgent (record { first = first; after = after }))
+    (text_step (record { alternation = alternation; last = last }) s t urgent
+    (record { first = first; after = after }))
 text_keeps law b q alternation last s t urgent false after queue block counts h =
     (inl (record { front = h.front; counted = h.counted; reply = tt; flight = refl }), inl refl)
 text_keeps law b q alternation last s t false true true queue block counts h =
-    landed law b q alternation last (ack (other alternation)) s.records t queue block counts h (other_after alternation b.alternation h.counted)
+    landed law b q alternation last (ack (other alternation)) s.records t queue block counts h
+    (other_after alternation b.alternation h.counted)
 text_keeps law b q alternation last s t false true false queue block counts h =
     landed law b q alternation last Wack s.records t queue block counts h tt
 text_keeps law b q alternation Rvi s t true true after queue block counts h = absurd h.reply
@@ -111,15 +128,23 @@ text_keeps law b q alternation Nak s t true true after queue block counts h =
     landed law b q alternation Nak Rvi s.records t queue block counts h tt
 
 -- ENQ is heard before the block landed
-enq_before : (b : SentBlock) (q : QueueValue) (alternation : Alternation) (last : Reply) (s : SpoolValue)
+enq_before : (b : SentBlock) (q : QueueValue) (alternation : Alternation) (last : Reply)
+    (s : SpoolValue)
     (rooms : Rooms) → NotLanded b q alternation last s.records (Outward m.Enq) →
-    Keeps (Unanswered b) q s.records (enq_step (record { alternation = alternation; last = last }) s rooms)
-enq_before b q alternation Ack0 s rooms h =
-    (inl (record { front = h.front; counted = h.counted; reply = h.reply; flight = refl }), inl refl)
-enq_before b q alternation Ack1 s rooms h =
-    (inl (record { front = h.front; counted = h.counted; reply = h.reply; flight = refl }), inl refl)
-enq_before b q alternation Nak s rooms h =
-    (inl (record { front = h.front; counted = h.counted; reply = h.reply; flight = refl }), inl refl)
+    Keeps (Unanswered b) q s.records (enq_step (record { alternation = alternation; last = last }) s
+    rooms)
+enq_before b q alternation Ack0 s rooms h = (
+  inl (record { front = h.front; counted = h.counted; reply = h.reply; flight = refl }),
+  inl refl,
+)
+enq_before b q alternation Ack1 s rooms h = (
+  inl (record { front = h.front; counted = h.counted; reply = h.reply; flight = refl }),
+  inl refl,
+)
+enq_before b q alternation Nak s rooms h = (
+  inl (record { front = h.front; counted = h.counted; reply = h.reply; flight = refl }),
+  inl refl,
+)
 enq_before b q alternation Wack s rooms h = absurd h.reply
 enq_before b q alternation Rvi s rooms h = absurd h.reply
 
@@ -130,19 +155,33 @@ ack_after Even Odd e = absurd (cc)
 ack_after Even Even e = tt
 
 -- and after it landed
-enq_after : (b : SentBlock) (q : QueueValue) (alternation : Alternation) (last : Reply) (s : SpoolValue)
+enq_after : (b : SentBlock) (q : QueueValue) (alternation : Alternation) (last : Reply)
+    (s : SpoolValue)
     (first after : Bool) → HasLanded b q alternation last s.records (Outward m.Enq) →
     Keeps (Unanswered b) q s.records
-    (enq_step (record { alternation = alternation; last = last }) s (record { first = first; after = after }))
-enq_after b q alternation Ack0 s first after h =
-    (inr (record { front = h.front; counted = h.counted; reply = h.reply; flight = refl }), inl refl)
-enq_after b q alternation Ack1 s first after h =
-    (inr (record { front = h.front; counted = h.counted; reply = h.reply; flight = refl }), inl refl)
+    (enq_step (record { alternation = alternation; last = last }) s
+    (record { first = first; after = after }))
+enq_after b q alternation Ack0 s first after h = (
+  inr (record { front = h.front; counted = h.counted; reply = h.reply; flight = refl }),
+  inl refl,
+)
+enq_after b q alternation Ack1 s first after h = (
+  inr (record { front = h.front; counted = h.counted; reply = h.reply; flight = refl }),
+  inl refl,
+)
 enq_after b q alternation Nak s first after h = absurd h.reply
 enq_after b q alternation Rvi s first after h =
     (inr (record { front = h.front; counted = h.counted; reply = tt; flight = refl }), inl refl)
-enq_after b q alternation Wack s true after h =
-    (inr (record { front = h.front; counted = h.counted; reply = ack_after alternation b.alternation h.counted; flight = refl }), inl refl)
+enq_after b q alternation Wack s true after h = (
+  inr (record {
+    front = h.front;
+    counted = h.counted;
+    reply =
+        ack_after alternation b.alternation h.counted;
+    flight = refl;
+  }),
+  inl refl,
+)
 enq_after b q alternation Wack s false after h =
     (inr (record { front = h.front; counted = h.counted; reply = tt; flight = refl }), inl refl)
 
@@ -156,17 +195,27 @@ ack_held Even Even e = tt
 enq_held : (end_phase : Phase) (expected : Alternation) (q : QueueValue) (alternation : Alternation)
     (last : Reply) (s : SpoolValue) (first after : Bool)
     → IsHeld expected q alternation last s.records (Outward m.Enq) →
-    let out = enq_step (record { alternation = alternation; last = last }) s (record { first = first; after = after }) in
+    let out =
+    enq_step (record { alternation = alternation; last = last }) s
+    (record { first = first; after = after }) in
     IsHeld expected q out.receiver.alternation out.receiver.last out.spool.records
-    (reply_flight out.reply) × MovesAtReceiver end_phase (channel q s.records) (channel q out.spool.records)
+    (reply_flight out.reply) × MovesAtReceiver end_phase (channel q s.records)
+    (channel q out.spool.records)
 enq_held p expected q alternation Ack0 s first after h =
     (record { front = h.front; counted = h.counted; reply = h.reply; flight = refl }, inl refl)
 enq_held p expected q alternation Ack1 s first after h =
     (record { front = h.front; counted = h.counted; reply = h.reply; flight = refl }, inl refl)
 enq_held p expected q alternation Nak s first after h = absurd h.reply
 enq_held p expected q alternation Rvi s first after h = absurd h.reply
-enq_held p expected q alternation Wack s true after h =
-    (record { front = h.front; counted = h.counted; reply = ack_held alternation expected h.counted; flight = refl }, inl refl)
+enq_held p expected q alternation Wack s true after h = (
+  record {
+    front = h.front;
+    counted = h.counted;
+    reply = ack_held alternation expected h.counted;
+    flight = refl;
+  },
+  inl refl,
+)
 enq_held p expected q alternation Wack s false after h =
     (record { front = h.front; counted = h.counted; reply = tt; flight = refl }, inl refl)
 
@@ -222,20 +271,27 @@ whole_keeps : RecordsBack
     (w : Message) (urgent first after : Bool) → IsQueue q → HasBlock phase
     → CountsOn phase (length (waiting q))
     → Agree phase q alternation last s.records (Outward w) →
-    Keeps phase q s.records (heard_step (record { alternation = alternation; last = last }) s (Whole w) urgent
+    Keeps phase q s.records (heard_step (record { alternation = alternation; last = last }) s
+    (Whole w) urgent
     (record { first = first; after = after }))
 whole_keeps law Idle q alternation last s w urgent first after queue block counts h = absurd h
-whole_keeps law (InDoubt k) q alternation last s w urgent first after queue block counts h = absurd h
-whole_keeps law (Unanswered b) q alternation last s (m.Text t) urgent first after queue block counts (inl h) =
+whole_keeps law (InDoubt k) q alternation last s w urgent first after queue block counts h =
+    absurd h
+whole_keeps law (Unanswered b) q alternation last s (m.Text t) urgent first after queue block counts
+    (inl h) =
     text_keeps law b q alternation last s t urgent first after queue block counts h
-whole_keeps law (Unanswered b) q alternation last s (m.Text t) urgent first after queue block counts (inr h) = absurd h.flight
-whole_keeps law (Unanswered b) q alternation last s m.Enq urgent first after queue block counts (inl h) =
+whole_keeps law (Unanswered b) q alternation last s (m.Text t) urgent first after queue block counts
+    (inr h) = absurd h.flight
+whole_keeps law (Unanswered b) q alternation last s m.Enq urgent first after queue block counts
+    (inl h) =
     enq_before b q alternation last s (record { first = first; after = after }) h
-whole_keeps law (Unanswered b) q alternation last s m.Enq urgent first after queue block counts (inr h) =
+whole_keeps law (Unanswered b) q alternation last s m.Enq urgent first after queue block counts
+    (inr h) =
     enq_after b q alternation last s first after h
 whole_keeps law (Held e x) q alternation last s m.Enq urgent first after queue block counts h =
     enq_held (Held e x) x q alternation last s first after h
-whole_keeps law (Held e x) q alternation last s (m.Text t) urgent first after queue block counts h = absurd h.flight
+whole_keeps law (Held e x) q alternation last s (m.Text t) urgent first after queue block counts h =
+    absurd h.flight
 whole_keeps law (Unanswered b) q alternation last s w urgent first after queue block counts h =
     absurd (senders (Unanswered b) q alternation last s.records w h)
 whole_keeps law (Held e x) q alternation last s w urgent first after queue block counts h =
@@ -259,7 +315,8 @@ heard_keeps : RecordsBack
     → (phase : Phase) (q : QueueValue) (alternation : Alternation) (last : Reply) (s : SpoolValue)
     (w : Message) (h : Heard) (urgent first after : Bool)
     → InBid phase q alternation last s.records (Outward w) → IsFairlyHeard w h →
-    Keeps phase q s.records (heard_step (record { alternation = alternation; last = last }) s h urgent
+    Keeps phase q s.records (heard_step (record { alternation = alternation; last = last }) s h
+    urgent
     (record { first = first; after = after }))
 heard_keeps law phase q alternation last s w Noise urgent first after b f =
     (agree_still phase q alternation last s.records (Outward w) b.agree, inl refl)

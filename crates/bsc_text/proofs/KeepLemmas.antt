@@ -9,7 +9,8 @@ use Rattle.bsc_text.specs.Act as a
 use Rattle.bsc_text.specs.declared.alternation.Alternation.{Alternation}
 use Rattle.bsc_text.specs.declared.reply.Reply.{Reply}
 use Rattle.bsc_text.specs.declared.reply.Answer.{Answer}
-use Rattle.bsc_text.specs.declared.reply.Answer.TheVariants.{Accepted, Refused, Delayed, Interrupted}
+use Rattle.bsc_text.specs.declared.reply.Answer.TheVariants.{Accepted, Refused, Delayed}
+use Rattle.bsc_text.specs.declared.reply.Answer.TheVariants.{Interrupted}
 use Rattle.bsc_text.specs.declared.phase.SentBlock.{SentBlock}
 use Rattle.bsc_text.specs.declared.phase.Phase.{Phase}
 use Rattle.bsc_text.specs.declared.phase.Phase.TheVariants.{Idle, Unanswered, Held, InDoubt}

@@ -1,5 +1,6 @@
 -- An offer keeps all that a bid counts on.
-use Rattle.std.proofs.Common.{◌≡◌, inl, inr, ℕ, ◌+◌, ◌≤◌, List, [], ◌∷◌, ◌++◌, length, take, drop, map, min, sym, ◌∙◌, ap, arith, length-drop, length-append}
+use Rattle.std.proofs.Common.{◌≡◌, inl, inr, ℕ, ◌+◌, ◌≤◌, List, [], ◌∷◌, ◌++◌, length, take, drop}
+use Rattle.std.proofs.Common.{map, min, sym, ◌∙◌, ap, arith, length-drop, length-append}
 use Rattle.std.proofs.lemmas.List.{take-append-le, drop-append-le, length-take}
 use Rattle.bsc_frame.specs.declared.message.Message.TheVariants as m
 use Rattle.bsc_frame.specs.declared.text.End.{End}
@@ -15,13 +16,15 @@ use Rattle.bsc_text.specs.declared.phase.Phase.TheVariants.{Idle, Unanswered, He
 use Rattle.bsc_text.specs.Sender.{SenderValue, text_of}
 use Rattle.bsc_text.specs.Ready.{AreWaiting, CountsOn, IsReady}
 use Rattle.bsc_text.specs.Channel.{channel, IsSound}
-use Rattle.bsc_text.specs.Agreement.{Flight, Still, Outward, Back, IsFlightBefore, Agree, InBid, IsResting, Continues}
+use Rattle.bsc_text.specs.Agreement.{Flight, Still, Outward, Back, IsFlightBefore, Agree, InBid}
+use Rattle.bsc_text.specs.Agreement.{IsResting, Continues}
 use Rattle.bsc_text.proofs.ReadyLemmas.{within_offered}
 use Rattle.bsc_text.proofs.Hearing.{fits}
 
 -- an offered record makes a queue of a queue
 abbrev pub OffersQueue : Type 0
-OffersQueue = (q : QueueValue) (r : List ℕ) → IsQueue q → length r ≤ q.format.full → IsQueue (with_offered q r)
+OffersQueue = (q : QueueValue) (r : List ℕ) → IsQueue q → length r ≤ q.format.full
+    → IsQueue (with_offered q r)
 
 more_waiting : (q : QueueValue) (r : List ℕ)
     → length (waiting q) ≤ length (waiting (with_offered q r))
@@ -53,18 +56,25 @@ counts_offered p q r h = counts_more p _ _ (more_waiting q r) h
 pub ready_offered : (s : SenderValue) (q : QueueValue) (r : List ℕ) → IsReady s q
     → length r ≤ q.format.full → IsReady s (with_offered q r)
 ready_offered s q r h short =
-    record { queue = is_queue_offered q r h.queue short; counts = counts_offered s.phase q r h.counts }
+    record {
+      queue = is_queue_offered q r h.queue short;
+      counts =
+          counts_offered s.phase q r h.counts;
+    }
 
 -- the block that was sent stays the same
 text_offered : (b : SentBlock) (q : QueueValue) (r : List ℕ) → IsQueue q
     → b.count ≤ length (waiting q) → text_of q b ≡ text_of (with_offered q r) b
 text_offered b q r h fit =
     let known : q.known ≤ length q.offered = h.known in
-    let same : take b.count (drop q.known (q.offered ++ r ∷ [])) ≡ take b.count (drop q.known q.offered) =
+    let same : take b.count (drop q.known (q.offered ++ r ∷ []))
+    ≡ take b.count (drop q.known q.offered) =
     ap (λ (xs : List (List ℕ)). take b.count xs)
-    (drop-append-le q.known q.offered (r ∷ []) known) ∙ take-append-le b.count (drop q.known q.offered)
+    (drop-append-le q.known q.offered (r ∷ []) known)
+    ∙ take-append-le b.count (drop q.known q.offered)
     (r ∷ []) fit in
-    ap (λ (xs : List (List ℕ)). record { units = map (unit_of q.format.full) xs; end = b.end }) (sym same)
+    ap (λ (xs : List (List ℕ)). record { units = map (unit_of q.format.full) xs; end = b.end })
+    (sym same)
 
 flight_offered : (b : SentBlock) (q : QueueValue) (r : List ℕ) (last : Reply) (f : Flight)
     → text_of q b ≡ text_of (with_offered q r) b → IsFlightBefore q b last f
@@ -86,9 +96,21 @@ agree_offered : (p : Phase) (q : QueueValue) (r : List ℕ) (alternation : Alter
 agree_offered Idle q r alternation last spooled f queue counts h = absurd h
 agree_offered (InDoubt k) q r alternation last spooled f queue counts h = absurd h
 agree_offered (Held e x) q r alternation last spooled f queue counts h =
-    record { front = front_offered q r q.known spooled queue.known h.front; counted = h.counted; reply = h.reply; flight = h.flight }
+    record {
+      front = front_offered q r q.known spooled queue.known h.front;
+      counted = h.counted;
+      reply = h.reply;
+      flight = h.flight;
+    }
 agree_offered (Unanswered b) q r alternation last spooled f queue counts (inl h) =
-    inl (record { front = front_offered q r q.known spooled queue.known h.front; counted = h.counted; reply = h.reply; flight = flight_offered b q r last f (text_offered b q r queue (fits b _ counts)) h.flight })
+    inl (record {
+      front = front_offered q r q.known spooled queue.known h.front;
+      counted =
+          h.counted;
+      reply = h.reply;
+      flight =
+          flight_offered b q r last f (text_offered b q r queue (fits b _ counts)) h.flight;
+    })
 agree_offered (Unanswered b) q r alternation last spooled f queue counts (inr h) =
     inr (record {
       front = front_offered q r (q.known + b.count) spooled
@@ -115,7 +137,8 @@ bid_offered law p q r alternation last spooled f short i =
 -- what begins a list is not longer
 pub not_longer : (xs ys : List (List ℕ)) → xs ≡ take (length xs) ys → length xs ≤ length ys
 not_longer xs ys e =
-    let k : length xs ≡ min (length xs) (length ys) = ap length e ∙ length-take (length xs) ys in omega arith
+    let k : length xs ≡ min (length xs) (length ys) = ap length e ∙ length-take (length xs) ys in
+    omega arith
 
 sound_offered : (p : Phase) (q : QueueValue) (r : List ℕ) (spooled : List (List ℕ))
     → IsSound p (channel q spooled) → IsSound p (channel (with_offered q r) spooled)
@@ -132,13 +155,20 @@ pub resting_offered : OffersQueue
     → (p : Phase) (q : QueueValue) (r : List ℕ) (spooled : List (List ℕ))
     → length r ≤ q.format.full → IsResting p q spooled → IsResting p (with_offered q r) spooled
 resting_offered law p q r spooled short i =
-    record { queue = law q r i.queue short; counts = counts_offered p q r i.counts; sound = sound_offered p q r spooled i.sound }
+    record {
+      queue = law q r i.queue short;
+      counts = counts_offered p q r i.counts;
+      sound =
+          sound_offered p q r spooled i.sound;
+    }
 
 pub continues_offered : OffersQueue
     → (p : Phase) (q : QueueValue) (r : List ℕ) (alternation : Alternation) (last : Reply)
     (spooled : List (List ℕ)) (f : Flight) → length r ≤ q.format.full
-    → Continues p q alternation last spooled f → Continues p (with_offered q r) alternation last spooled f
-continues_offered law Idle q r alternation last spooled f short h = (resting_offered law Idle q r spooled short h.0, h.1)
+    → Continues p q alternation last spooled f
+    → Continues p (with_offered q r) alternation last spooled f
+continues_offered law Idle q r alternation last spooled f short h =
+    (resting_offered law Idle q r spooled short h.0, h.1)
 continues_offered law (InDoubt k) q r alternation last spooled f short h =
     (resting_offered law (InDoubt k) q r spooled short h.0, h.1)
 continues_offered law (Unanswered b) q r alternation last spooled f short h =

@@ -1,5 +1,6 @@
 -- What a sender counts on in its queue stays true.
-use Rattle.std.proofs.Common.{◌≡◌, ℕ, ◌+◌, ◌<◌, ◌≤◌, List, [], ◌∷◌, length, refl, sym, subst, arith, length-drop}
+use Rattle.std.proofs.Common.{◌≡◌, ℕ, ◌+◌, ◌<◌, ◌≤◌, List, [], ◌∷◌, length, refl, sym, subst, arith}
+use Rattle.std.proofs.Common.{length-drop}
 use Rattle.bsc_frame.specs.declared.text.End.{End}
 use Rattle.bsc_frame.specs.declared.text.End.TheVariants.{Etb, Etx}
 use Rattle.bsc_spool.specs.declared.queue.Next.{Next}
@@ -32,11 +33,13 @@ within_offered q k h there =
 -- a queue in which waiting records are marked is a queue
 pub is_queue_marked : (q : QueueValue) (k : ℕ) → IsQueue q → k ≤ length (waiting q)
     → IsQueue (with_known q k)
-is_queue_marked q k h there = record { format = h.format; known = within_offered q k h there; short = h.short }
+is_queue_marked q k h there =
+    record { format = h.format; known = within_offered q k h there; short = h.short }
 
 wait_more : (q : QueueValue) (k j : ℕ) → k + j ≤ length (waiting q)
     → j ≤ length (waiting (with_known q k))
-wait_more q k j h = omega (arith, length-drop q.known q.offered, length-drop (q.known + k) q.offered)
+wait_more q k j h =
+    omega (arith, length-drop q.known q.offered, length-drop (q.known + k) q.offered)
 
 -- after ETB a record still waits once the block is marked
 pub still_waiting : (q : QueueValue) (k : ℕ) (e : End) → AreWaiting k e (length (waiting q))
@@ -53,4 +56,8 @@ going_next s q x f (r ∷ rs) h = tt
 pub going_begin : (s : SenderValue) (q : QueueValue) (t : SenderStep) → t ≡ begin_step s q
     → 1 ≤ length (waiting q) → IsGoing t.sender.phase
 going_begin s q t e h =
-    subst (λ (u : SenderStep). IsGoing u.sender.phase) (sym e) (going_next s q Odd q.format (waiting q) h)
+    subst (λ (u : SenderStep). IsGoing u.sender.phase) (sym e)
+    (going_next s q Odd q.format (waiting q) h)
+
+-- what a reply to an unanswered block uses
+pub ruleset reply_steps = (is_queue_marked, still_waiting, all_waiting)

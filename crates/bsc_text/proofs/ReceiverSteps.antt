@@ -1,4 +1,5 @@
--- What a receiver does with what it hears, for both stations: how the records of its spool grow, and
+-- What a receiver does with what it hears, for both stations: how the records of its spool grow,
+-- and
 -- that it stays as it is where it replies nothing.
 use Rattle.std.proofs.Common.{◌≡◌, ◌⊎◌, inl, inr, ℕ, Bool, List, ◌++◌, None, refl}
 use Rattle.bsc_frame.specs.declared.message.Message.TheVariants as m
@@ -7,7 +8,8 @@ use Rattle.bsc_frame.specs.declared.message.Heard.TheVariants.{Whole, Failed, No
 use Rattle.bsc_frame.specs.Texts.{TextValue}
 use Rattle.bsc_block.specs.Blocks.{records_in}
 use Rattle.bsc_spool.specs.Spool.{SpoolValue}
-use Rattle.bsc_text.specs.Receiver.{ReceiverValue, ReceiverStep, Rooms, is_rvi, is_wack, stored_text, taken_urgently, text_step, enq_step, heard_step}
+use Rattle.bsc_text.specs.Receiver.{ReceiverValue, ReceiverStep, Rooms, is_rvi, is_wack}
+use Rattle.bsc_text.specs.Receiver.{stored_text, taken_urgently, text_step, enq_step, heard_step}
 use Rattle.bsc_text.proofs.Choice.{choose}
 
 -- the records are the old ones, or a whole text was heard and they are the old ones and all of its
@@ -19,19 +21,24 @@ pub record TakesText (h : Heard) (old new : List (List ℕ)) : Type 0 where
 abbrev pub Grows : Heard → SpoolValue → ReceiverStep → Type 0
 Grows h s step = (step.spool.records ≡ s.records) ⊎ TakesText h s.records step.spool.records
 
-grows-text : (r : ReceiverValue) (s : SpoolValue) (t : TextValue) (urgent : Bool) (rooms : Rooms) → Grows (Whole (m.Text t)) s (text_step r s t urgent rooms)
+grows-text : (r : ReceiverValue) (s : SpoolValue) (t : TextValue) (urgent : Bool) (rooms : Rooms)
+    → Grows (Whole (m.Text t)) s (text_step r s t urgent rooms)
 grows-text r s t urgent rooms =
     let P = λ (x : ReceiverStep). Grows (Whole (m.Text t)) s x in
-    let plain : P (stored_text r s t rooms) = inr (record { text = t; heard = refl; becomes = refl }) in
-    let urgently : P (taken_urgently r s t rooms) = inr (record { text = t; heard = refl; becomes = refl }) in
+    let plain : P (stored_text r s t rooms) =
+    inr (record { text = t; heard = refl; becomes = refl }) in
+    let urgently : P (taken_urgently r s t rooms) =
+    inr (record { text = t; heard = refl; becomes = refl }) in
     choose P rooms.first _ _
     (choose P urgent _ _ (choose P (is_rvi r.last) _ _ plain urgently) plain)
     (inl refl)
 
-grows-enq : (r : ReceiverValue) (s : SpoolValue) (rooms : Rooms) → Grows (Whole m.Enq) s (enq_step r s rooms)
+grows-enq : (r : ReceiverValue) (s : SpoolValue) (rooms : Rooms)
+    → Grows (Whole m.Enq) s (enq_step r s rooms)
 grows-enq r s rooms = choose (Grows (Whole m.Enq) s) (is_wack r.last) _ _ (inl refl) (inl refl)
 
-pub grows-heard_step : (r : ReceiverValue) (s : SpoolValue) (h : Heard) (urgent : Bool) (rooms : Rooms) → Grows h s (heard_step r s h urgent rooms)
+pub grows-heard_step : (r : ReceiverValue) (s : SpoolValue) (h : Heard) (urgent : Bool)
+    (rooms : Rooms) → Grows h s (heard_step r s h urgent rooms)
 grows-heard_step r s (Whole (m.Text t)) urgent rooms = grows-text r s t urgent rooms
 grows-heard_step r s (Whole m.Enq) urgent rooms = grows-enq r s rooms
 grows-heard_step r s Failed urgent rooms = inl refl
@@ -48,12 +55,16 @@ grows-heard_step r s (Whole m.Rvi) urgent rooms = inl refl
 abbrev pub StaysSilent : ReceiverValue → ReceiverStep → Type 0
 StaysSilent r step = step.reply ≡ None → step.receiver ≡ r
 
-pub silent-heard_step : (r : ReceiverValue) (s : SpoolValue) (h : Heard) (urgent : Bool) (rooms : Rooms) → StaysSilent r (heard_step r s h urgent rooms)
+pub silent-heard_step : (r : ReceiverValue) (s : SpoolValue) (h : Heard) (urgent : Bool)
+    (rooms : Rooms) → StaysSilent r (heard_step r s h urgent rooms)
 silent-heard_step r s (Whole (m.Text t)) urgent rooms =
     choose (StaysSilent r) rooms.first _ _
-    (choose (StaysSilent r) urgent _ _ (choose (StaysSilent r) (is_rvi r.last) _ _ (λ e. absurd (cc)) (λ e. absurd (cc))) (λ e. absurd (cc)))
+    (choose (StaysSilent r) urgent _ _
+    (choose (StaysSilent r) (is_rvi r.last) _ _ (λ e. absurd (cc)) (λ e. absurd (cc)))
+    (λ e. absurd (cc)))
     (λ e. absurd (cc))
-silent-heard_step r s (Whole m.Enq) urgent rooms = choose (StaysSilent r) (is_wack r.last) _ _ (λ e. absurd (cc)) (λ e. absurd (cc))
+silent-heard_step r s (Whole m.Enq) urgent rooms =
+    choose (StaysSilent r) (is_wack r.last) _ _ (λ e. absurd (cc)) (λ e. absurd (cc))
 silent-heard_step r s Noise urgent rooms = λ e. refl
 silent-heard_step r s Failed urgent rooms = λ e. absurd (cc)
 silent-heard_step r s (Whole m.Eot) urgent rooms = λ e. refl

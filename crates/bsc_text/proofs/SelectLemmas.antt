@@ -1,5 +1,6 @@
 -- The table that holds selection addresses.
-use Rattle.std.proofs.Common.{◌≡◌, ℕ, ◌-◌, ◌<◌, ◌≤◌, refl, sym, ap, List, ◌++◌, length, take, drop, replicate}
+use Rattle.std.proofs.Common.{◌≡◌, ℕ, ◌-◌, ◌<◌, ◌≤◌, refl, sym, ap, List, ◌++◌, length, take, drop}
+use Rattle.std.proofs.Common.{replicate}
 use Rattle.std.proofs.Math.Seq.{take-append_seam}
 use Rattle.std.proofs.lemmas.List.{drop-replicate}
 use Rattle.bsc_text.specs.declared.limits.TheConstants.{MAX_SELECTS}
@@ -11,7 +12,8 @@ rest_of poll n = drop-replicate n MAX_SELECTS poll
 
 pub holds_selects : (poll : List ℕ) (selects : List (List ℕ)) → 0 < length selects
     → length selects ≤ MAX_SELECTS
-    → HoldsSelects poll (selects ++ drop (length selects) (replicate MAX_SELECTS poll)) (length selects)
+    → HoldsSelects poll (selects ++ drop (length selects) (replicate MAX_SELECTS poll))
+    (length selects)
 holds_selects poll selects some most =
     let front : take (length selects)
     (selects ++ drop (length selects) (replicate MAX_SELECTS poll))

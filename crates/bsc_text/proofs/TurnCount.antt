@@ -1,5 +1,7 @@
 -- Each turn of a bid begins a block, ends the bid, or comes nearer to the limits of the block.
-use Rattle.std.proofs.Common.{◌≡◌, ◌⊎◌, inl, inr, ℕ, ◌+◌, ◌*◌, ◌≤◌, Bool, true, false, nat_lt, List, [], ◌∷◌, length, Option, None, Some, refl, sym, ◌∙◌, ap, subst, arith, if◌then◌else◌}
+use Rattle.std.proofs.Common.{◌≡◌, ◌⊎◌, inl, inr, ℕ, ◌+◌, ◌*◌, ◌≤◌, Bool, true, false, nat_lt, List}
+use Rattle.std.proofs.Common.{[], ◌∷◌, length, Option, None, Some, refl, sym, ◌∙◌, ap, subst, arith}
+use Rattle.std.proofs.Common.{if◌then◌else◌}
 use Rattle.std.proofs.Math.Nat.{mul-le-mul_right}
 use Rattle.std.proofs.lemmas.Bool.Decides.{nat_tests}
 use Rattle.bsc_frame.specs.declared.message.Heard.{Heard}
@@ -13,15 +15,20 @@ use Rattle.bsc_text.specs.Act as a
 use Rattle.bsc_text.specs.declared.alternation.Alternation.{Alternation}
 use Rattle.bsc_text.specs.declared.reply.Reply.{Reply}
 use Rattle.bsc_text.specs.declared.reply.Answer.{Answer}
-use Rattle.bsc_text.specs.declared.reply.Answer.TheVariants.{Accepted, Refused, Delayed, Interrupted}
+use Rattle.bsc_text.specs.declared.reply.Answer.TheVariants.{Accepted, Refused, Delayed}
+use Rattle.bsc_text.specs.declared.reply.Answer.TheVariants.{Interrupted}
 use Rattle.bsc_text.specs.declared.phase.SentBlock.{SentBlock}
 use Rattle.bsc_text.specs.declared.phase.Phase.{Phase}
 use Rattle.bsc_text.specs.declared.phase.Phase.TheVariants.{Idle, Unanswered, Held, InDoubt}
 use Rattle.bsc_text.specs.Setup.{SetupValue}
 use Rattle.bsc_text.specs.Reply.{other, answer_of, reply_heard}
-use Rattle.bsc_text.specs.Sender.{SenderValue, SenderStep, text_of, sent_next, begin_step, accepted, failed, delayed, unanswered_step, held_step, answered_step, reply_step, silent_in}
+use Rattle.bsc_text.specs.Sender.{SenderValue, SenderStep, text_of, sent_next, begin_step, accepted}
+use Rattle.bsc_text.specs.Sender.{failed, delayed, unanswered_step, held_step, answered_step}
+use Rattle.bsc_text.specs.Sender.{reply_step, silent_in}
 use Rattle.bsc_text.specs.Act.{message_for}
-use Rattle.bsc_text.specs.Bid.{Bid, Turn, BidEvent, Exchange, Offering, answered, unless_quiet, receiver_in, sender_in, after_turn, after_event, IsFairTurn, AreEvents}
+use Rattle.bsc_text.specs.Bid.{Bid, Turn, BidEvent, Exchange, Offering, answered, unless_quiet}
+use Rattle.bsc_text.specs.Bid.{receiver_in, sender_in, after_turn, after_event, IsFairTurn}
+use Rattle.bsc_text.specs.Bid.{AreEvents}
 use Rattle.bsc_text.specs.OneBid.{turn_count, is_begun, begun_in, most_turns, EndsSoon}
 use Rattle.bsc_text.proofs.Answering.{has_next}
 use Rattle.bsc_text.proofs.Turning.{LawsBelow}
@@ -95,7 +102,10 @@ failed_comes s q left act h f =
     (λ _. (refl, tt)) (λ n. (
       refl,
       f _
-          (record { within = record { failures = grind (arith, nat_tests); wacks = h.wacks }; nearer = omega arith }),
+          (record {
+            within = record { failures = grind (arith, nat_tests); wacks = h.wacks };
+            nearer = omega arith;
+          }),
     ))
 
 unanswered_comes : (s : SenderValue) (q : QueueValue) (b : SentBlock) (x : Answer) → IsWithin s
@@ -105,7 +115,8 @@ unanswered_comes s q b Refused h = failed_comes s q Idle (a.Send (text_of q b)) 
 unanswered_comes s q b Delayed h = delayed_comes s (with_known q b.count) b.end b.alternation h
 unanswered_comes s q b Interrupted h = (refl, tt)
 
-held_comes : (s : SenderValue) (q : QueueValue) (e : End) (y : Alternation) (x : Answer) → IsWithin s
+held_comes : (s : SenderValue) (q : QueueValue) (e : End) (y : Alternation) (x : Answer)
+    → IsWithin s
     → Comes s (held_step s q e y x)
 held_comes s q e y Accepted h = accepted_comes s q e y
 held_comes s q e y Refused h = failed_comes s q Idle a.Enq h (λ u n. n)
@@ -156,7 +167,8 @@ turn_comes b t h =
 
 -- what is left of the turns of a block
 bound : (w wl t tl : ℕ) → w ≤ wl → t ≤ tl → w * (tl + 1) + t + 1 ≤ (tl + 1) * (wl + 1)
-bound w wl t tl h k = let e : w * (tl + 1) ≤ wl * (tl + 1) = mul-le-mul_right (tl + 1) h in omega (arith, e)
+bound w wl t tl h k = let e : w * (tl + 1) ≤ wl * (tl + 1) = mul-le-mul_right (tl + 1) h in
+    omega (arith, e)
 
 rank_below : (s : SenderValue) → IsWithin s → rank s + 1 ≤ most_turns s.setup
 rank_below s h = bound s.wacks s.setup.waits s.failures s.setup.tries h.wacks h.failures
@@ -201,7 +213,8 @@ count_turn M b t es c (a.Send k) e (inl j) h events ih =
     let n : turn_count es + 0 ≤ begun_in (after_turn b t) es * M + M =
     subst (λ (r : ℕ). turn_count es + r ≤ begun_in (after_turn b t) es * M + M) zero_rank
     (ih (record { failures = omega (arith, j.failures); wacks = omega (arith, j.wacks) })) in
-    subst (λ (z : ℕ). turn_count es + 1 + rank b.sender ≤ (z + begun_in (after_turn b t) es) * M + M) (sym one)
+    subst (λ (z : ℕ). turn_count es + 1 + rank b.sender ≤ (z + begun_in (after_turn b t) es) * M
+    + M) (sym one)
     (sum_begun (turn_count es) (rank b.sender) (begun_in (after_turn b t) es) M h n)
 count_turn M b t es c (a.Send k) e (inr n) h events ih =
     sum_nearer (turn_count es) (rank b.sender) (rank (after_turn b t).sender)
@@ -235,7 +248,8 @@ count setup b (Offering r ∷ es) c e h k = count setup (after_event b (Offering
 begin_within : LawsBelow → (s : SenderValue) (q : QueueValue) → IsQueue q
     → 1 ≤ length (waiting q) → IsWithin (begin_step s q).sender
 begin_within law s q h some =
-    let n = has_next law.next q h some in rw n.is (record { failures = omega arith; wacks = omega arith })
+    let n = has_next law.next q h some in
+    rw n.is (record { failures = omega arith; wacks = omega arith })
 
 pub ends_soon : LawsBelow → EndsSoon
 ends_soon law b es c h =
@@ -243,6 +257,7 @@ ends_soon law b es c h =
     let within : IsWithin b.sender =
     subst (λ (t : SenderStep). IsWithin t.sender) (sym h.begun.first)
     (begin_within law h.begun.sender b.queue h.begun.queue h.begun.waits) in
-    let n : turn_count es + rank b.sender ≤ begun_in b es * most_turns b.sender.setup + most_turns b.sender.setup =
+    let n : turn_count es + rank b.sender ≤ begun_in b es * most_turns b.sender.setup
+    + most_turns b.sender.setup =
     count b.sender.setup b es c refl within h.events in
     omega arith

@@ -1,5 +1,6 @@
 -- Every event of a bid keeps that its two ends agree.
-use Rattle.std.proofs.Common.{◌≡◌, inl, inr, ℕ, ◌+◌, ◌≤◌, List, [], ◌∷◌, length, Some, refl, sym, ◌∙◌, ap, subst, arith}
+use Rattle.std.proofs.Common.{◌≡◌, inl, inr, ℕ, ◌+◌, ◌≤◌, List, [], ◌∷◌, length, Some, refl, sym}
+use Rattle.std.proofs.Common.{◌∙◌, ap, subst, arith}
 use Rattle.std.proofs.lemmas.List.{length-take-le}
 use Rattle.bsc_frame.specs.declared.message.Message.{Message}
 use Rattle.bsc_spool.specs.Queue.{QueueValue, waiting}
@@ -17,12 +18,16 @@ use Rattle.bsc_text.specs.Ready.{CountsOn, IsReady, FitsAct}
 use Rattle.bsc_text.specs.EachStep.{IsEnded}
 use Rattle.bsc_text.specs.Channel.{channel, IsSound}
 use Rattle.bsc_text.specs.Act.{message_for}
-use Rattle.bsc_text.specs.Bid.{Bid, Turn, BidEvent, Exchange, Offering, receiver_in, sender_in, unless_quiet, after_turn, after_event, IsFairTurn, MayCome, AreEvents, IsNewBid, Reaches}
-use Rattle.bsc_text.specs.OneBid.{channel_within, MovesInTurn, OnlyMoves, StaysReady, StaysSound, SoundWithinTurns}
+use Rattle.bsc_text.specs.Bid.{Bid, Turn, BidEvent, Exchange, Offering, receiver_in, sender_in}
+use Rattle.bsc_text.specs.Bid.{unless_quiet, after_turn, after_event, IsFairTurn, MayCome}
+use Rattle.bsc_text.specs.Bid.{AreEvents, IsNewBid, Reaches}
+use Rattle.bsc_text.specs.OneBid.{channel_within, MovesInTurn, OnlyMoves, StaysReady, StaysSound}
+use Rattle.bsc_text.specs.OneBid.{SoundWithinTurns}
 use Rattle.bsc_text.specs.Agreement.{Flight, Outward, InBid, Continues, reply_flight, sent_flight}
 use Rattle.bsc_text.proofs.ReadyLemmas.{within_offered}
 use Rattle.bsc_text.proofs.Hearing.{RecordsBack, Keeps, fits, receiver_keeps}
-use Rattle.bsc_text.proofs.Answering.{NextLaw, Leaves, sender_keeps, settled_keeps, begin_keeps, busy}
+use Rattle.bsc_text.proofs.Answering.{NextLaw, Leaves, sender_keeps, settled_keeps, begin_keeps}
+use Rattle.bsc_text.proofs.Answering.{busy}
 use Rattle.bsc_text.proofs.OfferLemmas.{OffersQueue, continues_offered}
 use Rattle.bsc_text.proofs.FitLemmas.{Fits, fits_begin, fits_heard, fits_settled}
 
@@ -34,7 +39,8 @@ pub record LawsBelow : Type 0 where
 
 -- the two ends agree, and a bid that is over left the sender at rest
 pub record Holds (b : Bid) : Type 0 where
-  pub ends : Continues b.sender.phase b.queue b.receiver.alternation b.receiver.last b.spool.records (sent_flight b.act)
+  pub ends : Continues b.sender.phase b.queue b.receiver.alternation b.receiver.last b.spool.records
+      (sent_flight b.act)
   pub rests : IsEnded b.act b.sender.phase
 
 ended_by : (x : Act) (old new : Phase) → FitsAct x old new → IsEnded x new
@@ -55,13 +61,15 @@ sound_by Idle q alternation last spooled f h = h.0.sound
 sound_by (InDoubt k) q alternation last spooled f h = h.0.sound
 sound_by (Held e x) q alternation last spooled f h =
     let known : q.known ≤ length q.offered = h.queue.known in
-    let long : length spooled ≡ q.known = ap length h.agree.front ∙ length-take-le q.known q.offered known in
+    let long : length spooled ≡ q.known = ap length h.agree.front
+    ∙ length-take-le q.known q.offered known in
     record { front = rw long h.agree.front; known = omega arith; spooled = long }
 sound_by (Unanswered b) q alternation last spooled f h =
     let known : q.known ≤ length q.offered = h.queue.known in
     elim h.agree [
       | inl x ↦
-          (let long : length spooled ≡ q.known = ap length x.front ∙ length-take-le q.known q.offered known in
+          (let long : length spooled ≡ q.known = ap length x.front
+          ∙ length-take-le q.known q.offered known in
           record { front = rw long x.front; known = omega arith; spooled = inl long })
       | inr x ↦
           (let long : length spooled ≡ q.known + b.count = ap length x.front ∙ length-take-le
@@ -91,33 +99,45 @@ outward a.Over sent e = absurd (cc e)
 outward a.Quiet sent e = absurd (cc e)
 
 pub going : (b : Bid) (sent : Message) → message_for b.act ≡ Some sent → Holds b
-    → InBid b.sender.phase b.queue b.receiver.alternation b.receiver.last b.spool.records (Outward sent)
+    → InBid b.sender.phase b.queue b.receiver.alternation b.receiver.last b.spool.records
+    (Outward sent)
 going b sent e h =
     busy b.sender.phase b.queue b.receiver.alternation b.receiver.last b.spool.records sent
-    (subst (λ (f : Flight). Continues b.sender.phase b.queue b.receiver.alternation b.receiver.last b.spool.records f)
+    (subst (λ (f : Flight). Continues b.sender.phase b.queue b.receiver.alternation b.receiver.last
+    b.spool.records f)
     (outward b.act sent e) h.ends)
 
 pub turn_keeps : LawsBelow → (b : Bid) (t : Turn) → Holds b → IsFairTurn b t → Turned b t
 turn_keeps law b t h fair =
-    let i : InBid b.sender.phase b.queue b.receiver.alternation b.receiver.last b.spool.records (Outward fair.sent) =
+    let i : InBid b.sender.phase b.queue b.receiver.alternation b.receiver.last b.spool.records
+    (Outward fair.sent) =
     going b fair.sent fair.goes_on h in
     let r : ReceiverStep = receiver_in b t in
     let k : Keeps b.sender.phase b.queue b.spool.records r =
-    receiver_keeps law.records b.sender.phase b.queue b.receiver b.spool fair.sent t.heard t.urgent t.rooms i fair.there in
-    let j : InBid b.sender.phase b.queue r.receiver.alternation r.receiver.last r.spool.records (reply_flight r.reply) =
+    receiver_keeps law.records b.sender.phase b.queue b.receiver b.spool fair.sent t.heard t.urgent
+    t.rooms i fair.there in
+    let j : InBid b.sender.phase b.queue r.receiver.alternation r.receiver.last r.spool.records
+    (reply_flight r.reply) =
     record { queue = i.queue; block = i.block; counts = i.counts; agree = k.0 } in
     let l : Leaves b.queue r.receiver.alternation r.receiver.last r.spool.records (sender_in b t) =
-    sender_keeps law.next b.sender b.queue r.receiver.alternation r.receiver.last r.spool.records r.reply t.answer j fair.back in
+    sender_keeps law.next b.sender b.queue r.receiver.alternation r.receiver.last r.spool.records
+    r.reply t.answer j fair.back in
     let s : SenderStep = sender_in b t in
-    let u : Leaves b.queue r.receiver.alternation r.receiver.last r.spool.records (unless_quiet s s.act) =
+    let u : Leaves b.queue r.receiver.alternation r.receiver.last r.spool.records
+    (unless_quiet s s.act) =
     settled_keeps b.queue r.receiver.alternation r.receiver.last r.spool.records s s.act refl l in
     record {
       holds = record {
         ends = u.0;
-        rests = ended b.sender (unless_quiet s s.act) (fits_settled b.sender s s.act refl (fits_heard b.sender b.queue r.reply t.answer));
+        rests =
+            ended b.sender (unless_quiet s s.act)
+            (fits_settled b.sender s s.act refl (fits_heard b.sender b.queue r.reply t.answer));
       };
-      sound = sound_by b.sender.phase b.queue r.receiver.alternation r.receiver.last r.spool.records (reply_flight r.reply)
-          (bid_continues b.sender.phase b.queue r.receiver.alternation r.receiver.last r.spool.records (reply_flight r.reply) j);
+      sound =
+          sound_by b.sender.phase b.queue r.receiver.alternation r.receiver.last r.spool.records
+          (reply_flight r.reply)
+          (bid_continues b.sender.phase b.queue r.receiver.alternation r.receiver.last
+          r.spool.records (reply_flight r.reply) j);
       moves = record { receiver = k.1; sender = u.1 };
     }
 
@@ -125,24 +145,30 @@ event_keeps : LawsBelow → (b : Bid) (e : BidEvent) → Holds b → MayCome b e
 event_keeps law b (Exchange t) h k = (turn_keeps law b t h k).holds
 event_keeps law b (Offering r) h k =
     record {
-      ends = continues_offered law.offers b.sender.phase b.queue r b.receiver.alternation b.receiver.last b.spool.records (sent_flight b.act) k h.ends;
+      ends =
+          continues_offered law.offers b.sender.phase b.queue r b.receiver.alternation
+          b.receiver.last b.spool.records (sent_flight b.act) k h.ends;
       rests = h.rests;
     }
 
 events_keep : LawsBelow → (b : Bid) (es : List BidEvent) (c : Bid) → Holds b → AreEvents b es c
     → Holds c
 events_keep law b [] c h k = subst Holds (sym k) h
-events_keep law b (e ∷ es) c h k = events_keep law (after_event b e) es c (event_keeps law b e h k.0) k.1
+events_keep law b (e ∷ es) c h k =
+    events_keep law (after_event b e) es c (event_keeps law b e h k.0) k.1
 
 begun_holds : LawsBelow → (b : Bid) → IsNewBid b → Holds b
 begun_holds law b h =
     let k = begin_keeps law.next h.sender b.queue b.spool.records h.queue h.sound h.waits in
     let first : SenderStep = record { sender = b.sender; queue = b.queue; act = b.act } in
     let there : Continues b.sender.phase b.queue Even Ack0 b.spool.records (sent_flight b.act) =
-    subst (λ (t : SenderStep). Continues t.sender.phase t.queue Even Ack0 b.spool.records (sent_flight t.act))
+    subst (λ (t : SenderStep). Continues t.sender.phase t.queue Even Ack0 b.spool.records
+    (sent_flight t.act))
     (sym h.first) k.0 in
     record {
-      ends = subst (λ (r : ReceiverValue). Continues b.sender.phase b.queue r.alternation r.last b.spool.records
+      ends =
+          subst (λ (r : ReceiverValue). Continues b.sender.phase b.queue r.alternation r.last
+          b.spool.records
           (sent_flight b.act)) (sym h.receiver) there;
       rests = subst (λ (t : SenderStep). IsEnded t.act t.sender.phase) (sym h.first)
           (ended h.sender (begin_step h.sender b.queue) (fits_begin h.sender b.queue));
@@ -151,17 +177,34 @@ begun_holds law b h =
 pub reached_holds : LawsBelow → (b : Bid) (es : List BidEvent) (c : Bid) → Reaches b es c → Holds c
 reached_holds law b es c h = events_keep law b es c (begun_holds law b h.begun) h.events
 
-ready_by : (s : SenderValue) (phase : Phase) (q : QueueValue) (alternation : Alternation) (last : Reply)
+ready_by : (s : SenderValue) (phase : Phase) (q : QueueValue) (alternation : Alternation)
+    (last : Reply)
     (spooled : List (List ℕ)) (f : Flight) → s.phase ≡ phase
     → Continues phase q alternation last spooled f → IsReady s q
 ready_by s Idle q alternation last spooled f e h =
-    record { queue = h.0.queue; counts = subst (λ (p : Phase). CountsOn p (length (waiting q))) (sym e) h.0.counts }
+    record {
+      queue = h.0.queue;
+      counts =
+          subst (λ (p : Phase). CountsOn p (length (waiting q))) (sym e) h.0.counts;
+    }
 ready_by s (InDoubt k) q alternation last spooled f e h =
-    record { queue = h.0.queue; counts = subst (λ (p : Phase). CountsOn p (length (waiting q))) (sym e) h.0.counts }
+    record {
+      queue = h.0.queue;
+      counts =
+          subst (λ (p : Phase). CountsOn p (length (waiting q))) (sym e) h.0.counts;
+    }
 ready_by s (Held end x) q alternation last spooled f e h =
-    record { queue = h.queue; counts = subst (λ (p : Phase). CountsOn p (length (waiting q))) (sym e) h.counts }
+    record {
+      queue = h.queue;
+      counts =
+          subst (λ (p : Phase). CountsOn p (length (waiting q))) (sym e) h.counts;
+    }
 ready_by s (Unanswered b) q alternation last spooled f e h =
-    record { queue = h.queue; counts = subst (λ (p : Phase). CountsOn p (length (waiting q))) (sym e) h.counts }
+    record {
+      queue = h.queue;
+      counts =
+          subst (λ (p : Phase). CountsOn p (length (waiting q))) (sym e) h.counts;
+    }
 
 pub stays_ready : LawsBelow → StaysReady
 stays_ready law b es c h =
@@ -170,11 +213,13 @@ stays_ready law b es c h =
 
 pub stays_sound : LawsBelow → StaysSound
 stays_sound law b es c h =
-    sound_by c.sender.phase c.queue c.receiver.alternation c.receiver.last c.spool.records (sent_flight c.act)
+    sound_by c.sender.phase c.queue c.receiver.alternation c.receiver.last c.spool.records
+    (sent_flight c.act)
     (reached_holds law b es c h).ends
 
 pub sound_within_turns : LawsBelow → SoundWithinTurns
-sound_within_turns law b es c t h fair = (turn_keeps law c t (reached_holds law b es c h) fair).sound
+sound_within_turns law b es c t h fair =
+    (turn_keeps law c t (reached_holds law b es c h) fair).sound
 
 pub only_moves : LawsBelow → OnlyMoves
 only_moves law b es c t h fair = (turn_keeps law c t (reached_holds law b es c h) fair).moves

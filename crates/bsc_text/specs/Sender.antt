@@ -1,7 +1,8 @@
 -- The sender's table (GA27-3004: acknowledgements, NAK, WACK, RVI and time-outs; limits, doubt and
 -- release are own). Every counter is raised first and compared afterwards. What no line lists
 -- changes nothing.
-use Rattle.std.specs.Prelude.{◌≡◌, ℕ, ◌+◌, nat_lt, Bool, true, false, ◌==◌, ◌||◌, take, Option, None}
+use Rattle.std.specs.Prelude.{◌≡◌, ℕ, ◌+◌, nat_lt, Bool, true, false, ◌==◌, ◌||◌, take, Option}
+use Rattle.std.specs.Prelude.{None}
 use Rattle.std.specs.Prelude.{Some, Result, Ok, Err, if◌then◌else◌}
 use Rattle.bsc_frame.specs.declared.text.End.{End}
 use Rattle.bsc_frame.specs.declared.text.End.TheVariants.{Etb, Etx}

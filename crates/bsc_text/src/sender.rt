@@ -83,8 +83,9 @@ impl Sender {
         }
     }
 
-    /// Begins a bid: leaves the text of the first block of the waiting records in `sent`. Condition:
-    /// the sender is idle, without a doubt, and records wait. (GA27-3004, transmission of blocks.)
+    /// Begins a bid: leaves the text of the first block of the waiting records in `sent`.
+    /// Condition: the sender is idle, without a doubt, and records wait. (GA27-3004, transmission
+    /// of blocks.)
     #[tactic(auto, using(crate::proofs::ReadyLemmas::going_begin))]
     pub fn begin<A: Allocator>(&mut self, queue: &Queue<A>, sent: &mut Option<Message>) -> Outcome
         requires idle { self.old.phase ≡ Phase.Idle }
@@ -97,10 +98,10 @@ impl Sender {
         self.send_next(queue, Alternation::Odd, sent)
     }
 
-    /// Hears a transmission. A reply is acted on; anything else changes nothing. The message to send
-    /// is left in `sent`, or none. Condition: while a bid goes on, in the queue wait the records of
-    /// the unanswered block, after ETB one more, and while held after ETB at least one. (GA27-3004,
-    /// ACK0, ACK1, NAK, WACK and RVI; the limits are own.)
+    /// Hears a transmission. A reply is acted on; anything else changes nothing. The message to
+    /// send is left in `sent`, or none. Condition: while a bid goes on, in the queue wait the
+    /// records of the unanswered block, after ETB one more, and while held after ETB at least one.
+    /// (GA27-3004, ACK0, ACK1, NAK, WACK and RVI; the limits are own.)
     pub fn reply<A: Allocator>(
         &mut self,
         heard: &Heard,
@@ -130,8 +131,8 @@ impl Sender {
         }
     }
 
-    /// Nothing was heard for the time of a time-out. The message to send is left in `sent`, or none.
-    /// (GA27-3004, time-outs; the limit and the doubt are own.)
+    /// Nothing was heard for the time of a time-out. The message to send is left in `sent`, or
+    /// none. (GA27-3004, time-outs; the limit and the doubt are own.)
     #[tactic(auto, using(crate::proofs::ReadyLemmas::all_waiting))]
     pub fn silence(&mut self, sent: &mut Option<Message>) -> Outcome
         ensures row { (q : QueueValue)
@@ -322,7 +323,7 @@ impl Sender {
     }
 
     /// A reply while a block is unanswered.
-    #[tactic(auto, using(crate::proofs::ReadyLemmas::is_queue_marked, crate::proofs::ReadyLemmas::still_waiting, crate::proofs::ReadyLemmas::all_waiting,))]
+    #[tactic(auto, using(crate::proofs::ReadyLemmas::reply_steps))]
     fn answer_unanswered<A: Allocator>(
         &mut self,
         queue: &mut Queue<A>,

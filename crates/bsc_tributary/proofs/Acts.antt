@@ -1,5 +1,6 @@
 -- What each act of a terminal's sender makes of its mode, and what it does not change.
-use Rattle.std.proofs.Common.{◌≡◌, ◌⊎◌, inl, inr, ℕ, List, Option, None, Some, refl, sym, ◌∙◌, ap, subst}
+use Rattle.std.proofs.Common.{◌≡◌, ◌⊎◌, inl, inr, ℕ, List, Option, None, Some, refl, sym, ◌∙◌, ap}
+use Rattle.std.proofs.Common.{subst}
 use Rattle.bsc_block.specs.Format.{FormatValue}
 use Rattle.bsc_spool.specs.declared.queue.Next.{Next}
 use Rattle.bsc_spool.specs.Queue.{QueueValue}
@@ -45,20 +46,24 @@ sent_told last s q outcome sent step h e =
     e ∙ ap (λ (x : SenderAnswer). message_left x.outcome x.sent) h
 
 -- an act of a sending terminal leaves it sending or in control mode
-pub mode_after-Sending : (act : Act) → (mode_after act Sending ≡ Control) ⊎ (mode_after act Sending ≡ Sending)
+pub mode_after-Sending : (act : Act) → (mode_after act Sending ≡ Control)
+    ⊎ (mode_after act Sending ≡ Sending)
 mode_after-Sending (a.Send text) = inr refl
 mode_after-Sending a.Enq = inr refl
 mode_after-Sending a.Over = inl refl
 mode_after-Sending a.Quiet = inr refl
 
 -- and so it does not receive
-pub not_receiving : (mode : Mode) (s : ℕ) → (mode ≡ Control) ⊎ (mode ≡ Sending) → mode ≡ Receiving s → ⊥
+pub not_receiving : (mode : Mode) (s : ℕ) → (mode ≡ Control) ⊎ (mode ≡ Sending) → mode ≡ Receiving s
+    → ⊥
 not_receiving mode s (inl e) is = cc
 not_receiving mode s (inr e) is = cc
 
--- A step of the sender: the mode that its act makes suits the phase that it leaves, and the settings, the format
+-- A step of the sender: the mode that its act makes suits the phase that it leaves, and the
+-- settings, the format
 -- and the offered records are these.
-pub record Follows (mode : Mode) (n : ℕ) (setup : SetupValue) (format : FormatValue) (offered : List (List ℕ))
+pub record Follows (mode : Mode) (n : ℕ) (setup : SetupValue) (format : FormatValue)
+    (offered : List (List ℕ))
     (step : SenderStep) : Type 0 where
   pub suits : SuitsMode (mode_after step.act mode) step.sender.phase n
   pub setup_is : step.sender.setup ≡ setup
@@ -69,9 +74,11 @@ pub record Follows (mode : Mode) (n : ℕ) (setup : SetupValue) (format : Format
 abbrev pub FollowsFrom : Mode → ℕ → SenderValue → QueueValue → SenderStep → Type 0
 FollowsFrom mode n s q step = Follows mode n s.setup q.format q.offered step
 
-pub follows-sent_next : (mode : Mode) (n : ℕ) (s : SenderValue) (q : QueueValue) (alternation : Alternation)
+pub follows-sent_next : (mode : Mode) (n : ℕ) (s : SenderValue) (q : QueueValue)
+    (alternation : Alternation)
     (next : Option Next) → FollowsFrom mode n s q (sent_next s q alternation next)
-follows-sent_next mode n s q alternation None = record { suits = tt; setup_is = refl; format_is = refl; offered_is = refl }
+follows-sent_next mode n s q alternation None =
+    record { suits = tt; setup_is = refl; format_is = refl; offered_is = refl }
 follows-sent_next mode n s q alternation
     (Some next) = record { suits = tt; setup_is = refl; format_is = refl; offered_is = refl }
 
@@ -84,7 +91,8 @@ suits_by a.Quiet old new n goes fits = subst IsGoing (sym fits) goes
 
 -- a step in a bid that goes on
 follows : (n : ℕ) (s : SenderValue) (q : QueueValue) (step : SenderStep) → IsGoing s.phase
-    → FitsAct step.act s.phase step.sender.phase → StepKeeps s q step → FollowsFrom Sending n s q step
+    → FitsAct step.act s.phase step.sender.phase → StepKeeps s q step
+    → FollowsFrom Sending n s q step
 follows n s q step goes fits keeps =
     record {
       suits = suits_by step.act s.phase step.sender.phase n goes fits;
@@ -94,11 +102,14 @@ follows n s q step goes fits keeps =
     }
 
 -- a reply, or something else, is heard while a bid goes on
-pub follows-reply_step : (n : ℕ) (s : SenderValue) (q : QueueValue) (r : Option Reply) → IsGoing s.phase →
+pub follows-reply_step : (n : ℕ) (s : SenderValue) (q : QueueValue) (r : Option Reply)
+    → IsGoing s.phase →
     FollowsFrom Sending n s q (reply_step s q r)
-follows-reply_step n s q r goes = follows n s q (reply_step s q r) goes (fits_reply s q r) (keeps_reply s q r)
+follows-reply_step n s q r goes =
+    follows n s q (reply_step s q r) goes (fits_reply s q r) (keeps_reply s q r)
 
 -- a silence while a bid goes on
 pub follows-silence_step : (n : ℕ) (s : SenderValue) (q : QueueValue) → IsGoing s.phase →
     FollowsFrom Sending n s q (silence_step s q)
-follows-silence_step n s q goes = follows n s q (silence_step s q) goes (fits_silence s q) (keeps_silence s q)
+follows-silence_step n s q goes =
+    follows n s q (silence_step s q) goes (fits_silence s q) (keeps_silence s q)

@@ -1,5 +1,7 @@
 -- Which of a terminal's addresses a call names, and which it does not.
-use Rattle.std.proofs.Common.{◌≡◌, ◌≢◌, ◌∙◌, ◌⊎◌, inl, inr, ℕ, zero, suc, ◌<◌, ◌≤◌, sym, ap, refl, Bool, true, false, List, [], length, get_or, slice_get, Option, None, Some, nat_lt, if◌then◌else◌, arith}
+use Rattle.std.proofs.Common.{◌≡◌, ◌≢◌, ◌∙◌, ◌⊎◌, inl, inr, ℕ, zero, suc, ◌<◌, ◌≤◌, sym, ap, refl}
+use Rattle.std.proofs.Common.{Bool, true, false, List, [], length, get_or, slice_get, Option, None}
+use Rattle.std.proofs.Common.{Some, nat_lt, if◌then◌else◌, arith}
 use Rattle.std.proofs.lemmas.Bool.Decides.{nat_tests}
 use Rattle.std.proofs.lemmas.List.Quantifiers.{position-Some}
 use Rattle.std.proofs.lemmas.List.Sums.{position_or_len_is, fails_before_first}
@@ -20,40 +22,51 @@ is_same-told a b true e = inl (same_text a b (sym e), refl)
 is_same-told a b false e = inr (other_text a b (sym e), refl)
 
 pub is_same-refl : (a b : List ℕ) → a ≡ b → is_same a b ≡ true
-is_same-refl a b e = elim (is_same-told a b (is_same a b) refl) [ inl same ↦ same.1 | inr differ ↦ absurd (differ.0 e) ]
+is_same-refl a b e =
+    elim (is_same-told a b (is_same a b) refl)
+    [ inl same ↦ same.1 | inr differ ↦ absurd (differ.0 e) ]
 
 pub is_same-≢ : (a b : List ℕ) → a ≢ b → is_same a b ≡ false
-is_same-≢ a b ne = elim (is_same-told a b (is_same a b) refl) [ inl same ↦ absurd (ne same.0) | inr differ ↦ differ.1 ]
+is_same-≢ a b ne =
+    elim (is_same-told a b (is_same a b) refl)
+    [ inl same ↦ absurd (ne same.0) | inr differ ↦ differ.1 ]
 
 -- the first place that passes
 pub position-at : (p : List ℕ → Bool) (xs : List (List ℕ)) (i : ℕ) → i < length xs →
-    ((k : ℕ) → k < i → p (get_or xs k []) ≡ false) → p (get_or xs i []) ≡ true → position p xs ≡ Some i
+    ((k : ℕ) → k < i → p (get_or xs k []) ≡ false) → p (get_or xs i []) ≡ true → position p xs
+    ≡ Some i
 position-at p xs i within before here =
-    let first : position_or_len p xs ≡ i = position_or_len_is p xs i [] (omega arith) before (λ _. here) in
+    let first : position_or_len p xs ≡ i =
+    position_or_len_is p xs i [] (omega arith) before (λ _. here) in
     let less : nat_lt i (length xs) ≡ true = grind (arith, nat_tests) in
     rw (first, less) refl
 
 pub position-nowhere : (p : List ℕ → Bool) (xs : List (List ℕ)) →
     ((k : ℕ) → k < length xs → p (get_or xs k []) ≡ false) → position p xs ≡ None
 position-nowhere p xs each =
-    let all : position_or_len p xs ≡ length xs = position_or_len_is p xs (length xs) [] (omega arith) each
+    let all : position_or_len p xs ≡ length xs =
+    position_or_len_is p xs (length xs) [] (omega arith) each
     (λ less. absurd (omega arith)) in
     let none : nat_lt (length xs) (length xs) ≡ false = grind (arith, nat_tests) in
     rw (all, none) refl
 
 none_before : (p : List ℕ → Bool) (xs : List (List ℕ)) (k : ℕ) (less : Bool) →
-    nat_lt (position_or_len p xs) (length xs) ≡ less → (if less then Some (position_or_len p xs) else None) ≡ None →
+    nat_lt (position_or_len p xs) (length xs) ≡ less
+    → (if less then Some (position_or_len p xs) else None) ≡ None →
     k < length xs → p (get_or xs k []) ≡ false
 none_before p xs k true e none within = absurd (cc)
 none_before p xs k false e none within = let far : length xs ≤ position_or_len p xs = grind
     (arith, nat_tests) in fails_before_first p xs k [] (omega arith)
 
-pub position-None : (p : List ℕ → Bool) (xs : List (List ℕ)) (k : ℕ) → position p xs ≡ None → k < length xs →
+pub position-None : (p : List ℕ → Bool) (xs : List (List ℕ)) (k : ℕ) → position p xs ≡ None → k
+    < length xs →
     p (get_or xs k []) ≡ false
-position-None p xs k none within = none_before p xs k (nat_lt (position_or_len p xs) (length xs)) refl none within
+position-None p xs k none within =
+    none_before p xs k (nat_lt (position_or_len p xs) (length xs)) refl none within
 
 -- what the answers to both questions say of the address
-pub called_as-Selection : (t : TerminalValue) (address : List ℕ) (s : ℕ) → is_same address t.poll ≡ false →
+pub called_as-Selection : (t : TerminalValue) (address : List ℕ) (s : ℕ) → is_same address t.poll
+    ≡ false →
     position (is_same address) t.selects ≡ Some s → called_as t address ≡ Selection s
 called_as-Selection t address s poll at = rw poll (ap selection at)
 
@@ -62,19 +75,22 @@ pub called_as-Other : (t : TerminalValue) (address : List ℕ) → is_same addre
 called_as-Other t address poll nowhere = rw poll (ap selection nowhere)
 
 from_Selection : (poll_step : Bool) (at : Option ℕ) (s : ℕ) →
-    (if poll_step then Polling else selection at) ≡ Selection s → (poll_step ≡ false) × (at ≡ Some s)
+    (if poll_step then Polling else selection at) ≡ Selection s → (poll_step ≡ false)
+    × (at ≡ Some s)
 from_Selection true at s e = absurd (cc)
 from_Selection false None s e = absurd (cc)
 from_Selection false (Some k) s e = (refl, let same : k ≡ s = cc in ap (λ n. Some n) same)
 
-from_Other : (poll_step : Bool) (at : Option ℕ) → (if poll_step then Polling else selection at) ≡ Other →
+from_Other : (poll_step : Bool) (at : Option ℕ) → (if poll_step then Polling else selection at)
+    ≡ Other →
     (poll_step ≡ false) × (at ≡ None)
 from_Other true at e = absurd (cc)
 from_Other false None e = (refl, refl)
 from_Other false (Some k) e = absurd (cc)
 
 -- a call that names the selection address of this number is a call of it
-pub selection-is : (t : TerminalValue) (address : List ℕ) (s : ℕ) → called_as t address ≡ Selection s →
+pub selection-is : (t : TerminalValue) (address : List ℕ) (s : ℕ) → called_as t address
+    ≡ Selection s →
     slice_get t.selects s ≡ Some address
 selection-is t address s e =
     let f = from_Selection (is_same address t.poll) (position (is_same address) t.selects) s e in
@@ -89,7 +105,8 @@ is-selection t address s distinct at =
     let within : s < length t.selects = slice_get_within t.selects s address at in
     let here : get_or t.selects s [] ≡ address = get_or_from_slice_get t.selects s address [] at in
     called_as-Selection t address s
-    (is_same-≢ address t.poll (λ e. distinct zero (suc s) [] (omega arith) (omega arith) (sym (here ∙ e))))
+    (is_same-≢ address t.poll (λ e. distinct zero (suc s) [] (omega arith) (omega arith)
+    (sym (here ∙ e))))
     (position-at (is_same address) t.selects s within
     (λ k less. is_same-≢ address (get_or t.selects k [])
     (λ e. distinct (suc k) (suc s) [] (omega arith) (omega arith) (sym e ∙ sym here)))
@@ -105,13 +122,15 @@ place_is_none t address (suc k) poll nowhere within here =
     let less : k < length t.selects = omega arith in
     let there : get_or t.selects k [] ≡ address = get_or_from_slice_get t.selects k address []
     (slice_get-get_or t.selects k address less ∙ ap (λ (a : List ℕ). Some a) here) in
-    let yes : is_same address (get_or t.selects k []) ≡ true = is_same-refl address (get_or t.selects k [])
+    let yes : is_same address (get_or t.selects k []) ≡ true =
+    is_same-refl address (get_or t.selects k [])
     (sym there) in
     let no : is_same address (get_or t.selects k []) ≡ false = position-None
     (is_same address) t.selects k nowhere less in
     cc
 
-pub other-is : (t : TerminalValue) (address : List ℕ) → called_as t address ≡ Other → Contains (own_addresses t) address → ⊥
+pub other-is : (t : TerminalValue) (address : List ℕ) → called_as t address ≡ Other
+    → Contains (own_addresses t) address → ⊥
 other-is t address e there =
     let f = from_Other (is_same address t.poll) (position (is_same address) t.selects) e in
     place_is_none t address there.0 f.0 f.1 there.1 there.2
@@ -121,7 +140,8 @@ pub is-other : (t : TerminalValue) (address : List ℕ) → (Contains (own_addre
 is-other t address none =
     called_as-Other t address
     (is_same-≢ address t.poll (λ e. none (zero, omega arith, sym e)))
-    (position-nowhere (is_same address) t.selects (λ k within. is_same-≢ address (get_or t.selects k [])
+    (position-nowhere (is_same address) t.selects
+    (λ k within. is_same-≢ address (get_or t.selects k [])
     (λ e. none (
       suc k,
       omega arith,
@@ -130,7 +150,8 @@ is-other t address none =
     ))))
 
 -- where each selection address is the first that it equals, the addresses differ
-distinct_at : (t : TerminalValue) → ((k : ℕ) → k < length t.selects → called_as t (get_or t.selects k []) ≡
+distinct_at : (t : TerminalValue)
+    → ((k : ℕ) → k < length t.selects → called_as t (get_or t.selects k []) ≡
     Selection k) → (i j : ℕ) (d : List ℕ) → i < j → j < length (own_addresses t) →
     get_or (own_addresses t) i d ≢ get_or (own_addresses t) j d
 distinct_at t each i zero d less within e = absurd (omega arith)
@@ -140,7 +161,8 @@ distinct_at t each zero (suc j) d less within e =
     (position (is_same (get_or t.selects j [])) t.selects) j (each j there) in
     let here : get_or t.selects j d ≡ get_or t.selects j [] = get_or_from_slice_get t.selects j
     (get_or t.selects j []) d (slice_get-get_or t.selects j [] there) in
-    let same : is_same (get_or t.selects j []) t.poll ≡ true = is_same-refl (get_or t.selects j []) t.poll
+    let same : is_same (get_or t.selects j []) t.poll ≡ true =
+    is_same-refl (get_or t.selects j []) t.poll
     (sym (e ∙ here)) in
     cc
 distinct_at t each (suc i) (suc j) d less within e =
@@ -154,12 +176,14 @@ distinct_at t each (suc i) (suc j) d less within e =
     (get_or t.selects j []) d (slice_get-get_or t.selects j [] there) in
     let first : get_or t.selects i d ≡ get_or t.selects i [] = get_or_from_slice_get t.selects i
     (get_or t.selects i []) d (slice_get-get_or t.selects i [] also) in
-    let same : is_same (get_or t.selects j []) (get_or t.selects i []) ≡ true = is_same-refl (get_or t.selects j [])
+    let same : is_same (get_or t.selects j []) (get_or t.selects i []) ≡ true =
+    is_same-refl (get_or t.selects j [])
     (get_or t.selects i []) (sym here ∙ sym e ∙ first) in
     let other : is_same (get_or t.selects j []) (get_or t.selects i []) ≡ false = p.2 i before in
     cc
 
-pub are_distinct : (t : TerminalValue) → ((k : ℕ) → k < length t.selects → called_as t (get_or t.selects k []) ≡
+pub are_distinct : (t : TerminalValue)
+    → ((k : ℕ) → k < length t.selects → called_as t (get_or t.selects k []) ≡
     Selection k) → HasDistinctAddresses t
 are_distinct t each = λ i j d less within. distinct_at t each i j d less within
 

@@ -1,5 +1,7 @@
--- What a terminal does at a call of its own: the steps of the code, put together, are the rows of the table.
-use Rattle.std.proofs.Common.{◌≡◌, ◌∙◌, ◌<◌, ℕ, sym, ap, subst, refl, Bool, true, false, List, length, nat_eq, not, slice_set, Option, if◌then◌else◌, arith}
+-- What a terminal does at a call of its own: the steps of the code, put together, are the rows of
+-- the table.
+use Rattle.std.proofs.Common.{◌≡◌, ◌∙◌, ◌<◌, ℕ, sym, ap, subst, refl, Bool, true, false, List}
+use Rattle.std.proofs.Common.{length, nat_eq, not, slice_set, Option, if◌then◌else◌, arith}
 use Rattle.std.proofs.lemmas.List.{get_or-set_same, length-set}
 use Rattle.bsc_frame.specs.declared.message.Message.{Message}
 use Rattle.bsc_frame.specs.declared.message.Message.TheVariants as m
@@ -15,7 +17,9 @@ use Rattle.bsc_text.specs.Receiver.{ReceiverValue, new_receiver, first_reply}
 use Rattle.bsc_text.specs.Sender.{SenderStep, begin_step, is_in_doubt}
 use Rattle.bsc_tributary.specs.declared.mode.Mode.{Mode}
 use Rattle.bsc_tributary.specs.declared.mode.Mode.TheVariants.{Receiving}
-use Rattle.bsc_tributary.specs.Tributary.{TributaryValue, TributaryStep, spool_at, empty_spool, answer_step, without_line, mode_after, message_of_act, act_step, poll_step, selection_step}
+use Rattle.bsc_tributary.specs.Tributary.{TributaryValue, TributaryStep, spool_at, empty_spool}
+use Rattle.bsc_tributary.specs.Tributary.{answer_step, without_line, mode_after, message_of_act}
+use Rattle.bsc_tributary.specs.Tributary.{act_step, poll_step, selection_step}
 use Rattle.bsc_tributary.specs.Kept.{IsTributary}
 use Rattle.bsc_tributary.proofs.Acts.{FollowsFrom, follows-sent_next, IsAtRest-cut_phase}
 use Rattle.bsc_tributary.proofs.Stays.{stays-act_step, stays-flags}
@@ -40,7 +44,8 @@ is_false true e = absurd (cc)
 is_false false e = refl
 
 -- EOT, in doubt
-pub poll_step-in_doubt : (t old : TributaryValue) → t ≡ without_line old → is_in_doubt t.sender.phase ≡ true →
+pub poll_step-in_doubt : (t old : TributaryValue) → t ≡ without_line old
+    → is_in_doubt t.sender.phase ≡ true →
     answer_step (record t { urgent = false }) m.Eot ≡ poll_step old
 poll_step-in_doubt t old e doubt =
     let here : answer_step (record t { urgent = false }) m.Eot ≡ poll_from
@@ -48,24 +53,41 @@ poll_step-in_doubt t old e doubt =
     here ∙ poll_from-poll_step t old e
 
 -- EOT, with nothing to send
-pub poll_step-empty : (t old : TributaryValue) → t ≡ without_line old → is_in_doubt t.sender.phase ≡ false →
+pub poll_step-empty : (t old : TributaryValue) → t ≡ without_line old → is_in_doubt t.sender.phase
+    ≡ false →
     not (nat_eq (length (waiting t.queue)) 0) ≡ false →
     answer_step (record t { urgent = false }) m.Eot ≡ poll_step old
 poll_step-empty t old e sure none =
-    let empty : nat_eq (length (waiting t.queue)) 0 ≡ true = is_true (nat_eq (length (waiting t.queue)) 0) none in
-    let here : answer_step (record t { urgent = false }) m.Eot ≡ poll_from (record t { urgent = false }) = rw
+    let empty : nat_eq (length (waiting t.queue)) 0 ≡ true =
+    is_true (nat_eq (length (waiting t.queue)) 0) none in
+    let here : answer_step (record t { urgent = false }) m.Eot
+    ≡ poll_from (record t { urgent = false }) = rw
     (sure, empty) refl in
     here ∙ poll_from-poll_step t old e
 
 -- the first block
-pub poll_step-begins : (t old : TributaryValue) (step : SenderStep) (mode : Mode) (sent : Option Message) →
-    t ≡ without_line old → is_in_doubt t.sender.phase ≡ false → not (nat_eq (length (waiting t.queue)) 0) ≡ true →
-    step ≡ begin_step t.sender t.queue → mode ≡ mode_after step.act t.mode → sent ≡ message_of_act step.act →
-    record { tributary = record t { urgent = false; mode = mode; sender = step.sender; queue = step.queue }; sent = sent } ≡ poll_step old
+pub poll_step-begins : (t old : TributaryValue) (step : SenderStep) (mode : Mode)
+    (sent : Option Message) →
+    t ≡ without_line old → is_in_doubt t.sender.phase ≡ false
+    → not (nat_eq (length (waiting t.queue)) 0) ≡ true →
+    step ≡ begin_step t.sender t.queue → mode ≡ mode_after step.act t.mode → sent
+    ≡ message_of_act step.act →
+    record {
+      tributary =
+          record t { urgent = false; mode = mode; sender = step.sender; queue = step.queue };
+      sent =
+          sent;
+    } ≡ poll_step old
 poll_step-begins t old step mode sent e sure some row mode_is sent_is =
-    let wait : nat_eq (length (waiting t.queue)) 0 ≡ false = is_false (nat_eq (length (waiting t.queue)) 0) some in
+    let wait : nat_eq (length (waiting t.queue)) 0 ≡ false =
+    is_false (nat_eq (length (waiting t.queue)) 0) some in
     let u : TributaryValue = record t { urgent = false } in
-    let done : record { tributary = record u { mode = mode; sender = step.sender; queue = step.queue }; sent = sent } ≡ act_step u step = rw (mode_is, sent_is) refl in
+    let done : record {
+      tributary =
+          record u { mode = mode; sender = step.sender; queue = step.queue };
+      sent = sent;
+    }
+    ≡ act_step u step = rw (mode_is, sent_is) refl in
     let here : act_step u (begin_step t.sender t.queue) ≡ poll_from u = rw (sure, wait) refl in
     done ∙ ap (act_step u) row ∙ here ∙ poll_from-poll_step t old e
 
@@ -76,17 +98,20 @@ at_rest_idle (InDoubt k) rests sure = absurd (cc)
 at_rest_idle (Unanswered b) rests sure = absurd rests
 at_rest_idle (Held end alternation) rests sure = absurd rests
 
-pub without_line-idle : (t old : TributaryValue) → t ≡ without_line old → is_in_doubt t.sender.phase ≡ false →
+pub without_line-idle : (t old : TributaryValue) → t ≡ without_line old → is_in_doubt t.sender.phase
+    ≡ false →
     t.sender.phase ≡ Idle
 without_line-idle t old e sure =
     at_rest_idle t.sender.phase (subst (λ (v : TributaryValue). IsAtRest v.sender.phase) (sym e)
     (IsAtRest-cut_phase old.sender.phase)) sure
 
 pub stays-begun : (t : TributaryValue) (step : SenderStep) (mode : Mode) → IsTributary t →
-    step ≡ begin_step t.sender t.queue → mode ≡ mode_after step.act t.mode → IsReady step.sender step.queue →
+    step ≡ begin_step t.sender t.queue → mode ≡ mode_after step.act t.mode
+    → IsReady step.sender step.queue →
     IsTributary (record t { urgent = false; mode = mode; sender = step.sender; queue = step.queue })
 stays-begun t step mode is row mode_is ready =
-    stays-act_step (record t { urgent = false }) mode t.mode step (stays-flags t t.ready false t.receiver is) mode_is
+    stays-act_step (record t { urgent = false }) mode t.mode step
+    (stays-flags t t.ready false t.receiver is) mode_is
     (subst (FollowsFrom t.mode (length t.spools) t.sender t.queue) (sym row)
     (follows-sent_next t.mode (length t.spools) t.sender t.queue Odd (next_block t.queue))) ready
 
@@ -104,23 +129,32 @@ selection_from d s room =
     else answer_step d m.Nak
 
 pub selection_step-ready : (t old : TributaryValue) (s : ℕ) (room : Bool) (receiver : ReceiverValue)
-    (spools : List SpoolValue) (reply : Reply) (message : Message) → t ≡ without_line old → t.ready ≡ true →
+    (spools : List SpoolValue) (reply : Reply) (message : Message) → t ≡ without_line old → t.ready
+    ≡ true →
     s < length t.spools →
-    spools ≡ slice_set t.spools s (room_asked (spool_at t.spools s) room) → receiver ≡ new_receiver room →
+    spools ≡ slice_set t.spools s (room_asked (spool_at t.spools s) room) → receiver
+    ≡ new_receiver room →
     reply ≡ first_reply room → message ≡ message_of reply →
-    answer_step (record t { mode = Receiving s; receiver = receiver; spools = spools }) message ≡ selection_step old s
+    answer_step (record t { mode = Receiving s; receiver = receiver; spools = spools }) message
+    ≡ selection_step old s
     (spool_at spools s).room
-selection_step-ready t old s room receiver spools reply message e ready within spools_is receiver_is reply_is message_is =
-    let there : spool_at (slice_set t.spools s (room_asked (spool_at t.spools s) room)) s ≡ room_asked
+selection_step-ready t old s room receiver spools reply message e ready within spools_is receiver_is
+    reply_is message_is =
+    let there : spool_at (slice_set t.spools s (room_asked (spool_at t.spools s) room)) s
+    ≡ room_asked
     (spool_at t.spools s) room = get_or-set_same t.spools s
     (room_asked (spool_at t.spools s) room) empty_spool within in
-    let same : (spool_at spools s).room ≡ room = ap (λ (xs : List SpoolValue). (spool_at xs s).room) spools_is
+    let same : (spool_at spools s).room ≡ room =
+    ap (λ (xs : List SpoolValue). (spool_at xs s).room) spools_is
     ∙ ap (λ (x : SpoolValue). x.room) there in
-    let here : answer_step (record t { mode = Receiving s; receiver = receiver; spools = spools }) message ≡
+    let here : answer_step (record t { mode = Receiving s; receiver = receiver; spools = spools })
+    message ≡
     selection_from t s room = rw (spools_is, receiver_is, message_is, reply_is, ready) refl in
-    here ∙ ap (λ (v : TributaryValue). selection_from v s room) e ∙ ap (selection_step old s) (sym same)
+    here ∙ ap (λ (v : TributaryValue). selection_from v s room) e
+    ∙ ap (selection_step old s) (sym same)
 
-pub selection_step-room : (t old : TributaryValue) (s : ℕ) (room : Bool) (spools : List SpoolValue) →
+pub selection_step-room : (t old : TributaryValue) (s : ℕ) (room : Bool) (spools : List SpoolValue)
+    →
     t ≡ without_line old → s < length t.spools → spools ≡ slice_set t.spools s (room_asked
     (spool_at t.spools s) room) →
     ((spool_at t.spools s).room ≡ true → room ≡ true) → (spool_at old.spools s).room ≡ true →
@@ -129,10 +163,12 @@ selection_step-room t old s room spools e within spools_is there had =
     let now : spool_at (slice_set t.spools s (room_asked (spool_at t.spools s) room)) s ≡ room_asked
     (spool_at t.spools s) room = get_or-set_same t.spools s
     (room_asked (spool_at t.spools s) room) empty_spool within in
-    ap (λ (xs : List SpoolValue). (spool_at xs s).room) spools_is ∙ ap (λ (x : SpoolValue). x.room) now
+    ap (λ (xs : List SpoolValue). (spool_at xs s).room) spools_is
+    ∙ ap (λ (x : SpoolValue). x.room) now
     ∙ there (ap (λ (v : TributaryValue). (spool_at v.spools s).room) e ∙ had)
 
-pub stays-selection_step : (t old : TributaryValue) (s : ℕ) (receiver : ReceiverValue) (spools : List SpoolValue)
+pub stays-selection_step : (t old : TributaryValue) (s : ℕ) (receiver : ReceiverValue)
+    (spools : List SpoolValue)
     (spool : SpoolValue) → IsTributary t → t ≡ without_line old → s < length t.spools →
     spools ≡ slice_set t.spools s spool →
     IsTributary (record t { mode = Receiving s; receiver = receiver; spools = spools })

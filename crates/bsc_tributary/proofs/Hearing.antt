@@ -1,5 +1,7 @@
 -- What a transmission changes of a terminal, row by row of the table.
-use Rattle.std.proofs.Common.{◌≡◌, ◌≢◌, ◌∙◌, ◌⊎◌, inl, inr, ◌<◌, ℕ, sym, ap, subst, refl, Bool, true, false, List, ◌++◌, length, nat_eq, slice_set, Option, None, arith}
+use Rattle.std.proofs.Common.{◌≡◌, ◌≢◌, ◌∙◌, ◌⊎◌, inl, inr, ◌<◌, ℕ, sym, ap, subst, refl, Bool}
+use Rattle.std.proofs.Common.{true, false, List, ◌++◌, length, nat_eq, slice_set, Option, None}
+use Rattle.std.proofs.Common.{arith}
 use Rattle.std.proofs.lemmas.Bool.Decides.{nat_tests}
 use Rattle.std.proofs.lemmas.List.{get_or-set_same, get_or-set_other, length-set}
 use Rattle.bsc_frame.specs.declared.message.Message.{Message}
@@ -13,7 +15,8 @@ use Rattle.bsc_text.specs.declared.alternation.Alternation.TheVariants.{Odd}
 use Rattle.bsc_text.specs.Reply.{reply_heard}
 use Rattle.bsc_text.specs.Receiver.{ReceiverStep, Rooms, heard_step}
 use Rattle.bsc_text.specs.Ready.{IsReady}
-use Rattle.bsc_text.specs.Sender.{SenderValue, SenderStep, with_phase, cut_phase, begin_step, reply_step, silence_step, is_in_doubt}
+use Rattle.bsc_text.specs.Sender.{SenderValue, SenderStep, with_phase, cut_phase, begin_step}
+use Rattle.bsc_text.specs.Sender.{reply_step, silence_step, is_in_doubt}
 use Rattle.bsc_text.proofs.Choice.{choose}
 use Rattle.bsc_text.proofs.ReceiverSteps.{Grows, grows-heard_step}
 use Rattle.bsc_tributary.specs.declared.called.Called.{Called}
@@ -21,9 +24,15 @@ use Rattle.bsc_tributary.specs.declared.called.Called.TheVariants.{Polling, Sele
 use Rattle.bsc_tributary.specs.declared.mode.Mode.{Mode}
 use Rattle.bsc_tributary.specs.declared.mode.Mode.TheVariants.{Control, Receiving, Sending}
 use Rattle.bsc_tributary.specs.Called.{called_as}
-use Rattle.bsc_tributary.specs.Tributary.{TributaryValue, TributaryStep, spool_at, empty_spool, quiet_step, answer_step, without_line, mode_after, act_step, receive_step, poll_step, selection_step, call_step, mode_step, hear_step, Hears, rooms_after}
-use Rattle.bsc_tributary.specs.Kept.{IsTributary, SuitsMode, Keeps, GrowsByText, IsModeCalled, IsModeAfter, TakesLine, IsNoCall, StaysQuiet, AfterHearing, AfterSilence, IsHearing}
-use Rattle.bsc_tributary.proofs.Acts.{FollowsFrom, follows-sent_next, follows-reply_step, follows-silence_step, mode_after-Sending}
+use Rattle.bsc_tributary.specs.Tributary.{TributaryValue, TributaryStep, spool_at, empty_spool}
+use Rattle.bsc_tributary.specs.Tributary.{quiet_step, answer_step, without_line, mode_after}
+use Rattle.bsc_tributary.specs.Tributary.{act_step, receive_step, poll_step, selection_step}
+use Rattle.bsc_tributary.specs.Tributary.{call_step, mode_step, hear_step, Hears, rooms_after}
+use Rattle.bsc_tributary.specs.Kept.{IsTributary, SuitsMode, Keeps, GrowsByText, IsModeCalled}
+use Rattle.bsc_tributary.specs.Kept.{IsModeAfter, TakesLine, IsNoCall, StaysQuiet, AfterHearing}
+use Rattle.bsc_tributary.specs.Kept.{AfterSilence, IsHearing}
+use Rattle.bsc_tributary.proofs.Acts.{FollowsFrom, follows-sent_next, follows-reply_step}
+use Rattle.bsc_tributary.proofs.Acts.{follows-silence_step, mode_after-Sending}
 use Rattle.bsc_tributary.proofs.CallsHeard.{begun_mode, within-selects}
 use Rattle.bsc_tributary.proofs.InMode.{hear_step-no_call}
 use Rattle.bsc_tributary.proofs.Noise.{quiet_in}
@@ -33,8 +42,11 @@ use Rattle.bsc_tributary.proofs.Stays.{stays-without_line}
 record Changes (old : TributaryValue) (h : Heard) (step : TributaryStep) : Type 0 where
   keeps : Keeps old step.tributary
   mode : IsModeAfter old h step.tributary.mode
-  other_spools : (s : ℕ) → step.tributary.mode ≢ Receiving s → spool_at step.tributary.spools s ≡ spool_at old.spools s
-  grows : (s : ℕ) → GrowsByText old.mode h s (spool_at old.spools s).records (spool_at step.tributary.spools s).records
+  other_spools : (s : ℕ) → step.tributary.mode ≢ Receiving s → spool_at step.tributary.spools s
+      ≡ spool_at old.spools s
+  grows : (s : ℕ)
+      → GrowsByText old.mode h s (spool_at old.spools s).records
+      (spool_at step.tributary.spools s).records
   taken : TakesLine old.terminal h → (step.tributary.mode ≡ Control) × (step.sent ≡ None)
   control : old.mode ≡ Control → IsNoCall h → StaysQuiet old step.tributary step.sent
   noise : h ≡ Noise → StaysQuiet old step.tributary step.sent
@@ -48,7 +60,8 @@ record Beside (spools : List SpoolValue) (s r : ℕ) (spool : SpoolValue) : Type
   other : r ≢ s
   is : spool_at (slice_set spools s spool) r ≡ spool_at spools r
 
-place : (spools : List SpoolValue) (s r : ℕ) (spool : SpoolValue) (same : Bool) → nat_eq r s ≡ same →
+place : (spools : List SpoolValue) (s r : ℕ) (spool : SpoolValue) (same : Bool) → nat_eq r s ≡ same
+    →
     s < length spools → At spools s r spool ⊎ Beside spools s r spool
 place spools s r spool true e within =
     let same : r ≡ s = grind (arith, nat_tests) in
@@ -69,12 +82,24 @@ written spools s r spool within = place spools s r spool (nat_eq r s) refl withi
 record CallChanges (old : TributaryValue) (called : Called) (step : TributaryStep) : Type 0 where
   keeps : Keeps old step.tributary
   mode : IsModeCalled called step.tributary.mode
-  other_spools : (s : ℕ) → step.tributary.mode ≢ Receiving s → spool_at step.tributary.spools s ≡ spool_at old.spools s
-  same_records : (s : ℕ) → (spool_at step.tributary.spools s).records ≡ (spool_at old.spools s).records
+  other_spools : (s : ℕ) → step.tributary.mode ≢ Receiving s → spool_at step.tributary.spools s
+      ≡ spool_at old.spools s
+  same_records : (s : ℕ) → (spool_at step.tributary.spools s).records
+      ≡ (spool_at old.spools s).records
   taken : called ≡ Other → (step.tributary.mode ≡ Control) × (step.sent ≡ None)
 
-keeps_all : (t : TributaryValue) (urgent : Bool) → Keeps t (record (without_line t) { urgent = urgent })
-keeps_all t urgent = record { terminal = refl; setup = refl; ready = refl; format = refl; offered = refl; spools = refl }
+keeps_all : (t : TributaryValue) (urgent : Bool)
+    → Keeps t (record (without_line t) { urgent = urgent })
+keeps_all t urgent =
+    record {
+      terminal = refl;
+      setup = refl;
+      ready = refl;
+      format = refl;
+      offered = refl;
+      spools =
+          refl;
+    }
 
 polled_changes : (t : TributaryValue) → CallChanges t Polling (poll_step t)
 polled_changes t =
@@ -83,12 +108,27 @@ polled_changes t =
     (begin_step d.sender d.queue) = follows-sent_next Control (length t.spools) d.sender d.queue Odd
     (next_block d.queue) in
     let eot : CallChanges t Polling
-    (answer_step d m.Eot) = record { keeps = keeps_all t false; mode = inl refl; other_spools = λ s ne. refl; same_records = λ s. refl; taken = λ e. absurd (cc) } in
+    (answer_step d m.Eot) =
+    record {
+      keeps = keeps_all t false;
+      mode = inl refl;
+      other_spools = λ s ne. refl;
+      same_records = λ s. refl;
+      taken = λ e. absurd (cc);
+    } in
     choose (CallChanges t Polling) (is_in_doubt d.sender.phase) (answer_step d m.Eot) _ eot
     (choose (CallChanges t Polling) (nat_eq (length (waiting d.queue)) 0) (answer_step d m.Eot)
     (act_step d (begin_step d.sender d.queue)) eot
     (record {
-      keeps = record { terminal = refl; setup = f.setup_is; ready = refl; format = f.format_is; offered = f.offered_is; spools = refl };
+      keeps =
+          record {
+            terminal = refl;
+            setup = f.setup_is;
+            ready = refl;
+            format = f.format_is;
+            offered = f.offered_is;
+            spools = refl;
+          };
       mode = begun_mode d.sender d.queue Odd (next_block d.queue);
       other_spools = λ s ne. refl;
       same_records = λ s. refl;
@@ -96,17 +136,29 @@ polled_changes t =
     }))
 
 selected_changes : (t : TributaryValue) (s : ℕ) (room ready : Bool) → s < length t.spools →
-    CallChanges (record t { ready = ready }) (Selection s) (selection_step (record t { ready = ready }) s room)
+    CallChanges (record t { ready = ready }) (Selection s)
+    (selection_step (record t { ready = ready }) s room)
 selected_changes t s room true within =
     record {
-      keeps = record { terminal = refl; setup = refl; ready = refl; format = refl; offered = refl; spools = length-set t.spools s (room_asked (spool_at t.spools s) room) };
+      keeps =
+          record {
+            terminal = refl;
+            setup = refl;
+            ready = refl;
+            format = refl;
+            offered = refl;
+            spools = length-set t.spools s (room_asked (spool_at t.spools s) room);
+          };
       mode = inr refl;
-      other_spools = λ r ne. get_or-set_other t.spools s r (room_asked (spool_at t.spools s) room) empty_spool
+      other_spools =
+          λ r ne. get_or-set_other t.spools s r (room_asked (spool_at t.spools s) room) empty_spool
           (λ same. ne (ap (λ n. Receiving n) (sym same)));
-      same_records = λ r. elim (written t.spools s r (room_asked (spool_at t.spools s) room) within) [
-        | inl at ↦ ap (λ (x : SpoolValue). x.records) at.is ∙ ap (λ n. (spool_at t.spools n).records) (sym at.same)
-        | inr beside ↦ ap (λ (x : SpoolValue). x.records) beside.is
-      ];
+      same_records =
+          λ r. elim (written t.spools s r (room_asked (spool_at t.spools s) room) within) [
+            | inl at ↦ ap (λ (x : SpoolValue). x.records) at.is
+                ∙ ap (λ n. (spool_at t.spools n).records) (sym at.same)
+            | inr beside ↦ ap (λ (x : SpoolValue). x.records) beside.is
+          ];
       taken = λ e. absurd (cc);
     }
 selected_changes t s room false within =
@@ -120,10 +172,19 @@ selected_changes t s room false within =
     }
 
 other_changes : (t : TributaryValue) → CallChanges t Other (quiet_step (without_line t))
-other_changes t = record { keeps = keeps_all t t.urgent; mode = refl; other_spools = λ s ne. refl; same_records = λ s. refl; taken = λ e. (refl, refl) }
+other_changes t =
+    record {
+      keeps = keeps_all t t.urgent;
+      mode = refl;
+      other_spools = λ s ne. refl;
+      same_records =
+          λ s. refl;
+      taken = λ e. (refl, refl);
+    }
 
 call_changes : (t : TributaryValue) (address : List ℕ) (called : Called) (rooms : Rooms) →
-    called ≡ called_as t.terminal address → IsTributary t → CallChanges t called (call_step t called rooms)
+    called ≡ called_as t.terminal address → IsTributary t
+    → CallChanges t called (call_step t called rooms)
 call_changes t address Polling rooms e is = polled_changes t
 call_changes t address (Selection s) rooms e is =
     let within : s < length t.terminal.selects = within-selects t.terminal address s e in
@@ -147,28 +208,42 @@ from_call t address step c =
 record ModeChanges (old : TributaryValue) (h : Heard) (step : TributaryStep) : Type 0 where
   keeps : Keeps old step.tributary
   mode : (step.tributary.mode ≡ Control) ⊎ (step.tributary.mode ≡ old.mode)
-  other_spools : (s : ℕ) → step.tributary.mode ≢ Receiving s → spool_at step.tributary.spools s ≡ spool_at old.spools s
-  grows : (s : ℕ) → GrowsByText old.mode h s (spool_at old.spools s).records (spool_at step.tributary.spools s).records
+  other_spools : (s : ℕ) → step.tributary.mode ≢ Receiving s → spool_at step.tributary.spools s
+      ≡ spool_at old.spools s
+  grows : (s : ℕ)
+      → GrowsByText old.mode h s (spool_at old.spools s).records
+      (spool_at step.tributary.spools s).records
   control : old.mode ≡ Control → StaysQuiet old step.tributary step.sent
 
 control_changes : (t : TributaryValue) (h : Heard) → ModeChanges t h (quiet_step t)
 control_changes t h =
     record {
-      keeps = record { terminal = refl; setup = refl; ready = refl; format = refl; offered = refl; spools = refl };
+      keeps =
+          record {
+            terminal = refl;
+            setup = refl;
+            ready = refl;
+            format = refl;
+            offered = refl;
+            spools = refl;
+          };
       mode = inr refl;
       other_spools = λ s ne. refl;
       grows = λ s. inl refl;
       control = λ e. (refl, refl);
     }
 
-grows_at : (mode : Mode) (h : Heard) (s r : ℕ) (spools : List SpoolValue) (step : ReceiverStep) → mode ≡ Receiving s →
+grows_at : (mode : Mode) (h : Heard) (s r : ℕ) (spools : List SpoolValue) (step : ReceiverStep)
+    → mode ≡ Receiving s →
     s < length spools → Grows h (spool_at spools s) step →
-    GrowsByText mode h r (spool_at spools r).records (spool_at (slice_set spools s step.spool) r).records
+    GrowsByText mode h r (spool_at spools r).records
+    (spool_at (slice_set spools s step.spool) r).records
 grows_at mode h s r spools step is within grows =
     elim (written spools s r step.spool within) [
       | inr beside ↦ inl (ap (λ (x : SpoolValue). x.records) beside.is)
       | inl at ↦ elim grows [
-        | inl same ↦ inl (ap (λ (x : SpoolValue). x.records) at.is ∙ same ∙ ap (λ n. (spool_at spools n).records)
+        | inl same ↦ inl (ap (λ (x : SpoolValue). x.records) at.is ∙ same
+            ∙ ap (λ n. (spool_at spools n).records)
             (sym at.same))
         | inr grown ↦ inr (record {
           text = grown.text;
@@ -180,11 +255,21 @@ grows_at mode h s r spools step is within grows =
       ]
     ]
 
-receiving_changes : (t : TributaryValue) (h : Heard) (s : ℕ) (step : ReceiverStep) → t.mode ≡ Receiving s →
-    s < length t.spools → Grows h (spool_at t.spools s) step → ModeChanges t h (receive_step t s step)
+receiving_changes : (t : TributaryValue) (h : Heard) (s : ℕ) (step : ReceiverStep) → t.mode
+    ≡ Receiving s →
+    s < length t.spools → Grows h (spool_at t.spools s) step
+    → ModeChanges t h (receive_step t s step)
 receiving_changes t h s step is within grows =
     record {
-      keeps = record { terminal = refl; setup = refl; ready = refl; format = refl; offered = refl; spools = length-set t.spools s step.spool };
+      keeps =
+          record {
+            terminal = refl;
+            setup = refl;
+            ready = refl;
+            format = refl;
+            offered = refl;
+            spools = length-set t.spools s step.spool;
+          };
       mode = inr refl;
       other_spools = λ r ne. get_or-set_other t.spools s r step.spool empty_spool
           (λ same. ne (is ∙ ap (λ n. Receiving n) (sym same)));
@@ -196,8 +281,18 @@ sending_changes : (t : TributaryValue) (h : Heard) (step : SenderStep) → t.mod
     FollowsFrom Sending (length t.spools) t.sender t.queue step → ModeChanges t h (act_step t step)
 sending_changes t h step is f =
     record {
-      keeps = record { terminal = refl; setup = f.setup_is; ready = refl; format = f.format_is; offered = f.offered_is; spools = refl };
-      mode = subst (λ (x : Mode). (mode_after step.act x ≡ Control) ⊎ (mode_after step.act x ≡ x)) (sym is)
+      keeps =
+          record {
+            terminal = refl;
+            setup = f.setup_is;
+            ready = refl;
+            format = f.format_is;
+            offered = f.offered_is;
+            spools = refl;
+          };
+      mode =
+          subst (λ (x : Mode). (mode_after step.act x ≡ Control) ⊎ (mode_after step.act x ≡ x))
+          (sym is)
           (mode_after-Sending step.act);
       other_spools = λ s ne. refl;
       grows = λ s. inl refl;
@@ -210,10 +305,12 @@ mode_changes t h Control rooms is suits = control_changes t h
 mode_changes t h (Receiving s) rooms is suits = receiving_changes t h s
     (heard_step t.receiver (spool_at t.spools s) h t.urgent rooms) is suits.1
     (grows-heard_step t.receiver (spool_at t.spools s) h t.urgent rooms)
-mode_changes t h Sending rooms is suits = sending_changes t h (reply_step t.sender t.queue (reply_heard h)) is
+mode_changes t h Sending rooms is suits =
+    sending_changes t h (reply_step t.sender t.queue (reply_heard h)) is
     (follows-reply_step (length t.spools) t.sender t.queue (reply_heard h) suits)
 
-mode_is_after : (t : TributaryValue) (h : Heard) (mode : Mode) → IsNoCall h → (mode ≡ Control) ⊎ (mode ≡ t.mode) →
+mode_is_after : (t : TributaryValue) (h : Heard) (mode : Mode) → IsNoCall h → (mode ≡ Control)
+    ⊎ (mode ≡ t.mode) →
     IsModeAfter t h mode
 mode_is_after t (Whole m.Eot) mode plain either = absurd plain
 mode_is_after t (Whole (m.Call address)) mode plain either = absurd plain
@@ -243,14 +340,16 @@ takes_none t (Whole m.Rvi) plain takes = takes
 noise_quiet : (t : TributaryValue) (h : Heard) (mode : Mode) (rooms : Rooms) → h ≡ Noise →
     StaysQuiet t (mode_step t mode h rooms).tributary (mode_step t mode h rooms).sent
 noise_quiet t h mode rooms e =
-    let same : mode_step t mode h rooms ≡ quiet_step t = ap (λ (x : Heard). mode_step t mode x rooms) e
+    let same : mode_step t mode h rooms ≡ quiet_step t =
+    ap (λ (x : Heard). mode_step t mode x rooms) e
     ∙ quiet_in t mode rooms in
     (ap (λ (o : TributaryStep). o.tributary) same, ap (λ (o : TributaryStep). o.sent) same)
 
 from_mode : (t : TributaryValue) (h : Heard) (rooms : Rooms) → IsNoCall h → IsTributary t →
     Changes t h (hear_step t h rooms)
 from_mode t h rooms plain is =
-    let c : ModeChanges t h (mode_step t t.mode h rooms) = mode_changes t h t.mode rooms refl is.bid in
+    let c : ModeChanges t h (mode_step t t.mode h rooms) =
+    mode_changes t h t.mode rooms refl is.bid in
     subst (Changes t h) (sym (hear_step-no_call t h rooms plain))
     (record {
       keeps = c.keeps;
@@ -262,7 +361,8 @@ from_mode t h rooms plain is =
       noise = λ e. noise_quiet t h t.mode rooms e;
     })
 
-changes : (t : TributaryValue) (h : Heard) (rooms : Rooms) → IsTributary t → Changes t h (hear_step t h rooms)
+changes : (t : TributaryValue) (h : Heard) (rooms : Rooms) → IsTributary t
+    → Changes t h (hear_step t h rooms)
 changes t (Whole m.Eot) rooms is =
     record {
       keeps = keeps_all t t.urgent;
@@ -273,7 +373,8 @@ changes t (Whole m.Eot) rooms is =
       control = λ e plain. absurd plain;
       noise = λ e. absurd (cc);
     }
-changes t (Whole (m.Call address)) rooms is = from_call t address (call_step t (called_as t.terminal address) rooms)
+changes t (Whole (m.Call address)) rooms is =
+    from_call t address (call_step t (called_as t.terminal address) rooms)
     (call_changes t address (called_as t.terminal address) rooms refl is)
 changes t Failed rooms is = from_mode t Failed rooms tt is
 changes t Noise rooms is = from_mode t Noise rooms tt is
@@ -286,12 +387,24 @@ changes t (Whole m.Wack) rooms is = from_mode t (Whole m.Wack) rooms tt is
 changes t (Whole m.Rvi) rooms is = from_mode t (Whole m.Rvi) rooms tt is
 
 -- what holds of a terminal that has heard a transmission
-pub after_hearing : (old : TributaryValue) (h : Heard) (new : TributaryValue) (sent : Option Message) →
+pub after_hearing : (old : TributaryValue) (h : Heard) (new : TributaryValue)
+    (sent : Option Message) →
     IsTributary old → IsTributary new → Hears old h new sent → AfterHearing old h new sent
 after_hearing old h new sent was is hears =
-    let c : Changes old h (record { tributary = new; sent = sent }) = subst (Changes old h) (sym hears.row)
+    let c : Changes old h (record { tributary = new; sent = sent }) =
+    subst (Changes old h) (sym hears.row)
     (changes old h (rooms_after h new) was) in
-    record { tributary = is; keeps = c.keeps; mode = c.mode; other_spools = c.other_spools; grows = c.grows; taken = c.taken; control = c.control; noise = c.noise }
+    record {
+      tributary = is;
+      keeps = c.keeps;
+      mode = c.mode;
+      other_spools = c.other_spools;
+      grows =
+          c.grows;
+      taken = c.taken;
+      control = c.control;
+      noise = c.noise;
+    }
 
 -- EOT is heard
 pub hears_eot : (t old : TributaryValue) (sender : SenderValue) → t ≡ old → IsTributary t →
@@ -299,18 +412,24 @@ pub hears_eot : (t old : TributaryValue) (sender : SenderValue) → t ≡ old �
     IsHearing old (Whole m.Eot) (record t { mode = Control; sender = sender }) None
 hears_eot t old sender view is cut ready =
     let new : TributaryValue = record t { mode = Control; sender = sender } in
-    let row : record { tributary = new; sent = None } ≡ hear_step t (Whole m.Eot) (rooms_after (Whole m.Eot) new) = ap
+    let row : record { tributary = new; sent = None }
+    ≡ hear_step t (Whole m.Eot) (rooms_after (Whole m.Eot) new) = ap
     (λ (s : SenderValue). quiet_step (record t { mode = Control; sender = s })) cut in
-    let hears : Hears t (Whole m.Eot) new None = record { row = row; room = λ s e had. absurd (cc) } in
+    let hears : Hears t (Whole m.Eot) new None =
+    record { row = row; room = λ s e had. absurd (cc) } in
     subst (λ (v : TributaryValue). IsHearing v (Whole m.Eot) new None) view
     (record {
       row = hears;
-      after = after_hearing t (Whole m.Eot) new None is (stays-without_line t sender is cut ready) hears;
+      after =
+          after_hearing t (Whole m.Eot) new None is (stays-without_line t sender is cut ready)
+          hears;
     })
 
 -- and after a silence
-pub after_silence : (t old : TributaryValue) (mode : Mode) (step : SenderStep) (sent : Option Message) → t ≡ old →
-    IsTributary t → t.mode ≡ Sending → step ≡ silence_step t.sender t.queue → mode ≡ mode_after step.act t.mode →
+pub after_silence : (t old : TributaryValue) (mode : Mode) (step : SenderStep)
+    (sent : Option Message) → t ≡ old →
+    IsTributary t → t.mode ≡ Sending → step ≡ silence_step t.sender t.queue → mode
+    ≡ mode_after step.act t.mode →
     IsTributary (record t { mode = mode; sender = step.sender; queue = step.queue }) →
     AfterSilence old (record t { mode = mode; sender = step.sender; queue = step.queue }) sent
 after_silence t old mode step sent view was sending row mode_is is =
@@ -318,13 +437,23 @@ after_silence t old mode step sent view was sending row mode_is is =
     (FollowsFrom Sending (length t.spools) t.sender t.queue) (sym row)
     (follows-silence_step (length t.spools) t.sender t.queue
     (subst (λ (x : Mode). SuitsMode x t.sender.phase (length t.spools)) sending was.bid)) in
-    subst (λ (v : TributaryValue). AfterSilence v (record t { mode = mode; sender = step.sender; queue = step.queue })
+    subst (λ (v : TributaryValue). AfterSilence v
+    (record t { mode = mode; sender = step.sender; queue = step.queue })
     sent) view
     (record {
       tributary = is;
-      keeps = record { terminal = refl; setup = f.setup_is; ready = refl; format = f.format_is; offered = f.offered_is; spools = refl };
+      keeps =
+          record {
+            terminal = refl;
+            setup = f.setup_is;
+            ready = refl;
+            format = f.format_is;
+            offered = f.offered_is;
+            spools = refl;
+          };
       mode = subst (λ (x : Mode). (x ≡ Control) ⊎ (x ≡ t.mode)) (sym mode_is)
-          (subst (λ (x : Mode). (mode_after step.act x ≡ Control) ⊎ (mode_after step.act x ≡ x)) (sym sending)
+          (subst (λ (x : Mode). (mode_after step.act x ≡ Control) ⊎ (mode_after step.act x ≡ x))
+          (sym sending)
           (mode_after-Sending step.act));
       spools = refl;
       still = λ ne. absurd (ne sending);
@@ -334,7 +463,15 @@ pub after_stillness : (t old : TributaryValue) → t ≡ old → IsTributary t �
 after_stillness t old view is =
     record {
       tributary = subst IsTributary view is;
-      keeps = record { terminal = refl; setup = refl; ready = refl; format = refl; offered = refl; spools = refl };
+      keeps =
+          record {
+            terminal = refl;
+            setup = refl;
+            ready = refl;
+            format = refl;
+            offered = refl;
+            spools = refl;
+          };
       mode = inr refl;
       spools = refl;
       still = λ ne. (refl, refl);

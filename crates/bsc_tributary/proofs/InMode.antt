@@ -1,5 +1,6 @@
 -- What is heard in a mode: each answer is the row of the table.
-use Rattle.std.proofs.Common.{◌≡◌, ◌∙◌, ◌⊎◌, inl, inr, ℕ, sym, ap, subst, refl, Bool, false, List, length, slice_set, Option, None, option_map, if◌then◌else◌}
+use Rattle.std.proofs.Common.{◌≡◌, ◌∙◌, ◌⊎◌, inl, inr, ℕ, sym, ap, subst, refl, Bool, false, List}
+use Rattle.std.proofs.Common.{length, slice_set, Option, None, option_map, if◌then◌else◌}
 use Rattle.std.proofs.lemmas.List.{length-set}
 use Rattle.bsc_frame.specs.declared.message.Message.{Message}
 use Rattle.bsc_frame.specs.declared.message.Message.TheVariants as m
@@ -9,13 +10,17 @@ use Rattle.bsc_spool.specs.Spool.{SpoolValue}
 use Rattle.bsc_text.specs.declared.reply.Reply.{Reply}
 use Rattle.bsc_text.specs.Ready.{IsReady}
 use Rattle.bsc_text.specs.Reply.{message_of, reply_heard}
-use Rattle.bsc_text.specs.Receiver.{ReceiverValue, ReceiverStep, Receives, Rooms, rooms_left, sends_rvi}
+use Rattle.bsc_text.specs.Receiver.{ReceiverValue, ReceiverStep, Receives, Rooms, rooms_left}
+use Rattle.bsc_text.specs.Receiver.{sends_rvi}
 use Rattle.bsc_text.specs.Sender.{SenderStep, reply_step, silence_step}
 use Rattle.bsc_tributary.specs.declared.mode.Mode.{Mode}
 use Rattle.bsc_tributary.specs.declared.mode.Mode.TheVariants.{Control, Receiving, Sending}
-use Rattle.bsc_tributary.specs.Tributary.{TributaryValue, spool_at, spool_in, rooms_after, mode_after, message_of_act, act_step, receive_step, mode_step, hear_step, silence_in, Hears, ActsOnSilence}
+use Rattle.bsc_tributary.specs.Tributary.{TributaryValue, spool_at, spool_in, rooms_after}
+use Rattle.bsc_tributary.specs.Tributary.{mode_after, message_of_act, act_step, receive_step}
+use Rattle.bsc_tributary.specs.Tributary.{mode_step, hear_step, silence_in, Hears, ActsOnSilence}
 use Rattle.bsc_tributary.specs.Kept.{IsTributary, SuitsMode, IsNoCall}
-use Rattle.bsc_tributary.proofs.Acts.{FollowsFrom, follows-reply_step, follows-silence_step, mode_after-Sending, not_receiving}
+use Rattle.bsc_tributary.proofs.Acts.{FollowsFrom, follows-reply_step, follows-silence_step}
+use Rattle.bsc_tributary.proofs.Acts.{mode_after-Sending, not_receiving}
 use Rattle.bsc_tributary.proofs.Stays.{stays-act_step}
 
 -- what is no call and no EOT is heard by the mode
@@ -45,27 +50,39 @@ hears-control t old h plain view control =
 
 -- the terminal with what its receiver left
 abbrev pub with_receiver : TributaryValue → Bool → ReceiverValue → List SpoolValue → TributaryValue
-with_receiver t urgent receiver spools = record t { urgent = urgent; receiver = receiver; spools = spools }
+with_receiver t urgent receiver spools =
+    record t { urgent = urgent; receiver = receiver; spools = spools }
 
-pub hears-receiving : (t old : TributaryValue) (h : Heard) (s : ℕ) (urgent : Bool) (receiver : ReceiverValue)
-    (spools : List SpoolValue) (reply : Option Reply) (sent : Option Message) → IsNoCall h → t ≡ old →
+pub hears-receiving : (t old : TributaryValue) (h : Heard) (s : ℕ) (urgent : Bool)
+    (receiver : ReceiverValue)
+    (spools : List SpoolValue) (reply : Option Reply) (sent : Option Message) → IsNoCall h → t ≡ old
+    →
     t.mode ≡ Receiving s →
     Receives t.receiver (spool_at t.spools s) h t.urgent
     (record { receiver = receiver; spool = spool_at spools s; reply = reply }) →
     spools ≡ slice_set t.spools s (spool_at spools s) →
     urgent ≡ (if sends_rvi reply then false else t.urgent) → sent ≡ option_map message_of reply →
     Hears old h (with_receiver t urgent receiver spools) sent
-hears-receiving t old h s urgent receiver spools reply sent plain view mode r spools_is urgent_is sent_is =
-    let out : ReceiverStep = record { receiver = receiver; spool = spool_at spools s; reply = reply } in
-    let done : record { tributary = with_receiver t urgent receiver spools; sent = sent } ≡ receive_step t s out =
-    ap (λ (xs : List SpoolValue). record { tributary = with_receiver t urgent receiver xs; sent = sent }) spools_is
+hears-receiving t old h s urgent receiver spools reply sent plain view mode r spools_is urgent_is
+    sent_is =
+    let out : ReceiverStep =
+    record { receiver = receiver; spool = spool_at spools s; reply = reply } in
+    let done : record { tributary = with_receiver t urgent receiver spools; sent = sent }
+    ≡ receive_step t s out =
+    ap (λ (xs : List SpoolValue). record {
+      tributary = with_receiver t urgent receiver xs;
+      sent =
+          sent;
+    }) spools_is
     ∙ ap (λ (b : Bool). record {
       tributary = with_receiver t b receiver
           (slice_set t.spools s (spool_at spools s));
       sent = sent;
     }) urgent_is
-    ∙ ap (λ (o : Option Message). record { tributary = (receive_step t s out).tributary; sent = o }) sent_is in
-    let row : record { tributary = with_receiver t urgent receiver spools; sent = sent } ≡ hear_step t h
+    ∙ ap (λ (o : Option Message). record { tributary = (receive_step t s out).tributary; sent = o })
+    sent_is in
+    let row : record { tributary = with_receiver t urgent receiver spools; sent = sent }
+    ≡ hear_step t h
     (rooms_after h (with_receiver t urgent receiver spools)) =
     done ∙ ap (receive_step t s) r.row ∙ ap (λ (mode : Mode). mode_step t mode h
     (rooms_left h receiver.last (spool_in mode spools))) (sym mode)
@@ -78,7 +95,8 @@ hears-receiving t old h s urgent receiver spools reply sent plain view mode r sp
           ap (λ (mode : Mode). (rooms_left h receiver.last (spool_in mode spools)).first) mode
           ∙ r.room (ap (λ n. (spool_at t.spools n).room) (sym same) ∙ had);
     } in
-    subst (λ (v : TributaryValue). Hears v h (with_receiver t urgent receiver spools) sent) view heard
+    subst (λ (v : TributaryValue). Hears v h (with_receiver t urgent receiver spools) sent) view
+    heard
 
 pub stays-receive_step : (t : TributaryValue) (s : ℕ) (urgent : Bool) (receiver : ReceiverValue)
     (spools : List SpoolValue) → IsTributary t → spools ≡ slice_set t.spools s (spool_at spools s) →
@@ -104,9 +122,11 @@ act_step_is : (t : TributaryValue) (mode : Mode) (step : SenderStep) (sent : Opt
     record { tributary = with_sender t mode step; sent = sent } ≡ act_step t step
 act_step_is t mode step sent mode_is sent_is = rw (mode_is, sent_is) refl
 
-pub hears-sending : (t old : TributaryValue) (h : Heard) (mode : Mode) (step : SenderStep) (sent : Option Message) →
+pub hears-sending : (t old : TributaryValue) (h : Heard) (mode : Mode) (step : SenderStep)
+    (sent : Option Message) →
     IsNoCall h → t ≡ old → t.mode ≡ Sending → step ≡ reply_step t.sender t.queue (reply_heard h) →
-    mode ≡ mode_after step.act t.mode → sent ≡ message_of_act step.act → Hears old h (with_sender t mode step) sent
+    mode ≡ mode_after step.act t.mode → sent ≡ message_of_act step.act
+    → Hears old h (with_sender t mode step) sent
 hears-sending t old h mode step sent plain view sending row mode_is sent_is =
     let new : TributaryValue = with_sender t mode step in
     let heard : Hears t h (with_sender t mode step) sent =
@@ -115,13 +135,16 @@ hears-sending t old h mode step sent plain view sending row mode_is sent_is =
           ∙ ap (λ (mode : Mode). mode_step t mode h (rooms_after h new)) (sym sending)
           ∙ sym (hear_step-no_call t h (rooms_after h new) plain);
       room = λ s is had. absurd (not_receiving mode s
-          (subst (λ (x : Mode). (x ≡ Control) ⊎ (x ≡ Sending)) (ap (mode_after step.act) (sym sending) ∙ sym mode_is)
+          (subst (λ (x : Mode). (x ≡ Control) ⊎ (x ≡ Sending))
+          (ap (mode_after step.act) (sym sending) ∙ sym mode_is)
           (mode_after-Sending step.act)) is);
     } in
     subst (λ (v : TributaryValue). Hears v h (with_sender t mode step) sent) view heard
 
-pub stays-replied : (t : TributaryValue) (h : Heard) (mode : Mode) (step : SenderStep) → IsTributary t →
-    t.mode ≡ Sending → step ≡ reply_step t.sender t.queue (reply_heard h) → mode ≡ mode_after step.act t.mode →
+pub stays-replied : (t : TributaryValue) (h : Heard) (mode : Mode) (step : SenderStep)
+    → IsTributary t →
+    t.mode ≡ Sending → step ≡ reply_step t.sender t.queue (reply_heard h) → mode
+    ≡ mode_after step.act t.mode →
     IsReady step.sender step.queue → IsTributary (with_sender t mode step)
 stays-replied t h mode step is sending row mode_is ready =
     stays-act_step t mode Sending step is (mode_is ∙ ap (mode_after step.act) sending)
@@ -130,15 +153,19 @@ stays-replied t h mode step is sending row mode_is ready =
     (subst (λ (x : Mode). SuitsMode x t.sender.phase (length t.spools)) sending is.bid))) ready
 
 -- a silence
-pub silent-sending : (t old : TributaryValue) (mode : Mode) (step : SenderStep) (sent : Option Message) → t ≡ old →
+pub silent-sending : (t old : TributaryValue) (mode : Mode) (step : SenderStep)
+    (sent : Option Message) → t ≡ old →
     t.mode ≡ Sending → step ≡ silence_step t.sender t.queue → mode ≡ mode_after step.act t.mode →
     sent ≡ message_of_act step.act → ActsOnSilence old (with_sender t mode step) sent
 silent-sending t old mode step sent view sending row mode_is sent_is =
-    act_step_is t mode step sent mode_is sent_is ∙ ap (act_step t) row ∙ ap (silence_in t) (sym sending)
+    act_step_is t mode step sent mode_is sent_is ∙ ap (act_step t) row
+    ∙ ap (silence_in t) (sym sending)
     ∙ ap (λ (v : TributaryValue). silence_in v v.mode) view
 
-pub stays-silent : (t : TributaryValue) (mode : Mode) (step : SenderStep) → IsTributary t → t.mode ≡ Sending →
-    step ≡ silence_step t.sender t.queue → mode ≡ mode_after step.act t.mode → IsReady step.sender step.queue →
+pub stays-silent : (t : TributaryValue) (mode : Mode) (step : SenderStep) → IsTributary t → t.mode
+    ≡ Sending →
+    step ≡ silence_step t.sender t.queue → mode ≡ mode_after step.act t.mode
+    → IsReady step.sender step.queue →
     IsTributary (with_sender t mode step)
 stays-silent t mode step is sending row mode_is ready =
     stays-act_step t mode Sending step is (mode_is ∙ ap (mode_after step.act) sending)
@@ -146,7 +173,8 @@ stays-silent t mode step is sending row mode_is ready =
     (follows-silence_step (length t.spools) t.sender t.queue
     (subst (λ (x : Mode). SuitsMode x t.sender.phase (length t.spools)) sending is.bid))) ready
 
-pub silent-still : (t old : TributaryValue) → t ≡ old → (t.mode ≡ Control) ⊎ ((s : ℕ) × (t.mode ≡ Receiving s)) →
+pub silent-still : (t old : TributaryValue) → t ≡ old → (t.mode ≡ Control)
+    ⊎ ((s : ℕ) × (t.mode ≡ Receiving s)) →
     ActsOnSilence old old None
 silent-still t old view (inl control) = ap (silence_in old)
     (sym (ap (λ (v : TributaryValue). v.mode) (sym view) ∙ control))

@@ -1,5 +1,6 @@
 -- Each change that a call makes leaves a terminal: what is said of every terminal still holds.
-use Rattle.std.proofs.Common.{◌≡◌, ◌∙◌, Bool, true, false, sym, ap, subst, refl, List, [], length, arith}
+use Rattle.std.proofs.Common.{◌≡◌, ◌∙◌, Bool, true, false, sym, ap, subst, refl, List, [], length}
+use Rattle.std.proofs.Common.{arith}
 use Rattle.bsc_spool.specs.Queue.{QueueValue}
 use Rattle.bsc_spool.specs.Spool.{SpoolValue}
 use Rattle.bsc_text.specs.declared.phase.Phase.TheVariants.{Idle}
@@ -41,28 +42,54 @@ stays-act_step t mode from step is e follows ready =
       spools = is.spools;
       format = follows.format_is ∙ is.format ∙ ap (λ s. s.format) (sym follows.setup_is);
       ready = ready;
-      bid = subst (λ (m : Mode). SuitsMode m step.sender.phase (length t.spools)) (sym e) follows.suits;
+      bid =
+          subst (λ (m : Mode). SuitsMode m step.sender.phase (length t.spools)) (sym e)
+          follows.suits;
     }
 
 -- a new one
-pub new_is : (terminal : TerminalValue) (setup : SetupValue) (sender : SenderValue) (receiver : ReceiverValue)
-    (queue : QueueValue) (spools : List SpoolValue) → HasDistinctAddresses terminal → IsTerminal terminal → IsSetup setup →
+pub new_is : (terminal : TerminalValue) (setup : SetupValue) (sender : SenderValue)
+    (receiver : ReceiverValue)
+    (queue : QueueValue) (spools : List SpoolValue) → HasDistinctAddresses terminal
+    → IsTerminal terminal → IsSetup setup →
     sender ≡ record { setup = setup; phase = Idle; failures = 0; wacks = 0 } →
-    queue ≡ record { format = setup.format; offered = []; known = 0 } → length spools ≡ length terminal.selects →
+    queue ≡ record { format = setup.format; offered = []; known = 0 } → length spools
+    ≡ length terminal.selects →
     IsTributary
-    (record { terminal = terminal; mode = Control; ready = true; urgent = false; sender = sender; receiver = receiver; queue = queue; spools = spools })
+    (record {
+      terminal = terminal;
+      mode = Control;
+      ready = true;
+      urgent = false;
+      sender = sender;
+      receiver = receiver;
+      queue = queue;
+      spools = spools;
+    })
 new_is terminal setup sender receiver queue spools distinct is limits s q count =
     rw (s, q) (record {
       distinct = distinct;
       terminal = is;
       spools = count;
       format = refl;
-      ready = record { queue = record { format = limits.format; known = omega arith; short = tt }; counts = tt };
+      ready =
+          record {
+            queue = record { format = limits.format; known = omega arith; short = tt };
+            counts = tt;
+          };
       bid = tt;
     })
 
 -- its flags and its receiver change
-pub stays-flags : (t : TributaryValue) (ready urgent : Bool) (receiver : ReceiverValue) → IsTributary t →
+pub stays-flags : (t : TributaryValue) (ready urgent : Bool) (receiver : ReceiverValue)
+    → IsTributary t →
     IsTributary (record t { ready = ready; urgent = urgent; receiver = receiver })
 stays-flags t ready urgent receiver is =
-    record { distinct = is.distinct; terminal = is.terminal; spools = is.spools; format = is.format; ready = is.ready; bid = is.bid }
+    record {
+      distinct = is.distinct;
+      terminal = is.terminal;
+      spools = is.spools;
+      format = is.format;
+      ready = is.ready;
+      bid = is.bid;
+    }

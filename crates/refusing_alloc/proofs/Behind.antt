@@ -1,4 +1,5 @@
--- What the holder of a `&` to the allocator has: a `&` to the allocator below, and one to the cell that counts. Assumes `Logic`.
+-- What the holder of a `&` to the allocator has: a `&` to the allocator below, and one to the cell
+-- that counts. Assumes `Logic`.
 use Rattle.std.proofs.Common.{ℕ, ◌+◌, [], ◌∷◌, refl, Bor}
 use seplogic.Ra.Ura.{Ura}
 use mir.Syntax.{Args, a_type, dnil, dcons}
@@ -52,12 +53,15 @@ module _ (Z : Al) where
     self_goes = Goes-dropped 𝓛 2 self yes (λ κs x f. refl)
 
     pub opened : (κ : Lft) (r : Bor Whole.Denot) → let p = r.ref_ptr in
-        ent 𝓤 (sem 𝓛 (passed κ r)) (sep 𝓤 (sem 𝓛 (seen Z κ (below p) r.now.inner)) (sem 𝓛 (hidden_shr Counts κ r.now.tally (counts p).0 (counts p).1)))
+        ent 𝓤 (sem 𝓛 (passed κ r)) (sep 𝓤 (sem 𝓛 (seen Z κ (below p) r.now.inner))
+        (sem 𝓛 (hidden_shr Counts κ r.now.tally (counts p).0 (counts p).1)))
     opened κ r = let p = r.ref_ptr in
         qed 𝓛 (‵ (passed κ r) ∷ []) ∵ fsplit ! $ move ! (1 ∷ []) $ unhide ! $ fsplit ! $ fsplit ! $
         use1 𝓛 (‵ (seen Z κ (below p) r.now.inner)) (id⊢ 𝓤 _) $ move ! (1 ∷ []) $ fsplit ! $
-        use1 𝓛 (‵ (hidden_shr Counts κ r.now.tally (counts p).0 (counts p).1)) (id⊢ 𝓤 _) $ keep ! (2 ∷ 0 ∷ []) $ join ! $ done !
+        use1 𝓛 (‵ (hidden_shr Counts κ r.now.tally (counts p).0 (counts p).1)) (id⊢ 𝓤 _) $ keep !
+        (2 ∷ 0 ∷ []) $ join ! $ done !
 
 -- and a number, as the size and the alignment are
-pub number_goes : {M : Type 1} {𝓤 : Ura M} (𝓛 : Logic 𝓤) → Goes 𝓛 2 (plain (λ _. usize)) yes (stay_dropped (plain (λ _. usize)) yes)
+pub number_goes : {M : Type 1} {𝓤 : Ura M} (𝓛 : Logic 𝓤)
+    → Goes 𝓛 2 (plain (λ _. usize)) yes (stay_dropped (plain (λ _. usize)) yes)
 number_goes 𝓛 = Goes-dropped 𝓛 2 (plain (λ _. usize)) yes (λ κs x f. refl)

@@ -6,7 +6,8 @@ use Rattle.refusing_alloc.specs.declared.turns.Turns.{Turns}
 use Rattle.refusing_alloc.specs.declared.turns.TurnError.{TurnError}
 use Rattle.refusing_alloc.specs.declared.turns.TurnError.TheVariants.{TooFew, NoEnd}
 
--- no run yet: as many are to meet a refusal as the first number says, though at least one, and fewer
+-- no run yet: as many are to meet a refusal as the first number says, though at least one, and
+-- fewer
 -- than the second
 abbrev pub new_turns : ℕ → ℕ → Turns
 new_turns least end = record { least = max least 1; number = 0; left = next_count end }
@@ -21,7 +22,8 @@ end_after turns = if nat_lt turns.least turns.number then None else Some (Err To
 
 -- after another run the next number, if there is one
 abbrev pub number_next : Turns → Option (Result ℕ TurnError)
-number_next turns = if nat_le turns.left 1 then Some (Err NoEnd) else Some (Ok (next_count turns.number))
+number_next turns =
+    if nat_le turns.left 1 then Some (Err NoEnd) else Some (Ok (next_count turns.number))
 
 -- what comes after a run: the number of the next one, no more, or why this is no test
 abbrev pub next_turn : Turns → Bool → Option (Result ℕ TurnError)

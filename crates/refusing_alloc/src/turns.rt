@@ -1,5 +1,5 @@
-//! Which run comes next, and whether as many runs met a refusal as are to. This is the whole decision
-//! of the runs, on values, since no contract sees what a cell holds.
+//! Which run comes next, and whether as many runs met a refusal as are to. This is the whole
+//! decision of the runs, on values, since no contract sees what a cell holds.
 ghost use Rattle.std.specs.Prelude.{◌≡◌};
 ghost use Rattle.refusing_alloc.specs.Turns.{new_turns, IsTurn};
 

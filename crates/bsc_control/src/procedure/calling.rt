@@ -3,7 +3,8 @@
 ghost use Rattle.std.specs.Prelude.{◌≡◌, ◌≤◌, ◌<◌, length, slice_index};
 ghost use Rattle.bsc_control.specs.CallOrder.{Start, Selection, Poll, way_from};
 ghost use Rattle.bsc_control.specs.Control.{HasEntries, peer, peer_at};
-ghost use Rattle.bsc_control.specs.Table.{poll_call_step, selection_call_step, way_call_step, next_call_step};
+ghost use Rattle.bsc_control.specs.Table.{poll_call_step, selection_call_step, way_call_step};
+ghost use Rattle.bsc_control.specs.Table.{next_call_step};
 
 use crate::procedure::Procedure;
 use crate::task::{Replied, Task};
@@ -74,7 +75,8 @@ impl<A: Allocator> Procedure<A> {
 
     /// Makes the first call, that of the present entry.
     pub(crate) fn call_first(&mut self, sent: &mut Option<Message>)
-        ensures row { record { control = self.new; sent = sent.new } ≡ next_call_step self.old Start }
+        ensures row { record { control = self.new; sent = sent.new }
+            ≡ next_call_step self.old Start }
         ensures entries { HasEntries self.new }
     {
         self.call_from(self.place, 0, sent);

@@ -7,7 +7,8 @@ ghost use Rattle.bsc_control.specs.CallOrder.{Selection, Interruption};
 ghost use Rattle.bsc_control.specs.Control.{HasEntries, peer};
 ghost use Rattle.bsc_control.specs.Kept.{IsSelected};
 ghost use Rattle.bsc_control.specs.Peer.{outbound_at};
-ghost use Rattle.bsc_control.specs.Table.{performed, bid_step, after_bid, selecting_step, silence_in};
+ghost use Rattle.bsc_control.specs.Table.{performed, bid_step, after_bid, selecting_step};
+ghost use Rattle.bsc_control.specs.Table.{silence_in};
 
 use crate::procedure::Procedure;
 use crate::task::Task;

@@ -10,16 +10,32 @@ pub loop-place-preserved : goal.loop-place-preserved
 loop-place-preserved c =
     elim c.if-is_record.branch [
       | then-is_record w ↦ rw (w.records-is, w.push.ensures.items) (record {
-        few = omega (arith, length_push c.loop-place.records.items c.unit-unit.result.chars, c.loop-place.invariant.few);
-        records = rw (map_push (λ r. r.now) c.loop-place.records.items c.unit-unit.result.chars, c.loop-place.invariant.records)
-            (sym (records_in-held c.args.text.now.units c.loop-place.place (text_unit c.unit-unit.result) c.unit-unit.ensures (sym c.is_record.ensures ∙ w.if-is_record.true)));
-        each = all-append _ _ _ c.loop-place.invariant.each
-            (unit-IsRecord c.args.text.now.units c.loop-place.place (text_unit c.unit-unit.result) c.count-place-end.ensures.text.each c.unit-unit.ensures, tt);
+        few =
+            omega (
+              arith,
+              length_push c.loop-place.records.items c.unit-unit.result.chars,
+              c.loop-place.invariant.few,
+            );
+        records =
+            rw (
+              map_push (λ r. r.now) c.loop-place.records.items c.unit-unit.result.chars,
+              c.loop-place.invariant.records,
+            )
+            (sym (records_in-held c.args.text.now.units c.loop-place.place
+            (text_unit c.unit-unit.result) c.unit-unit.ensures
+            (sym c.is_record.ensures ∙ w.if-is_record.true)));
+        each = all-append _ _ _ c.loop-place.invariant.each (
+          unit-IsRecord c.args.text.now.units c.loop-place.place (text_unit c.unit-unit.result)
+              c.count-place-end.ensures.text.each c.unit-unit.ensures,
+          tt,
+        );
       })
       | else-is_record w ↦ rw w.records-is (record {
         few = omega (arith, c.loop-place.invariant.few);
         records = c.loop-place.invariant.records
-            ∙ sym (records_in-empty c.args.text.now.units c.loop-place.place (text_unit c.unit-unit.result) c.unit-unit.ensures (sym c.is_record.ensures ∙ w.if-is_record.false));
+            ∙ sym (records_in-empty c.args.text.now.units c.loop-place.place
+            (text_unit c.unit-unit.result) c.unit-unit.ensures
+            (sym c.is_record.ensures ∙ w.if-is_record.false));
         each = c.loop-place.invariant.each;
       })
     ]

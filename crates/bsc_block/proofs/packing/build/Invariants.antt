@@ -9,6 +9,7 @@ use Rattle.bsc_frame.specs.declared.limits.TheConstants.{MAX_UNITS}
 abbrev pub invariant-loop-place : goal.invariant-loop-place
 invariant-loop-place l = record {
   long : length l.units ≡ MAX_UNITS;
-  units : map text_unit (take l.place l.units) ≡ map (unit_of l.format.full) (take l.place l.records);
+  units : map text_unit (take l.place l.units)
+      ≡ map (unit_of l.format.full) (take l.place l.records);
   each : AllByRecursion IsUnit (map text_unit (take l.place l.units));
 }

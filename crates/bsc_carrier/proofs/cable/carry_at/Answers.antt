@@ -6,24 +6,36 @@ use Rattle.bsc_carrier.specs.Cable.{Gives, AnswersFor}
 use Rattle.bsc_carrier.proofs.Places.{stays_after_error}
 use Rattle.bsc_carrier.proofs.cable.carry_at.Goals as goal
 
-OnOk-appends : {T E : Type 0} (r : Result T E) (old new : Option (List ℕ)) (octets : List ℕ) → Appends old new octets → OnOk r (Appends old new octets)
+OnOk-appends : {T E : Type 0} (r : Result T E) (old new : Option (List ℕ)) (octets : List ℕ)
+    → Appends old new octets → OnOk r (Appends old new octets)
 OnOk-appends (Ok x) old new octets appended = appended
 OnOk-appends (Err e) old new octets appended = tt
 
 pub returns-in_err-write_record-clause-read : goal.returns-in_err-write_record-clause-read
 returns-in_err-write_record-clause-read g c =
-    stays_after_error c.from_residual.result (Gives g.S.Read.remaining c.args.heard.now.items) c.args.far.now c.args.place c.requires.far_there c.from_residual.ensures.0
+    stays_after_error c.from_residual.result (Gives g.S.Read.remaining c.args.heard.now.items)
+    c.args.far.now c.args.place c.requires.far_there c.from_residual.ensures.0
 
 pub returns-clause-wrote : goal.returns-clause-wrote
 returns-clause-wrote g c =
-    let here = slice_get-get_or c.args.near.now c.args.place c.index-near-place.result c.requires.near_there in
-    (_, c.write_record.new.writer, here, refl, OnOk-appends c.expect_record.result _ _ _ c.in_ok-write_record.ensures.ok)
+    let here =
+    slice_get-get_or c.args.near.now c.args.place c.index-near-place.result
+    c.requires.near_there in (
+      _,
+      c.write_record.new.writer,
+      here,
+      refl,
+      OnOk-appends c.expect_record.result _ _ _ c.in_ok-write_record.ensures.ok,
+    )
 
 pub returns-clause-read : goal.returns-clause-read
 returns-clause-read g c =
-    let here = slice_get-get_or c.args.far.now c.args.place c.index-far-place.result c.requires.far_there in
+    let here =
+    slice_get-get_or c.args.far.now c.args.place c.index-far-place.result
+    c.requires.far_there in
     (_, c.expect_record.new.end, here, refl, c.expect_record.ensures.read)
 
 pub returns-clause-exact : goal.returns-clause-exact
 returns-clause-exact g c = λ end here.
-    subst (λ e. AnswersFor c.expect_record.result (g.S.Read.remaining e)) (get_or_from_slice_get c.args.far.now c.args.place end _ here) c.expect_record.ensures.exact
+    subst (λ e. AnswersFor c.expect_record.result (g.S.Read.remaining e))
+    (get_or_from_slice_get c.args.far.now c.args.place end _ here) c.expect_record.ensures.exact

@@ -16,18 +16,26 @@ returns-in_err-expect_same-clause-why g c =
     let later = ends_after ends c.expect_record.new.end in
     let same = c.deref.ensures.0 in
     let told = c.in_err-expect_same.ensures in
-    let p = err_from_is_err_and c.from_residual-in_err-expect_same.result c.from_residual-in_err-expect_same.ensures.1 in
-    rw (p.1, p.2) (Explains-later remaining ends _ _ _ c.requires (BeginsWith-given _ _ _ first.carried first.read)
+    let p =
+    err_from_is_err_and c.from_residual-in_err-expect_same.result
+    c.from_residual-in_err-expect_same.ensures.1 in
+    rw (p.1, p.2) (Explains-later remaining ends _ _ _ c.requires
+    (BeginsWith-given _ _ _ first.carried first.read)
     (λ e. subst (Any (λ end. IfSome (remaining end) HasWrongLength)) later (told.wrong e))
     (λ e. subst (Any (λ end. IfSome (remaining end) IsPartial)) later (told.short e))
-    (λ e. subst (λ l. BeginsOther remaining l (drop 1 ends)) same (subst (BeginsOther remaining c.deref.result.now) later (told.unequal e))))
+    (λ e. subst (λ l. BeginsOther remaining l (drop 1 ends)) same
+    (subst (BeginsOther remaining c.deref.result.now) later (told.unequal e))))
 
 pub returns-clause-read : goal.returns-clause-read
 returns-clause-read g c =
     let gives = Gives g.S.Read.remaining in
     let ends = c.args.ends.now in
-    let later = subst (λ l. AllZip (gives c.deref.result.now) l c.expect_same.new.ends) (ends_after ends c.expect_record.new.end) c.in_ok-expect_same.ensures.read in
+    let later =
+    subst (λ l. AllZip (gives c.deref.result.now) l c.expect_same.new.ends)
+    (ends_after ends c.expect_record.new.end) c.in_ok-expect_same.ensures.read in
     let first = c.expect_record.new.octets.items in
-    let all = AllZip-first_and_later (gives first) ends c.expect_same.new.ends c.expect_record.new.end _ c.requires c.in_ok-expect_record.ensures.read
+    let all =
+    AllZip-first_and_later (gives first) ends c.expect_same.new.ends c.expect_record.new.end _
+    c.requires c.in_ok-expect_record.ensures.read
     (subst (λ l. AllZip (gives l) (drop 1 ends) c.expect_same.new.ends) c.deref.ensures.0 later) in
     rw c.swap.ensures.x_after all

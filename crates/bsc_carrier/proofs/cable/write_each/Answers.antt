@@ -3,4 +3,5 @@ use Rattle.bsc_carrier.proofs.Places.{AllZip-from_places}
 use Rattle.bsc_carrier.proofs.cable.write_each.Goals as goal
 
 pub returns-clause-wrote : goal.returns-clause-wrote
-returns-clause-wrote g c = AllZip-from_places _ _ _ c.ends.auto.ends (λ i d below. c.ends.invariant.0 i d (omega arith))
+returns-clause-wrote g c =
+    AllZip-from_places _ _ _ c.ends.auto.ends (λ i d below. c.ends.invariant.0 i d (omega arith))

@@ -7,7 +7,8 @@ use Rattle.bsc_carrier.proofs.record.assemble.Given as goal
 -- what is begun is what was read, and less than a record
 abbrev pub invariant-reads : goal.invariant-reads
 invariant-reads g l =
-    IsPartial l.assembler.begun × Consumes (g.R.Read.remaining l.initial.reader) (g.R.Read.remaining l.reader) l.assembler.begun
+    IsPartial l.assembler.begun × Consumes (g.R.Read.remaining l.initial.reader)
+    (g.R.Read.remaining l.reader) l.assembler.begun
 
 abbrev pub decreases-reads : goal.decreases-reads
 decreases-reads g l = MAX_RECORD_OCTETS - length l.assembler.begun

@@ -1,4 +1,5 @@
-use Rattle.std.proofs.Common.{◌≡◌, ◌+◌, ◌-◌, ◌≤◌, ◌++◌, length, take, drop, sym, ap, ◌∙◌, subst, arith}
+use Rattle.std.proofs.Common.{◌≡◌, ◌+◌, ◌-◌, ◌≤◌, ◌++◌, length, take, drop, sym, ap, ◌∙◌, subst}
+use Rattle.std.proofs.Common.{arith}
 use Rattle.std.proofs.lemmas.List.{take_rest, length-drop, drop-drop}
 use Rattle.std.proofs.Math.Seq.{take-add}
 use Rattle.std.specs.Io.KnownBytes.{Appends}
@@ -13,6 +14,11 @@ writes-preserved g c =
     let n = c.in-Ok.n in
     let rest_length : length rest ≡ length all - k = ap length left ∙ length-drop k all in
     let more = Appends-trans _ _ _ _ _ appended c.in-Ok.ensures.bytes in
-    let joined : take k all ++ take n rest ≡ take (k + n) all = ap (λ l. take k all ++ take n l) left ∙ sym (take-add k n all) in
-    let fits : k + n ≤ length all = omega (arith, rest_length, c.in-Ok.ensures.bound) in
-    (k + n, fits, take_rest rest n ∙ ap (drop n) left ∙ drop-drop n k all, subst (Appends _ _) joined more)
+    let joined : take k all ++ take n rest ≡ take (k + n) all =
+    ap (λ l. take k all ++ take n l) left ∙ sym (take-add k n all) in
+    let fits : k + n ≤ length all = omega (arith, rest_length, c.in-Ok.ensures.bound) in (
+      k + n,
+      fits,
+      take_rest rest n ∙ ap (drop n) left ∙ drop-drop n k all,
+      subst (Appends _ _) joined more,
+    )

@@ -6,7 +6,8 @@ use Rattle.bsc_command.proofs.naming.write_lines.Given as goal
 
 abbrev pub invariant-lines : goal.invariant-lines
 invariant-lines g l = record {
-  printed : HasPrinted (shown l.detail) (lines_of l.input) (lines_of l.text) l.before (g.W.Write.contents l.initial.out) (g.W.Write.contents l.out);
+  printed : HasPrinted (shown l.detail) (lines_of l.input) (lines_of l.text) l.before
+      (g.W.Write.contents l.initial.out) (g.W.Write.contents l.out);
   counted : l.before + length l.text ≤ length l.input;
 }
 

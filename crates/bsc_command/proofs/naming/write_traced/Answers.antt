@@ -3,7 +3,8 @@ use Rattle.bsc_input.specs.Hexadecimal.{octets_of}
 use Rattle.bsc_input.specs.Lines.{is_blank}
 use Rattle.bsc_names.specs.Names.{shown}
 use Rattle.bsc_command.specs.Lines.{digits}
-use Rattle.bsc_command.proofs.LineLemmas.{PrintsLines-one, PrintsLines-skip, digits-traced, given-blank, given-wrong}
+use Rattle.bsc_command.proofs.LineLemmas.{PrintsLines-one, PrintsLines-skip, digits-traced}
+use Rattle.bsc_command.proofs.LineLemmas.{given-blank, given-wrong}
 use Rattle.bsc_run.proofs.Appending.{on_ok}
 use Rattle.bsc_command.proofs.naming.write_traced.Goals as goal
 
@@ -21,9 +22,11 @@ returns-in-Some-clause-ok g c =
     let word = c.last_word-word.result.now in
     let same : digits line ≡ word = digits-traced line c.requires ∙ sym c.last_word-word.ensures in
     let octets = c.deref.result.now in
-    let read : octets_of word ≡ Some octets = sym c.in_ok-octets.ensures ∙ ap (option_map (λ v. v.items)) c.in-Some.is ∙ ap Some (sym c.deref.ensures.value) in
+    let read : octets_of word ≡ Some octets = sym c.in_ok-octets.ensures
+    ∙ ap (option_map (λ v. v.items)) c.in-Some.is ∙ ap Some (sym c.deref.ensures.value) in
     let blank : is_blank word ≡ false = search rules in
-    on_ok c.write_transmission.result (PrintsLines-one (shown c.args.detail) line word octets _ _ same blank read) c.write_transmission.ensures.ok
+    on_ok c.write_transmission.result (PrintsLines-one (shown c.args.detail) line word octets _ _
+    same blank read) c.write_transmission.ensures.ok
 
 pub returns-in-None-clause-ok : goal.returns-in-None-clause-ok
 returns-in-None-clause-ok g c =
@@ -31,5 +34,6 @@ returns-in-None-clause-ok g c =
     let word = c.last_word-word.result.now in
     let same : digits line ≡ word = digits-traced line c.requires ∙ sym c.last_word-word.ensures in
     let blank : is_blank word ≡ false = search rules in
-    let read : octets_of word ≡ None = sym c.in_ok-octets.ensures ∙ ap (option_map (λ v. v.items)) c.in-None.is in
+    let read : octets_of word ≡ None = sym c.in_ok-octets.ensures
+    ∙ ap (option_map (λ v. v.items)) c.in-None.is in
     PrintsLines-skip (shown c.args.detail) line word _ same (given-wrong word blank read)

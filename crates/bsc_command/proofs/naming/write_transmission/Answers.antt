@@ -6,6 +6,8 @@ returns-clause-ok g c =
     let decoded = c.decode-heard.ensures in
     record {
       heard = c.decode-heard.result;
-      is_heard = is_heard c.args.octets.now c.decode-heard.result decoded.whole decoded.failed decoded.noise;
+      is_heard =
+          is_heard c.args.octets.now c.decode-heard.result decoded.whole decoded.failed
+          decoded.noise;
       appended = c.in_ok-write_shown.ensures.ok;
     }

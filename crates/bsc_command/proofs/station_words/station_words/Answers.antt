@@ -10,9 +10,11 @@ returns c =
     let found = found_of c.args.matches.now in
     let value : (id : Text) → unwrap_or (first_value found id) [] ≡ value_at id (rows_of found)
     = λ id. ap (λ o. unwrap_or o []) (first_value-rows found id) in
-    let flag_is : (id : Text) → is_true_text (unwrap_or (first_value found id) []) ≡ given id (rows_of found)
+    let flag_is : (id : Text) → is_true_text (unwrap_or (first_value found id) [])
+    ≡ given id (rows_of found)
     = λ id. ap is_true_text (value id) in
-    let many : unwrap_or (option_map raw_values (matched_of found (codes "offer"))) [] ≡ unwrap_or (all_of (codes "offer") (rows_of found)) []
+    let many : unwrap_or (option_map raw_values (matched_of found (codes "offer"))) []
+    ≡ unwrap_or (all_of (codes "offer") (rows_of found)) []
     = ap (λ o. unwrap_or o []) (raw_values-rows found (codes "offer")) in
     let config = c.in_ok-required_text.ensures ∙ value (codes "CONFIG") in
     let control = c.is_given.ensures ∙ flag_is (codes "control") in
@@ -24,7 +26,8 @@ returns c =
     let gap = c.in_ok-option_text-4.ensures ∙ first_value-rows found (codes "gap") in
     let time_out = c.in_ok-option_text-5.ensures ∙ first_value-rows found (codes "time-out") in
     let rounds = c.in_ok-option_text-6.ensures ∙ first_value-rows found (codes "rounds") in
-    let idle_rounds = c.in_ok-option_text-7.ensures ∙ first_value-rows found (codes "idle-rounds") in
+    let idle_rounds = c.in_ok-option_text-7.ensures
+    ∙ first_value-rows found (codes "idle-rounds") in
     let offers = c.in_ok-option_texts.ensures ∙ many in
     let text = c.is_given-4.ensures ∙ flag_is (codes "text") in
     let trace = c.is_given-5.ensures ∙ flag_is (codes "trace") in

@@ -5,5 +5,6 @@ use Rattle.bsc_config.proofs.KeyLemmas.{first_in}
 use Rattle.bsc_config.proofs.known.unknown_name.Given as goal
 
 abbrev pub invariant-names : goal.invariant-names
-invariant-names l = (goal.iterator-names).can_next l.name-iterator × (goal.iterator-names).is_finite l.name-iterator
+invariant-names l = (goal.iterator-names).can_next l.name-iterator
+    × (goal.iterator-names).is_finite l.name-iterator
     × (first_unknown l.owner (members_view l.table.entries) ≡ first_in l.owner l.name-iterator)

@@ -7,4 +7,5 @@ use Rattle.bsc_config.proofs.poll_list.entries.Given as goal
 abbrev pub invariant-loop-value : goal.invariant-loop-value
 invariant-loop-value l =
     read_each (whole_number 0 255) (items_view l.values)
-    ≡ option_map (λ xs. l.entries.items ++ xs) (read_each (whole_number 0 255) (items_view (drop l.value-index l.values)))
+    ≡ option_map (λ xs. l.entries.items ++ xs)
+    (read_each (whole_number 0 255) (items_view (drop l.value-index l.values)))

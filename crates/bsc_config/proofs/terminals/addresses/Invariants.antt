@@ -7,4 +7,5 @@ use Rattle.bsc_config.proofs.terminals.addresses.Given as goal
 abbrev pub invariant-loop-value : goal.invariant-loop-value
 invariant-loop-value l =
     read_each address_in (items_view l.values)
-    ≡ option_map (λ xs. l.addresses.items ++ xs) (read_each address_in (items_view (drop l.value-index l.values)))
+    ≡ option_map (λ xs. l.addresses.items ++ xs)
+    (read_each address_in (items_view (drop l.value-index l.values)))

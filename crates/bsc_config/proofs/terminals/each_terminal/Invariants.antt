@@ -7,4 +7,5 @@ use Rattle.bsc_config.proofs.terminals.each_terminal.Given as goal
 abbrev pub invariant-loop-number : goal.invariant-loop-number
 invariant-loop-number l =
     terminals_of l.version 0 (items_view l.values)
-    ≡ (terminals_of l.version l.number (items_view (drop l.number l.values)) >>= λ ts. Ok (l.terminals.items ++ ts))
+    ≡ (terminals_of l.version l.number (items_view (drop l.number l.values)) >>= λ ts. Ok
+    (l.terminals.items ++ ts))

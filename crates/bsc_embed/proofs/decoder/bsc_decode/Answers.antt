@@ -5,7 +5,8 @@ use Rattle.bsc_embed.proofs.decoder.bsc_decode.Goals as goal
 pub returns : goal.returns
 returns c =
     let t = c.decode_kind.ensures in
-    let k = by_kind c.number.result c.decode_kind.result c.decode_kind.new.content c.number.ensures in
+    let k =
+    by_kind c.number.result c.decode_kind.result c.decode_kind.new.content c.number.ensures in
     let failed = failed_number c.number.result c.decode_kind.result c.number.ensures in
     let noise = noise_number c.number.result c.decode_kind.result c.number.ensures in
     record {

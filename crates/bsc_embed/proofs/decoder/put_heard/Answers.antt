@@ -4,4 +4,6 @@ use Rattle.bsc_embed.proofs.decoder.put_heard.Goals as goal
 
 pub returns-in-Some : goal.returns-in-Some
 returns-in-Some c =
-    tells c.args.octets.now (heard_as c.in-Some.short) c.put_short.result c.args.content.now c.put_short.new.content (rw c.in-Some.is at c.decode_short.ensures.short) c.put_short.ensures.left c.put_short.ensures.kept
+    tells c.args.octets.now (heard_as c.in-Some.short) c.put_short.result c.args.content.now
+    c.put_short.new.content (rw c.in-Some.is at c.decode_short.ensures.short)
+    c.put_short.ensures.left c.put_short.ensures.kept

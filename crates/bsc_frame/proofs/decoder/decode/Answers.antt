@@ -5,12 +5,22 @@ use Rattle.bsc_frame.proofs.decoder.decode.Goals as goal
 
 pub returns-clause-whole : goal.returns-clause-whole
 returns-clause-whole c =
-    λ m. (λ e. spelled_heard _ m (sym c.octets_heard.ensures ∙ e), λ s. c.octets_heard.ensures ∙ heard_spelled _ m s)
+    λ m. (
+      λ e. spelled_heard _ m (sym c.octets_heard.ensures ∙ e),
+      λ s. c.octets_heard.ensures
+          ∙ heard_spelled _ m s,
+    )
 
 pub returns-clause-failed : goal.returns-clause-failed
-returns-clause-failed c =
-    (λ e. failed_heard _ (sym c.octets_heard.ensures ∙ e), λ s. c.octets_heard.ensures ∙ heard_failed _ s)
+returns-clause-failed c = (
+  λ e. failed_heard _ (sym c.octets_heard.ensures ∙ e),
+  λ s. c.octets_heard.ensures
+      ∙ heard_failed _ s,
+)
 
 pub returns-clause-noise : goal.returns-clause-noise
-returns-clause-noise c =
-    (λ e. noise_heard _ (sym c.octets_heard.ensures ∙ e), λ s. c.octets_heard.ensures ∙ heard_noise _ s)
+returns-clause-noise c = (
+  λ e. noise_heard _ (sym c.octets_heard.ensures ∙ e),
+  λ s. c.octets_heard.ensures
+      ∙ heard_noise _ s,
+)

@@ -4,4 +4,5 @@ use Rattle.bsc_frame.proofs.encoder.append_units.Given as goal
 
 abbrev pub invariant-loop-place : goal.invariant-loop-place
 invariant-loop-place l =
-    l.wire.items ++ units_wire (drop l.place l.text.units) l.text.end ≡ l.initial.wire.items ++ units_wire l.text.units l.text.end
+    l.wire.items ++ units_wire (drop l.place l.text.units) l.text.end ≡ l.initial.wire.items
+    ++ units_wire l.text.units l.text.end

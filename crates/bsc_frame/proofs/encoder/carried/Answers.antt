@@ -1,4 +1,5 @@
-use Rattle.std.proofs.Common.{◌≡◌, ℕ, ◌-◌, ◌*◌, ◌/◌, ◌%◌, ◌==◌, true, refl, bit_and, bit_or, bit_xor}
+use Rattle.std.proofs.Common.{◌≡◌, ℕ, ◌-◌, ◌*◌, ◌/◌, ◌%◌, ◌==◌, true, refl, bit_and, bit_or}
+use Rattle.std.proofs.Common.{bit_xor}
 use Rattle.std.specs.Int.Count.{ones}
 use Rattle.std.proofs.lemmas.Bool.{agree_below, agree_below_at, eqb-true}
 use Rattle.bsc_octet.specs.Octet.{odd_octet}
@@ -23,4 +24,5 @@ folds = refl
 pub returns : goal.returns
 unfolding fours twos folded
 returns c =
-    eqb-true (folded c.args.code) (odd_octet c.args.code) (agree_below_at (λ x. folded x == odd_octet x) (λ _. true) 128 c.args.code folds c.requires)
+    eqb-true (folded c.args.code) (odd_octet c.args.code)
+    (agree_below_at (λ x. folded x == odd_octet x) (λ _. true) 128 c.args.code folds c.requires)

@@ -10,6 +10,13 @@ put_codes-requires-clause-codes c = chars_small (text_unit c.args.unit) c.requir
 pub returns-clause-octets : goal.returns-clause-octets
 returns-clause-octets c =
     let line : List ℕ = take c.put-count.result c.put-count.new.octets in
-    let codes : line ≡ (map odd_octet c.args.unit.chars.now ++ cond c.args.unit.em (0x19 ∷ []) []) ++ odd_octet c.args.ending ∷ [] =
-    c.put-count.ensures.octets ∙ rw (c.put_em-count.ensures.octets, c.put_codes.ensures, c.carried.ensures) refl in
-    c.put.ensures.octets ∙ ap (λ k. line ++ k ∷ []) c.check_of-check.ensures ∙ unit_wire_is (text_unit c.args.unit) c.args.ending line c.requires.unit c.requires.ending codes
+    let codes : line ≡ (map odd_octet c.args.unit.chars.now ++ cond c.args.unit.em (0x19 ∷ []) [])
+    ++ odd_octet c.args.ending ∷ [] =
+    c.put-count.ensures.octets ∙ rw (
+      c.put_em-count.ensures.octets,
+      c.put_codes.ensures,
+      c.carried.ensures,
+    ) refl in
+    c.put.ensures.octets ∙ ap (λ k. line ++ k ∷ []) c.check_of-check.ensures
+    ∙ unit_wire_is (text_unit c.args.unit) c.args.ending line c.requires.unit c.requires.ending
+    codes

@@ -4,8 +4,12 @@ use Rattle.bsc_frame.proofs.front.either_front.Goals as goal
 
 pub returns-then-run-lt-LANES-clause-count : goal.returns-then-run-lt-LANES-clause-count
 returns-then-run-lt-LANES-clause-count c =
-    run_stops (is_either c.args.one c.args.other) c.loop-at.at c.either_in-run.result c.args.octets.now c.loop-at.invariant c.loop-at-test.true c.either_in-run.ensures c.if-run-lt-LANES.true
+    run_stops (is_either c.args.one c.args.other) c.loop-at.at c.either_in-run.result
+    c.args.octets.now c.loop-at.invariant c.loop-at-test.true c.either_in-run.ensures
+    c.if-run-lt-LANES.true
 
 pub loop-at-preserved : goal.loop-at-preserved
 loop-at-preserved c =
-    run_goes_on (is_either c.args.one c.args.other) c.loop-at.at c.either_in-run.result c.args.octets.now c.loop-at.invariant c.loop-at-test.true c.either_in-run.ensures c.if-run-lt-LANES.false
+    run_goes_on (is_either c.args.one c.args.other) c.loop-at.at c.either_in-run.result
+    c.args.octets.now c.loop-at.invariant c.loop-at-test.true c.either_in-run.ensures
+    c.if-run-lt-LANES.false

@@ -8,7 +8,11 @@ pub returns : goal.returns
 returns c =
     let octets = take 32 (drop c.args.at c.args.octets.now) in
     let long = length-chunk c.args.at 32 c.args.octets.now c.requires in
-    first_lane_is (λ x. not (is_either c.args.one c.args.other x)) _ octets _ _ (λ x. top_and (x == c.args.one) (x == c.args.other)) long
-    (zip2_of_maps bit_and _ _ octets (zip2_splat _ octets 32 c.args.one long) (zip2_splat _ octets 32 c.args.other long))
+    first_lane_is (λ x. not (is_either c.args.one c.args.other x)) _ octets _ _
+    (λ x. top_and (x == c.args.one) (x == c.args.other)) long
+    (zip2_of_maps bit_and _ _ octets (zip2_splat _ octets 32 c.args.one long)
+    (zip2_splat _ octets 32 c.args.other long))
     c.first_lane.ensures
-    ∙ prefix_len-same (λ x. not (not (is_either c.args.one c.args.other x))) (is_either c.args.one c.args.other) (λ x. not_twice (is_either c.args.one c.args.other x)) octets
+    ∙ prefix_len-same (λ x. not (not (is_either c.args.one c.args.other x)))
+    (is_either c.args.one c.args.other) (λ x. not_twice (is_either c.args.one c.args.other x))
+    octets

@@ -5,5 +5,7 @@ use Rattle.bsc_frame.proofs.tests.units_are_checked_one_by_one.Goals as goal
 
 pub of-text-requires-clause-each : goal.of-text-requires-clause-each
 unfolding is_record_char
-of-text-requires-clause-each g c =
-    (record { most = omega arith; each = (refl, (refl, tt)) }, (record { most = omega arith; each = tt }, tt))
+of-text-requires-clause-each g c = (
+  record { most = omega arith; each = (refl, (refl, tt)) },
+  (record { most = omega arith; each = tt }, tt),
+)

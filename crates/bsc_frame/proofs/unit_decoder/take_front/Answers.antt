@@ -7,7 +7,8 @@ use Rattle.bsc_frame.proofs.unit_decoder.take_front.Goals as goal
 
 pub returns-in_default-clause-none : goal.returns-in_default-clause-none
 returns-in_default-clause-none c =
-    wrong_check c.args.after_us c.args.front.now c.args.octets.now (rw c.in_default.is at c.checked.ensures)
+    wrong_check c.args.after_us c.args.front.now c.args.octets.now
+    (rw c.in_default.is at c.checked.ensures)
 
 pub take_chars-requires-clause-odd : goal.take_chars-requires-clause-odd
 take_chars-requires-clause-odd c =
@@ -19,16 +20,23 @@ take_chars-requires-clause-ends c =
 
 pub returns-in_default-take_chars-clause-none : goal.returns-in_default-take_chars-clause-none
 returns-in_default-take_chars-clause-none c =
-    wrong_unit c.args.after_us c.args.front.now c.args.octets.now c.in-Some.rest.now (carried c.args.front.now c.requires.odd c.type_inv.front) c.in-Some.ensures
+    wrong_unit c.args.after_us c.args.front.now c.args.octets.now c.in-Some.rest.now
+    (carried c.args.front.now c.requires.odd c.type_inv.front) c.in-Some.ensures
     (rw c.without_start.ensures at c.in_default-take_chars.ensures.none)
 
 pub returns-clause-found : goal.returns-clause-found
 returns-clause-found c =
-    let found : AddsUnit c.args.draft.now c.take_chars.new.draft (read_unit (map low_bits (after_start c.args.after_us c.args.front.now))) c.in-Some-take_chars.ending =
+    let found : AddsUnit c.args.draft.now c.take_chars.new.draft
+    (read_unit (map low_bits (after_start c.args.after_us c.args.front.now)))
+    c.in-Some-take_chars.ending =
     rw c.without_start.ensures at c.in-Some-take_chars.ensures.found in
     record {
       unit = found.unit;
-      reads = right_unit c.args.after_us c.args.front.now c.args.octets.now c.in-Some.rest.now found.unit c.in-Some-take_chars.ending (carried c.args.front.now c.requires.odd c.type_inv.front) c.in-Some.ensures found.reads;
+      reads =
+          right_unit c.args.after_us c.args.front.now c.args.octets.now c.in-Some.rest.now
+          found.unit c.in-Some-take_chars.ending
+          (carried c.args.front.now c.requires.odd c.type_inv.front) c.in-Some.ensures
+          found.reads;
       units = found.units;
       draft = found.draft;
     }

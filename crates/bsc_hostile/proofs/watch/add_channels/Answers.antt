@@ -1,4 +1,5 @@
-use Rattle.std.proofs.Common.{◌≡◌, ◌++◌, ◌∷◌, [], List, ℕ, ◌+◌, refl, ◌∙◌, ap, append_assoc, arith, add-one, Some, slice_index_or}
+use Rattle.std.proofs.Common.{◌≡◌, ◌++◌, ◌∷◌, [], List, ℕ, ◌+◌, refl, ◌∙◌, ap, append_assoc, arith}
+use Rattle.std.proofs.Common.{add-one, Some, slice_index_or}
 use Rattle.std.proofs.lemmas.Grind.{common_steps}
 use Rattle.std.proofs.lemmas.Option.{get_or_from_slice_get}
 use Rattle.bsc_text.specs.Terminal.{TerminalValue}

@@ -5,7 +5,8 @@ use Rattle.bsc_input.proofs.input.read_input.Given as goal
 abbrev pub invariant-reads : goal.invariant-reads
 invariant-reads g l = record {
   fits : length l.input.items ≤ 1048576;
-  taken : Consumes (g.R.Read.remaining l.initial.reader) (g.R.Read.remaining l.reader) l.input.items;
+  taken : Consumes (g.R.Read.remaining l.initial.reader) (g.R.Read.remaining l.reader)
+      l.input.items;
 }
 
 abbrev pub decreases-reads : goal.decreases-reads

@@ -7,10 +7,12 @@ use Rattle.bsc_line.proofs.addressing.addressed_after.Goals as goal
 
 pub returns-in-Alike : goal.returns-in-Alike
 returns-in-Alike g c =
-    subst (λ (x : Hearings). IsAddressedAfter (terminals c.args.control.now) c.args.count (hearing_of x) c.args.addressed c.addressed_alike.result)
+    subst (λ (x : Hearings). IsAddressedAfter (terminals c.args.control.now) c.args.count
+    (hearing_of x) c.args.addressed c.addressed_alike.result)
     (sym c.in-Alike.is) c.addressed_alike.ensures
 
 pub returns-in-Each : goal.returns-in-Each
 returns-in-Each g c =
-    subst (λ (x : Hearings). IsAddressedAfter (terminals c.args.control.now) c.args.count (hearing_of x) c.args.addressed c.addressed_apart.result)
+    subst (λ (x : Hearings). IsAddressedAfter (terminals c.args.control.now) c.args.count
+    (hearing_of x) c.args.addressed c.addressed_apart.result)
     (sym c.in-Each.is) c.addressed_apart.ensures

@@ -10,7 +10,12 @@ use Rattle.bsc_line.proofs.EachHearing.{Heeds, none_heard, one_more, first_more,
 use Rattle.bsc_line.proofs.terminals.hear_all.Goals as goal
 
 pub loop-i-init : goal.loop-i-init
-loop-i-init g c = record { heard = none_heard c.args.terminals.now (hearing_of c.args.hearings.now); first = refl }
+loop-i-init g c =
+    record {
+      heard = none_heard c.args.terminals.now (hearing_of c.args.hearings.now);
+      first =
+          refl;
+    }
 
 pub loop-i-preserved : goal.loop-i-preserved
 loop-i-preserved g c =
@@ -21,20 +26,32 @@ loop-i-preserved g c =
     subst (λ (x : TributaryValue). Heeds x h u (answer x h u)) (sym c.index-terminals-i.is)
     (record { row = c.hear_at.ensures.hearing.row; after = c.hear_at.ensures.hearing.after }) in
     record {
-      heard = one_more c.args.terminals.now (hearing_of c.args.hearings.now) c.loop-i.terminals c.loop-i.i t u (answer t h u) c.loop-i.invariant.heard c.loop-i-test.true c.index-terminals-i.is heeds;
+      heard =
+          one_more c.args.terminals.now (hearing_of c.args.hearings.now) c.loop-i.terminals
+          c.loop-i.i t u (answer t h u) c.loop-i.invariant.heard c.loop-i-test.true
+          c.index-terminals-i.is heeds;
       first = c.hear_at.ensures.first
-          ∙ ap (λ (x : TributaryValue). or_first c.loop-i.first (sent_by (Terminal c.loop-i.i) (answer x h u))) (sym c.index-terminals-i.is)
-          ∙ ap (λ (o : Option Transmission). or_first o (sent_by (Terminal c.loop-i.i) (answer t h u))) c.loop-i.invariant.first
-          ∙ sym (first_more c.args.terminals.now (hearing_of c.args.hearings.now) c.loop-i.terminals c.loop-i.i t u (answer t h u) c.loop-i.invariant.heard c.loop-i-test.true c.index-terminals-i.is heeds);
+          ∙ ap (λ (x : TributaryValue). or_first c.loop-i.first
+          (sent_by (Terminal c.loop-i.i) (answer x h u))) (sym c.index-terminals-i.is)
+          ∙ ap (λ (o : Option Transmission). or_first o
+          (sent_by (Terminal c.loop-i.i) (answer t h u))) c.loop-i.invariant.first
+          ∙ sym (first_more c.args.terminals.now (hearing_of c.args.hearings.now) c.loop-i.terminals
+          c.loop-i.i t u (answer t h u) c.loop-i.invariant.heard c.loop-i-test.true
+          c.index-terminals-i.is heeds);
     }
 
 pub returns : goal.returns
 returns g c =
     let all : c.loop-i.i ≡ length c.args.terminals.now = omega arith in
-    let heard : EachHears c.args.terminals.now (hearing_of c.args.hearings.now) c.loop-i.terminals × EachKeeps c.args.terminals.now (hearing_of c.args.hearings.now) c.loop-i.terminals =
-    all_heard c.args.terminals.now (hearing_of c.args.hearings.now) c.loop-i.terminals c.loop-i.i c.loop-i.invariant.heard all in
+    let heard : EachHears c.args.terminals.now (hearing_of c.args.hearings.now) c.loop-i.terminals
+    × EachKeeps c.args.terminals.now (hearing_of c.args.hearings.now) c.loop-i.terminals =
+    all_heard c.args.terminals.now (hearing_of c.args.hearings.now) c.loop-i.terminals c.loop-i.i
+    c.loop-i.invariant.heard all in
     record {
       each = heard.0;
       keeps = heard.1;
-      first = c.loop-i.invariant.first ∙ ap (λ (n : ℕ). first_answer c.args.terminals.now (hearing_of c.args.hearings.now) c.loop-i.terminals n) all;
+      first =
+          c.loop-i.invariant.first
+          ∙ ap (λ (n : ℕ). first_answer c.args.terminals.now (hearing_of c.args.hearings.now)
+          c.loop-i.terminals n) all;
     }

@@ -9,11 +9,14 @@ use Rattle.bsc_line.proofs.terminals.hear_apart.Goals as goal
 
 pub returns-clause-hearing : goal.returns-clause-hearing
 returns-clause-hearing g c =
-    subst (λ (o : Option Message). IsHearing c.args.terminal.now c.args.heard.now c.answer.new.self o)
-    (sent_is c.args.terminal.now c.args.heard.now c.answer.new.self c.answer.new.sent c.answer.ensures.row) c.answer.ensures
+    subst (λ (o : Option Message). IsHearing c.args.terminal.now c.args.heard.now c.answer.new.self
+    o)
+    (sent_is c.args.terminal.now c.args.heard.now c.answer.new.self c.answer.new.sent
+    c.answer.ensures.row) c.answer.ensures
 
 pub returns-clause-first : goal.returns-clause-first
 returns-clause-first g c =
     c.keep_first.ensures
     ∙ ap (λ (o : Option Message). or_first c.args.first.now (sent_by (Terminal c.args.place) o))
-    (sent_is c.args.terminal.now c.args.heard.now c.answer.new.self c.answer.new.sent c.answer.ensures.row)
+    (sent_is c.args.terminal.now c.args.heard.now c.answer.new.self c.answer.new.sent
+    c.answer.ensures.row)

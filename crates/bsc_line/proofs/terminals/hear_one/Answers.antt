@@ -10,24 +10,29 @@ use Rattle.bsc_line.proofs.terminals.hear_one.Goals as goal
 
 pub returns-then-overhear-clause-hearing : goal.returns-then-overhear-clause-hearing
 returns-then-overhear-clause-hearing g c =
-    let silent : IsHearing c.args.terminal.now c.args.heard.now c.overhear.new.self None = c.overhear.ensures.silent c.if-overhear.true in
-    subst (λ (o : Option Message). IsHearing c.args.terminal.now c.args.heard.now c.overhear.new.self o)
+    let silent : IsHearing c.args.terminal.now c.args.heard.now c.overhear.new.self None =
+    c.overhear.ensures.silent c.if-overhear.true in
+    subst (λ (o : Option Message). IsHearing c.args.terminal.now c.args.heard.now
+    c.overhear.new.self o)
     (sent_is c.args.terminal.now c.args.heard.now c.overhear.new.self None silent.row) silent
 
 pub returns-then-overhear-clause-first : goal.returns-then-overhear-clause-first
 returns-then-overhear-clause-first g c =
-    let silent : IsHearing c.args.terminal.now c.args.heard.now c.overhear.new.self None = c.overhear.ensures.silent c.if-overhear.true in
+    let silent : IsHearing c.args.terminal.now c.args.heard.now c.overhear.new.self None =
+    c.overhear.ensures.silent c.if-overhear.true in
     first_kept c.args.first.now c.args.place
     ∙ ap (λ (o : Option Message). or_first c.args.first.now (sent_by (Terminal c.args.place) o))
     (sent_is c.args.terminal.now c.args.heard.now c.overhear.new.self None silent.row)
 
 pub returns-clause-hearing : goal.returns-clause-hearing
 returns-clause-hearing g c =
-    subst (λ (x : TributaryValue). IsHearing x c.args.heard.now c.hear_apart.new.terminal (answer x c.args.heard.now c.hear_apart.new.terminal))
+    subst (λ (x : TributaryValue). IsHearing x c.args.heard.now c.hear_apart.new.terminal
+    (answer x c.args.heard.now c.hear_apart.new.terminal))
     (c.overhear.ensures.left c.if-overhear.false) c.hear_apart.ensures.hearing
 
 pub returns-clause-first : goal.returns-clause-first
 returns-clause-first g c =
     c.hear_apart.ensures.first
-    ∙ ap (λ (x : TributaryValue). or_first c.args.first.now (sent_by (Terminal c.args.place) (answer x c.args.heard.now c.hear_apart.new.terminal)))
+    ∙ ap (λ (x : TributaryValue). or_first c.args.first.now
+    (sent_by (Terminal c.args.place) (answer x c.args.heard.now c.hear_apart.new.terminal)))
     (c.overhear.ensures.left c.if-overhear.false)

@@ -7,14 +7,21 @@ use Rattle.bsc_line.proofs.terminals.new_terminals.Goals as goal
 
 pub new-requires : goal.new-requires
 new-requires g c =
-    subst HasDistinctAddresses (get_or_default c.args.terminals.now c.loop-terminal.terminal-index no_peer.terminal c.terminal-item.result c.loop-terminal-test.true ∙ sym c.terminal-item.is) (c.requires c.loop-terminal.terminal-index c.loop-terminal-test.true)
+    subst HasDistinctAddresses (get_or_default c.args.terminals.now c.loop-terminal.terminal-index
+    no_peer.terminal c.terminal-item.result c.loop-terminal-test.true ∙ sym c.terminal-item.is)
+    (c.requires c.loop-terminal.terminal-index c.loop-terminal-test.true)
 
 pub loop-terminal-init : goal.loop-terminal-init
-loop-terminal-init g c = none_made c.args.setup c.args.terminals.now c.new-made.result.items c.new-made.ensures.items
+loop-terminal-init g c =
+    none_made c.args.setup c.args.terminals.now c.new-made.result.items c.new-made.ensures.items
 
 pub loop-terminal-preserved : goal.loop-terminal-preserved
 loop-terminal-preserved g c =
-    one_made c.args.setup c.args.terminals.now c.loop-terminal.made.items c.push.new.terminals.items c.loop-terminal.terminal-index c.terminal-item.result c.new.result c.loop-terminal.invariant c.loop-terminal-test.true c.terminal-item.is c.new.ensures c.in_ok-push.ensures.ok
+    one_made c.args.setup c.args.terminals.now c.loop-terminal.made.items c.push.new.terminals.items
+    c.loop-terminal.terminal-index c.terminal-item.result c.new.result c.loop-terminal.invariant
+    c.loop-terminal-test.true c.terminal-item.is c.new.ensures c.in_ok-push.ensures.ok
 
 pub returns-clause-value : goal.returns-clause-value
-returns-clause-value g c = all_made c.args.setup c.args.terminals.now c.loop-terminal.made.items c.loop-terminal.terminal-index c.loop-terminal.invariant (omega arith)
+returns-clause-value g c =
+    all_made c.args.setup c.args.terminals.now c.loop-terminal.made.items
+    c.loop-terminal.terminal-index c.loop-terminal.invariant (omega arith)

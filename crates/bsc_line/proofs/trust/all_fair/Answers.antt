@@ -8,10 +8,13 @@ use Rattle.bsc_line.proofs.trust.all_fair.Goals as goal
 
 pub returns-in-Alike : goal.returns-in-Alike
 returns-in-Alike c =
-    subst (λ (x : Hearings). IsTrue c.is_fairly_heard.result ↔ EachOf c.args.count (λ t. IsFairlyHeard c.args.message.now (hearing_of x t)))
-    (sym c.in-Alike.is) (alike c.is_fairly_heard.result _ c.args.count c.requires c.is_fairly_heard.ensures)
+    subst (λ (x : Hearings). IsTrue c.is_fairly_heard.result ↔ EachOf c.args.count
+    (λ t. IsFairlyHeard c.args.message.now (hearing_of x t)))
+    (sym c.in-Alike.is) (alike c.is_fairly_heard.result _ c.args.count c.requires
+    c.is_fairly_heard.ensures)
 
 pub returns-in-Each : goal.returns-in-Each
 returns-in-Each c =
-    subst (λ (x : Hearings). IsTrue c.each_is_fair.result ↔ EachOf c.args.count (λ t. IsFairlyHeard c.args.message.now (hearing_of x t)))
+    subst (λ (x : Hearings). IsTrue c.each_is_fair.result ↔ EachOf c.args.count
+    (λ t. IsFairlyHeard c.args.message.now (hearing_of x t)))
     (sym c.in-Each.is) c.each_is_fair.ensures

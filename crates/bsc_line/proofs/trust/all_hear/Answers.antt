@@ -7,10 +7,12 @@ use Rattle.bsc_line.proofs.trust.all_hear.Goals as goal
 
 pub returns-in-Alike : goal.returns-in-Alike
 returns-in-Alike c =
-    subst (λ (x : Hearings). IsTrue c.is_whole.result ↔ AllHear c.args.count (hearing_of x) c.args.message.now)
+    subst (λ (x : Hearings). IsTrue c.is_whole.result ↔ AllHear c.args.count (hearing_of x)
+    c.args.message.now)
     (sym c.in-Alike.is) (alike c.is_whole.result _ c.args.count c.requires c.is_whole.ensures)
 
 pub returns-in-Each : goal.returns-in-Each
 returns-in-Each c =
-    subst (λ (x : Hearings). IsTrue c.each_hears.result ↔ AllHear c.args.count (hearing_of x) c.args.message.now)
+    subst (λ (x : Hearings). IsTrue c.each_hears.result ↔ AllHear c.args.count (hearing_of x)
+    c.args.message.now)
     (sym c.in-Each.is) c.each_hears.ensures

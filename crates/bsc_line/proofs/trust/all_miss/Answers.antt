@@ -7,10 +7,12 @@ use Rattle.bsc_line.proofs.trust.all_miss.Goals as goal
 
 pub returns-in-Alike : goal.returns-in-Alike
 returns-in-Alike c =
-    subst (λ (x : Hearings). IsTrue c.is_missed.result ↔ EachOf c.args.count (λ t. IsMissed (hearing_of x t)))
+    subst (λ (x : Hearings). IsTrue c.is_missed.result ↔ EachOf c.args.count
+    (λ t. IsMissed (hearing_of x t)))
     (sym c.in-Alike.is) (alike c.is_missed.result _ c.args.count c.requires c.is_missed.ensures)
 
 pub returns-in-Each : goal.returns-in-Each
 returns-in-Each c =
-    subst (λ (x : Hearings). IsTrue c.each_misses.result ↔ EachOf c.args.count (λ t. IsMissed (hearing_of x t)))
+    subst (λ (x : Hearings). IsTrue c.each_misses.result ↔ EachOf c.args.count
+    (λ t. IsMissed (hearing_of x t)))
     (sym c.in-Each.is) c.each_misses.ensures

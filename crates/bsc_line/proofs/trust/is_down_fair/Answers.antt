@@ -6,4 +6,6 @@ use Rattle.bsc_line.proofs.trust.is_down_fair.Goals as goal
 
 pub returns-in-Some : goal.returns-in-Some
 returns-in-Some c =
-    subst (λ (o : Option Transmission). IfSome o (λ (s : Transmission). IsTrue c.is_heard_fairly.result ↔ IsHeardFairly s.message c.args.count (hearing_of c.args.hearings.now))) (sym c.in-Some.is) c.is_heard_fairly.ensures
+    subst (λ (o : Option Transmission). IfSome o
+    (λ (s : Transmission). IsTrue c.is_heard_fairly.result ↔ IsHeardFairly s.message
+    c.args.count (hearing_of c.args.hearings.now))) (sym c.in-Some.is) c.is_heard_fairly.ensures

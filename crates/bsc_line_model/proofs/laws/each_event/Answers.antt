@@ -1,4 +1,7 @@
-use Rattle.bsc_line_model.proofs.EachEvent.{new_line_stays, down_stays, up_stays, silence_stays, offer_at_stays, ready_stays, urgent_at_stays, release_from_stays, offer_for_stays, urgent_for_stays, release_to_stays}
+use Rattle.bsc_line_model.proofs.EachEvent.{new_line_stays, down_stays, up_stays, silence_stays}
+use Rattle.bsc_line_model.proofs.EachEvent.{offer_at_stays, ready_stays, urgent_at_stays}
+use Rattle.bsc_line_model.proofs.EachEvent.{release_from_stays, offer_for_stays, urgent_for_stays}
+use Rattle.bsc_line_model.proofs.EachEvent.{release_to_stays}
 use Rattle.bsc_line_model.proofs.laws.each_event.Goals as goal
 
 pub returns-clause-new_line : goal.returns-clause-new_line
@@ -7,7 +10,11 @@ returns-clause-new_line c = new_line_stays
 pub returns-clause-down : goal.returns-clause-down
 returns-clause-down c =
     down_stays
-    (record { polling = c.own_addresses.ensures.polling; selection = c.own_addresses.ensures.selection })
+    (record {
+      polling = c.own_addresses.ensures.polling;
+      selection =
+          c.own_addresses.ensures.selection;
+    })
     c.bid_laws.ensures
 
 pub returns-clause-up : goal.returns-clause-up

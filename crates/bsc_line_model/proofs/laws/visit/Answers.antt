@@ -9,5 +9,10 @@ returns c = delivers_visit (record {
     next = c.cut_into_blocks.ensures.next;
     rest = c.cut_into_blocks.ensures.rest;
   };
-  names = record { polling = c.own_addresses.ensures.polling; selection = c.own_addresses.ensures.selection };
+  names =
+      record {
+        polling = c.own_addresses.ensures.polling;
+        selection =
+            c.own_addresses.ensures.selection;
+      };
 })

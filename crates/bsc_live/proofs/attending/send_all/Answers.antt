@@ -4,14 +4,19 @@ use Rattle.bsc_live.proofs.Places.{none_passed, one_passed, AllZip-from_places}
 use Rattle.bsc_live.proofs.attending.send_all.Goals as goal
 
 pub connections-init : goal.connections-init
-connections-init g c = none_passed (Sends g.W.Write.contents g.F.Framing.framed c.args.octets.now) c.args.connections.now
+connections-init g c =
+    none_passed (Sends g.W.Write.contents g.F.Framing.framed c.args.octets.now)
+    c.args.connections.now
 
 pub connections-preserved : goal.connections-preserved
 connections-preserved g c =
-    one_passed (Sends g.W.Write.contents g.F.Framing.framed c.args.octets.now) c.args.connections.now c.connections.connections c.connections.connection-index
-    c.connection-item.result c.send.new.self c.connections.auto.connections c.connections-test.true c.send.ensures c.connections.invariant
+    one_passed (Sends g.W.Write.contents g.F.Framing.framed c.args.octets.now)
+    c.args.connections.now c.connections.connections c.connections.connection-index
+    c.connection-item.result c.send.new.self c.connections.auto.connections c.connections-test.true
+    c.send.ensures c.connections.invariant
 
 pub returns : goal.returns
 returns g c =
-    AllZip-from_places (Sends g.W.Write.contents g.F.Framing.framed c.args.octets.now) c.args.connections.now c.connections.connections c.connections.auto.connections
+    AllZip-from_places (Sends g.W.Write.contents g.F.Framing.framed c.args.octets.now)
+    c.args.connections.now c.connections.connections c.connections.auto.connections
     (λ i d below. c.connections.invariant.0 i d (omega (arith, below, c.connections-test.false)))

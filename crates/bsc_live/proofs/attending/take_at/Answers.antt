@@ -4,5 +4,13 @@ use Rattle.bsc_live.proofs.attending.take_at.Goals as goal
 
 pub returns : goal.returns
 returns g c =
-    let there : c.args.place < length c.args.connections.now = omega (arith, c.if-place-connections.false) in
-    inl (_, c.take.new.self, slice_get-get_or c.args.connections.now c.args.place c.index-connections-place.result there, refl, c.take.ensures)
+    let there : c.args.place < length c.args.connections.now =
+    omega (arith, c.if-place-connections.false) in
+    inl (
+      _,
+      c.take.new.self,
+      slice_get-get_or c.args.connections.now c.args.place
+          c.index-connections-place.result there,
+      refl,
+      c.take.ensures,
+    )

@@ -12,8 +12,13 @@ returns-then-is_sent g c =
       record {
         sent = sent;
         acted = acted;
-        sends = goes_out g.W.Write.contents g.F.Framing.framed sent c.silence-is_sent.result c.silence-is_sent.new.wire.items c.args.connections.now c.send_all.new.connections sends c.if-is_sent.true
-            (subst (λ (o : List ℕ). AllZip (Sends g.W.Write.contents g.F.Framing.framed o) c.args.connections.now c.send_all.new.connections) c.deref.ensures.0 c.send_all.ensures);
+        sends =
+            goes_out g.W.Write.contents g.F.Framing.framed sent c.silence-is_sent.result
+            c.silence-is_sent.new.wire.items c.args.connections.now c.send_all.new.connections
+            sends c.if-is_sent.true
+            (subst (λ (o : List ℕ). AllZip (Sends g.W.Write.contents g.F.Framing.framed o)
+            c.args.connections.now c.send_all.new.connections) c.deref.ensures.0
+            c.send_all.ensures);
         happens = refl;
       },
     )
@@ -25,7 +30,9 @@ returns-else-is_sent g c =
       record {
         sent = sent;
         acted = acted;
-        sends = nothing_goes g.W.Write.contents g.F.Framing.framed sent c.silence-is_sent.result _ c.args.connections.now sends c.if-is_sent.false;
+        sends =
+            nothing_goes g.W.Write.contents g.F.Framing.framed sent c.silence-is_sent.result _
+            c.args.connections.now sends c.if-is_sent.false;
         happens = refl;
       },
     )

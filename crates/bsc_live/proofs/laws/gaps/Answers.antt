@@ -7,7 +7,11 @@ pub returns-clause-ended : goal.returns-clause-ended
 returns-clause-ended c = ends_all
 
 pub returns-clause-anew : goal.returns-clause-anew
-returns-clause-anew c = λ old new pieces a. (ap (λ (v : GapsValue). v.begun) a.gap.1, ap (λ (v : GapsValue). v.arrived) a.gap.1)
+returns-clause-anew c =
+    λ old new pieces a. (
+      ap (λ (v : GapsValue). v.begun) a.gap.1,
+      ap (λ (v : GapsValue). v.arrived) a.gap.1,
+    )
 
 pub returns-clause-counted : goal.returns-clause-counted
 returns-clause-counted c = counted_all

@@ -6,4 +6,6 @@ use Rattle.bsc_live.proofs.laws.streams_by_gaps.Goals as goal
 
 pub returns : goal.returns
 returns g c =
-    carries_history g.R.Read.remaining g.W.Write.contents (λ octets. octets) Gathers EndsAtGap (λ (gaps : GapsValue). gaps.complete) GivesByGaps gaps_nothing gaps_both gaps_part gaps_whole gaps_gap g.S.Station.hears g.S.Station.acts _ _ g.T.Waiter.waits
+    carries_history g.R.Read.remaining g.W.Write.contents (λ octets. octets) Gathers EndsAtGap
+    (λ (gaps : GapsValue). gaps.complete) GivesByGaps gaps_nothing gaps_both gaps_part
+    gaps_whole gaps_gap g.S.Station.hears g.S.Station.acts _ _ g.T.Waiter.waits

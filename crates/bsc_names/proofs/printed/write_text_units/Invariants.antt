@@ -5,4 +5,6 @@ use Rattle.bsc_names.specs.Names.{unit_line}
 use Rattle.bsc_names.proofs.printed.write_text_units.Given as goal
 
 abbrev pub invariant-units : goal.invariant-units
-invariant-units g l = Appends (g.W.Write.contents l.initial.out) (g.W.Write.contents l.out) (flat_map unit_line (take l.place l.text.units))
+invariant-units g l =
+    Appends (g.W.Write.contents l.initial.out) (g.W.Write.contents l.out)
+    (flat_map unit_line (take l.place l.text.units))

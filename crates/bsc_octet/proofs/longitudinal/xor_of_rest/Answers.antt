@@ -5,7 +5,8 @@ use Rattle.bsc_octet.proofs.longitudinal.xor_of_rest.Goals as goal
 
 pub loop-octet-preserved : goal.loop-octet-preserved
 loop-octet-preserved c =
-    xor_more c.loop-octet.total c.args.octets.now c.loop-octet.octet-index (omega arith) c.loop-octet.invariant
+    xor_more c.loop-octet.total c.args.octets.now c.loop-octet.octet-index (omega arith)
+    c.loop-octet.invariant
 
 pub returns : goal.returns
 returns c = λ i.

@@ -8,6 +8,11 @@ items-init g c = record { crossed = rw c.new-heard.ensures.items none; count = r
 
 pub items-preserved : goal.items-preserved
 items-preserved g c = record {
-  crossed = rw c.in_ok-push.ensures.items (items_cross_more g.S.Write.contents g.S.Read.remaining (option_map (λ w. w.items)) c.args.items.now c.items.heard.items c.items.terminal c.index-items-terminal.result c.in_ok-word.word c.args.cable.now c.items.cable c.cross_item.new.cable (omega arith) c.index-items-terminal.is c.items.invariant.crossed c.in_ok-word.ensures.crossed);
+  crossed =
+      rw c.in_ok-push.ensures.items (items_cross_more g.S.Write.contents g.S.Read.remaining
+      (option_map (λ w. w.items)) c.args.items.now c.items.heard.items c.items.terminal
+      c.index-items-terminal.result c.in_ok-word.word c.args.cable.now c.items.cable
+      c.cross_item.new.cable (omega arith) c.index-items-terminal.is c.items.invariant.crossed
+      c.in_ok-word.ensures.crossed);
   count = c.cross_item.ensures.count ∙ c.items.invariant.count;
 }

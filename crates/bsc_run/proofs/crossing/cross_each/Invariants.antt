@@ -4,6 +4,7 @@ use Rattle.bsc_run.proofs.crossing.cross_each.Given as goal
 
 abbrev pub invariant-items : goal.invariant-items
 invariant-items g l = record {
-  crossed : ItemsCross g.S.Write.contents g.S.Read.remaining (take l.terminal l.items) (map (option_map (λ w. w.items)) l.heard.items) l.initial.cable l.cable;
+  crossed : ItemsCross g.S.Write.contents g.S.Read.remaining (take l.terminal l.items)
+      (map (option_map (λ w. w.items)) l.heard.items) l.initial.cable l.cable;
   count : connection_count l.cable ≡ connection_count l.initial.cable;
 }

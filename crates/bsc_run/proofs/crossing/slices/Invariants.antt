@@ -3,4 +3,5 @@ use Rattle.bsc_line_model.specs.Hearing.{octets_in}
 use Rattle.bsc_run.proofs.crossing.slices.Given as goal
 
 abbrev pub invariant-words : goal.invariant-words
-invariant-words g l = map octets_in l.slices.items ≡ map (option_map (λ w. w.items)) (take l.word-index l.words)
+invariant-words g l = map octets_in l.slices.items
+    ≡ map (option_map (λ w. w.items)) (take l.word-index l.words)

@@ -7,5 +7,7 @@ use Rattle.bsc_run.proofs.play.play.Given as goal
 abbrev pub invariant-steps : goal.invariant-steps
 invariant-steps g l = record {
   fits : Fits l.line l.cable;
-  played : HasPlayed g.S.Write.contents g.S.Read.remaining (map numbered l.steps) l.initial.line l.initial.cable (drop l.step-index (map numbered l.steps)) l.line l.cable (g.W.Write.contents l.initial.out) (g.W.Write.contents l.out);
+  played : HasPlayed g.S.Write.contents g.S.Read.remaining (map numbered l.steps) l.initial.line
+      l.initial.cable (drop l.step-index (map numbered l.steps)) l.line l.cable
+      (g.W.Write.contents l.initial.out) (g.W.Write.contents l.out);
 }

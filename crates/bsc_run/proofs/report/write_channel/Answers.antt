@@ -14,4 +14,9 @@ returns g c =
     let name = rw c.addresses.ensures.value at c.in_ok-write_channel_name.ensures in
     let doubt = rw (c.doubt_text.ensures, c.in_doubt.ensures.value) at c.in_ok-put.ensures in
     let records = rw c.spooled.ensures.value at c.write_records.ensures in
-    four_on_ok (g.W.Write.contents c.args.out.now) (g.W.Write.contents c.write_channel_name.new.out) (g.W.Write.contents c.write_counts.new.out) (g.W.Write.contents c.put.new.out) (g.W.Write.contents c.write_records.new.out) (channel_name (select_count l t) t way) (counts_shown (channel_of l t way)) (doubt_shown (is_in_doubt (phase_of l t way))) (flat_map record_line (channel_of l t way).spooled) c.write_records.result name c.in_ok-write_counts.ensures doubt records
+    four_on_ok (g.W.Write.contents c.args.out.now) (g.W.Write.contents c.write_channel_name.new.out)
+    (g.W.Write.contents c.write_counts.new.out) (g.W.Write.contents c.put.new.out)
+    (g.W.Write.contents c.write_records.new.out) (channel_name (select_count l t) t way)
+    (counts_shown (channel_of l t way)) (doubt_shown (is_in_doubt (phase_of l t way)))
+    (flat_map record_line (channel_of l t way).spooled) c.write_records.result name
+    c.in_ok-write_counts.ensures doubt records

@@ -3,4 +3,6 @@ use Rattle.bsc_run.specs.Printed.{each_below, terminal_lines}
 use Rattle.bsc_run.proofs.report.write_report.Given as goal
 
 abbrev pub invariant-terminals : goal.invariant-terminals
-invariant-terminals g l = Appends (g.W.Write.contents l.initial.out) (g.W.Write.contents l.out) (each_below (terminal_lines l.line) l.terminal)
+invariant-terminals g l =
+    Appends (g.W.Write.contents l.initial.out) (g.W.Write.contents l.out)
+    (each_below (terminal_lines l.line) l.terminal)

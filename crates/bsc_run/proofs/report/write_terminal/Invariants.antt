@@ -4,4 +4,6 @@ use Rattle.bsc_run.specs.Printed.{each_below, channel_lines}
 use Rattle.bsc_run.proofs.report.write_terminal.Given as goal
 
 abbrev pub invariant-selects : goal.invariant-selects
-invariant-selects g l = Appends (g.W.Write.contents l.initial.out) (g.W.Write.contents l.out) (each_below (λ s. channel_lines l.line l.terminal (ToTerminal s)) l.select)
+invariant-selects g l =
+    Appends (g.W.Write.contents l.initial.out) (g.W.Write.contents l.out)
+    (each_below (λ s. channel_lines l.line l.terminal (ToTerminal s)) l.select)

@@ -4,11 +4,27 @@ use Rattle.bsc_run.proofs.run.run_line.Goals as goal
 
 pub run_on-requires : goal.run_on-requires
 run_on-requires g c =
-    let new = rw (c.setup.ensures.value, c.terminal_list-terminals.ensures.value, c.poll_list-poll_list.ensures.value) at c.in-Ok.ensures.value in
-    new_line_fits c.args.config.now.setup c.args.config.now.terminals c.args.config.now.poll_list c.in-Ok.line c.args.cable.now new c.in-Ok.ensures.line c.requires
+    let new =
+    rw (
+      c.setup.ensures.value,
+      c.terminal_list-terminals.ensures.value,
+      c.poll_list-poll_list.ensures.value,
+    ) at c.in-Ok.ensures.value in
+    new_line_fits c.args.config.now.setup c.args.config.now.terminals c.args.config.now.poll_list
+    c.in-Ok.line c.args.cable.now new c.in-Ok.ensures.line c.requires
 
 pub returns-in-Ok : goal.returns-in-Ok
 returns-in-Ok g c =
-    let new = rw (c.setup.ensures.value, c.terminal_list-terminals.ensures.value, c.poll_list-poll_list.ensures.value) at c.in-Ok.ensures.value in
+    let new =
+    rw (
+      c.setup.ensures.value,
+      c.terminal_list-terminals.ensures.value,
+      c.poll_list-poll_list.ensures.value,
+    ) at c.in-Ok.ensures.value in
     let runs = rw c.steps.ensures at c.run_on.ensures.does in
-    where_whole c.run_on.result (λ r. record { begun = c.in-Ok.line; ended = c.run_on.new.line; new_line = new; runs = r }) runs
+    where_whole c.run_on.result (λ r. record {
+      begun = c.in-Ok.line;
+      ended = c.run_on.new.line;
+      new_line = new;
+      runs = r;
+    }) runs

@@ -8,15 +8,23 @@ use Rattle.bsc_script.proofs.number.number.Goals as goal
 pub overflow_add-number : goal.overflow_add-number
 overflow_add-number c =
     let digits : has_digits c.args.most c.args.word.now ≡ true = sym c.if-not-has_digits.ensures in
-    let front : c.loop-digit.number ≡ digits_value 10 (take c.loop-digit.digit-index c.args.word.now) = c.loop-digit.invariant in
-    let small = below_thousand c.args.most c.args.word.now c.loop-digit.digit-index c.requires digits in
-    let digit = digit_at c.args.most c.args.word.now c.loop-digit.digit-index digits c.loop-digit-test.true in
+    let front : c.loop-digit.number ≡ digits_value 10
+    (take c.loop-digit.digit-index c.args.word.now) = c.loop-digit.invariant in
+    let small =
+    below_thousand c.args.most c.args.word.now c.loop-digit.digit-index c.requires digits in
+    let digit =
+    digit_at c.args.most c.args.word.now c.loop-digit.digit-index digits
+    c.loop-digit-test.true in
     omega arith
 
 pub loop-digit-preserved : goal.loop-digit-preserved
 loop-digit-preserved c =
     let digits : has_digits c.args.most c.args.word.now ≡ true = sym c.if-not-has_digits.ensures in
-    let front : c.loop-digit.number ≡ digits_value 10 (take c.loop-digit.digit-index c.args.word.now) = c.loop-digit.invariant in
-    let more = digits_value_more 10 c.args.word.now c.loop-digit.digit-index c.loop-digit-test.true in
-    let digit = digit_at c.args.most c.args.word.now c.loop-digit.digit-index digits c.loop-digit-test.true in
+    let front : c.loop-digit.number ≡ digits_value 10
+    (take c.loop-digit.digit-index c.args.word.now) = c.loop-digit.invariant in
+    let more =
+    digits_value_more 10 c.args.word.now c.loop-digit.digit-index c.loop-digit-test.true in
+    let digit =
+    digit_at c.args.most c.args.word.now c.loop-digit.digit-index digits
+    c.loop-digit-test.true in
     omega arith

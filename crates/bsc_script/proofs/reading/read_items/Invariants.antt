@@ -5,7 +5,8 @@ use Rattle.bsc_script.proofs.ItemLemmas.{after_items}
 use Rattle.bsc_script.proofs.reading.read_items.Given as goal
 
 abbrev pub invariant-words : goal.invariant-words
-invariant-words g l = items_of (words_of l.text) ≡ after_items l.items.items (items_of (words_of l.left))
+invariant-words g l = items_of (words_of l.text)
+    ≡ after_items l.items.items (items_of (words_of l.left))
 
 abbrev pub decreases-words : goal.decreases-words
 decreases-words g l = length l.left

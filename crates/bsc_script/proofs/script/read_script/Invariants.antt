@@ -6,7 +6,8 @@ use Rattle.bsc_script.proofs.script.read_script.Given as goal
 
 abbrev pub invariant-lines : goal.invariant-lines
 invariant-lines g l = record {
-  events : events_of l.text ≡ after_these (map numbered l.steps.items) (events_from (l.before + 1) (lines_of l.left));
+  events : events_of l.text ≡ after_these (map numbered l.steps.items)
+      (events_from (l.before + 1) (lines_of l.left));
   counted : l.before + length l.left ≤ length l.text;
 }
 

@@ -8,4 +8,6 @@ use Rattle.bsc_station.proofs.arrivals.print_records.Given as goal
 abbrev pub invariant-records : goal.invariant-records
 invariant-records g l =
     Appends (g.W.Write.contents l.initial.out) (g.W.Write.contents l.out)
-    (flat_map (arrival_line l.form (channel_name l.channel.addresses l.channel.number l.channel.way)) (take l.record-index l.records))
+    (flat_map
+    (arrival_line l.form (channel_name l.channel.addresses l.channel.number l.channel.way))
+    (take l.record-index l.records))

@@ -5,8 +5,10 @@ use Rattle.bsc_station.proofs.offering.offer_at_terminal.Given as goal
 
 abbrev pub invariant-loop-record : goal.invariant-loop-record
 invariant-loop-record g l = record {
-  items : l.yielded ++ into_iter_items l.record-iterator ≡ into_iter_items l.initial.record-iterator;
+  items : l.yielded ++ into_iter_items l.record-iterator
+      ≡ into_iter_items l.initial.record-iterator;
   short : AreShort l.terminal.tributary.queue.format.full (into_iter_items l.record-iterator);
   format : l.terminal.tributary.queue.format ≡ l.initial.terminal.tributary.queue.format;
-  offered : l.terminal.tributary.queue.offered ≡ l.initial.terminal.tributary.queue.offered ++ l.yielded;
+  offered : l.terminal.tributary.queue.offered ≡ l.initial.terminal.tributary.queue.offered
+      ++ l.yielded;
 }

@@ -7,7 +7,8 @@ use Rattle.bsc_station.proofs.offering.offer_for_terminal.Given as goal
 
 abbrev pub invariant-loop-record : goal.invariant-loop-record
 invariant-loop-record g l = record {
-  items : l.yielded ++ into_iter_items l.record-iterator ≡ into_iter_items l.initial.record-iterator;
+  items : l.yielded ++ into_iter_items l.record-iterator
+      ≡ into_iter_items l.initial.record-iterator;
   short : AreShort l.control.setup.format.full (into_iter_items l.record-iterator);
   peers : l.terminal < length l.control.peers;
   selects : l.select < length (peer_at l.control l.terminal).outbounds;

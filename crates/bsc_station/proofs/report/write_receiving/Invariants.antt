@@ -5,4 +5,6 @@ use Rattle.bsc_run.specs.Printed.{record_line}
 use Rattle.bsc_station.proofs.report.write_receiving.Given as goal
 
 abbrev pub invariant-records : goal.invariant-records
-invariant-records g l = Appends (g.W.Write.contents l.initial.out) (g.W.Write.contents l.out) (flat_map record_line (take l.record-index l.records))
+invariant-records g l =
+    Appends (g.W.Write.contents l.initial.out) (g.W.Write.contents l.out)
+    (flat_map record_line (take l.record-index l.records))

@@ -4,4 +4,6 @@ use Rattle.bsc_station.proofs.standings.station_standing.Given as goal
 
 abbrev pub invariant-terminals : goal.invariant-terminals
 invariant-terminals g l =
-    l.standing ≡ together (standing_of false false) (λ t. terminal_standing (g.P.Party.selects l.station t) (g.P.Party.ends l.station t)) l.terminal
+    l.standing ≡ together (standing_of false false)
+    (λ t. terminal_standing (g.P.Party.selects l.station t) (g.P.Party.ends l.station t))
+    l.terminal

@@ -6,4 +6,5 @@ use Rattle.bsc_station.proofs.standings.terminal_standing.Given as goal
 abbrev pub invariant-selects : goal.invariant-selects
 invariant-selects g l =
     let ends = g.P.Party.ends l.station l.terminal in
-    l.standing ≡ together (standing_at (ends FromTerminal)) (λ s. standing_at (ends (ToTerminal s))) l.select
+    l.standing ≡ together (standing_at (ends FromTerminal)) (λ s. standing_at (ends (ToTerminal s)))
+    l.select

@@ -1,4 +1,7 @@
-use Rattle.bsc_text.proofs.StepLemmas.{hearing_agrees, answering_agrees, silence_agrees, begin_agrees, offer_agrees, offer_keeps_rest, release_keeps_rest, agreement_is_sound, loss_agrees, outward_is_text_or_enq, reply_is_last}
+use Rattle.bsc_text.proofs.StepLemmas.{hearing_agrees, answering_agrees, silence_agrees}
+use Rattle.bsc_text.proofs.StepLemmas.{begin_agrees, offer_agrees, offer_keeps_rest}
+use Rattle.bsc_text.proofs.StepLemmas.{release_keeps_rest, agreement_is_sound, loss_agrees}
+use Rattle.bsc_text.proofs.StepLemmas.{outward_is_text_or_enq, reply_is_last}
 use Rattle.bsc_text.proofs.FitLemmas.{fits_begin, fits_reply, fits_silence}
 use Rattle.bsc_text.proofs.KeepLemmas.{keeps_begin, keeps_reply, keeps_silence}
 use Rattle.bsc_text.proofs.Answering.{busy}
@@ -56,4 +59,5 @@ pub returns-clause-fits : goal.returns-clause-fits
 returns-clause-fits c = record { begin = fits_begin; reply = fits_reply; silence = fits_silence }
 
 pub returns-clause-keeps : goal.returns-clause-keeps
-returns-clause-keeps c = record { begin = keeps_begin; reply = keeps_reply; silence = keeps_silence }
+returns-clause-keeps c =
+    record { begin = keeps_begin; reply = keeps_reply; silence = keeps_silence }

@@ -1,7 +1,9 @@
-use Rattle.bsc_text.proofs.BlockLemmas.{sends_its_blocks, hears_its_blocks, ends_knowing, release_ends_doubt}
+use Rattle.bsc_text.proofs.BlockLemmas.{sends_its_blocks, hears_its_blocks, ends_knowing}
+use Rattle.bsc_text.proofs.BlockLemmas.{release_ends_doubt}
 use Rattle.bsc_text.proofs.DoubtLemmas.{doubts_at_silence}
 use Rattle.bsc_text.proofs.TurnCount.{ends_soon}
-use Rattle.bsc_text.proofs.Turning.{LawsBelow, stays_ready, stays_sound, sound_within_turns, only_moves}
+use Rattle.bsc_text.proofs.Turning.{LawsBelow, stays_ready, stays_sound, sound_within_turns}
+use Rattle.bsc_text.proofs.Turning.{only_moves}
 use Rattle.bsc_text.proofs.laws.one_bid.Goals as goal
 
 -- what the calls of the laws below ensure

@@ -8,13 +8,15 @@ pub returns-then-not-is_first : goal.returns-then-not-is_first
 returns-then-not-is_first c = (
   λ yes. absurd (cc),
   λ distinct. sym c.if-not-is_first.true
-      ∙ c.is_first.ensures.1 (is-selection_at c.args.terminal.now c.loop-select.select distinct (omega arith)),
+      ∙ c.is_first.ensures.1 (is-selection_at c.args.terminal.now c.loop-select.select distinct
+      (omega arith)),
 )
 
 pub loop-select-preserved : goal.loop-select-preserved
 loop-select-preserved c =
     below_more (λ k. called_as c.args.terminal.now (get_or c.args.terminal.now.selects k []) ≡
-    Selection k) c.loop-select.select c.loop-select.invariant (c.is_first.ensures.0 c.if-not-is_first.false)
+    Selection k) c.loop-select.select c.loop-select.invariant
+    (c.is_first.ensures.0 c.if-not-is_first.false)
 
 pub returns : goal.returns
 returns c = (

@@ -4,4 +4,5 @@ use Rattle.bsc_tributary.specs.Called.{called_as}
 use Rattle.bsc_tributary.proofs.called.addresses_differ.Given as goal
 
 abbrev pub invariant-loop-select : goal.invariant-loop-select
-invariant-loop-select l = (k : ℕ) → k < l.select → called_as l.terminal (get_or l.terminal.selects k []) ≡ Selection k
+invariant-loop-select l = (k : ℕ) → k < l.select
+    → called_as l.terminal (get_or l.terminal.selects k []) ≡ Selection k

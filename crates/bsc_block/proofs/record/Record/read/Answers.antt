@@ -5,4 +5,8 @@ use Rattle.bsc_block.proofs.record.Record.read.Goals as goal
 
 pub of-requires : goal.of-requires
 of-requires c =
-    record { most = omega arith; each = no_wrong is_record_char c.args.codes.now (sym c.wrong_place.ensures ∙ c.in_default.is) }
+    record {
+      most = omega arith;
+      each =
+          no_wrong is_record_char c.args.codes.now (sym c.wrong_place.ensures ∙ c.in_default.is);
+    }

@@ -9,6 +9,9 @@ pub returns-clause-exact : goal.returns-clause-exact
 returns-clause-exact g c =
     λ t way.
     let iff = owner_iff (terminals c.args.self.now) t way c.args.address.now in
-    let same = c.self.invariant.1 ∙ ap (λ (v : ControlValue). numbered 0 (terminals v)) c.self.view_is in
-    let P = λ (es : List Owner). Contains es (c.args.address.now, (t, way)) in
-    (λ e. iff.0 (subst P same ((c.find.ensures t way).0 e)), λ h. (c.find.ensures t way).1 (subst P (sym same) (iff.1 h)))
+    let same =
+    c.self.invariant.1 ∙ ap (λ (v : ControlValue). numbered 0 (terminals v)) c.self.view_is in
+    let P = λ (es : List Owner). Contains es (c.args.address.now, (t, way)) in (
+      λ e. iff.0 (subst P same ((c.find.ensures t way).0 e)),
+      λ h. (c.find.ensures t way).1 (subst P (sym same) (iff.1 h)),
+    )

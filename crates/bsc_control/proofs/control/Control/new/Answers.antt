@@ -6,7 +6,8 @@ use Rattle.bsc_control.proofs.NewControls.{new_control}
 use Rattle.bsc_control.proofs.control.Control.new.Given as given
 use Rattle.bsc_control.proofs.control.Control.new.Goals as goal
 
-accepted : (g : given.Over) (c : goal.In_ok-procedure g) → IsAccepted c.args.terminals.now c.args.poll_list.now
+accepted : (g : given.Over) (c : goal.In_ok-procedure g)
+    → IsAccepted c.args.terminals.now c.args.poll_list.now
 accepted g c =
     record {
       number = record { some = search rules; few = c.if-terminals-gt-MAX_TERMINALS.false };
@@ -18,10 +19,16 @@ accepted g c =
 is_control : (g : given.Over) (c : goal.In_ok-procedure g) → IsControl c.in_ok-procedure.procedure
 is_control g c =
     let a = accepted g c in
-    new_control c.args.setup c.args.terminals.now c.args.poll_list.now c.in_ok-procedure.procedure a.number a.distinct a.right c.in_ok-procedure.ensures.entries c.in_ok-procedure.ensures.value
+    new_control c.args.setup c.args.terminals.now c.args.poll_list.now c.in_ok-procedure.procedure
+    a.number a.distinct a.right c.in_ok-procedure.ensures.entries
+    c.in_ok-procedure.ensures.value
 
 pub invariant_of-result : goal.invariant_of-result
-invariant_of-result g c = (is_control g c, c.in_ok-directory.ensures.entries ∙ ap (numbered 0) (sym c.in_ok-procedure.ensures.value.terminals_given))
+invariant_of-result g c = (
+  is_control g c,
+  c.in_ok-directory.ensures.entries
+      ∙ ap (numbered 0) (sym c.in_ok-procedure.ensures.value.terminals_given),
+)
 
 pub returns-clause-accepted : goal.returns-clause-accepted
 returns-clause-accepted g c = accepted g c

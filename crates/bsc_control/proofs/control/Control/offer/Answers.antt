@@ -2,7 +2,8 @@ use Rattle.std.proofs.Common.{◌<◌, length, sym, ◌∙◌, ap}
 use Rattle.bsc_control.specs.Addresses.{numbered}
 use Rattle.bsc_control.specs.Control.{peer_at}
 use Rattle.bsc_control.proofs.Controls.{keeps_outbound-offer}
-use Rattle.bsc_control.proofs.Reached.{peer_reached, outbound_reached, stays-reached, unchanged-reached}
+use Rattle.bsc_control.proofs.Reached.{peer_reached, outbound_reached, stays-reached}
+use Rattle.bsc_control.proofs.Reached.{unchanged-reached}
 use Rattle.bsc_control.proofs.control.Control.offer.Goals as goal
 
 pub invariant_of-self : goal.invariant_of-self
@@ -11,10 +12,12 @@ invariant_of-self g c =
     rw c.self.view_is c.requires.terminal in
     let there : c.args.select < length (peer_at c.self.inside.procedure c.args.terminal).outbounds =
     rw c.self.view_is c.requires.select in
-    let peer = peer_reached c.procedure.view_is within c.peer.view_is c.index_mut-peer.ensures.value in
+    let peer =
+    peer_reached c.procedure.view_is within c.peer.view_is c.index_mut-peer.ensures.value in
     let reached = outbound_reached peer there c.index_mut-outbound.ensures.value in
     let keeps =
-    keeps_outbound-offer c.offer.result c.index_mut-outbound.result.now c.offer.new.self c.args.record
+    keeps_outbound-offer c.offer.result c.index_mut-outbound.result.now c.offer.new.self
+    c.args.record
     c.offer.ensures.ok c.offer.ensures.err in
     let stays = stays-reached c.self.invariant.0 reached c.offer.ensures.outbound keeps in
     (stays.control, c.self.invariant.1 ∙ ap (numbered 0) (sym stays.same))
@@ -25,9 +28,11 @@ returns-clause-err g c =
     rw c.self.view_is c.requires.terminal in
     let there : c.args.select < length (peer_at c.self.inside.procedure c.args.terminal).outbounds =
     rw c.self.view_is c.requires.select in
-    let peer = peer_reached c.procedure.view_is within c.peer.view_is c.index_mut-peer.ensures.value in
+    let peer =
+    peer_reached c.procedure.view_is within c.peer.view_is c.index_mut-peer.ensures.value in
     let reached = outbound_reached peer there c.index_mut-outbound.ensures.value in
-    rw (← c.self.view_is) (unchanged-reached c.offer.result c.offer.new.self reached c.offer.ensures.err)
+    rw (← c.self.view_is) (unchanged-reached c.offer.result c.offer.new.self reached
+    c.offer.ensures.err)
 
 pub returns-clause-control : goal.returns-clause-control
 returns-clause-control g c = (invariant_of-self g c).0

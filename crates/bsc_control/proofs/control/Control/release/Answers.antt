@@ -9,16 +9,19 @@ use Rattle.bsc_control.proofs.control.Control.release.Goals as goal
 pub invariant_of-procedure : goal.invariant_of-procedure
 invariant_of-procedure g c =
     let peer =
-    peer-with_outbound _ c.select.result c.release.new.self c.release.ensures.outbound c.peer.invariant in
+    peer-with_outbound _ c.select.result c.release.new.self c.release.ensures.outbound
+    c.peer.invariant in
     entries-with_peer _ c.args.terminal _ peer c.procedure.invariant
 
 pub invariant_of-self : goal.invariant_of-self
 invariant_of-self g c =
     let within : c.args.terminal < length c.self.inside.procedure.peers =
     rw c.self.view_is c.requires.terminal in
-    let there : c.select.result < length (peer_at c.self.inside.procedure c.args.terminal).outbounds =
+    let there : c.select.result < length
+    (peer_at c.self.inside.procedure c.args.terminal).outbounds =
     rw (c.select.ensures, c.self.view_is) (selection_there c.args.way _ c.requires.way) in
-    let peer = peer_reached c.procedure.view_is within c.peer.view_is c.index_mut-peer.ensures.value in
+    let peer =
+    peer_reached c.procedure.view_is within c.peer.view_is c.index_mut-peer.ensures.value in
     let reached = outbound_reached peer there c.index_mut-outbound.ensures.value in
     let keeps =
     keeps_outbound-release c.index_mut-outbound.result.now c.release.new.self c.args.count

@@ -7,7 +7,8 @@ pub invariant_of-self : goal.invariant_of-self
 invariant_of-self g c =
     let within : c.args.terminal < length c.self.inside.procedure.peers =
     rw c.self.view_is c.requires in
-    let peer = peer_reached c.procedure.view_is within c.peer.view_is c.index_mut-peer.ensures.value in
+    let peer =
+    peer_reached c.procedure.view_is within c.peer.view_is c.index_mut-peer.ensures.value in
     let stays = stays-flag c.self.invariant.0 peer in
     (stays.control, c.self.invariant.1 ∙ ap (numbered 0) (sym stays.same))
 

@@ -5,4 +5,5 @@ use Rattle.bsc_control.specs.Addresses.{numbered_selects}
 use Rattle.bsc_control.proofs.directory.Directory.enter_all.Given as goal
 
 abbrev pub invariant-loop-select : goal.invariant-loop-select
-invariant-loop-select g l = l.self ≡ l.fn.self ++ (l.terminal.poll, (l.number, FromTerminal)) ∷ numbered_selects l.number 0 (take l.select l.terminal.selects)
+invariant-loop-select g l = l.self ≡ l.fn.self ++ (l.terminal.poll, (l.number, FromTerminal))
+    ∷ numbered_selects l.number 0 (take l.select l.terminal.selects)

@@ -6,8 +6,11 @@ use Rattle.bsc_embed.proofs.content.StoredUnit.put.Goals as goal
 
 pub returns-clause-unit : goal.returns-clause-unit
 returns-clause-unit c =
-    rw c.copy_from_slice.ensures.after (unit_put (text_unit c.args.unit) c.args.self.now.chars c.requires)
+    rw c.copy_from_slice.ensures.after
+    (unit_put (text_unit c.args.unit) c.args.self.now.chars c.requires)
 
 pub returns-clause-kept : goal.returns-clause-kept
 returns-clause-kept c =
-    rw c.copy_from_slice.ensures.after (drop-append_seam c.args.unit.chars.now (drop (length c.args.unit.chars.now) c.args.self.now.chars))
+    rw c.copy_from_slice.ensures.after
+    (drop-append_seam c.args.unit.chars.now
+    (drop (length c.args.unit.chars.now) c.args.self.now.chars))

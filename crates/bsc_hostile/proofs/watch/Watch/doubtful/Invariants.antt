@@ -5,4 +5,5 @@ use Rattle.bsc_hostile.proofs.watch.Watch.doubtful.Given as goal
 
 abbrev pub invariant-loop-channel : goal.invariant-loop-channel
 invariant-loop-channel l =
-    first_in_doubt l.self.channels.items ≡ first_in_doubt (drop l.channel-index l.self.channels.items)
+    first_in_doubt l.self.channels.items
+    ≡ first_in_doubt (drop l.channel-index l.self.channels.items)

@@ -1,4 +1,5 @@
-use Rattle.std.proofs.Common.{◌≡◌, ℕ, ◌+◌, ◌<◌, ◌≤◌, List, [], ◌∷◌, ◌++◌, length, take, get_or, refl, sym, ap, subst, add-one, take_all}
+use Rattle.std.proofs.Common.{◌≡◌, ℕ, ◌+◌, ◌<◌, ◌≤◌, List, [], ◌∷◌, ◌++◌, length, take, get_or}
+use Rattle.std.proofs.Common.{refl, sym, ap, subst, add-one, take_all}
 use Rattle.std.proofs.Math.Seq.{take-suc}
 use Rattle.std.proofs.lemmas.List.Elements.{All-push}
 use Rattle.std.specs.List.{All}
@@ -19,8 +20,10 @@ loop-channel-preserved g c =
     let same = c.deref-channel-items.ensures.value in
     all_more (IsAsSeen c.args.line.now c.args.self.now.trusted) c.args.self.now.channels.items
     c.loop-channel.channel-index c.channel-item.result
-    (subst (λ (cs : List Channel). c.loop-channel.channel-index < length cs) same c.loop-channel-test.true)
-    (subst (λ (cs : List Channel). c.channel-item.result ≡ get_or cs c.loop-channel.channel-index c.channel-item.result) same c.channel-item.is)
+    (subst (λ (cs : List Channel). c.loop-channel.channel-index < length cs) same
+    c.loop-channel-test.true)
+    (subst (λ (cs : List Channel). c.channel-item.result
+    ≡ get_or cs c.loop-channel.channel-index c.channel-item.result) same c.channel-item.is)
     c.loop-channel.invariant
     (c.in_ok-see_records.ensures.seen.0 refl)
 

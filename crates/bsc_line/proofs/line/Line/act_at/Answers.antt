@@ -6,26 +6,42 @@ use Rattle.bsc_line.proofs.Carrying.{acted_at}
 use Rattle.bsc_line.proofs.line.Line.act_at.Given as given
 use Rattle.bsc_line.proofs.line.Line.act_at.Goals as goal
 
-there : (g : given.Over) (c : goal.After-show g) → c.args.terminal < length c.self.inside.terminals.items
-there g c = subst (λ (l : LineValue). c.args.terminal < terminal_count l) (sym c.self.view_is) c.requires.there
+there : (g : given.Over) (c : goal.After-show g) → c.args.terminal
+    < length c.self.inside.terminals.items
+there g c =
+    subst (λ (l : LineValue). c.args.terminal < terminal_count l) (sym c.self.view_is)
+    c.requires.there
 
 acted : (g : given.Over) (c : goal.After-show g) →
-    TerminalActsAlone c.args.terminal (line_of c.self.inside.control c.self.inside.terminals.items c.self.inside.sent c.self.inside.trusted c.self.inside.addressed)
-    (line_of c.self.inside.control (slice_set c.self.inside.terminals.items c.args.terminal c.act.new.self) c.by-self-inside.result c.self.inside.trusted c.self.inside.addressed)
+    TerminalActsAlone c.args.terminal (line_of c.self.inside.control c.self.inside.terminals.items
+    c.self.inside.sent c.self.inside.trusted c.self.inside.addressed)
+    (line_of c.self.inside.control (slice_set c.self.inside.terminals.items c.args.terminal
+    c.act.new.self) c.by-self-inside.result c.self.inside.trusted c.self.inside.addressed)
 acted g c =
-    acted_at (line_of c.self.inside.control c.self.inside.terminals.items c.self.inside.sent c.self.inside.trusted c.self.inside.addressed) c.args.terminal c.index_mut-station.result.now c.act.new.self c.act.new.sent c.by-self-inside.result
-    (there g c) c.index_mut-station.ensures.value c.act.ensures.row c.act.ensures.after c.by-self-inside.ensures
+    acted_at (line_of c.self.inside.control c.self.inside.terminals.items c.self.inside.sent
+    c.self.inside.trusted c.self.inside.addressed) c.args.terminal
+    c.index_mut-station.result.now c.act.new.self c.act.new.sent c.by-self-inside.result
+    (there g c) c.index_mut-station.ensures.value c.act.ensures.row c.act.ensures.after
+    c.by-self-inside.ensures
 
 pub invariant_of-self : goal.invariant_of-self
 invariant_of-self g c =
-    let owner : Some c.args.terminal ≡ line_owner c.self.inside.terminals.items = sym (ap (λ (l : LineValue). line_owner l.terminals) c.self.view_is ∙ c.requires.owner) in (
-      c.each_event.ensures.silence (line_of c.self.inside.control c.self.inside.terminals.items c.self.inside.sent c.self.inside.trusted c.self.inside.addressed)
-          (line_of c.self.inside.control (slice_set c.self.inside.terminals.items c.args.terminal c.act.new.self) c.by-self-inside.result c.self.inside.trusted c.self.inside.addressed) c.self.invariant.0
+    let owner : Some c.args.terminal ≡ line_owner c.self.inside.terminals.items =
+    sym (ap (λ (l : LineValue). line_owner l.terminals) c.self.view_is ∙ c.requires.owner) in (
+      c.each_event.ensures.silence (line_of c.self.inside.control c.self.inside.terminals.items
+          c.self.inside.sent c.self.inside.trusted c.self.inside.addressed)
+          (line_of c.self.inside.control (slice_set c.self.inside.terminals.items c.args.terminal
+          c.act.new.self) c.by-self-inside.result c.self.inside.trusted c.self.inside.addressed)
+          c.self.invariant.0
           (record {
             nothing = ap (λ (l : LineValue). l.pending) c.self.view_is ∙ c.requires.nothing;
             acts = subst
-                (λ (o : Option ℕ). OwnerActs o (line_of c.self.inside.control c.self.inside.terminals.items c.self.inside.sent c.self.inside.trusted c.self.inside.addressed)
-                (line_of c.self.inside.control (slice_set c.self.inside.terminals.items c.args.terminal c.act.new.self) c.by-self-inside.result c.self.inside.trusted c.self.inside.addressed))
+                (λ (o : Option ℕ). OwnerActs o
+                (line_of c.self.inside.control c.self.inside.terminals.items c.self.inside.sent
+                c.self.inside.trusted c.self.inside.addressed)
+                (line_of c.self.inside.control
+                (slice_set c.self.inside.terminals.items c.args.terminal c.act.new.self)
+                c.by-self-inside.result c.self.inside.trusted c.self.inside.addressed))
                 owner (acted g c);
           }),
       c.show.ensures,

@@ -7,26 +7,36 @@ use Rattle.bsc_line.proofs.line.Line.act_at_control.Given as given
 use Rattle.bsc_line.proofs.line.Line.act_at_control.Goals as goal
 
 acted : (g : given.Over) (c : goal.After-show g) →
-    ControlActsAlone (line_of c.self.inside.control c.self.inside.terminals.items c.self.inside.sent c.self.inside.trusted c.self.inside.addressed)
-    (line_of c.act.new.self c.self.inside.terminals.items c.by-self-inside.result c.self.inside.trusted c.self.inside.addressed)
+    ControlActsAlone (line_of c.self.inside.control c.self.inside.terminals.items c.self.inside.sent
+    c.self.inside.trusted c.self.inside.addressed)
+    (line_of c.act.new.self c.self.inside.terminals.items c.by-self-inside.result
+    c.self.inside.trusted c.self.inside.addressed)
 acted g c =
     record {
       sent = c.act.new.sent;
       row = c.act.ensures.row;
       kept = c.act.ensures.after;
-      becomes = ap (λ (o : Option Transmission). line_of c.act.new.self c.self.inside.terminals.items o c.self.inside.trusted c.self.inside.addressed) c.by-self-inside.ensures;
+      becomes =
+          ap (λ (o : Option Transmission). line_of c.act.new.self c.self.inside.terminals.items o
+          c.self.inside.trusted c.self.inside.addressed) c.by-self-inside.ensures;
     }
 
 pub invariant_of-self : goal.invariant_of-self
 invariant_of-self g c =
-    let nobody : None ≡ line_owner c.self.inside.terminals.items = sym (ap (λ (l : LineValue). line_owner l.terminals) c.self.view_is ∙ c.requires.nobody) in (
-      c.each_event.ensures.silence (line_of c.self.inside.control c.self.inside.terminals.items c.self.inside.sent c.self.inside.trusted c.self.inside.addressed)
-          (line_of c.act.new.self c.self.inside.terminals.items c.by-self-inside.result c.self.inside.trusted c.self.inside.addressed) c.self.invariant.0
+    let nobody : None ≡ line_owner c.self.inside.terminals.items =
+    sym (ap (λ (l : LineValue). line_owner l.terminals) c.self.view_is ∙ c.requires.nobody) in (
+      c.each_event.ensures.silence (line_of c.self.inside.control c.self.inside.terminals.items
+          c.self.inside.sent c.self.inside.trusted c.self.inside.addressed)
+          (line_of c.act.new.self c.self.inside.terminals.items c.by-self-inside.result
+          c.self.inside.trusted c.self.inside.addressed) c.self.invariant.0
           (record {
             nothing = ap (λ (l : LineValue). l.pending) c.self.view_is ∙ c.requires.nothing;
             acts = subst
-                (λ (o : Option ℕ). OwnerActs o (line_of c.self.inside.control c.self.inside.terminals.items c.self.inside.sent c.self.inside.trusted c.self.inside.addressed)
-                (line_of c.act.new.self c.self.inside.terminals.items c.by-self-inside.result c.self.inside.trusted c.self.inside.addressed))
+                (λ (o : Option ℕ). OwnerActs o
+                (line_of c.self.inside.control c.self.inside.terminals.items c.self.inside.sent
+                c.self.inside.trusted c.self.inside.addressed)
+                (line_of c.act.new.self c.self.inside.terminals.items c.by-self-inside.result
+                c.self.inside.trusted c.self.inside.addressed))
                 nobody (acted g c);
           }),
       c.show.ensures,

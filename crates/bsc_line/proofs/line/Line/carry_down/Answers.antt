@@ -11,34 +11,55 @@ use Rattle.bsc_line.proofs.line.Line.carry_down.Goals as goal
 
 pub is_down_fair-fair-requires : goal.is_down_fair-fair-requires
 is_down_fair-fair-requires g c =
-    let some : 0 < length c.self.inside.terminals.items = some_terminal c.self.inside.control c.self.inside.terminals.items c.self.invariant.0.stations in
+    let some : 0 < length c.self.inside.terminals.items =
+    some_terminal c.self.inside.control c.self.inside.terminals.items
+    c.self.invariant.0.stations in
     omega arith
 
 pub addressed_after-self-inside-requires : goal.addressed_after-self-inside-requires
 addressed_after-self-inside-requires g c =
-    let some : 0 < length c.self.inside.terminals.items = some_terminal c.self.inside.control c.self.inside.terminals.items c.self.invariant.0.stations in
+    let some : 0 < length c.self.inside.terminals.items =
+    some_terminal c.self.inside.control c.self.inside.terminals.items
+    c.self.invariant.0.stations in
     omega arith
 
 -- the count is that of the terminals
-counted : (g : given.Over) (c : goal.After-show g) → c.len-count.result ≡ length c.self.inside.terminals.items
+counted : (g : given.Over) (c : goal.After-show g) → c.len-count.result
+    ≡ length c.self.inside.terminals.items
 counted g c = omega arith
 
-trusted : (g : given.Over) (c : goal.After-show g) (s : Transmission) → c.self.inside.sent ≡ Some s →
-    IsTrustAfter c.self.inside.trusted (IsHeardFairly s.message (length c.self.inside.terminals.items) (hearing_of c.args.hearings.now)) c.both-self-inside.result
+trusted : (g : given.Over) (c : goal.After-show g) (s : Transmission) → c.self.inside.sent ≡ Some s
+    →
+    IsTrustAfter c.self.inside.trusted
+    (IsHeardFairly s.message (length c.self.inside.terminals.items)
+    (hearing_of c.args.hearings.now)) c.both-self-inside.result
 trusted g c s e =
-    subst (λ (n : ℕ). IsTrustAfter c.self.inside.trusted (IsHeardFairly s.message n (hearing_of c.args.hearings.now)) c.both-self-inside.result) (counted g c)
-    (trust_after c.self.inside.trusted c.is_down_fair-fair.result c.both-self-inside.result (IsHeardFairly s.message c.len-count.result (hearing_of c.args.hearings.now)) c.both-self-inside.ensures
-    (of_some (λ (z : Transmission). IsTrue c.is_down_fair-fair.result ↔ IsHeardFairly z.message c.len-count.result (hearing_of c.args.hearings.now)) c.self.inside.sent s c.is_down_fair-fair.ensures e))
+    subst (λ (n : ℕ). IsTrustAfter c.self.inside.trusted
+    (IsHeardFairly s.message n (hearing_of c.args.hearings.now)) c.both-self-inside.result)
+    (counted g c)
+    (trust_after c.self.inside.trusted c.is_down_fair-fair.result c.both-self-inside.result
+    (IsHeardFairly s.message c.len-count.result (hearing_of c.args.hearings.now))
+    c.both-self-inside.ensures
+    (of_some (λ (z : Transmission). IsTrue c.is_down_fair-fair.result ↔ IsHeardFairly z.message
+    c.len-count.result (hearing_of c.args.hearings.now)) c.self.inside.sent s
+    c.is_down_fair-fair.ensures e))
 
 addressed : (g : given.Over) (c : goal.After-show g) →
-    IsAddressedAfter (addresses_of c.self.inside.control) (length c.self.inside.terminals.items) (hearing_of c.args.hearings.now) c.self.inside.addressed c.addressed_after-self-inside.result
+    IsAddressedAfter (addresses_of c.self.inside.control) (length c.self.inside.terminals.items)
+    (hearing_of c.args.hearings.now) c.self.inside.addressed
+    c.addressed_after-self-inside.result
 addressed g c =
-    subst (λ (n : ℕ). IsAddressedAfter (addresses_of c.self.inside.control) n (hearing_of c.args.hearings.now) c.self.inside.addressed c.addressed_after-self-inside.result) (counted g c) c.addressed_after-self-inside.ensures
+    subst (λ (n : ℕ). IsAddressedAfter (addresses_of c.self.inside.control) n
+    (hearing_of c.args.hearings.now) c.self.inside.addressed
+    c.addressed_after-self-inside.result) (counted g c) c.addressed_after-self-inside.ensures
 
-carried : (g : given.Over) (c : goal.After-show g) (s : Transmission) → c.self.inside.sent ≡ Some s →
+carried : (g : given.Over) (c : goal.After-show g) (s : Transmission) → c.self.inside.sent ≡ Some s
+    →
     IsCarriedDown s.message (hearing_of c.args.hearings.now)
-    (line_of c.self.inside.control c.self.inside.terminals.items c.self.inside.sent c.self.inside.trusted c.self.inside.addressed)
-    (line_of c.self.inside.control c.hear_in-self-inside.new.terminals.items c.hear_in-self-inside.result c.both-self-inside.result c.addressed_after-self-inside.result)
+    (line_of c.self.inside.control c.self.inside.terminals.items c.self.inside.sent
+    c.self.inside.trusted c.self.inside.addressed)
+    (line_of c.self.inside.control c.hear_in-self-inside.new.terminals.items
+    c.hear_in-self-inside.result c.both-self-inside.result c.addressed_after-self-inside.result)
 carried g c s e =
     record {
       control = refl;
@@ -51,8 +72,10 @@ carried g c s e =
 
 pub invariant_of-self : goal.invariant_of-self
 invariant_of-self g c =
-    let pending : c.self.inside.sent ≡ Some c.requires.sent = ap (λ (l : LineValue). l.pending) c.self.view_is ∙ c.requires.pending in (
-      c.each_event.ensures.down c.requires.sent (hearing_of c.args.hearings.now) _ _ c.self.invariant.0 pending c.requires.speaker (carried g c c.requires.sent pending),
+    let pending : c.self.inside.sent ≡ Some c.requires.sent =
+    ap (λ (l : LineValue). l.pending) c.self.view_is ∙ c.requires.pending in (
+      c.each_event.ensures.down c.requires.sent (hearing_of c.args.hearings.now) _ _
+          c.self.invariant.0 pending c.requires.speaker (carried g c c.requires.sent pending),
       c.show.ensures,
     )
 

@@ -11,24 +11,37 @@ use Rattle.bsc_line.proofs.line.Line.carry_down_whole.Goals as goal
 
 pub addressed_after-self-inside-requires : goal.addressed_after-self-inside-requires
 addressed_after-self-inside-requires g c =
-    let some : 0 < length c.self.inside.terminals.items = some_terminal c.self.inside.control c.self.inside.terminals.items c.self.invariant.0.stations in
+    let some : 0 < length c.self.inside.terminals.items =
+    some_terminal c.self.inside.control c.self.inside.terminals.items
+    c.self.invariant.0.stations in
     omega arith
 
-carried : (g : given.Over) (c : goal.After-show g) (s : Transmission) → c.self.inside.sent ≡ Some s →
+carried : (g : given.Over) (c : goal.After-show g) (s : Transmission) → c.self.inside.sent ≡ Some s
+    →
     IsCarriedDown s.message (λ t. Whole s.message)
-    (line_of c.self.inside.control c.self.inside.terminals.items c.self.inside.sent c.self.inside.trusted c.self.inside.addressed)
-    (line_of c.self.inside.control c.hear_in-self-inside.new.terminals.items c.hear_in-self-inside.result c.self.inside.trusted c.addressed_after-self-inside.result)
+    (line_of c.self.inside.control c.self.inside.terminals.items c.self.inside.sent
+    c.self.inside.trusted c.self.inside.addressed)
+    (line_of c.self.inside.control c.hear_in-self-inside.new.terminals.items
+    c.hear_in-self-inside.result c.self.inside.trusted c.addressed_after-self-inside.result)
 carried g c s e =
-    let heard : c.take_whole-heard.result ≡ Whole s.message = of_some (λ (z : Transmission). c.take_whole-heard.result ≡ Whole z.message) c.self.inside.sent s c.take_whole-heard.ensures.heard e in
+    let heard : c.take_whole-heard.result ≡ Whole s.message =
+    of_some (λ (z : Transmission). c.take_whole-heard.result ≡ Whole z.message)
+    c.self.inside.sent s c.take_whole-heard.ensures.heard e in
     let counted : c.len-count.result ≡ length c.self.inside.terminals.items = omega arith in
-    carried_whole s.message c.take_whole-heard.result _ _ heard refl c.hear_in-self-inside.ensures.each c.hear_in-self-inside.ensures.keeps c.hear_in-self-inside.ensures.first
-    (subst (λ (n : ℕ). IsAddressedAfter (addresses_of c.self.inside.control) n (λ t. c.take_whole-heard.result) c.self.inside.addressed c.addressed_after-self-inside.result) counted c.addressed_after-self-inside.ensures)
+    carried_whole s.message c.take_whole-heard.result _ _ heard refl
+    c.hear_in-self-inside.ensures.each c.hear_in-self-inside.ensures.keeps
+    c.hear_in-self-inside.ensures.first
+    (subst (λ (n : ℕ). IsAddressedAfter (addresses_of c.self.inside.control) n
+    (λ t. c.take_whole-heard.result) c.self.inside.addressed
+    c.addressed_after-self-inside.result) counted c.addressed_after-self-inside.ensures)
     refl
 
 pub invariant_of-self : goal.invariant_of-self
 invariant_of-self g c =
-    let pending : c.self.inside.sent ≡ Some c.requires.sent = ap (λ (l : LineValue). l.pending) c.self.view_is ∙ c.requires.pending in (
-      c.each_event.ensures.down c.requires.sent (λ t. Whole c.requires.sent.message) _ _ c.self.invariant.0 pending c.requires.speaker (carried g c c.requires.sent pending),
+    let pending : c.self.inside.sent ≡ Some c.requires.sent =
+    ap (λ (l : LineValue). l.pending) c.self.view_is ∙ c.requires.pending in (
+      c.each_event.ensures.down c.requires.sent (λ t. Whole c.requires.sent.message) _ _
+          c.self.invariant.0 pending c.requires.speaker (carried g c c.requires.sent pending),
       c.show.ensures,
     )
 

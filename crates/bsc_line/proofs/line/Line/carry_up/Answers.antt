@@ -7,10 +7,13 @@ use Rattle.bsc_line.proofs.Carrying.{trust_after, of_some}
 use Rattle.bsc_line.proofs.line.Line.carry_up.Given as given
 use Rattle.bsc_line.proofs.line.Line.carry_up.Goals as goal
 
-carried : (g : given.Over) (c : goal.After-show g) (s : Transmission) → c.self.inside.sent ≡ Some s →
+carried : (g : given.Over) (c : goal.After-show g) (s : Transmission) → c.self.inside.sent ≡ Some s
+    →
     IsCarriedUp s.message c.args.heard.now
-    (line_of c.self.inside.control c.self.inside.terminals.items c.self.inside.sent c.self.inside.trusted c.self.inside.addressed)
-    (line_of c.answer.new.self c.self.inside.terminals.items c.by-self-inside.result c.both-self-inside.result c.self.inside.addressed)
+    (line_of c.self.inside.control c.self.inside.terminals.items c.self.inside.sent
+    c.self.inside.trusted c.self.inside.addressed)
+    (line_of c.answer.new.self c.self.inside.terminals.items c.by-self-inside.result
+    c.both-self-inside.result c.self.inside.addressed)
 carried g c s e =
     record {
       sent = c.answer.new.sent;
@@ -19,14 +22,19 @@ carried g c s e =
       terminals = refl;
       pending = c.by-self-inside.ensures;
       addressed = refl;
-      trusted = trust_after c.self.inside.trusted c.is_up_fair-fair.result c.both-self-inside.result (IsFairlyHeard s.message c.args.heard.now) c.both-self-inside.ensures
-          (of_some (λ (z : Transmission). IsTrue c.is_up_fair-fair.result ↔ IsFairlyHeard z.message c.args.heard.now) c.self.inside.sent s c.is_up_fair-fair.ensures e);
+      trusted =
+          trust_after c.self.inside.trusted c.is_up_fair-fair.result c.both-self-inside.result
+          (IsFairlyHeard s.message c.args.heard.now) c.both-self-inside.ensures
+          (of_some (λ (z : Transmission). IsTrue c.is_up_fair-fair.result ↔ IsFairlyHeard z.message
+          c.args.heard.now) c.self.inside.sent s c.is_up_fair-fair.ensures e);
     }
 
 pub invariant_of-self : goal.invariant_of-self
 invariant_of-self g c =
-    let pending : c.self.inside.sent ≡ Some c.requires.sent = ap (λ (l : LineValue). l.pending) c.self.view_is ∙ c.requires.pending in (
-      c.each_event.ensures.up c.requires.sent c.args.heard.now _ _ c.self.invariant.0 pending c.requires.speaker (carried g c c.requires.sent pending),
+    let pending : c.self.inside.sent ≡ Some c.requires.sent =
+    ap (λ (l : LineValue). l.pending) c.self.view_is ∙ c.requires.pending in (
+      c.each_event.ensures.up c.requires.sent c.args.heard.now _ _ c.self.invariant.0 pending
+          c.requires.speaker (carried g c c.requires.sent pending),
       c.show.ensures,
     )
 

@@ -6,4 +6,5 @@ use Rattle.bsc_line.proofs.line.Line.do_each.Given as goal
 
 -- a run of what is left makes a run of all
 abbrev pub invariant-loop-at : goal.invariant-loop-at
-invariant-loop-at g l = (r : Result (Unit {0}) Stopped) (new : LineValue) → RunsFrom l.at l.self (drop l.at l.events) r new → Runs l.fn.self l.events r new
+invariant-loop-at g l = (r : Result (Unit {0}) Stopped) (new : LineValue)
+    → RunsFrom l.at l.self (drop l.at l.events) r new → Runs l.fn.self l.events r new

@@ -4,12 +4,22 @@ use Rattle.bsc_control.specs.Peer.{no_peer}
 use Rattle.bsc_line.proofs.line.Line.new.Goals as goal
 
 pub new_terminals-requires : goal.new_terminals-requires
-new_terminals-requires g c = λ t less. c.distinct_addresses.ensures c.args.terminals.now c.in_ok-control.ensures.accepted.distinct t no_peer.terminal less
+new_terminals-requires g c =
+    λ t less. c.distinct_addresses.ensures c.args.terminals.now
+    c.in_ok-control.ensures.accepted.distinct t no_peer.terminal less
 
 pub invariant_of-result : goal.invariant_of-result
 invariant_of-result g c = (
-  c.each_event.ensures.new_line c.args.setup c.args.terminals.now c.args.poll_list.now (line_of c.in_ok-control.control c.in_ok-terminals.terminals.items None true None)
-      (record { control = c.in_ok-control.ensures.value; terminals = c.in_ok-terminals.ensures.value; pending = refl; trusted = refl; addressed = refl })
+  c.each_event.ensures.new_line c.args.setup c.args.terminals.now c.args.poll_list.now
+      (line_of c.in_ok-control.control c.in_ok-terminals.terminals.items None true None)
+      (record {
+        control = c.in_ok-control.ensures.value;
+        terminals =
+            c.in_ok-terminals.ensures.value;
+        pending = refl;
+        trusted = refl;
+        addressed = refl;
+      })
       c.in_ok-control.ensures.control,
   c.new-2.ensures,
 )

@@ -9,13 +9,24 @@ use Rattle.bsc_line.proofs.line.Line.release_from.Goals as goal
 
 pub invariant_of-self : goal.invariant_of-self
 invariant_of-self g c =
-    let there : c.args.terminal < length c.self.inside.terminals.items = subst (λ (l : LineValue). c.args.terminal < terminal_count l) (sym c.self.view_is) c.requires in
-    let old : LineValue = line_of c.self.inside.control c.self.inside.terminals.items c.self.inside.sent c.self.inside.trusted c.self.inside.addressed in
-    let here : terminal_at old c.args.terminal ≡ c.index_mut-station.result.now = is_terminal c.self.inside.terminals.items c.args.terminal c.index_mut-station.result.now there c.index_mut-station.ensures.value in
-    let becomes : c.release.new.self ≡ after_release (terminal_at old c.args.terminal) (count_from old c.args.terminal) =
-    c.release.ensures.state ∙ ap (λ (xs : List (List ℕ)). after_release c.index_mut-station.result.now (length xs)) (c.records-count.ensures ∙ ap (λ (z : SpoolValue). z.records) c.spool.ensures.value)
+    let there : c.args.terminal < length c.self.inside.terminals.items =
+    subst (λ (l : LineValue). c.args.terminal < terminal_count l) (sym c.self.view_is)
+    c.requires in
+    let old : LineValue =
+    line_of c.self.inside.control c.self.inside.terminals.items c.self.inside.sent
+    c.self.inside.trusted c.self.inside.addressed in
+    let here : terminal_at old c.args.terminal ≡ c.index_mut-station.result.now =
+    is_terminal c.self.inside.terminals.items c.args.terminal c.index_mut-station.result.now
+    there c.index_mut-station.ensures.value in
+    let becomes : c.release.new.self ≡ after_release (terminal_at old c.args.terminal)
+    (count_from old c.args.terminal) =
+    c.release.ensures.state
+    ∙ ap (λ (xs : List (List ℕ)). after_release c.index_mut-station.result.now (length xs))
+    (c.records-count.ensures ∙ ap (λ (z : SpoolValue). z.records) c.spool.ensures.value)
     ∙ ap (λ (y : TributaryValue). after_release y (count_from old c.args.terminal)) (sym here) in (
-      c.each_event.ensures.release_from old c.args.terminal c.release.new.self c.self.invariant.0 there (subst (λ (y : TributaryValue). KeepsSetupAndMode y c.release.new.self) (sym here) c.release.ensures.same) becomes,
+      c.each_event.ensures.release_from old c.args.terminal c.release.new.self c.self.invariant.0
+          there (subst (λ (y : TributaryValue). KeepsSetupAndMode y c.release.new.self) (sym here)
+          c.release.ensures.same) becomes,
       c.self.invariant.1,
     )
 

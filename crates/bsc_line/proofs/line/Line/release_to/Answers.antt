@@ -15,15 +15,25 @@ invariant_of-self g c =
     let t : ℕ = c.args.terminal in
     let s : ℕ = c.args.select in
     let p : PeerValue = peer_at control t in
-    let old : LineValue = line_of c.self.inside.control c.self.inside.terminals.items c.self.inside.sent c.self.inside.trusted c.self.inside.addressed in
-    let less : t < length ts = subst (λ (l : LineValue). t < terminal_count l) (sym c.self.view_is) c.requires.terminal in
-    let way : s < length (terminal_in ts t).terminal.selects = subst (λ (l : LineValue). s < select_count l t) (sym c.self.view_is) c.requires.select in
-    let here : terminal_in ts t ≡ c.index-station.result.now = is_terminal ts t c.index-station.result.now less c.index-station.ensures in
+    let old : LineValue =
+    line_of c.self.inside.control c.self.inside.terminals.items c.self.inside.sent
+    c.self.inside.trusted c.self.inside.addressed in
+    let less : t < length ts =
+    subst (λ (l : LineValue). t < terminal_count l) (sym c.self.view_is) c.requires.terminal in
+    let way : s < length (terminal_in ts t).terminal.selects =
+    subst (λ (l : LineValue). s < select_count l t) (sym c.self.view_is) c.requires.select in
+    let here : terminal_in ts t ≡ c.index-station.result.now =
+    is_terminal ts t c.index-station.result.now less c.index-station.ensures in
     let stored : c.records-count.result.now ≡ (spool_at (terminal_in ts t).spools s).records =
-    c.records-count.ensures ∙ ap (λ (z : SpoolValue). z.records) c.spool.ensures.value ∙ ap (λ (y : TributaryValue). (spool_at y.spools s).records) (sym here) in
-    let becomes : c.release.new.self ≡ with_peer control t (with_outbound p s (outbound_released (outbound_at p s) (count_to old t s))) =
-    c.release.ensures.state ∙ ap (λ (xs : List (List ℕ)). with_peer control t (with_outbound p s (outbound_released (outbound_at p s) (length xs)))) stored in (
-      c.each_event.ensures.release_to old t s c.release.new.self c.self.invariant.0 less way c.release.ensures.control becomes,
+    c.records-count.ensures ∙ ap (λ (z : SpoolValue). z.records) c.spool.ensures.value
+    ∙ ap (λ (y : TributaryValue). (spool_at y.spools s).records) (sym here) in
+    let becomes : c.release.new.self ≡ with_peer control t
+    (with_outbound p s (outbound_released (outbound_at p s) (count_to old t s))) =
+    c.release.ensures.state
+    ∙ ap (λ (xs : List (List ℕ)). with_peer control t
+    (with_outbound p s (outbound_released (outbound_at p s) (length xs)))) stored in (
+      c.each_event.ensures.release_to old t s c.release.new.self c.self.invariant.0 less way
+          c.release.ensures.control becomes,
       c.self.invariant.1,
     )
 

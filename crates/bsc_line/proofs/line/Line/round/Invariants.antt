@@ -5,11 +5,15 @@ use Rattle.bsc_line.specs.Counts.{in_u64}
 use Rattle.bsc_line.proofs.Lengths.{seen_before}
 use Rattle.bsc_line.proofs.line.Line.round.Given as goal
 
--- the terminals that were visited are marked, and the number so far, with what is left, makes the whole
+-- the terminals that were visited are marked, and the number so far, with what is left, makes the
+-- whole
 abbrev pub invariant-loop-entry : goal.invariant-loop-entry
 invariant-loop-entry g l = record {
   fits : l.total < 2 ^ 64;
   sized : length l.seen ≡ MAX_TERMINALS;
-  seen : (t : ℕ) → t < MAX_TERMINALS → get_or l.seen t false ≡ is_seen t (seen_before l.self.control.poll_list l.entry-index);
-  total : in_u64 (l.total + entries_length l.self (seen_before l.self.control.poll_list l.entry-index) (drop l.entry-index l.self.control.poll_list)) ≡ in_u64 (round_length l.self);
+  seen : (t : ℕ) → t < MAX_TERMINALS → get_or l.seen t false
+      ≡ is_seen t (seen_before l.self.control.poll_list l.entry-index);
+  total : in_u64 (l.total + entries_length l.self
+      (seen_before l.self.control.poll_list l.entry-index)
+      (drop l.entry-index l.self.control.poll_list)) ≡ in_u64 (round_length l.self);
 }

@@ -1,4 +1,6 @@
 use Rattle.bsc_line.proofs.line.Line.run.Goals as goal
 
 pub returns-clause-visit : goal.returns-clause-visit
-returns-clause-visit g c = λ place h. c.visit.ensures c.args.self.now c.do_each.new.self c.args.events.now c.do_each.result c.is_line.ensures c.do_each.ensures place h
+returns-clause-visit g c =
+    λ place h. c.visit.ensures c.args.self.now c.do_each.new.self c.args.events.now c.do_each.result
+    c.is_line.ensures c.do_each.ensures place h

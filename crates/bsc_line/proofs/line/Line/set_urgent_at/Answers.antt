@@ -7,10 +7,16 @@ use Rattle.bsc_line.proofs.line.Line.set_urgent_at.Goals as goal
 pub invariant_of-self : goal.invariant_of-self
 invariant_of-self g c =
     let there : c.args.terminal < length c.self.inside.terminals.items = omega arith in
-    let old : LineValue = line_of c.self.inside.control c.self.inside.terminals.items c.self.inside.sent c.self.inside.trusted c.self.inside.addressed in
-    let here : terminal_at old c.args.terminal ≡ c.index_mut-station.result.now = is_terminal c.self.inside.terminals.items c.args.terminal c.index_mut-station.result.now there c.index_mut-station.ensures.value in (
-      c.each_event.ensures.urgent_at old c.args.terminal c.set_urgent.new.self c.self.invariant.0 there c.set_urgent.ensures.same.tributary
-          (c.set_urgent.ensures.state ∙ ap (λ (y : TributaryValue). record y { urgent = true }) (sym here)),
+    let old : LineValue =
+    line_of c.self.inside.control c.self.inside.terminals.items c.self.inside.sent
+    c.self.inside.trusted c.self.inside.addressed in
+    let here : terminal_at old c.args.terminal ≡ c.index_mut-station.result.now =
+    is_terminal c.self.inside.terminals.items c.args.terminal c.index_mut-station.result.now
+    there c.index_mut-station.ensures.value in (
+      c.each_event.ensures.urgent_at old c.args.terminal c.set_urgent.new.self c.self.invariant.0
+          there c.set_urgent.ensures.same.tributary
+          (c.set_urgent.ensures.state ∙ ap (λ (y : TributaryValue). record y { urgent = true })
+          (sym here)),
       c.self.invariant.1,
     )
 

@@ -8,28 +8,48 @@ use Rattle.bsc_line.proofs.line.Line.silence.Goals as goal
 
 pub act_at-requires-clause-there : goal.act_at-requires-clause-there
 act_at-requires-clause-there g c =
-    subst (λ (xs : List TributaryValue). c.in-Some.terminal < length xs) (c.as_slice.ensures.value ∙ ap (λ (l : LineValue). l.terminals) c.self.view_is) c.in-Some.ensures.within
+    subst (λ (xs : List TributaryValue). c.in-Some.terminal < length xs)
+    (c.as_slice.ensures.value ∙ ap (λ (l : LineValue). l.terminals) c.self.view_is)
+    c.in-Some.ensures.within
 
 pub act_at-requires-clause-nothing : goal.act_at-requires-clause-nothing
-act_at-requires-clause-nothing g c = none_of c.args.self.now.pending (ap (λ (l : LineValue). is_some l.pending) (sym c.self.view_is) ∙ sym c.is_some.ensures ∙ c.if-is_some.false)
+act_at-requires-clause-nothing g c =
+    none_of c.args.self.now.pending (ap (λ (l : LineValue). is_some l.pending) (sym c.self.view_is)
+    ∙ sym c.is_some.ensures ∙ c.if-is_some.false)
 
 pub act_at-requires-clause-owner : goal.act_at-requires-clause-owner
-act_at-requires-clause-owner g c = sym (c.line_owner.ensures.value ∙ ap line_owner (c.as_slice.ensures.value ∙ ap (λ (l : LineValue). l.terminals) c.self.view_is)) ∙ c.in-Some.is
+act_at-requires-clause-owner g c =
+    sym (c.line_owner.ensures.value ∙ ap line_owner
+    (c.as_slice.ensures.value ∙ ap (λ (l : LineValue). l.terminals) c.self.view_is))
+    ∙ c.in-Some.is
 
 pub act_at_control-requires-clause-nothing : goal.act_at_control-requires-clause-nothing
-act_at_control-requires-clause-nothing g c = none_of c.args.self.now.pending (ap (λ (l : LineValue). is_some l.pending) (sym c.self.view_is) ∙ sym c.is_some.ensures ∙ c.if-is_some.false)
+act_at_control-requires-clause-nothing g c =
+    none_of c.args.self.now.pending (ap (λ (l : LineValue). is_some l.pending) (sym c.self.view_is)
+    ∙ sym c.is_some.ensures ∙ c.if-is_some.false)
 
 pub act_at_control-requires-clause-nobody : goal.act_at_control-requires-clause-nobody
-act_at_control-requires-clause-nobody g c = sym (c.line_owner.ensures.value ∙ ap line_owner (c.as_slice.ensures.value ∙ ap (λ (l : LineValue). l.terminals) c.self.view_is)) ∙ c.in-None.is
+act_at_control-requires-clause-nobody g c =
+    sym (c.line_owner.ensures.value ∙ ap line_owner
+    (c.as_slice.ensures.value ∙ ap (λ (l : LineValue). l.terminals) c.self.view_is))
+    ∙ c.in-None.is
 
 pub returns-in-Some-clause-does : goal.returns-in-Some-clause-does
 returns-in-Some-clause-does g c =
-    passes_silence c.args.self.now c.act_at.new.self c.line_owner.result (ap (λ (l : LineValue). is_some l.pending) (sym c.self.view_is) ∙ sym c.is_some.ensures ∙ c.if-is_some.false)
-    (c.line_owner.ensures.value ∙ ap line_owner (c.as_slice.ensures.value ∙ ap (λ (l : LineValue). l.terminals) c.self.view_is))
-    (subst (λ (o : Option ℕ). OwnerActs o c.args.self.now c.act_at.new.self) (sym c.in-Some.is) c.act_at.ensures.does)
+    passes_silence c.args.self.now c.act_at.new.self c.line_owner.result
+    (ap (λ (l : LineValue). is_some l.pending) (sym c.self.view_is) ∙ sym c.is_some.ensures
+    ∙ c.if-is_some.false)
+    (c.line_owner.ensures.value ∙ ap line_owner
+    (c.as_slice.ensures.value ∙ ap (λ (l : LineValue). l.terminals) c.self.view_is))
+    (subst (λ (o : Option ℕ). OwnerActs o c.args.self.now c.act_at.new.self) (sym c.in-Some.is)
+    c.act_at.ensures.does)
 
 pub returns-in-None-clause-does : goal.returns-in-None-clause-does
 returns-in-None-clause-does g c =
-    passes_silence c.args.self.now c.act_at_control.new.self c.line_owner.result (ap (λ (l : LineValue). is_some l.pending) (sym c.self.view_is) ∙ sym c.is_some.ensures ∙ c.if-is_some.false)
-    (c.line_owner.ensures.value ∙ ap line_owner (c.as_slice.ensures.value ∙ ap (λ (l : LineValue). l.terminals) c.self.view_is))
-    (subst (λ (o : Option ℕ). OwnerActs o c.args.self.now c.act_at_control.new.self) (sym c.in-None.is) c.act_at_control.ensures.does)
+    passes_silence c.args.self.now c.act_at_control.new.self c.line_owner.result
+    (ap (λ (l : LineValue). is_some l.pending) (sym c.self.view_is) ∙ sym c.is_some.ensures
+    ∙ c.if-is_some.false)
+    (c.line_owner.ensures.value ∙ ap line_owner
+    (c.as_slice.ensures.value ∙ ap (λ (l : LineValue). l.terminals) c.self.view_is))
+    (subst (λ (o : Option ℕ). OwnerActs o c.args.self.now c.act_at_control.new.self)
+    (sym c.in-None.is) c.act_at_control.ensures.does)

@@ -10,7 +10,13 @@ use Rattle.bsc_line.proofs.line.Line.visit.Goals as goal
 pub returns-clause-value : goal.returns-clause-value
 returns-clause-value g c =
     let os : List OutboundValue = (peer_at c.args.self.now.control c.args.terminal).outbounds in
-    let count : c.addresses-select-end.result ≡ length os = c.addresses-select-end.ensures.value ∙ ap (λ (l : LineValue). length (peer_at l.control c.args.terminal).outbounds) c.self.view_is in
+    let count : c.addresses-select-end.result ≡ length os = c.addresses-select-end.ensures.value
+    ∙ ap (λ (l : LineValue). length (peer_at l.control c.args.terminal).outbounds)
+    c.self.view_is in
     let all : length os ≤ c.loop-select.select = omega (arith, count, c.loop-select-test.false) in
-    let none : sum_by length_of (drop c.loop-select.select os) ≡ 0 = ap (λ (xs : List OutboundValue). sum_by length_of xs) (drop_all c.loop-select.select os all) in
-    sym (whole c.loop-select.total c.loop-select.invariant.fits) ∙ ap (λ (n : ℕ). in_u64 (c.loop-select.total + n)) (sym none) ∙ c.loop-select.invariant.total
+    let none : sum_by length_of (drop c.loop-select.select os) ≡ 0 =
+    ap (λ (xs : List OutboundValue). sum_by length_of xs)
+    (drop_all c.loop-select.select os all) in
+    sym (whole c.loop-select.total c.loop-select.invariant.fits)
+    ∙ ap (λ (n : ℕ). in_u64 (c.loop-select.total + n)) (sym none)
+    ∙ c.loop-select.invariant.total

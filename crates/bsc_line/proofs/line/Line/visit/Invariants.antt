@@ -9,5 +9,7 @@ use Rattle.bsc_line.proofs.line.Line.visit.Given as goal
 abbrev pub invariant-loop-select : goal.invariant-loop-select
 invariant-loop-select g l = record {
   fits : l.total < 2 ^ 64;
-  total : in_u64 (l.total + sum_by length_of (drop l.select (peer_at l.self.control l.terminal).outbounds)) ≡ in_u64 (visit_length l.self l.terminal);
+  total : in_u64 (l.total + sum_by length_of
+      (drop l.select (peer_at l.self.control l.terminal).outbounds))
+      ≡ in_u64 (visit_length l.self l.terminal);
 }

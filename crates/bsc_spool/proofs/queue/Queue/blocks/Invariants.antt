@@ -6,7 +6,8 @@ abbrev pub invariant-loop-at : goal.invariant-loop-at
 invariant-loop-at g l = record {
   inside : l.at ≤ length l.self.offered;
   few : l.count + l.self.known ≤ l.at;
-  count : l.count + length (blocks l.self.format (drop l.at l.self.offered)) ≡ length (blocks l.self.format (drop l.self.known l.self.offered));
+  count : l.count + length (blocks l.self.format (drop l.at l.self.offered))
+      ≡ length (blocks l.self.format (drop l.self.known l.self.offered));
 }
 
 abbrev pub decreases-loop-at : goal.decreases-loop-at

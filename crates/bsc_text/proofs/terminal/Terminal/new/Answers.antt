@@ -4,4 +4,5 @@ use Rattle.bsc_text.proofs.terminal.Terminal.new.Goals as goal
 
 pub invariant_of-result : goal.invariant_of-result
 invariant_of-result c =
-    rw c.copy_from_slice.ensures.after (holds_selects c.args.poll c.args.selects.now (omega arith) (omega arith))
+    rw c.copy_from_slice.ensures.after
+    (holds_selects c.args.poll c.args.selects.now (omega arith) (omega arith))

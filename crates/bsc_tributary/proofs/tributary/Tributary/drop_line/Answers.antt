@@ -7,4 +7,6 @@ invariant_of-self g c = stays-without_line _ _ c.self.invariant c.cut_off.ensure
     (c.cut_off.ensures.ready _ c.self.invariant.ready)
 
 pub returns-clause-hearing : goal.returns-clause-hearing
-returns-clause-hearing g c = hears_eot _ c.args.self.now c.cut_off.new.self c.self.view_is c.self.invariant c.cut_off.ensures.state (c.cut_off.ensures.ready _ c.self.invariant.ready)
+returns-clause-hearing g c =
+    hears_eot _ c.args.self.now c.cut_off.new.self c.self.view_is c.self.invariant
+    c.cut_off.ensures.state (c.cut_off.ensures.ready _ c.self.invariant.ready)

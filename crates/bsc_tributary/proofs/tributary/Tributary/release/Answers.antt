@@ -1,4 +1,5 @@
-use Rattle.bsc_tributary.proofs.Offering.{stays-release, release-state, release-answer, same-release}
+use Rattle.bsc_tributary.proofs.Offering.{stays-release, release-state, release-answer}
+use Rattle.bsc_tributary.proofs.Offering.{same-release}
 use Rattle.bsc_tributary.proofs.tributary.Tributary.release.Goals as goal
 
 pub invariant_of-self : goal.invariant_of-self
@@ -12,5 +13,6 @@ pub returns-clause-answer : goal.returns-clause-answer
 returns-clause-answer g c = release-answer _ _ c.args.count _ c.self.view_is c.release.ensures.row
 
 pub returns-clause-same : goal.returns-clause-same
-returns-clause-same g c = same-release _ _ c.args.count _ c.self.view_is c.self.invariant c.release.ensures.row
+returns-clause-same g c =
+    same-release _ _ c.args.count _ c.self.view_is c.self.invariant c.release.ensures.row
     (c.release.ensures.ready c.self.invariant.ready)

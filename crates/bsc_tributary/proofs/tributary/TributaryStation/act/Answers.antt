@@ -8,7 +8,7 @@ pub invariant_of-self : goal.invariant_of-self
 invariant_of-self g c =
     stays-silent _ c.perform.new.mode _ c.self.invariant c.in-Sending.is
     (told_step _ _ _ _ _ (c.silence-outcome.ensures.row _))
-          (mode_told _ _ _ _ _ _ _ (c.silence-outcome.ensures.row _) c.perform.ensures.mode)
+    (mode_told _ _ _ _ _ _ _ (c.silence-outcome.ensures.row _) c.perform.ensures.mode)
     (c.silence-outcome.ensures.ready _ c.self.invariant.ready)
 
 pub returns-in-Control : goal.returns-in-Control
@@ -22,14 +22,18 @@ pub returns-in-Sending : goal.returns-in-Sending
 returns-in-Sending g c =
     record {
       row =
-          silent-sending _ c.args.self.now c.perform.new.mode _ c.perform.new.sent c.self.view_is c.in-Sending.is
+          silent-sending _ c.args.self.now c.perform.new.mode _ c.perform.new.sent c.self.view_is
+          c.in-Sending.is
           (told_step _ _ _ _ _ (c.silence-outcome.ensures.row _))
           (mode_told _ _ _ _ _ _ _ (c.silence-outcome.ensures.row _) c.perform.ensures.mode)
           (sent_told _ _ _ _ _ _ (c.silence-outcome.ensures.row _) c.perform.ensures.sent);
       after =
-          after_silence _ c.args.self.now c.perform.new.mode _ c.perform.new.sent c.self.view_is c.self.invariant c.in-Sending.is
+          after_silence _ c.args.self.now c.perform.new.mode _ c.perform.new.sent c.self.view_is
+          c.self.invariant c.in-Sending.is
           (told_step _ _ _ _ _ (c.silence-outcome.ensures.row _))
           (mode_told _ _ _ _ _ _ _ (c.silence-outcome.ensures.row _) c.perform.ensures.mode)
-          (stays-silent _ c.perform.new.mode _ c.self.invariant c.in-Sending.is (told_step _ _ _ _ _ (c.silence-outcome.ensures.row _))
-          (mode_told _ _ _ _ _ _ _ (c.silence-outcome.ensures.row _) c.perform.ensures.mode) (c.silence-outcome.ensures.ready _ c.self.invariant.ready));
+          (stays-silent _ c.perform.new.mode _ c.self.invariant c.in-Sending.is
+          (told_step _ _ _ _ _ (c.silence-outcome.ensures.row _))
+          (mode_told _ _ _ _ _ _ _ (c.silence-outcome.ensures.row _) c.perform.ensures.mode)
+          (c.silence-outcome.ensures.ready _ c.self.invariant.ready));
     }
