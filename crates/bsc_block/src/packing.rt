@@ -66,5 +66,5 @@ pub fn build(records: &[Record], format: Format, end: End, message: &mut Option<
     for (place, record) in records.iter().enumerate() {
         units[place] = unit(record, format);
     }
-    *message = Some(Message::Text(Text::of(&units[..records.len()], end)));
+    Text::leave(&units[..records.len()], end, message);
 }

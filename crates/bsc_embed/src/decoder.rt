@@ -9,10 +9,6 @@ ghost use Rattle.bsc_embed.specs.Decoded.{StandsFor, KeepsRest, KeepsRestOfHeard
 use crate::{Content, Kind};
 use bsc_frame::{Heard, Message, Short, decode, decode_short};
 
-/// From this many octets on the decoding is a call of its own: it takes 32 octets at a time. Fewer
-/// are decoded one at a time, where they arrive.
-const MANY: usize = 32;
-
 /// Puts what the short message holds into the content, and gives its kind.
 fn put_short(short: &Short, content: &mut Content) -> Kind
     ensures left { StandsFor (heard_as short.now) result content.new }
@@ -55,31 +51,13 @@ fn decode_text(octets: &[u8], content: &mut Content) -> Kind
 
 /// Puts what the octets are heard as into the content, and gives its kind.
 #[inline(always)]
-fn put_heard(octets: &[u8], content: &mut Content) -> Kind
+fn decode_kind(octets: &[u8], content: &mut Content) -> Kind
     ensures { Tells octets.now result content.old content.new }
 {
     match &decode_short(octets) {
         Some(short) => put_short(short, content),
         None => decode_text(octets, content),
     }
-}
-
-/// The same of many octets. Its own function, so that few octets wait for no call.
-#[inline(never)]
-fn put_heard_of_many(octets: &[u8], content: &mut Content) -> Kind
-    ensures { Tells octets.now result content.old content.new }
-{
-    put_heard(octets, content)
-}
-
-/// Decodes few octets here, and many by a call.
-fn decode_kind(octets: &[u8], content: &mut Content) -> Kind
-    ensures { Tells octets.now result content.old content.new }
-{
-    if octets.len() < MANY {
-        return put_heard(octets, content);
-    }
-    put_heard_of_many(octets, content)
 }
 
 /// What the octets are heard as, by the number of its kind: 0 where they are noise, 1 where they

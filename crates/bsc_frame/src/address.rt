@@ -40,7 +40,7 @@ pub enum AddressError {
 #[derive(Clone, Copy, Debug)]
 pub struct Address {
     buffer: [u8; MAX_ADDRESS],
-    len: u8,
+    len: usize,
 }
 
 impl Model for Address {
@@ -146,7 +146,7 @@ impl Address {
         buffer[..codes.len()].copy_from_slice(codes);
         Ok(Address {
             buffer,
-            len: codes.len() as u8,
+            len: codes.len(),
         })
     }
 
@@ -159,10 +159,7 @@ impl Address {
         for (i, octet) in octets.iter().enumerate() {
             if *octet == ENQ {
                 return if i > 0 && i + 1 == octets.len() {
-                    Some(Address {
-                        buffer,
-                        len: i as u8,
-                    })
+                    Some(Address { buffer, len: i })
                 } else {
                     None
                 };
@@ -186,6 +183,6 @@ impl Address {
         ensures value { result.now ≡ self.now }
         ensures address { IsAddress self.now }
     {
-        &self.buffer[..self.len as usize]
+        &self.buffer[..self.len]
     }
 }

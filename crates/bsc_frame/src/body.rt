@@ -91,13 +91,21 @@ fn body_of_few(octets: &[u8]) -> &[u8]
     trim_rest(&rest[syns..])
 }
 
-/// The body of any octets, taken 32 at a time.
-#[tactic(auto, unfolding(crate::specs::Reading::heard, crate::specs::Reading::heard_body, crate::specs::Reading::control))]
+/// Whether the first octet is a leading pad.
+fn starts_with_pad(octets: &[u8]) -> bool
+    ensures { result ≡ begins is_pad_octet octets.now }
+{
+    !octets.is_empty() && (octets[0] == LEADING_PADS[0] || octets[0] == LEADING_PADS[1])
+}
+
+/// The body of any octets, taken 32 at a time. What begins with neither a leading pad nor SYN is
+/// passed by at its first octet.
+#[tactic(auto, using(crate::proofs::RunLemmas::skip_none), unfolding(crate::specs::Reading::heard, crate::specs::Reading::heard_body, crate::specs::Reading::control))]
 #[inline(always)]
 fn body_of_many(octets: &[u8]) -> &[u8]
     ensures { heard octets.now ≡ heard_body result.now }
 {
-    if octets.len() > MAX_HEARD {
+    if octets.len() > MAX_HEARD || !(starts_with(octets, SYN) || starts_with_pad(octets)) {
         return &[];
     }
     let rest = after_pads(octets);

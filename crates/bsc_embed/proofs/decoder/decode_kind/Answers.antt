@@ -1,6 +1,6 @@
 use Rattle.bsc_frame.specs.Short.{heard_as}
 use Rattle.bsc_embed.proofs.HeardLemmas.{tells}
-use Rattle.bsc_embed.proofs.decoder.put_heard.Goals as goal
+use Rattle.bsc_embed.proofs.decoder.decode_kind.Goals as goal
 
 pub returns-in-Some : goal.returns-in-Some
 returns-in-Some c =
