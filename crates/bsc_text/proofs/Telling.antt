@@ -1,9 +1,8 @@
 -- What a call of a sender tells is the step that it makes.
-use Rattle.std.proofs.Common.{◌≡◌, Option, refl, sym, ap, subst}
+use Rattle.std.proofs.Common.{◌≡◌, Option, ap}
 use Rattle.bsc_frame.specs.declared.message.Message.{Message}
 use Rattle.bsc_spool.specs.Queue.{QueueValue}
 use Rattle.bsc_text.specs.declared.outcome.Outcome.{Outcome}
-use Rattle.bsc_text.specs.Act.{message_for, outcome_of}
 use Rattle.bsc_text.specs.Sender.{SenderValue, SenderStep, SenderAnswer, Tells}
 
 -- the sender and its queue with the act of the step are the step
@@ -12,13 +11,3 @@ pub told_step : (s : SenderValue) (q : QueueValue) (outcome : Outcome) (sent : O
     → record { sender = s; queue = q; act = step.act } ≡ step
 told_step s q outcome sent step h =
     ap (λ (x : SenderAnswer). record { sender = x.sender; queue = x.queue; act = step.act }) h
-
--- what becomes of the bid is that of the act
-pub told_outcome : (s : SenderValue) (q : QueueValue) (outcome : Outcome) (sent : Option Message)
-    (step : SenderStep) → Tells s q outcome sent step → outcome ≡ outcome_of step.act
-told_outcome s q outcome sent step h = ap (λ (x : SenderAnswer). x.outcome) h
-
--- the message that is left is that of the act
-pub told_message : (s : SenderValue) (q : QueueValue) (outcome : Outcome) (sent : Option Message)
-    (step : SenderStep) → Tells s q outcome sent step → sent ≡ message_for step.act
-told_message s q outcome sent step h = ap (λ (x : SenderAnswer). x.sent) h
