@@ -75,7 +75,7 @@ pub(crate) fn starts_with(octets: &[u8], octet: u8) -> bool
     !octets.is_empty() && octets[0] == octet
 }
 
-/// The body of few octets, taken one at a time: all that most transmissions want.
+/// The body of fewer than 32 octets, taken one at a time.
 #[tactic(auto, using(crate::proofs::RunLemmas::skip_pads, crate::proofs::RunLemmas::skip_all), unfolding(crate::specs::Reading::heard, crate::specs::Reading::heard_body, crate::specs::Reading::control))]
 #[inline(always)]
 fn body_of_few(octets: &[u8]) -> &[u8]
@@ -115,8 +115,8 @@ fn body_of_many(octets: &[u8]) -> &[u8]
     trim(after_all(rest, SYN))
 }
 
-/// The body that the octets carry; the empty one where they carry none. A caller that knows that
-/// there are few octets has only the loops for those.
+/// The body that the octets carry; the empty one where they carry none. Few octets, which most
+/// transmissions are, cost less where they are taken one at a time.
 #[inline(always)]
 pub(crate) fn body_of(octets: &[u8]) -> &[u8]
     ensures { heard octets.now ≡ heard_body result.now }
