@@ -4,7 +4,7 @@ use Rattle.std.proofs.Common.{take, drop}
 use Rattle.std.proofs.Common.{length-drop}
 use Rattle.bsc_block.specs.Format.{FormatValue, IsFormat}
 use Rattle.bsc_block.specs.Blocks.{taken, cut, blocks, AreShort}
-use Rattle.bsc_block.proofs.Elements.{all-drop}
+use Rattle.bsc_octet.proofs.Elements.{all_drop}
 use Rattle.bsc_block.proofs.Taking.{taken-IsTaken, taken-some}
 
 -- the records after the next block
@@ -25,7 +25,7 @@ length-rest f r rs i s =
 short-rest : (f : FormatValue) (rs : List (List ℕ)) → AreShort f.full rs
     → AreShort f.full (rest f rs)
 unfolding rest
-short-rest f rs s = all-drop (λ r. length r ≤ f.full) (taken f rs) rs s
+short-rest f rs s = all_drop (λ r. length r ≤ f.full) (taken f rs) rs s
 
 -- more blocks than there are records are not cut
 cut-length : (n m : ℕ) (f : FormatValue) (rs : List (List ℕ)) → IsFormat f → AreShort f.full rs

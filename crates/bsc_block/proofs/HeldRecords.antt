@@ -9,7 +9,7 @@ use Rattle.std.proofs.lemmas.Bool.Decides.{nat_tests}
 use Rattle.std.specs.List.{AllByRecursion}
 use Rattle.bsc_frame.specs.Texts.{TextUnit, IsUnit}
 use Rattle.bsc_block.specs.Records.{IsRecord}
-use Rattle.bsc_block.proofs.Elements.{all-slice_get}
+use Rattle.bsc_octet.proofs.Elements.{all_slice_get}
 use Rattle.bsc_block.specs.Blocks.{unit_of, holds_record, records_in}
 
 pub records_in-append : (us vs : List TextUnit) → records_in (us ++ vs) ≡ records_in us
@@ -48,5 +48,5 @@ records_in-empty us i u e h = rw (more us i u e, h) (append-nil (records_in (tak
 pub unit-IsRecord : (us : List TextUnit) (i : ℕ) (u : TextUnit) → AllByRecursion IsUnit us
     → slice_get us i ≡ Some u → IsRecord u.chars
 unit-IsRecord us i u h e =
-    let k : IsUnit u = all-slice_get IsUnit us i u h e in
+    let k : IsUnit u = all_slice_get IsUnit us i u h e in
     record { most = k.most; each = k.each }

@@ -1,5 +1,3 @@
-pub mod CodeTests
-pub mod Elements
 pub mod Fronts
 pub mod Taking
 pub mod Cutting

@@ -13,7 +13,7 @@ use Rattle.bsc_frame.specs.declared.message.Message.TheVariants.{Wack, Rvi}
 use Rattle.bsc_frame.specs.declared.message.Message.TheVariants.{Text}
 use Rattle.bsc_frame.proofs.ControlLemmas.{plain}
 use Rattle.bsc_frame.proofs.OddLemmas.{units_odd, fill_odd}
-use Rattle.bsc_frame.proofs.PlaceLemmas.{all_both}
+use Rattle.bsc_octet.proofs.Elements.{all_append}
 
 pub eot_odd : IsOdd 0x04
 unfolding odd_octet ones
@@ -65,8 +65,8 @@ pub called_odd : (syns a : List ℕ) → AreAll 0x16 syns
     → AllByRecursion (λ c. IsTrue (is_address_code c)) a
     → AllByRecursion IsOdd (syns ++ map odd_octet a ++ 0x85 ∷ [])
 called_odd syns a s h =
-    all_both IsOdd (syns ++ map odd_octet a) (0x85 ∷ [])
-    (all_both IsOdd syns (map odd_octet a) (fill_odd syns s) (address_odd a h)) (enq_odd, tt)
+    all_append IsOdd (syns ++ map odd_octet a) (0x85 ∷ [])
+    (all_append IsOdd syns (map odd_octet a) (fill_odd syns s) (address_odd a h)) (enq_odd, tt)
 
 -- ---- all
 
@@ -86,9 +86,9 @@ call_fits : (a body : List ℕ) → IsCall a body → AllByRecursion (IsBodyOcte
 call_fits a body c =
     rw c.whole (
       inl eot_odd,
-      all_both (IsBodyOctet (Call a)) (c.pads ++ c.syns ++ map odd_octet a) (0x85 ∷ [])
-          (all_both (IsBodyOctet (Call a)) (c.pads ++ c.syns) (map odd_octet a)
-          (all_both (IsBodyOctet (Call a)) c.pads c.syns (pads_fit a c.pads c.are_pads)
+      all_append (IsBodyOctet (Call a)) (c.pads ++ c.syns ++ map odd_octet a) (0x85 ∷ [])
+          (all_append (IsBodyOctet (Call a)) (c.pads ++ c.syns) (map odd_octet a)
+          (all_append (IsBodyOctet (Call a)) c.pads c.syns (pads_fit a c.pads c.are_pads)
           (odd_fits (Call a) c.syns (fill_odd c.syns c.are_syns)))
           (odd_fits (Call a) (map odd_octet a) (address_odd a c.address.each)))
           (inl enq_odd, tt),

@@ -19,6 +19,7 @@ use Rattle.bsc_frame.proofs.ControlLemmas.{address_read, address_reads}
 use Rattle.bsc_frame.proofs.ReadLemmas.{Reads, with_codes, called_end, called_early, called_full}
 use Rattle.bsc_frame.proofs.ReadLemmas.{called_wrong}
 use Rattle.bsc_frame.proofs.ReadLemmas.{called_more, called_none}
+use Rattle.bsc_octet.proofs.Elements.{all_append}
 
 -- What the loop keeps: the codes before the place stand at the front of the buffer, may all stand
 -- in
@@ -132,11 +133,6 @@ pub call_wrong_code : (b : List ℕ) (i : ℕ) (s : List ℕ) (k : ℕ) → Call
 call_wrong_code b i s k c l e less h wrong =
     sym (with_wrong (take i b) k _ wrong) ∙ message s _ (code_more b i s k c l e less h).rest
 
-all_more : (xs : List ℕ) (k : ℕ) → AllByRecursion (λ c. IsTrue (is_address_code c)) xs
-    → is_address_code k ≡ true → AllByRecursion (λ c. IsTrue (is_address_code c)) (xs ++ k ∷ [])
-all_more [] k h e = (e, tt)
-all_more (x ∷ xs) k h e = (h.0, all_more xs k h.1 e)
-
 -- and where it may, the loop goes on
 pub call_goes_on : (b : List ℕ) (i : ℕ) (s : List ℕ) (k : ℕ) → Called b i s → i < length s
     → (get_or s i 0 ≡ 0x85 → ⊥) → (i ≡ MAX_ADDRESS → ⊥) → code_of (get_or s i 0) ≡ Some k
@@ -148,7 +144,9 @@ call_goes_on b i s k c l e less h right =
     record {
       within = omega (arith, c.within);
       whole = length-set b i k ∙ c.whole;
-      codes = rw front (all_more (take i b) k c.codes right);
+      codes =
+          rw front (all_append (λ c. IsTrue (is_address_code c)) (take i b) (k ∷ []) c.codes
+          (right, tt));
       zeros = drop-set-lt (i + 1) b i k (omega arith) ∙ sym (drop-drop 1 i b) ∙ ap (drop 1) c.zeros
           ∙ drop-replicate 1 (MAX_ADDRESS - i) 0 ∙ ap (λ n. replicate n 0) fewer;
       reads = rw front (code_more b i s k c l e less h);

@@ -12,7 +12,7 @@ use Rattle.bsc_frame.specs.Reading.{units_at}
 use Rattle.bsc_frame.specs.TurnedBits.{IsOtherOctet}
 use Rattle.bsc_frame.specs.declared.message.Message.{Message}
 use Rattle.bsc_frame.specs.declared.message.Message.TheVariants.{Text}
-use Rattle.bsc_frame.proofs.UnitLemmas.{units_at_read, wire_units}
+use Rattle.bsc_frame.proofs.TextUnits.{units_at_read, wire_units}
 use Rattle.bsc_frame.proofs.OddLemmas.{units_odd}
 use Rattle.bsc_frame.proofs.PlaceLemmas.{around, parted, all_here, all_after}
 use Rattle.bsc_frame.proofs.InsideLemmas.{Inside, inside, after_first}

@@ -18,8 +18,9 @@ use Rattle.bsc_frame.specs.declared.text.End.{End}
 use Rattle.bsc_frame.proofs.ReadLemmas.{test_false}
 use Rattle.bsc_frame.proofs.CarriedLemmas.{ending_same}
 use Rattle.bsc_frame.proofs.GatherLemmas.{IsOther, IsRun, gathered_read}
-use Rattle.bsc_frame.proofs.UnitLemmas.{unit_at_read, run_unit, length-unit_codes, ending_is}
-use Rattle.bsc_frame.proofs.UnitLemmas.{filled_plain}
+use Rattle.bsc_frame.proofs.UnitLemmas.{unit_at_read, run_unit, length-unit_codes}
+use Rattle.bsc_frame.proofs.TextUnits.{ending_is}
+use Rattle.bsc_frame.proofs.TextUnits.{filled_plain}
 use Rattle.bsc_frame.proofs.UnitSteps.{units_stop}
 use Rattle.bsc_frame.proofs.PlaceLemmas.{parted}
 use Rattle.bsc_frame.proofs.SumChanges.{one_changed}

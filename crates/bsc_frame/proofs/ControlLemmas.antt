@@ -1,5 +1,5 @@
 -- Bodies that are no text: what is read is such a body, and such a body is read.
-use Rattle.std.proofs.Common.{◌≡◌, ◌⊎◌, inl, inr, ℕ, suc, ◌-◌, ◌<◌, ◌≤◌, ◌==◌, Bool, true, false}
+use Rattle.std.proofs.Common.{◌≡◌, ◌⊎◌, inl, inr, ℕ, ◌-◌, ◌<◌, ◌≤◌, ◌==◌, Bool, true, false}
 use Rattle.std.proofs.Common.{not, cond}
 use Rattle.std.proofs.Common.{refl, sym, ap, subst, ◌∙◌, arith, List, [], ◌∷◌, ◌++◌, length, drop}
 use Rattle.std.proofs.Common.{map}
@@ -24,8 +24,8 @@ use Rattle.bsc_frame.specs.declared.message.Message.TheVariants.{Eot, Call, Enq,
 use Rattle.bsc_frame.specs.declared.message.Message.TheVariants.{Wack, Rvi}
 use Rattle.bsc_frame.specs.declared.message.Message.TheVariants.{Text}
 use Rattle.bsc_frame.proofs.AddressLemmas.{is_address}
-use Rattle.bsc_frame.proofs.ReadLemmas.{test_false}
-use Rattle.bsc_frame.proofs.FrontLemmas.{parts, skip-pass, skip-stays, pass_are, are_pass}
+use Rattle.bsc_frame.proofs.ReadLemmas.{test_false, has_room}
+use Rattle.bsc_frame.proofs.FrontLemmas.{parts, skip-pass, skip_none, pass_are, are_pass}
 use Rattle.bsc_frame.specs.declared.limits.TheConstants.{MAX_ADDRESS}
 
 -- which way a test went
@@ -66,10 +66,6 @@ plain_odd c o p h = test_false (odd_octet c) o (λ e. elim (odd_cases c) [
   ]
 ])
 
--- where there is room for one more, room is not 0
-more_room : (n room : ℕ) → suc n ≤ room → room ≡ 0 → ⊥
-more_room n room h e = omega arith
-
 -- what is sent for an address and ENQ is read as its codes
 pub called_wire : (room : ℕ) (a : List ℕ) → length a ≤ room
     → AllByRecursion (λ c. IsTrue (is_address_code c)) a
@@ -79,7 +75,7 @@ called_wire room [] h p = refl
 called_wire room (c ∷ a) h p =
     let k : IsPlain c = plain c p.0 in
     let no : (odd_octet c == 0x85) ≡ false = plain_odd c 0x85 k (inl refl) in
-    let some : (room == 0) ≡ false = test_false room 0 (more_room (length a) room h) in
+    let some : (room == 0) ≡ false = test_false room 0 (has_room (length a) room h) in
     let code : code_of (odd_octet c) ≡ Some c = code_of-odd_octet c (omega (arith, k.high)) in
     let rest : called (room - 1) (map odd_octet a ++ 0x85 ∷ []) ≡ Some a =
     called_wire (room - 1) a (omega arith) p.1 in
@@ -239,11 +235,11 @@ call_read rest a c =
     let first : skip (is_octet 0xff) rest ≡ c.syns ++ tail =
     ap (skip (is_octet 0xff)) grouped ∙ skip-pass (is_octet 0xff) c.pads (c.syns ++ tail)
     (are_pass 0xff c.pads c.are_pads)
-    ∙ skip-stays (is_octet 0xff) (c.syns ++ tail)
+    ∙ skip_none (is_octet 0xff) (c.syns ++ tail)
     (begins_syns c.syns tail c.are_syns (begins_address 0xff a (inr refl) c.address)) in
     let second : skip (is_octet 0x16) (c.syns ++ tail) ≡ tail =
     skip-pass (is_octet 0x16) c.syns tail (are_pass 0x16 c.syns c.are_syns)
-    ∙ skip-stays (is_octet 0x16) tail (begins_address 0x16 a (inl refl) c.address) in
+    ∙ skip_none (is_octet 0x16) tail (begins_address 0x16 a (inl refl) c.address) in
     rw (
       first,
       second,

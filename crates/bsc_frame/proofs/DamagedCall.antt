@@ -18,9 +18,10 @@ use Rattle.bsc_frame.specs.declared.message.Message.TheVariants.{Text}
 use Rattle.bsc_frame.proofs.ControlLemmas.{plain, plain_odd}
 use Rattle.bsc_frame.proofs.OddLemmas.{syn_odd}
 use Rattle.bsc_frame.proofs.BodyOddLemmas.{called_odd, address_odd, enq_odd}
-use Rattle.bsc_frame.proofs.PlaceLemmas.{parted, all_here, all_after, all_both}
+use Rattle.bsc_frame.proofs.PlaceLemmas.{parted, all_here, all_after}
 use Rattle.bsc_frame.proofs.InsideLemmas.{AfterFirst}
 use Rattle.bsc_frame.proofs.DamagedText.{heads, tails, not_both_odd, not_same}
+use Rattle.bsc_octet.proofs.Elements.{all_append}
 
 -- PAD has no odd parity
 pub pad_even : IsOdd 0xff → ⊥
@@ -202,7 +203,7 @@ later_address a front o after new more l other first rest =
 -- there is no ENQ before the end of the address of a call
 line_no_enq : (syns a : List ℕ) → AreAll 0x16 syns → IsAddress a → NoEnq (syns ++ map odd_octet a)
 line_no_enq syns a k h =
-    all_both (λ x. x ≡ 0x85 → ⊥) syns (map odd_octet a) (syns_no_enq syns k) (no_enq a h.each)
+    all_append (λ x. x ≡ 0x85 → ⊥) syns (map odd_octet a) (syns_no_enq syns k) (no_enq a h.each)
 
 -- the octet was the ENQ
 later_enq : (a front : List ℕ) (after : List ℕ) (new : ℕ) → Later a front 0x85 after new

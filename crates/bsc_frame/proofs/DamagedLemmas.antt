@@ -1,119 +1,33 @@
 -- What is heard of a message of which one octet has the other parity.
-use Rattle.std.proofs.Common.{◌≡◌, ◌≢◌, ◌⊎◌, ◌↔◌, inl, inr, ℕ, zero, suc, ◌<◌, ◌≤◌, ◌==◌, false}
-use Rattle.std.proofs.Common.{refl, sym}
-use Rattle.std.proofs.Common.{ap, subst, ◌∙◌, arith, List, [], ◌∷◌, ◌++◌, length, get_or, set}
-use Rattle.std.proofs.Common.{length-set}
-use Rattle.std.proofs.Common.{map, length-append, append-nil}
+use Rattle.std.proofs.Common.{◌≡◌, ◌⊎◌, ◌↔◌, inl, inr, ℕ, zero, suc, ◌<◌, ◌≤◌, ◌==◌, false, refl}
+use Rattle.std.proofs.Common.{sym, subst, ◌∙◌, arith, List, [], ◌∷◌, ◌++◌, length, get_or, set}
+use Rattle.std.proofs.Common.{length-set, map, append-nil}
 use Rattle.bsc_octet.specs.Octet.{IsOdd, odd_octet}
 use Rattle.bsc_frame.specs.Addresses.{IsAddress}
 use Rattle.bsc_frame.specs.Texts.{TextValue, IsText}
 use Rattle.bsc_frame.specs.Units.{units_wire}
 use Rattle.bsc_frame.specs.Message.{IsMessage}
 use Rattle.bsc_frame.specs.Wire.{wire, framed}
-use Rattle.bsc_frame.specs.Spells.{Spells, IsBody, AreAll, IsFailed}
+use Rattle.bsc_frame.specs.Spells.{Spells, IsBody, IsFailed}
 use Rattle.bsc_frame.specs.TurnedBits.{HaveOtherParity, IsSomeCall, IsSomeText, IsLeadingPad}
-use Rattle.bsc_frame.specs.TurnedBits.{IsCallFill}
-use Rattle.bsc_frame.specs.TurnedBits.{IsFillIn}
+use Rattle.bsc_frame.specs.TurnedBits.{IsCallFill, IsFillIn}
 use Rattle.bsc_frame.specs.declared.message.Message.{Message}
 use Rattle.bsc_frame.specs.declared.message.Message.TheVariants.{Eot, Call, Enq, Ack0, Ack1, Nak}
-use Rattle.bsc_frame.specs.declared.message.Message.TheVariants.{Wack, Rvi}
-use Rattle.bsc_frame.specs.declared.message.Message.TheVariants.{Text}
+use Rattle.bsc_frame.specs.declared.message.Message.TheVariants.{Wack, Rvi, Text}
 use Rattle.bsc_frame.specs.declared.message.Heard.TheVariants.{Whole, Failed, Noise}
 use Rattle.bsc_frame.proofs.ReadLemmas.{test_false}
 use Rattle.bsc_frame.proofs.OddLemmas.{syn_odd}
 use Rattle.bsc_frame.proofs.HeardLemmas.{heard_spelled, heard_failed, length-wire, one_message}
-use Rattle.bsc_frame.proofs.UnitLemmas.{wire_units}
+use Rattle.bsc_frame.proofs.TextUnits.{wire_units}
 use Rattle.bsc_frame.proofs.BodyOddLemmas.{eot_odd, enq_odd, nak_odd, dle_odd, stx_odd, ack0_odd}
-use Rattle.bsc_frame.proofs.BodyOddLemmas.{ack1_odd}
-use Rattle.bsc_frame.proofs.BodyOddLemmas.{wack_odd, rvi_odd}
+use Rattle.bsc_frame.proofs.BodyOddLemmas.{ack1_odd, wack_odd, rvi_odd}
 use Rattle.bsc_frame.proofs.PlaceLemmas.{around}
-use Rattle.bsc_frame.proofs.InsideLemmas.{Inside, inside, failed_inside, AfterFirst, after_first}
-use Rattle.bsc_frame.proofs.InsideLemmas.{first_is_odd, starts_wrong, pad_or_not}
-use Rattle.bsc_frame.proofs.DamagedText.{heads, tails, not_both_odd, not_same, lost_text}
+use Rattle.bsc_frame.proofs.InsideLemmas.{Inside, inside, failed_inside, after_first, first_is_odd}
+use Rattle.bsc_frame.proofs.InsideLemmas.{starts_wrong, pad_or_not}
+use Rattle.bsc_frame.proofs.DamagedText.{heads, not_both_odd, not_same, lost_text}
 use Rattle.bsc_frame.proofs.DamagedCall.{call_tail, spared_call}
 use Rattle.bsc_frame.specs.declared.limits.TheConstants.{MAX_HEARD}
-
--- ---- bodies of one and of two octets
-
--- the rest of a body is empty that begins with the octet of a control character
-no_more : (x : ℕ) (n : Message) (y : ℕ) → x ≢ 0x10 → x ≢ 0x02 → IsBody n (x ∷ y ∷ []) → ⊥
-no_more x Eot y p q h = omega (arith, ap length h)
-no_more x (Call a) y p q h =
-    omega (
-      arith,
-      ap length h.whole,
-      h.address.some,
-      length-append (0x04 ∷ h.pads ++ h.syns ++ map odd_octet a) (0x85 ∷ []),
-      length-append (0x04 ∷ h.pads ++ h.syns) (map odd_octet a),
-      some_codes a h.address.some,
-    )
-  where
-    some_codes : (b : List ℕ) → 0 < length b → 0 < length (map odd_octet b)
-    some_codes [] l = l
-    some_codes (c ∷ b) l = omega arith
-no_more x Enq y p q h = omega (arith, ap length h)
-no_more x Nak y p q h = omega (arith, ap length h)
-no_more x Ack0 y p q h = p (heads h)
-no_more x Ack1 y p q h = p (heads h)
-no_more x Wack y p q h = p (heads h)
-no_more x Rvi y p q h = p (heads h)
-no_more x (Text t) y p q h = q (heads h.whole)
-
--- a message of one octet is lost where the PAD after it is changed to the other parity
-lost_single : (x : ℕ) (n : Message) (before : List ℕ) (o : ℕ) (after : List ℕ) (new : ℕ) → x ≢ 0x10
-    → x ≢ 0x02
-    → 0xff ∷ [] ≡ before ++ o ∷ after → HaveOtherParity new o
-    → AfterFirst x (before ++ new ∷ after) n → ⊥
-lost_single x n (y ∷ before) o after new p q whole other b =
-    omega (arith, ap length whole, length-append before (o ∷ after))
-lost_single x n [] o after new p q whole other b =
-    let was : o ≡ 0xff = sym (heads whole) in
-    let none : after ≡ [] = sym (tails whole) in
-    by_body b.body b.trail (b.is_body) (sym (rw none at b.whole)) b.are_trail (rw was at other)
-  where
-    by_body : (body trail : List ℕ) → IsBody n (x ∷ body) → body ++ trail ≡ new ∷ []
-        → AreAll 0xff trail → HaveOtherParity new 0xff → ⊥
-    by_body [] [] h e k d = omega (arith, ap length e)
-    by_body [] (t ∷ trail) h e k d = not_same new 0xff d (sym (heads e) ∙ k.0)
-    by_body (z ∷ []) trail h e k d = no_more x n z p q h
-    by_body (z ∷ w ∷ body) trail h e k d = omega (arith, ap length e)
-
--- the rest of a reply after DLE
-record Reply (body : List ℕ) : Type 0 where
-  second : ℕ
-  whole : body ≡ second ∷ []
-  odd : IsOdd second
-
--- the body of a message that begins with DLE is that of a reply of two octets
-reply_body : (n : Message) (body : List ℕ) → IsBody n (0x10 ∷ body) → Reply body
-reply_body Eot body h = absurd (omega (arith, heads h))
-reply_body (Call a) body h = absurd (omega (arith, heads h.whole))
-reply_body Enq body h = absurd (omega (arith, heads h))
-reply_body Nak body h = absurd (omega (arith, heads h))
-reply_body Ack0 body h = record { second = 0xb0; whole = tails h; odd = ack0_odd }
-reply_body Ack1 body h = record { second = 0x31; whole = tails h; odd = ack1_odd }
-reply_body Wack body h = record { second = 0x3b; whole = tails h; odd = wack_odd }
-reply_body Rvi body h = record { second = 0xbc; whole = tails h; odd = rvi_odd }
-reply_body (Text t) body h = absurd (omega (arith, heads h.whole))
-
--- a reply of two octets is lost where one octet after its DLE is changed to the other parity
-lost_reply : (y : ℕ) (n : Message) (before : List ℕ) (o : ℕ) (after : List ℕ) (new : ℕ) → IsOdd y
-    → y ∷ 0xff ∷ [] ≡ before ++ o ∷ after → HaveOtherParity new o
-    → AfterFirst 0x10 (before ++ new ∷ after) n
-    → ⊥
-lost_reply y n [] o after new odd whole other b =
-    let r = reply_body n b.body b.is_body in
-    let was : y ≡ o = heads whole in
-    let all : new ∷ after ≡ r.second ∷ b.trail = b.whole ∙ ap (λ z. z ++ b.trail) r.whole in
-    not_both_odd new o other (subst IsOdd (sym (heads all)) r.odd) (subst IsOdd was odd)
-lost_reply y n (x ∷ []) o after new odd whole other b =
-    let r = reply_body n b.body b.is_body in
-    let was : 0xff ≡ o = heads (tails whole) in
-    let all : x ∷ new ∷ after ≡ r.second ∷ b.trail = b.whole ∙ ap (λ z. z ++ b.trail) r.whole in
-    let pads : AreAll 0xff (new ∷ after) = subst (AreAll 0xff) (sym (tails all)) b.are_trail in
-    not_same new o other (pads.0 ∙ was)
-lost_reply y n (x ∷ z ∷ before) o after new odd whole other b =
-    omega (arith, ap length whole, length-append before (o ∷ after))
+use Rattle.bsc_frame.proofs.DamagedReply.{lost_single, lost_reply}
 
 -- ---- what is sent for each message
 

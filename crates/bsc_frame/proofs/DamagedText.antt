@@ -12,7 +12,7 @@ use Rattle.bsc_frame.specs.declared.message.Message.{Message}
 use Rattle.bsc_frame.specs.declared.message.Message.TheVariants.{Eot, Call, Enq, Ack0, Ack1, Nak}
 use Rattle.bsc_frame.specs.declared.message.Message.TheVariants.{Wack, Rvi}
 use Rattle.bsc_frame.specs.declared.message.Message.TheVariants.{Text}
-use Rattle.bsc_frame.proofs.UnitLemmas.{wire_units}
+use Rattle.bsc_frame.proofs.TextUnits.{wire_units}
 use Rattle.bsc_frame.proofs.OddLemmas.{units_odd}
 use Rattle.bsc_frame.proofs.PlaceLemmas.{parted, all_here}
 use Rattle.bsc_frame.proofs.InsideLemmas.{Inside, after_first}

@@ -1,5 +1,5 @@
 -- Codes that are gathered up to an ending character.
-use Rattle.std.proofs.Common.{◌≡◌, ◌≢◌, inl, inr, ℕ, suc, ◌-◌, ◌<◌, ◌≤◌, ◌==◌, true, false, cond}
+use Rattle.std.proofs.Common.{◌≡◌, ◌≢◌, inl, inr, ℕ, ◌-◌, ◌<◌, ◌≤◌, ◌==◌, true, false, cond}
 use Rattle.std.proofs.Common.{refl, sym}
 use Rattle.std.proofs.Common.{ap, ◌∙◌, arith, List, [], ◌∷◌, ◌++◌, length, Option, Some, None}
 use Rattle.std.proofs.Common.{append_assoc}
@@ -8,7 +8,7 @@ use Rattle.bsc_octet.specs.Octet.{odd_octet, code_of}
 use Rattle.bsc_octet.proofs.ParityLemmas.{odd_cases, code_of_some, code_of-odd_octet}
 use Rattle.bsc_frame.specs.Spells.{AreAll, AreFilled}
 use Rattle.bsc_frame.specs.Reading.{is_ending_code, before_gathered, gather_code, gathered}
-use Rattle.bsc_frame.proofs.ReadLemmas.{test_false}
+use Rattle.bsc_frame.proofs.ReadLemmas.{test_false, has_room}
 use Rattle.bsc_frame.proofs.ControlLemmas.{chosen}
 
 -- the last of the codes is an ending character
@@ -142,10 +142,6 @@ after_fill : (room : ℕ) (fill rest : List ℕ) → AreAll 0x16 fill
 unfolding gathered
 after_fill room [] rest h = refl
 after_fill room (x ∷ fill) rest h = rw h.0 (after_fill room fill rest h.1)
-
--- where there is room for one more, room is not 0
-has_room : (n room : ℕ) → suc n ≤ room → room ≡ 0 → ⊥
-has_room n room h e = omega arith
 
 -- codes that are carried, with fill, up to an ending character are read
 pub gathered_read : (room : ℕ) (codes front rest : List ℕ) → AreFilled codes front → IsRun codes

@@ -21,8 +21,8 @@ use Rattle.bsc_frame.specs.declared.message.Heard.{Heard}
 use Rattle.bsc_frame.specs.declared.message.Heard.TheVariants.{Whole, Failed, Noise}
 use Rattle.bsc_frame.proofs.FrontLemmas.{bodies, heard_carried, Ends, trimmed-body, trimmed-begins}
 use Rattle.bsc_frame.proofs.ControlLemmas.{control_reads, control_read, IsControl, chosen}
-use Rattle.bsc_frame.proofs.UnitLemmas.{units_at_reads, units_at_read, units_end, wire_units}
-use Rattle.bsc_frame.proofs.UnitLemmas.{length-units_wire}
+use Rattle.bsc_frame.proofs.TextUnits.{units_at_reads, units_at_read, units_end, wire_units}
+use Rattle.bsc_frame.proofs.TextUnits.{length-units_wire}
 use Rattle.bsc_frame.specs.declared.limits.TheConstants.{MAX_UNITS, MAX_SENT}
 
 -- ---- bodies

@@ -5,6 +5,8 @@ pub mod FrontLemmas
 pub mod ControlLemmas
 pub mod HeardLemmas
 pub mod GatherLemmas
+pub mod UnitCodes
+pub mod TextUnits
 pub mod UnitLemmas
 pub mod DraftLemmas
 pub mod UnitSteps
@@ -26,6 +28,7 @@ pub mod InsideLemmas
 pub mod LongerLemmas
 pub mod DamagedText
 pub mod DamagedCall
+pub mod DamagedReply
 pub mod DamagedLemmas
 pub mod TurnedBitLemmas
 pub mod SumChanges

@@ -13,16 +13,12 @@ use Rattle.bsc_frame.specs.Spells.{AreAll, AreFilled, AreUnits}
 use Rattle.bsc_frame.specs.Reading.{units_at, whole_or_failed}
 use Rattle.bsc_frame.specs.declared.text.End.{End}
 use Rattle.bsc_frame.specs.declared.message.Heard.TheVariants.{Failed}
-use Rattle.bsc_frame.proofs.UnitLemmas.{units_at_reads, run_unit, run_start, ending_is}
+use Rattle.bsc_frame.proofs.UnitLemmas.{run_unit, run_start}
+use Rattle.bsc_frame.proofs.TextUnits.{units_at_reads, ending_is}
 use Rattle.bsc_frame.proofs.GatherLemmas.{IsRun}
 use Rattle.std.specs.Int.Count.{ones}
 use Rattle.bsc_frame.specs.declared.limits.TheConstants.{MAX_UNITS}
-
--- two lists of odd parity are one such list
-odd_append : (xs ys : List ℕ) → AllByRecursion IsOdd xs → AllByRecursion IsOdd ys
-    → AllByRecursion IsOdd (xs ++ ys)
-odd_append [] ys h k = k
-odd_append (x ∷ xs) ys h k = (h.0, odd_append xs ys h.1 k)
+use Rattle.bsc_octet.proofs.Elements.{all_append}
 
 pub syn_odd : IsOdd 0x16
 unfolding odd_octet ones
@@ -38,7 +34,7 @@ filled_odd : (codes front : List ℕ) → AreFilled codes front → AllByRecursi
     → AllByRecursion IsOdd front
 filled_odd [] front f h = rw f tt
 filled_odd (c ∷ cs) front f h =
-    rw f.3 (odd_append f.0 (odd_octet c ∷ f.1) (fill_odd f.0 f.2)
+    rw f.3 (all_append IsOdd f.0 (odd_octet c ∷ f.1) (fill_odd f.0 f.2)
     (IsOdd-odd_octet c h.0, filled_odd cs f.1 f.4 h.1))
 
 -- the codes of a unit are below 128
@@ -55,7 +51,7 @@ units_odd after_us (u ∷ us) end octets a h =
     let run : IsRun (a.0 ++ unit_codes u (ending us end)) =
     run_start after_us a.0 (unit_codes u (ending us end)) a.3
     (run_unit u (ending us end) h.0 (ending_is us end)) in
-    rw a.5 (odd_append a.1 (odd_octet (longitudinal_sum (a.0 ++ unit_codes u (ending us end)))
+    rw a.5 (all_append IsOdd a.1 (odd_octet (longitudinal_sum (a.0 ++ unit_codes u (ending us end)))
     ∷ a.2) (filled_odd _ a.1 a.4 (run_small _ run)) (
       IsOdd-odd_octet (longitudinal_sum (a.0 ++ unit_codes u (ending us end)))
           (longitudinal_sum-lt (a.0 ++ unit_codes u (ending us end))),

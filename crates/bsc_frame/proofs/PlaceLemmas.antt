@@ -89,9 +89,3 @@ pub all_after : (P : ℕ → Type 0) (front back : List ℕ) → AllByRecursion 
     → AllByRecursion P back
 all_after P [] back h = h
 all_after P (x ∷ front) back h = all_after P front back h.1
-
--- what holds of all elements of each holds of those of both
-pub all_both : (P : ℕ → Type 0) (xs ys : List ℕ) → AllByRecursion P xs → AllByRecursion P ys
-    → AllByRecursion P (xs ++ ys)
-all_both P [] ys h k = k
-all_both P (x ∷ xs) ys h k = (h.0, all_both P xs ys h.1 k)

@@ -94,9 +94,9 @@ pub record Reads (front : List ℕ) (i : ℕ) (s : List ℕ) : Type 0 where
   pub rest : with_codes front (called (MAX_ADDRESS - length front) (drop i s))
       ≡ called MAX_ADDRESS s
 
--- where an address may have one more code, there is room
-more_room : (n : ℕ) → n < MAX_ADDRESS → MAX_ADDRESS - n ≡ 0 → ⊥
-more_room n l e = omega arith
+-- where there is room for one more, room is not 0
+pub has_room : (n room : ℕ) → suc n ≤ room → room ≡ 0 → ⊥
+has_room n room h e = omega arith
 
 -- what the rest is read as decides what the whole is read as
 from_rest : (front : List ℕ) (i : ℕ) (s : List ℕ) (x : Option (List ℕ)) → Reads front i s
@@ -137,7 +137,8 @@ pub called_wrong : (front : List ℕ) (i : ℕ) (s : List ℕ) → Reads front i
     → None ≡ called MAX_ADDRESS s
 called_wrong front i s r l e less k =
     let some : (MAX_ADDRESS - length front == 0) ≡ false =
-    test_false (MAX_ADDRESS - length front) 0 (more_room (length front) less) in
+    test_false (MAX_ADDRESS - length front) 0
+    (has_room 0 (MAX_ADDRESS - length front) (omega (arith, less))) in
     let here : called (MAX_ADDRESS - length front) (drop i s) ≡ None =
     called_at (MAX_ADDRESS - length front) s i l
     ∙ rw (test_false (get_or s i 0) 0x85 e, some, k) refl in
@@ -155,7 +156,8 @@ pub called_more : (front : List ℕ) (i : ℕ) (s : List ℕ) (c : ℕ) → Read
     → Reads (front ++ c ∷ []) (i + 1) s
 called_more front i s c r l e less k =
     let some : (MAX_ADDRESS - length front == 0) ≡ false =
-    test_false (MAX_ADDRESS - length front) 0 (more_room (length front) less) in
+    test_false (MAX_ADDRESS - length front) 0
+    (has_room 0 (MAX_ADDRESS - length front) (omega (arith, less))) in
     let longitudinal_sum : length (front ++ c ∷ []) ≡ length front + 1 =
     length-append front (c ∷ []) in
     let fewer : MAX_ADDRESS - length (front ++ c ∷ []) ≡ MAX_ADDRESS - length front - 1 =

@@ -9,7 +9,7 @@ use Rattle.std.proofs.Common.{ap, ◌∙◌, arith}
 use Rattle.std.specs.List.{prefix_len}
 use Rattle.std.proofs.lemmas.List.{drop_all}
 use Rattle.std.proofs.lemmas.Bool.{eqb-true}
-use Rattle.bsc_frame.specs.Reading.{begins, skip, is_either, is_octet, is_pad_octet, trimmed}
+use Rattle.bsc_frame.specs.Reading.{skip, is_either, is_octet, is_pad_octet, trimmed}
 use Rattle.bsc_frame.proofs.ReadLemmas.{rest_is, trimmed-push_pad}
 
 -- what a loop over the octets keeps: at of them were counted
@@ -100,12 +100,6 @@ unfolding skip
 skip_head test x s true e h = let one : 1 + prefix_len test s ≡ suc (prefix_len test s) =
     omega arith in rw (e, one) h
 skip_head test x s false e h = rw e refl
-
--- nothing is skipped of what does not begin with it
-pub skip_none : (test : ℕ → Bool) (s : List ℕ) → begins test s ≡ false → skip test s ≡ s
-unfolding skip
-skip_none test [] h = refl
-skip_none test (x ∷ s) h = rw h refl
 
 -- what is skipped is the front that passes
 skip-drop : (test : ℕ → Bool) (s : List ℕ) → skip test s ≡ drop (prefix_len test s) s

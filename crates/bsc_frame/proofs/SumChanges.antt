@@ -1,21 +1,12 @@
 -- What changed members do to a longitudinal sum.
-use Rattle.std.proofs.Common.{◌≡◌, ℕ, zero, suc, ◌+◌, ◌*◌, ◌/◌, ◌%◌, ◌<◌, ◌==◌, cond, refl, sym, ap}
+use Rattle.std.proofs.Common.{◌≡◌, ℕ, ◌+◌, ◌*◌, ◌/◌, ◌%◌, ◌<◌, ◌==◌, cond, refl, sym, ap}
 use Rattle.std.proofs.Common.{◌∙◌}
 use Rattle.std.proofs.Common.{arith, List, ◌∷◌, ◌++◌, bit_xor}
 use Rattle.std.specs.Int.{bit_at}
 use Rattle.std.proofs.lemmas.Nat.Bits.{bit_at_xor, bit_at-lt}
 use Rattle.std.proofs.lemmas.List.Sums.{sum_by-cons}
 use Rattle.bsc_octet.specs.Octet.{longitudinal_sum, with_bit}
-use Rattle.bsc_octet.proofs.LaneLemmas.{with_bit-append}
-
--- a bit is counted where it is 1
-bit_counts : (x i : ℕ) → cond (bit_at x i == 1) 1 0 ≡ bit_at x i
-bit_counts x i = by_bit (bit_at x i) (bit_at-lt x i)
-  where
-    by_bit : (b : ℕ) → b < 2 → cond (b == 1) 1 0 ≡ b
-    by_bit zero l = refl
-    by_bit (suc zero) l = refl
-    by_bit (suc (suc b)) l = absurd (omega arith)
+use Rattle.bsc_octet.proofs.LaneLemmas.{with_bit-append, test_bit}
 
 -- the members with a bit, around one of them
 around_bit : (i : ℕ) (front : List ℕ) (c : ℕ) (back : List ℕ)
@@ -23,7 +14,7 @@ around_bit : (i : ℕ) (front : List ℕ) (c : ℕ) (back : List ℕ)
 around_bit i front c back =
     with_bit-append i front (c ∷ back)
     ∙ ap (λ n. with_bit i front + n) (sum_by-cons (λ y. cond (bit_at y i == 1) 1 0) c back
-    ∙ ap (λ n. n + with_bit i back) (bit_counts c i))
+    ∙ ap (λ n. n + with_bit i back) (test_bit c i))
 
 -- lists with the same parity of each bit have the same sum
 same_sum : (s t : List ℕ) → ((i : ℕ) → with_bit i s % 2 ≡ with_bit i t % 2)

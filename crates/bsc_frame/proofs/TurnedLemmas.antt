@@ -100,16 +100,16 @@ turned_syn (suc (suc (suc (suc (suc (suc (suc zero))))))) l e =
 turned_syn (suc (suc (suc (suc (suc (suc (suc (suc bit)))))))) l e = omega arith
 
 -- no turned bit makes PAD SYN
-turned_pad : (bit : ℕ) → bit < 8 → turned bit 0xff ≡ 0x16 → ⊥
-turned_pad zero l e = omega arith
-turned_pad (suc zero) l e = omega arith
-turned_pad (suc (suc zero)) l e = omega arith
-turned_pad (suc (suc (suc zero))) l e = omega arith
-turned_pad (suc (suc (suc (suc zero)))) l e = omega arith
-turned_pad (suc (suc (suc (suc (suc zero))))) l e = omega arith
-turned_pad (suc (suc (suc (suc (suc (suc zero)))))) l e = omega arith
-turned_pad (suc (suc (suc (suc (suc (suc (suc zero))))))) l e = omega arith
-turned_pad (suc (suc (suc (suc (suc (suc (suc (suc bit)))))))) l e = omega arith
+pub pad_no_fill : (bit : ℕ) → bit < 8 → turned bit 0xff ≡ 0x16 → ⊥
+pad_no_fill zero l e = omega arith
+pad_no_fill (suc zero) l e = omega arith
+pad_no_fill (suc (suc zero)) l e = omega arith
+pad_no_fill (suc (suc (suc zero))) l e = omega arith
+pad_no_fill (suc (suc (suc (suc zero)))) l e = omega arith
+pad_no_fill (suc (suc (suc (suc (suc zero))))) l e = omega arith
+pad_no_fill (suc (suc (suc (suc (suc (suc zero)))))) l e = omega arith
+pad_no_fill (suc (suc (suc (suc (suc (suc (suc zero))))))) l e = omega arith
+pad_no_fill (suc (suc (suc (suc (suc (suc (suc (suc bit)))))))) l e = omega arith
 
 -- a SYN with one bit turned is no leading pad, and no PAD
 pub syn_no_pad : (bit place : ℕ) → bit < 8 → IsLeadingPad place (turned bit 0x16) → ⊥
@@ -118,7 +118,3 @@ syn_no_pad bit place l h = turned_syn bit l (inl h.1)
 -- no turned bit makes SYN PAD
 pub syn_no_fill : (bit : ℕ) → bit < 8 → turned bit 0x16 ≡ 0xff → ⊥
 syn_no_fill bit l h = turned_syn bit l (inr h)
-
--- a PAD with one bit turned is no SYN
-pub pad_no_fill : (bit : ℕ) → bit < 8 → turned bit 0xff ≡ 0x16 → ⊥
-pad_no_fill = turned_pad

@@ -19,7 +19,8 @@ use Rattle.bsc_frame.specs.Texts.{TextUnit, IsUnit}
 use Rattle.bsc_frame.specs.Units.{unit_codes, unit_wire, units_wire, ending, end_code}
 use Rattle.bsc_frame.specs.declared.limits.TheConstants.{MAX_UNITS, MAX_UNIT_SENT, MAX_SENT}
 use Rattle.bsc_frame.specs.declared.text.End.{End}
-use Rattle.bsc_frame.proofs.UnitLemmas.{char_lt, length-units_wire}
+use Rattle.bsc_frame.proofs.UnitLemmas.{char_lt}
+use Rattle.bsc_frame.proofs.TextUnits.{length-units_wire}
 
 -- record characters are codes of seven bits
 all_small : (chars : List ℕ) → AllByRecursion (λ c. IsTrue (is_record_char c)) chars

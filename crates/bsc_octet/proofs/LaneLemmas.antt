@@ -18,6 +18,7 @@ use Rattle.std.proofs.lemmas.List.Sums.{sum_by-cons, sum_by-append}
 use Rattle.std.proofs.lemmas.Bool.{eqb-true, eq-eqb}
 use Rattle.bsc_octet.specs.Octet.{longitudinal_sum, with_bit, IsOdd}
 use Rattle.bsc_octet.proofs.SumLemmas.{longitudinal_sum-from_xor}
+use Rattle.bsc_octet.proofs.Elements.{all_take, all_drop, all_append}
 
 with_bit-cons : (i x : ℕ) (xs : List ℕ) → with_bit i (x ∷ xs) ≡ cond (bit_at x i == 1) 1 0
     + with_bit i xs
@@ -27,7 +28,8 @@ pub with_bit-append : (i : ℕ) (xs ys : List ℕ) → with_bit i (xs ++ ys) ≡
     + with_bit i ys
 with_bit-append i xs ys = sum_by-append (λ x. cond (bit_at x i == 1) 1 0) xs ys
 
-test_bit : (x i : ℕ) → cond (bit_at x i == 1) 1 0 ≡ bit_at x i
+-- a bit is counted where it is 1
+pub test_bit : (x i : ℕ) → cond (bit_at x i == 1) 1 0 ≡ bit_at x i
 test_bit x i = by_bit (bit_at x i) (bit_at-lt x i)
   where
     by_bit : (b : ℕ) → b < 2 → cond (b == 1) 1 0 ≡ b
@@ -149,27 +151,10 @@ chunks_whole n (suc k) xs h =
     ∙ ap (λ z. take n xs ++ z) (chunks_whole n k (drop n xs) (omega (arith, length-drop n xs)))
     ∙ take-append-drop n xs)
 
-all_take : (P : ℕ → Type 0) (n : ℕ) (xs : List ℕ) → AllByRecursion P xs
-    → AllByRecursion P (take n xs)
-all_take P zero xs h = tt
-all_take P (suc n) [] h = tt
-all_take P (suc n) (x ∷ xs) h = (h.0, all_take P n xs h.1)
-
-all_drop : (P : ℕ → Type 0) (n : ℕ) (xs : List ℕ) → AllByRecursion P xs
-    → AllByRecursion P (drop n xs)
-all_drop P zero xs h = h
-all_drop P (suc n) [] h = tt
-all_drop P (suc n) (x ∷ xs) h = all_drop P n xs h.1
-
 pub all_chunks : (P : ℕ → Type 0) (n k : ℕ) (xs : List ℕ) → AllByRecursion P xs
     → AllByRecursion (AllByRecursion P) (first_chunks n k xs)
 all_chunks P n zero xs h = tt
 all_chunks P n (suc k) xs h = (all_take P n xs h, all_chunks P n k (drop n xs) (all_drop P n xs h))
-
-all_append : (P : ℕ → Type 0) (xs ys : List ℕ) → AllByRecursion P xs → AllByRecursion P ys
-    → AllByRecursion P (xs ++ ys)
-all_append P [] ys h k = k
-all_append P (x ∷ xs) ys h k = (h.0, all_append P xs ys h.1 k)
 
 pub all_concat : (P : ℕ → Type 0) (cs : List (List ℕ)) → AllByRecursion (AllByRecursion P) cs
     → AllByRecursion P (concat cs)

@@ -1,3 +1,4 @@
 pub mod ParityLemmas
 pub mod SumLemmas
+pub mod Elements
 pub mod LaneLemmas

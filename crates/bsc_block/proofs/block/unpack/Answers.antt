@@ -1,7 +1,7 @@
 use Rattle.std.proofs.Common.{arith, sym, ◌∙◌}
 use Rattle.std.proofs.lemmas.List.{map_push, length_push}
 use Rattle.bsc_frame.specs.Units.{text_unit}
-use Rattle.bsc_block.proofs.Elements.{all-append}
+use Rattle.bsc_octet.proofs.Elements.{all_append}
 use Rattle.bsc_block.proofs.HeldRecords.{records_in-held, records_in-empty, unit-IsRecord}
 use Rattle.bsc_block.proofs.block.unpack.Goals as goal
 use Rattle.bsc_block.proofs.block.unpack.Goals.{then-is_record, else-is_record}
@@ -24,7 +24,7 @@ loop-place-preserved c =
             (sym (records_in-held c.args.text.now.units c.loop-place.place
             (text_unit c.unit-unit.result) c.unit-unit.ensures
             (sym c.is_record.ensures ∙ w.if-is_record.true)));
-        each = all-append _ _ _ c.loop-place.invariant.each (
+        each = all_append _ _ _ c.loop-place.invariant.each (
           unit-IsRecord c.args.text.now.units c.loop-place.place (text_unit c.unit-unit.result)
               c.count-place-end.ensures.text.each c.unit-unit.ensures,
           tt,

@@ -1,6 +1,6 @@
 use Rattle.std.proofs.Common.{length, ◌≤◌}
 use Rattle.bsc_block.specs.Blocks.{taken}
-use Rattle.bsc_block.proofs.Elements.{all-drop}
+use Rattle.bsc_octet.proofs.Elements.{all_drop}
 use Rattle.bsc_block.proofs.Taking.{taken-IsTaken, taken-some}
 use Rattle.bsc_block.proofs.Cutting.{blocks-next}
 use Rattle.bsc_block.proofs.laws.cut_into_blocks.Goals as goal
@@ -15,4 +15,4 @@ pub returns-clause-next : goal.returns-clause-next
 returns-clause-next c = blocks-next
 
 pub returns-clause-rest : goal.returns-clause-rest
-returns-clause-rest c = λ full k rs h. all-drop (λ r. length r ≤ full) k rs h
+returns-clause-rest c = λ full k rs h. all_drop (λ r. length r ≤ full) k rs h

@@ -3,7 +3,7 @@ use Rattle.std.proofs.lemmas.List.{take_more, take_more_set, map_push, length-se
 use Rattle.bsc_frame.specs.Texts.{IsUnit}
 use Rattle.bsc_frame.specs.Units.{text_unit}
 use Rattle.bsc_block.specs.Blocks.{unit_of}
-use Rattle.bsc_block.proofs.Elements.{all-append}
+use Rattle.bsc_octet.proofs.Elements.{all_append}
 use Rattle.bsc_block.proofs.packing.build.Goals as goal
 
 -- the units after one more was written
@@ -31,5 +31,5 @@ loop-place-preserved c = record {
             (take c.loop-place.place c.args.records.now),
         ← c.index-records-place.is,
       ) refl;
-  each = rw (built c) (all-append IsUnit _ _ c.loop-place.invariant.each (c.unit.ensures.unit, tt));
+  each = rw (built c) (all_append IsUnit _ _ c.loop-place.invariant.each (c.unit.ensures.unit, tt));
 }

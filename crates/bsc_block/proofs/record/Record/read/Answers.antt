@@ -1,6 +1,6 @@
 use Rattle.std.proofs.Common.{◌∙◌, sym, arith}
 use Rattle.bsc_octet.specs.Octet.{is_record_char}
-use Rattle.bsc_block.proofs.CodeTests.{no_wrong}
+use Rattle.bsc_octet.proofs.Elements.{none_fails}
 use Rattle.bsc_block.proofs.record.Record.read.Goals as goal
 
 pub of-requires : goal.of-requires
@@ -8,5 +8,5 @@ of-requires c =
     record {
       most = omega arith;
       each =
-          no_wrong is_record_char c.args.codes.now (sym c.wrong_place.ensures ∙ c.in_default.is);
+          none_fails is_record_char c.args.codes.now (sym c.wrong_place.ensures ∙ c.in_default.is);
     }
