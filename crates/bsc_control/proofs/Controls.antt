@@ -198,7 +198,8 @@ stays-set_urgent c t h within =
     }) h.entries in
     record {
       control =
-          still_control c (with_peer c t p) h keeps entries (orderly-flags c t p refl refl h.orderly);
+          still_control c (with_peer c t p) h keeps entries
+          (orderly-flags c t p refl refl h.orderly);
       same = keeps.terminals;
     }
 

@@ -46,15 +46,6 @@ begins : (s : SenderValue) (q : QueueValue) (x : Alternation) (next : Option Nex
 begins s q x None = tt
 begins s q x (Some next) = tt
 
-no_quiet-sent_next : (s : SenderValue) (q : QueueValue) (x : Alternation) (next : Option Next)
-    → (sent_next s q x next).act ≡ a.Quiet → ⊥
-no_quiet-sent_next s q x None e = cc
-no_quiet-sent_next s q x (Some next) e = cc
-
--- a bid begins by a block
-pub no_quiet-begin_step : (s : SenderValue) (q : QueueValue) → (begin_step s q).act ≡ a.Quiet → ⊥
-no_quiet-begin_step s q = no_quiet-sent_next s q Odd (next_block q)
-
 pub keeps-begin_step : (s : SenderValue) (q : QueueValue) → StepKeeps s q (begin_step s q)
 keeps-begin_step s q =
     step_keeps s q (begin_step s q) (keeps_begin s q) (begins s q Odd (next_block q))

@@ -38,8 +38,9 @@ use Rattle.bsc_control.proofs.Calls.{next_is_called, terminal_there, selects_the
 use Rattle.bsc_control.proofs.PeerLists.{same_map, value_at, holds_at}
 use Rattle.bsc_text.proofs.ReceiverSteps.{TakesText, Grows, grows-heard_step, silent-heard_step}
 use Rattle.bsc_text.proofs.Choice.{choose}
-use Rattle.bsc_control.proofs.SenderSteps.{StepKeeps, keeps-begin_step, no_quiet-begin_step}
+use Rattle.bsc_control.proofs.SenderSteps.{StepKeeps, keeps-begin_step}
 use Rattle.bsc_control.proofs.SenderSteps.{keeps-reply_step, keeps-silence_step}
+use Rattle.bsc_text.proofs.FitLemmas.{begin_not_quiet}
 
 -- what a transmission that is heard leaves
 pub record HearingKeeps (old : ControlValue) (h : Heard) (step : ControlStep) : Type 0 where
@@ -165,7 +166,7 @@ hears-selecting c h s (Some Ack0) entries o calm selected e =
     let k = outbound_of c (current c) s in
     hears-bid_step c h s (begin_step k.sender k.queue) (Selection s)
     (all_rest c s entries calm selected.there) (keeps-begin_step k.sender k.queue)
-    (λ q. absurd (no_quiet-begin_step k.sender k.queue q)) (inl refl) e
+    (λ q. absurd (begin_not_quiet k.sender k.queue q)) (inl refl) e
 hears-selecting c h s (Some Nak) entries o calm selected e =
     hears-next c h (Selection s) entries calm e
 hears-selecting c h s (Some Wack) entries o calm selected e =
@@ -381,8 +382,8 @@ repeats c s false address entries e selected sent =
       place = refl;
       task = refl;
       called =
-          subst (λ (task : Task). IsAddressOf (terminals c) (current c) (way_of task) address) (sym e)
-          called;
+          subst (λ (task : Task). IsAddressOf (terminals c) (current c) (way_of task) address)
+          (sym e) called;
       failures = refl;
     }
 

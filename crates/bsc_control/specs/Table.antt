@@ -92,9 +92,13 @@ performed c s o.Quiet message after = record { control = c; sent = message }
 abbrev pub perform_step : ControlValue → ℕ → Act → After → ControlStep
 perform_step c s act after = performed c s (outcome_of act) (message_for act) after
 
+-- the present terminal's sender to this selection address made a step
+abbrev pub after_step : ControlValue → ℕ → SenderStep → ControlValue
+after_step c s step = with_current c (with_outbound (peer c) s (outbound_after step))
+
+-- what the sender then does
 abbrev pub bid_step : ControlValue → ℕ → SenderStep → After → ControlStep
-bid_step c s step after =
-    perform_step (with_current c (with_outbound (peer c) s (outbound_after step))) s step.act after
+bid_step c s step after = perform_step (after_step c s step) s step.act after
 
 -- what a bid that ends now is over by: RVI, or all else
 abbrev pub after_bid : ℕ → Option Reply → After

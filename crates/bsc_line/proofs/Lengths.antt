@@ -5,9 +5,8 @@ use Rattle.std.proofs.Common.{arith, if◌then◌else◌, get_or-set_other, get_
 use Rattle.std.proofs.lemmas.Bool.Decides.{nat_tests}
 use Rattle.std.proofs.Math.Seq.{drop-cons}
 use Rattle.bsc_control.specs.declared.limits.TheConstants.{MAX_TERMINALS}
-use Rattle.bsc_control.specs.Peer.{OutboundValue}
 use Rattle.bsc_line_model.specs.Line.{LineValue}
-use Rattle.bsc_line_model.specs.Rounds.{block_count, selection_length, visit_length, entries_length}
+use Rattle.bsc_line_model.specs.Rounds.{visit_length, entries_length}
 use Rattle.bsc_line_model.specs.Rounds.{is_seen, SeesLast, SeesEarlier}
 use Rattle.bsc_line.specs.Counts.{in_u64}
 
@@ -25,9 +24,6 @@ none_yet a = omega arith
 
 pub whole : (a : ℕ) → a < 2 ^ 64 → in_u64 (a + 0) ≡ a
 whole a less = omega (arith, less)
-
-abbrev pub length_of : OutboundValue → ℕ
-length_of o = selection_length (block_count o.queue)
 
 next_entry : (l : LineValue) (list seen : List ℕ) (k : ℕ) → k < length list
     → entries_length l seen (drop k list)

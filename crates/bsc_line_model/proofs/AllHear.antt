@@ -27,7 +27,8 @@ use Rattle.bsc_line_model.specs.BidLaws.{BidLaws}
 use Rattle.bsc_line_model.proofs.Entries.{places, current_there}
 use Rattle.bsc_line_model.proofs.Tuning.{NamesOwn, each_fairly}
 use Rattle.bsc_line_model.proofs.SendingDown.{IsBidMessage, sends_down}
-use Rattle.bsc_line_model.proofs.CallsHeard.{selecting_missed, polling_missed, selecting_heard}
+use Rattle.bsc_line_model.proofs.CallsHeard.{selecting_heard}
+use Rattle.bsc_line_model.proofs.CallsMissed.{selecting_missed, polling_missed}
 use Rattle.bsc_line_model.proofs.CallsHeard.{polling_heard, with_others}
 use Rattle.bsc_line_model.proofs.RepliesHeard.{polling_replied, selecting_enquired}
 

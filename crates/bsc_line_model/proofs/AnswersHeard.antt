@@ -6,18 +6,15 @@ use Rattle.bsc_frame.specs.declared.message.Message.{Message}
 use Rattle.bsc_frame.specs.declared.message.Message.TheVariants as m
 use Rattle.bsc_frame.specs.declared.message.Heard.{Heard}
 use Rattle.bsc_frame.specs.declared.message.Heard.TheVariants.{Whole, Failed, Noise}
-use Rattle.bsc_spool.specs.declared.Next.{Next}
-use Rattle.bsc_spool.specs.Queue.{QueueValue, next_block}
-use Rattle.bsc_text.specs.Act as a
 use Rattle.bsc_text.specs.declared.alternation.Alternation.{Alternation}
-use Rattle.bsc_text.specs.declared.alternation.Alternation.TheVariants.{Even, Odd}
+use Rattle.bsc_text.specs.declared.alternation.Alternation.TheVariants.{Even}
 use Rattle.bsc_text.specs.declared.reply.Reply.{Reply}
 use Rattle.bsc_text.specs.declared.reply.Reply.TheVariants.{Ack0}
 use Rattle.bsc_text.specs.declared.phase.Phase.{Phase}
 use Rattle.bsc_text.specs.declared.phase.Phase.TheVariants.{Idle}
 use Rattle.bsc_text.specs.Reply.{message_of, reply_in, reply_heard}
 use Rattle.bsc_text.specs.Receiver.{ReceiverStep, Rooms, heard_step, sends_rvi}
-use Rattle.bsc_text.specs.Sender.{SenderValue, SenderStep, sent_next, begin_step}
+use Rattle.bsc_text.specs.Sender.{SenderStep, begin_step}
 use Rattle.bsc_text.specs.Fair.{IsFairlyHeard}
 use Rattle.bsc_text.specs.Agreement.{Flight, Still, Outward, InBid, IsResting, Continues}
 use Rattle.bsc_text.specs.Agreement.{reply_flight, sent_flight}
@@ -47,6 +44,7 @@ use Rattle.bsc_line_model.proofs.Calling.{called_next}
 use Rattle.bsc_line_model.proofs.SendingDown.{IsBidMessage, no_call_heard}
 use Rattle.bsc_line_model.proofs.SendingUp.{HasActed, performed, places_after, answers_down}
 use Rattle.bsc_line_model.proofs.CallsHeard.{with_others}
+use Rattle.bsc_text.proofs.FitLemmas.{begin_not_quiet}
 
 -- what was on its way is lost
 lost_selecting : (c : ControlValue) (ts : List TributaryValue) (pending : Option Transmission)
@@ -113,12 +111,6 @@ next_made c ts after stations all =
     called_next c ts (next_call c after).place (next_call c after).way
     (next_there c after (places c stations.control.entries)) stations.count all
 
--- a sender that begins does not keep quiet
-begins_loudly : (s : SenderValue) (q : QueueValue) (alternation : Alternation) (n : Option Next)
-    → (sent_next s q alternation n).act ≡ a.Quiet → ⊥
-begins_loudly s q alternation None e = cc
-begins_loudly s q alternation (Some n) e = cc
-
 -- the selected terminal is ready: a bid begins
 pub begins_down : (laws : BidLaws) (c : ControlValue) (ts : List TributaryValue) (s : ℕ)
     (enquired : Bool) → AreStations c ts → c.task ≡ Selecting s enquired → AllQuiet c ts
@@ -157,7 +149,7 @@ begins_down laws c ts s enquired stations task all fresh last =
       ended = agrees.ended;
     } in
     performed laws c ts s step (Selection s) step.act refl has
-    (λ is. absurd (begins_loudly o.sender o.queue Odd (next_block o.queue) is)) stations.count
+    (λ is. absurd (begin_not_quiet o.sender o.queue is)) stations.count
     (places_after c s step (places c stations.control.entries))
 
 -- it is asked to wait: ENQ, or after too many the next call

@@ -1,20 +1,19 @@
--- The control station's call is missed by all terminals, or heard whole by all: the one that is
--- called answers, and
+-- The control station's call is heard whole by all terminals: the one that is called answers, and
 -- the others give up the line.
-use Rattle.std.proofs.Common.{◌≡◌, ◌≢◌, ◌⊎◌, inl, inr, ◌↔◌, ℕ, ◌<◌, Bool, true, false, nat_eq, List}
-use Rattle.std.proofs.Common.{length, Option, None, Some, slice_get, slice_set, refl, sym, ◌∙◌, ap}
-use Rattle.std.proofs.Common.{subst, arith, get_or-set_other, get_or-set_same, if◌then◌else◌, ◌≤◌}
+use Rattle.std.proofs.Common.{◌≡◌, ◌≢◌, inl, inr, ◌↔◌, ℕ, ◌<◌, Bool, true, false, nat_eq, List}
+use Rattle.std.proofs.Common.{length, Option, Some, slice_get, slice_set, refl, sym, ap, subst}
+use Rattle.std.proofs.Common.{arith, get_or-set_other, get_or-set_same, if◌then◌else◌, ◌≤◌}
 use Rattle.std.proofs.lemmas.Bool.{eqb-false}
 use Rattle.std.proofs.lemmas.Option.{slice_get-get_or}
 use Rattle.bsc_frame.specs.declared.message.Message.{Message}
 use Rattle.bsc_frame.specs.declared.message.Message.TheVariants as m
 use Rattle.bsc_frame.specs.declared.message.Heard.{Heard}
-use Rattle.bsc_frame.specs.declared.message.Heard.TheVariants.{Whole, Failed, Noise}
+use Rattle.bsc_frame.specs.declared.message.Heard.TheVariants.{Whole}
 use Rattle.bsc_spool.specs.Queue.{waiting}
 use Rattle.bsc_spool.specs.Spool.{SpoolValue, room_asked}
 use Rattle.bsc_text.specs.Act as a
 use Rattle.bsc_text.specs.declared.phase.Phase.{Phase}
-use Rattle.bsc_text.specs.declared.phase.Phase.TheVariants.{Idle, Unanswered, Held, InDoubt}
+use Rattle.bsc_text.specs.declared.phase.Phase.TheVariants.{Idle}
 use Rattle.bsc_text.specs.Ready.{IsAtRest, FitsAct}
 use Rattle.bsc_text.specs.Receiver.{ReceiverValue, new_receiver, first_reply}
 use Rattle.bsc_text.specs.Reply.{message_of}
@@ -22,21 +21,18 @@ use Rattle.bsc_text.specs.declared.alternation.Alternation.TheVariants.{Even}
 use Rattle.bsc_text.specs.declared.reply.Reply.TheVariants.{Ack0}
 use Rattle.bsc_text.specs.Act.{Act}
 use Rattle.bsc_text.specs.Sender.{SenderStep, begin_step, cut_phase, is_in_doubt}
-use Rattle.bsc_text.specs.Terminal.{TerminalValue}
+use Rattle.bsc_text.specs.Terminal.{TerminalValue, HasDistinctAddresses}
 use Rattle.bsc_text.specs.Agreement.{IsResting, Continues, sent_flight}
 use Rattle.bsc_text.specs.EachStep.{SenderAgrees}
 use Rattle.bsc_tributary.specs.declared.called.Called.{Called}
 use Rattle.bsc_tributary.specs.declared.called.Called.TheVariants.{Polling as PollingCalled}
 use Rattle.bsc_tributary.specs.declared.called.Called.TheVariants.{Selection, Other}
-use Rattle.bsc_tributary.specs.declared.mode.Mode.{Mode}
-use Rattle.bsc_tributary.specs.declared.mode.Mode.TheVariants.{Control, Receiving, Sending}
+use Rattle.bsc_tributary.specs.declared.mode.Mode.TheVariants.{Control, Receiving}
 use Rattle.bsc_tributary.specs.Called.{called_as}
-use Rattle.bsc_text.specs.Terminal.{HasDistinctAddresses}
 use Rattle.bsc_tributary.specs.Tributary.{TributaryValue, TributaryStep, Hears, hear_step}
 use Rattle.bsc_tributary.specs.Tributary.{call_step, act_step, answer_step, quiet_step}
 use Rattle.bsc_tributary.specs.Tributary.{without_line, rooms_after, spool_at, empty_spool}
-use Rattle.bsc_tributary.specs.Kept.{IsTributary, AfterHearing, StaysQuiet, SuitsMode}
-use Rattle.bsc_control.specs.declared.task.Replied.{Replied}
+use Rattle.bsc_tributary.specs.Kept.{IsTributary}
 use Rattle.bsc_control.specs.declared.task.Replied.TheVariants.{Nothing}
 use Rattle.bsc_control.specs.declared.task.Task.{Task}
 use Rattle.bsc_control.specs.declared.task.Task.TheVariants.{Selecting, Polling}
@@ -50,133 +46,21 @@ use Rattle.bsc_control.specs.Table.{select_address}
 use Rattle.bsc_line_model.specs.declared.transmission.Speaker.TheVariants as sp
 use Rattle.bsc_line_model.specs.Transmission.{sent_by}
 use Rattle.bsc_line_model.specs.Line.{terminal_in}
-use Rattle.bsc_line_model.specs.Terminals.{answer_of, EachHears, EachKeeps, first_answer}
-use Rattle.bsc_line_model.specs.Trust.{EachOf, IsMissed, AllHear}
+use Rattle.bsc_line_model.specs.Terminals.{answer_of, EachHears, first_answer}
+use Rattle.bsc_line_model.specs.Trust.{AllHear}
 use Rattle.bsc_line_model.specs.Kept.{AreStations}
 use Rattle.bsc_line_model.specs.Together.{IsQuiet, AllQuiet, OthersQuiet, AllInControlMode}
 use Rattle.bsc_line_model.specs.Together.{IsSelectedWith, IsSelecting, IsPolling}
 use Rattle.bsc_line_model.specs.BidLaws.{BidLaws}
 use Rattle.bsc_line_model.proofs.Entries.{places, current_there}
-use Rattle.bsc_line_model.proofs.Stations.{same_or_not, terminal_there}
+use Rattle.bsc_line_model.proofs.Stations.{same_or_not, terminal_there, at_rest_in}
 use Rattle.bsc_line_model.proofs.Tuning.{NamesOwn, IsCalledBy}
-use Rattle.bsc_line_model.proofs.SendingDown.{place_of, none_before, one_answers}
+use Rattle.bsc_line_model.proofs.SendingDown.{one_answers, same_terminal}
 use Rattle.bsc_line_model.proofs.ActingUp.{HasActedUp, acts_up, present_after}
-
--- a terminal that no bid goes on from is at rest
-pub at_rest_in : (mode : Mode) (phase : Phase) (n : ℕ) → mode ≢ Sending → SuitsMode mode phase n
-    → IsAtRest phase
-at_rest_in Control phase n ne k = k
-at_rest_in (Receiving s) phase n ne k = k.0
-at_rest_in Sending phase n ne k = absurd (ne refl)
-
-cut_same : (phase : Phase) → IsAtRest phase → cut_phase phase ≡ phase
-cut_same Idle h = refl
-cut_same (InDoubt k) h = refl
-cut_same (Unanswered b) h = absurd h
-cut_same (Held end x) h = absurd h
-
--- the line is taken from it
-pub without_quiet : (p : PeerValue) (x : TributaryValue) → IsTributary x → IsQuiet p x
-    → IsQuiet p (without_line x)
-without_quiet p x is q =
-    record {
-      mode = λ sends. cc;
-      up = subst (λ (k : Phase). IsResting k x.queue p.spool.records)
-          (sym (cut_same x.sender.phase (at_rest_in x.mode x.sender.phase (length x.spools) q.mode
-          is.bid))) q.up;
-      down = q.down;
-    }
-
--- a terminal that is not called stays as it is, or gives up the line, and answers nothing
-pub record StepsBack (x u : TributaryValue) (out : Option Message) : Type 0 where
-  pub becomes : (u ≡ x) ⊎ (u ≡ without_line x)
-  pub silent : out ≡ None
-
--- it gives up the line
-pub record GivesUp (x u : TributaryValue) (out : Option Message) : Type 0 where
-  pub becomes : u ≡ without_line x
-  pub silent : out ≡ None
-
-pub back_quiet : (p : PeerValue) (x u : TributaryValue) (out : Option Message) → IsTributary x
-    → IsQuiet p x → StepsBack x u out → IsQuiet p u
-back_quiet p x u out is q b =
-    elim b.becomes [
-      | inl e ↦ subst (λ (y : TributaryValue). IsQuiet p y) (sym e) q
-      | inr e ↦ subst (λ (y : TributaryValue). IsQuiet p y) (sym e) (without_quiet p x is q)
-    ]
-
--- it missed the call
-pub misses : (x : TributaryValue) (h : Heard) (u : TributaryValue) (out : Option Message)
-    → IsMissed h → Hears x h u out → AfterHearing x h u out → StepsBack x u out
-misses x Noise u out f row after =
-    let q : StaysQuiet x u out = after.noise refl in
-    record { becomes = inl q.0; silent = q.1 }
-misses x (Whole m.Eot) u out f row after =
-    record {
-      becomes = inr (ap (λ (o : TributaryStep). o.tributary) row.row);
-      silent =
-          ap (λ (o : TributaryStep). o.sent) row.row;
-    }
-misses x Failed u out f row after = absurd f
-misses x (Whole (m.Call z)) u out f row after = absurd f
-misses x (Whole (m.Text z)) u out f row after = absurd f
-misses x (Whole m.Enq) u out f row after = absurd f
-misses x (Whole m.Ack0) u out f row after = absurd f
-misses x (Whole m.Ack1) u out f row after = absurd f
-misses x (Whole m.Nak) u out f row after = absurd f
-misses x (Whole m.Wack) u out f row after = absurd f
-misses x (Whole m.Rvi) u out f row after = absurd f
-
-nobody_answers : (old : List TributaryValue) (hears : ℕ → Heard) (new : List TributaryValue) (n : ℕ)
-    → ((k : ℕ) → k < n → answer_of old hears new k ≡ None) → first_answer old hears new n ≡ None
-nobody_answers old hears new n f =
-    none_before old hears new n n (omega arith) (λ k less ne. f k less)
-
--- all missed it: no bid goes on, and nothing is on the line
-pub record AllBack (c : ControlValue) (old : List TributaryValue) (hears : ℕ → Heard)
-    (new : List TributaryValue) : Type 0 where
-  pub quiet : AllQuiet c new
-  pub first : first_answer old hears new (length old) ≡ None
-
-pub all_miss : (c : ControlValue) (old : List TributaryValue) (hears : ℕ → Heard)
-    (new : List TributaryValue) → AreStations c old → AllQuiet c old
-    → EachOf (length old) (λ t. IsMissed (hears t)) → EachHears old hears new
-    → EachKeeps old hears new → AllBack c old hears new
-all_miss c old hears new stations quiet missed each keeps =
-    let backs : (t : ℕ) → t < length old
-    → StepsBack (terminal_in old t) (terminal_in new t) (answer_of old hears new t) =
-    λ t less. misses (terminal_in old t) (hears t) (terminal_in new t) (answer_of old hears new t)
-    (missed t less) (each.each t less) (keeps t less) in
-    record {
-      quiet = λ t less.
-          let before : t < length old = omega (arith, each.count) in
-          back_quiet (peer_at c t) (terminal_in old t) (terminal_in new t)
-          (answer_of old hears new t) (stations.members t before).tributary (quiet t before)
-          (backs t before);
-      first = nobody_answers old hears new (length old) (λ t less. (backs t less).silent);
-    }
-
-pub selecting_missed : (c : ControlValue) (old : List TributaryValue) (hears : ℕ → Heard)
-    (new : List TributaryValue) (s : ℕ) → AreStations c old → AllQuiet c old
-    → EachOf (length old) (λ t. IsMissed (hears t)) → EachHears old hears new
-    → EachKeeps old hears new →
-    IsSelecting (first_answer old hears new (length old)) c new s false
-selecting_missed c old hears new s stations quiet missed each keeps =
-    let b : AllBack c old hears new = all_miss c old hears new stations quiet missed each keeps in
-    record { quiet = b.quiet; with_pending = rw (b.first) tt; fresh = tt }
-
-pub polling_missed : (c : ControlValue) (old : List TributaryValue) (hears : ℕ → Heard)
-    (new : List TributaryValue) (replied : Replied) → current c < length old → AreStations c old
-    → AllQuiet c old → EachOf (length old) (λ t. IsMissed (hears t)) → EachHears old hears new
-    → EachKeeps old hears new →
-    IsPolling (first_answer old hears new (length old)) c new replied
-polling_missed c old hears new replied there stations quiet missed each keeps =
-    let b : AllBack c old hears new = all_miss c old hears new stations quiet missed each keeps in
-    let after : current c < length new = omega (arith, each.count) in
-    record {
-      others = λ t less differ. b.quiet t less;
-      present = inl (b.quiet (current c) after, rw (b.first) tt);
-    }
+use Rattle.bsc_line_model.proofs.CallsMissed.{without_quiet, GivesUp}
+use Rattle.bsc_line_model.proofs.CallsMissed.{back_quiet}
+use Rattle.bsc_text.proofs.RestLemmas.{idle_at_rest, cut_at_rest}
+use Rattle.bsc_line_model.proofs.UpTerminals.{poll_by}
 
 -- a call is heard whole by all, and its address is that of terminal e for this way
 pub record IsCallTo (c : ControlValue) (old : List TributaryValue) (hears : ℕ → Heard)
@@ -186,11 +70,6 @@ pub record IsCallTo (c : ControlValue) (old : List TributaryValue) (hears : ℕ 
   pub exact : (u : ℕ) (w : Way) → (addressed ≡ Some (u, w)) ↔ IsAddressOf (terminals c) u w address
   pub its_own : IsAddressOf (terminals c) e way address
 
--- an address is that of one terminal
-one_terminal : (addressed : Option (ℕ × Way)) (t e : ℕ) (v w : Way) → addressed ≡ Some (t, v)
-    → addressed ≡ Some (e, w) → t ≡ e
-one_terminal addressed t e v w a b = ap place_of (sym a ∙ b)
-
 -- so the others are not called
 pub not_called : (laws : NamesOwn) (addressed : Option (ℕ × Way)) (ts : List TerminalValue)
     (t e : ℕ) (way : Way) (x : TerminalValue) (address : List ℕ)
@@ -199,7 +78,7 @@ pub not_called : (laws : NamesOwn) (addressed : Option (ℕ × Way)) (ts : List 
 not_called laws addressed ts t e way x address b is differ Other k = k
 not_called laws addressed ts t e way x address b is differ PollingCalled k =
     absurd
-    (differ (one_terminal addressed t e FromTerminal way
+    (differ (same_terminal addressed t e FromTerminal way
     ((b.exact t FromTerminal).1 (record {
       terminal = x;
       there = b.there;
@@ -208,7 +87,7 @@ not_called laws addressed ts t e way x address b is differ PollingCalled k =
     })) is))
 not_called laws addressed ts t e way x address b is differ (Selection s) k =
     absurd
-    (differ (one_terminal addressed t e (ToTerminal s) way
+    (differ (same_terminal addressed t e (ToTerminal s) way
     ((b.exact t (ToTerminal s)).1 (record {
       terminal = x;
       there = b.there;
@@ -441,20 +320,6 @@ selecting_heard laws c old hears new addressed s enquired there stations task qu
       fresh = tt;
     }
 
--- the answer to a poll, by whether there is doubt and whether no record waits
-abbrev poll_answer : TributaryValue → Bool → Bool → TributaryStep
-poll_answer x doubt empty =
-    let d : TributaryValue = record (without_line x) { urgent = false } in
-    if doubt then answer_step d m.Eot
-    else if empty then answer_step d m.Eot
-    else act_step d (begin_step d.sender d.queue)
-
-idle_at_rest : (phase : Phase) → IsAtRest phase → is_in_doubt phase ≡ false → phase ≡ Idle
-idle_at_rest Idle h e = refl
-idle_at_rest (InDoubt k) h e = absurd (cc)
-idle_at_rest (Unanswered b) h e = absurd h
-idle_at_rest (Held end x) h e = absurd h
-
 rests_quiet : (act : Act) (old new : Phase) → FitsAct act old new → act ≡ a.Quiet → IsAtRest old
     → IsAtRest new
 rests_quiet act old new fits is rest =
@@ -489,7 +354,7 @@ begins_bid laws p e d new q mode idle some =
 polled_terminal : (laws : BidLaws) (p : PeerValue) (e : ℕ) (x : TributaryValue) (doubt empty : Bool)
     → p.receiver ≡ new_receiver true → IsTributary x → IsQuiet p x
     → is_in_doubt (cut_phase x.sender.phase) ≡ doubt → nat_eq (length (waiting x.queue)) 0 ≡ empty →
-    HasActedUp p e (poll_answer x doubt empty).tributary (poll_answer x doubt empty).sent
+    HasActedUp p e (poll_by x doubt empty).tributary (poll_by x doubt empty).sent
 polled_terminal laws p e x true empty new is q d n = let w : IsQuiet p (without_line x) =
     without_quiet p x is q in
     inl (record { mode = w.mode; up = w.up; down = w.down }, inr (refl, refl))
@@ -502,7 +367,7 @@ polled_terminal laws p e x false false new is q d n =
     let rest : IsAtRest x.sender.phase =
     at_rest_in x.mode x.sender.phase (length x.spools) q.mode is.bid in
     let cut_rest : IsAtRest (cut_phase x.sender.phase) =
-    subst IsAtRest (sym (cut_same x.sender.phase rest)) rest in
+    subst IsAtRest (sym (cut_at_rest x.sender.phase rest)) rest in
     begins_bid laws p e (record (without_line x) { urgent = false }) new
     (record { mode = w.mode; up = w.up; down = w.down }) refl
     (idle_at_rest (cut_phase x.sender.phase) cut_rest d) (omega arith)
@@ -539,7 +404,7 @@ polling_heard names laws c old hears new addressed there stations task quiet all
     one_called names c old hears new addressed e FromTerminal p.terminal.poll stations
     (record { there = there; all = all; exact = exact; its_own = its_own }) each in
     let row : record { tributary = u; sent = out }
-    ≡ poll_answer x (is_in_doubt (cut_phase x.sender.phase))
+    ≡ poll_by x (is_in_doubt (cut_phase x.sender.phase))
     (nat_eq (length (waiting x.queue)) 0) =
     called_row x (hears e) u out p.terminal.poll PollingCalled (all e there)
     ((names.polling x.terminal p.terminal.poll).1 poll) (each.each e there) in

@@ -28,11 +28,11 @@ use Rattle.bsc_control.specs.declared.way.Way.TheVariants.{FromTerminal, ToTermi
 use Rattle.bsc_control.specs.Peer.{PeerValue, OutboundValue, no_peer, no_outbound, outbound_at}
 use Rattle.bsc_control.specs.Peer.{with_outbound, outbound_after}
 use Rattle.bsc_control.specs.Control.{ControlValue, ControlStep, peer_at, peer, current}
-use Rattle.bsc_control.specs.Control.{with_current, terminal_of_entry}
+use Rattle.bsc_control.specs.Control.{terminal_of_entry}
 use Rattle.bsc_control.specs.CallOrder.{After, Selection, way_from}
 use Rattle.bsc_control.specs.Kept.{IsTaskOf}
 use Rattle.bsc_control.specs.Table.{Hears, task_step, bid_step, make_call_step, after_bid}
-use Rattle.bsc_control.specs.Table.{select_address, rooms_after}
+use Rattle.bsc_control.specs.Table.{select_address, rooms_after, after_step}
 use Rattle.bsc_line_model.specs.Rounds.{block_count}
 use Rattle.bsc_line_model.proofs.BlockCounts.{CutLaws, HasFirstBlock, IsEnd, has_first}
 use Rattle.bsc_line_model.proofs.Staying.{ControlStays, control_then, call_stays, sender_stays}
@@ -102,10 +102,6 @@ pub record SendsDown (c : ControlValue) (sent : Option Message) (place s n : ℕ
   pub block : SentBlock
   pub in_block : IsInBlock c s n block
   pub text : sent ≡ Some (m.Text (text_of (outbound_at (peer c) s).queue block))
-
--- what the sender's step leaves
-abbrev pub after_step : ControlValue → ℕ → SenderStep → ControlValue
-after_step c s step = with_current c (with_outbound (peer c) s (outbound_after step))
 
 outbound_is : (c : ControlValue) (s : ℕ) (step : SenderStep) → current c < length c.peers → s
     < length (peer c).outbounds → outbound_at (peer (after_step c s step)) s ≡ outbound_after step

@@ -12,7 +12,6 @@ use Rattle.bsc_spool.specs.Queue.{QueueValue}
 use Rattle.bsc_spool.specs.Spool.{SpoolValue}
 use Rattle.bsc_text.specs.declared.phase.Phase.{Phase}
 use Rattle.bsc_text.specs.declared.reply.Reply.{Reply}
-use Rattle.bsc_text.specs.declared.reply.Reply.TheVariants.{Ack0, Ack1, Nak, Wack, Rvi}
 use Rattle.bsc_text.specs.Reply.{message_of, reply_heard}
 use Rattle.bsc_text.specs.Receiver.{ReceiverStep, Rooms, heard_step}
 use Rattle.bsc_text.specs.Sender.{reply_step}
@@ -46,11 +45,13 @@ use Rattle.bsc_line_model.specs.Together.{IsInBidDown, InTask}
 use Rattle.bsc_line_model.specs.BidLaws.{BidLaws}
 use Rattle.bsc_line_model.proofs.Entries.{places, current_there}
 use Rattle.bsc_line_model.proofs.Tuning.{each_fairly}
-use Rattle.bsc_line_model.proofs.SendingDown.{receiving_into, place_of}
+use Rattle.bsc_line_model.proofs.SendingDown.{same_terminal}
 use Rattle.bsc_line_model.proofs.AllHear.{reply_is_no_call}
 use Rattle.bsc_line_model.proofs.QueueSteps.{LearnsUp, terminal_queue}
 use Rattle.bsc_line_model.proofs.Holding.{IsBidOf, bid_of}
 use Rattle.bsc_line_model.proofs.Moving.{MovesIfAddressed, EachMoves}
+use Rattle.bsc_text.proofs.Answering.{no_reply}
+use Rattle.bsc_line_model.proofs.Stations.{receiving_into}
 
 -- a text that is heard fairly was sent
 not_cut_to_text : (w : Message) (t : TextValue) → IsCallCutShort w (m.Text t) → ⊥
@@ -94,13 +95,6 @@ pub record IsBidTo (pending : Option Transmission) (c : ControlValue)
   pub select : ℕ
   pub bid : IsInBidDown pending (peer c) (current c) select (terminal_in ts (current c))
 
-text_no_reply : (t : TextValue) (r : Reply) → m.Text t ≡ message_of r → ⊥
-text_no_reply t Ack0 e = cc
-text_no_reply t Ack1 e = cc
-text_no_reply t Nak e = cc
-text_no_reply t Wack e = cc
-text_no_reply t Rvi e = cc
-
 bid_to : (task : Task) (t : TextValue) (c : ControlValue) (ts : List TributaryValue)
     → InTask task (Some (record { speaker = sp.Control; message = m.Text t })) c ts
     → IsBidTo (Some (record { speaker = sp.Control; message = m.Text t })) c ts
@@ -114,7 +108,7 @@ bid_to (Sending s) t c ts k = record { select = s; bid = k.bid }
 bid_to (Polling replied) t c ts k =
     elim k.present [
       | inl q ↦ (let no : m.Text t ≡ m.Call (peer c).terminal.poll = q.1.0 in absurd (cc))
-      | inr b ↦ absurd (text_no_reply t b.flies.0 b.flies.1)
+      | inr b ↦ absurd (no_reply (m.Text t) b.flies.0 refl b.flies.1)
     ]
 
 -- the terminal that it is sent to has heard it, or noise
@@ -156,11 +150,6 @@ pub if_learns : (addressed : Option (ℕ × Way)) (t : ℕ) (way : Way) (old new
     ≡ Some (t, way) → MovesAtSender old new → MovesIfAddressed addressed t way old new
 if_learns addressed t way old new is (inl same) = inl same
 if_learns addressed t way old new is (inr learns) = inr (is, inr learns)
-
--- two places of the addressed channel
-pub same_terminal : (addressed : Option (ℕ × Way)) (t u : ℕ) (way other : Way) → addressed
-    ≡ Some (t, way) → addressed ≡ Some (u, other) → t ≡ u
-same_terminal addressed t u way other a b = ap place_of (sym a ∙ b)
 
 abbrev way_in : Option (ℕ × Way) → Way
 way_in None = FromTerminal

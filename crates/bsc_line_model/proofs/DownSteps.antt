@@ -20,11 +20,11 @@ use Rattle.bsc_text.specs.Terminal.{TerminalValue}
 use Rattle.bsc_tributary.specs.declared.called.Called.{Called}
 use Rattle.bsc_tributary.specs.declared.called.Called.TheVariants.{Polling, Selection, Other}
 use Rattle.bsc_tributary.specs.declared.mode.Mode.{Mode}
-use Rattle.bsc_tributary.specs.declared.mode.Mode.TheVariants.{Control, Receiving, Sending}
+use Rattle.bsc_tributary.specs.declared.mode.Mode.TheVariants.{Control}
 use Rattle.bsc_tributary.specs.Called.{called_as}
 use Rattle.bsc_tributary.specs.Tributary.{TributaryValue, TributaryStep, Hears, mode_step}
 use Rattle.bsc_tributary.specs.Tributary.{quiet_step, rooms_after, spool_at}
-use Rattle.bsc_tributary.specs.Kept.{SuitsMode, IsNoCall}
+use Rattle.bsc_tributary.specs.Kept.{IsNoCall}
 use Rattle.bsc_control.specs.declared.task.Task.{Task}
 use Rattle.bsc_control.specs.declared.task.Task.TheVariants as k
 use Rattle.bsc_control.specs.declared.way.Way.{Way}
@@ -43,7 +43,7 @@ use Rattle.bsc_line_model.specs.Kept.{IsTuned, AreTuned}
 use Rattle.bsc_line_model.specs.Terminals.{answer_of}
 use Rattle.bsc_line_model.specs.Together.{InTask, IsSelecting, IsSending, IsInBidDown, FliesDown}
 use Rattle.bsc_line_model.specs.Rounds.{SameDelays}
-use Rattle.bsc_line_model.proofs.Stations.{same_or_not, terminal_there}
+use Rattle.bsc_line_model.proofs.Stations.{same_or_not, terminal_there, at_rest_in, receiving_into}
 use Rattle.bsc_line_model.proofs.Tuning.{NamesOwn}
 use Rattle.bsc_line_model.proofs.SendingDown.{others_in_control, one_answers, place_of}
 use Rattle.bsc_line_model.proofs.Staying.{TerminalStays, TerminalsStay, terminal_same}
@@ -132,10 +132,6 @@ not_landed pending p e s x b t is phase h =
       | inr n ↦ absurd n.flight
     ]
 
-into_spool : (mode : Mode) (phase : Phase) (spools s : ℕ) → mode ≡ Receiving s
-    → SuitsMode mode phase spools → s < spools
-into_spool mode phase spools s is fits = (subst (λ (n : Mode). SuitsMode n phase spools) is fits).1
-
 -- a text to selection address s is acknowledged
 pub text_down : (l new : LineValue) (s n : ℕ) (b : SentBlock) → IsGood l → IsInBlock l.control s n b
     → (terminal_at l (current l.control)).urgent ≡ false → SameDelays l new →
@@ -156,7 +152,7 @@ text_down l new s n b g i calm delays is h =
     let addressed : l.addressed ≡ Some (e, ToTerminal s) =
     subst (λ (z : Mode). IsTuned l.addressed e z) bid.mode (tuned e there) in
     let into : s < length x.spools =
-    into_spool x.mode x.sender.phase (length x.spools) s bid.mode
+    receiving_into x.mode x.sender.phase (length x.spools) s bid.mode
     (g.line.stations.members e there).tributary.bid in
     let counted : x.receiver.alternation ≡ other b.alternation =
     not_landed l.pending (peer c) e s x b t is i.phase bid in
@@ -178,13 +174,6 @@ text_down l new s n b g i calm delays is h =
     (others_in_control l.addressed e z (ToTerminal s) (terminal_at l z).mode addressed differ
     (tuned z less)) tt (h.terminals.each z less))
     (record { says = taken.0; stays = taken.1 })
-
--- a terminal that does not send is at rest
-pub at_rest : (mode : Mode) (phase : Phase) (spools : ℕ) → mode ≢ Sending
-    → SuitsMode mode phase spools → IsAtRest phase
-at_rest Control phase spools never fits = fits
-at_rest (Receiving s) phase spools never fits = fits.0
-at_rest Sending phase spools never fits = absurd (never refl)
 
 -- a call names no address of another terminal than the one that is then addressed
 pub names_other : (laws : NamesOwn) (l new : LineValue) (e : ℕ) (way : Way) (a : List ℕ) (t : ℕ)
@@ -259,7 +248,7 @@ call_down laws l new s g task select ready delays h =
       its_own = own;
     } in
     let rests : (t : ℕ) → t < length l.terminals → IsAtRest (terminal_at l t).sender.phase =
-    λ t less. at_rest (terminal_at l t).mode (terminal_at l t).sender.phase
+    λ t less. at_rest_in (terminal_at l t).mode (terminal_at l t).sender.phase
     (length (terminal_at l t).spools) (selecting.quiet t less).mode
     (g.line.stations.members t less).tributary.bid in
     let same : ((spool_at (terminal_at new e).spools s).delays ≡ (spool_at x.spools s).delays)

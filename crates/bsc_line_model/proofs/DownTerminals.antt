@@ -9,14 +9,11 @@ use Rattle.bsc_frame.specs.Texts.{TextValue}
 use Rattle.bsc_spool.specs.Spool.{SpoolValue, room_asked, with_delay}
 use Rattle.bsc_text.specs.declared.alternation.Alternation.{Alternation}
 use Rattle.bsc_text.specs.declared.alternation.Alternation.TheVariants.{Even, Odd}
-use Rattle.bsc_text.specs.declared.phase.Phase.{Phase}
-use Rattle.bsc_text.specs.declared.phase.Phase.TheVariants.{Idle, Unanswered, Held, InDoubt}
 use Rattle.bsc_text.specs.declared.reply.Reply.{Reply}
 use Rattle.bsc_text.specs.Ready.{IsAtRest}
 use Rattle.bsc_text.specs.Reply.{message_of, ack, other}
 use Rattle.bsc_text.specs.Receiver.{ReceiverValue, ReceiverStep, Rooms, text_step, sends_rvi}
 use Rattle.bsc_text.specs.Receiver.{new_receiver, first_reply}
-use Rattle.bsc_text.specs.Sender.{cut_phase}
 use Rattle.bsc_tributary.specs.declared.called.Called.{Called}
 use Rattle.bsc_tributary.specs.declared.called.Called.TheVariants.{Selection, Other}
 use Rattle.bsc_tributary.specs.declared.mode.Mode.{Mode}
@@ -28,6 +25,7 @@ use Rattle.bsc_tributary.specs.Tributary.{without_line, quiet_step, spool_at, em
 use Rattle.bsc_control.specs.declared.way.Way.TheVariants.{ToTerminal}
 use Rattle.bsc_control.specs.declared.way.Way.{Way}
 use Rattle.bsc_line_model.proofs.Staying.{TerminalStays}
+use Rattle.bsc_text.proofs.RestLemmas.{cut_at_rest}
 
 -- a flag that is down stays down
 pub calm : (b u : Bool) → u ≡ false → (if b then false else u) ≡ false
@@ -95,13 +93,6 @@ takes_block e x u out s t alternation mode there not_urgent counted same less h 
           (receives_stays e x s r),
     )
 
--- a phase at rest is not cut
-pub rests_on : (phase : Phase) → IsAtRest phase → cut_phase phase ≡ phase
-rests_on Idle k = refl
-rests_on (InDoubt n) k = refl
-rests_on (Unanswered b) k = absurd k
-rests_on (Held end p) k = absurd k
-
 -- the call of another terminal's address
 pub hears_other : (e : ℕ) (way : Way) (t : ℕ) (x u : TributaryValue) (out : Option Message)
     (a : List ℕ) → IsAtRest x.sender.phase → called_as x.terminal a ≡ Other
@@ -117,7 +108,7 @@ hears_other e way t x u out a rest is h =
             down = λ s k. refl;
             queue = λ k. refl;
             phase =
-                λ k. rests_on x.sender.phase rest;
+                λ k. cut_at_rest x.sender.phase rest;
           }),
     )
 
@@ -169,7 +160,7 @@ selected_exact e x u out s room there ready rest same less row = by_room room ex
                 (get_or-set_other x.spools s k (room_asked (spool_at x.spools s) true)
                 empty_spool differ);
             queue = λ k. refl;
-            phase = λ k. rests_on x.sender.phase rest;
+            phase = λ k. cut_at_rest x.sender.phase rest;
           }),
     )
     by_room false is =

@@ -21,7 +21,7 @@ use Rattle.bsc_line_model.specs.Stays.{ReadyStays, UrgentAtStays, ReleaseFromSta
 use Rattle.bsc_line_model.specs.Stays.{UrgentForStays, ReleaseToStays}
 use Rattle.bsc_line_model.proofs.Carrying.{line_down, line_up, line_silent, line_at, line_set}
 use Rattle.bsc_line_model.proofs.Carrying.{line_peer, terminal_full, outbound_full}
-use Rattle.bsc_line_model.proofs.Likeness.{IsLike, ready_like, urgent_at_like, urgent_for_like}
+use Rattle.bsc_line_model.proofs.Likeness.{IsLike, flags_like}
 use Rattle.bsc_line_model.proofs.Likeness.{offer_at_like, offer_for_like, release_from_like}
 use Rattle.bsc_line_model.proofs.Likeness.{release_to_like}
 use Rattle.bsc_line_model.proofs.Making.{new_line}
@@ -102,13 +102,13 @@ pub ready_stays : ReadyStays
 ready_stays l t ready x line there is e =
     set_stays l t x line there (same_as (terminal_at l t) x _ is e refl refl refl)
     (like_as (peer_at l.control t) (terminal_at l t) x _ e
-    (ready_like (peer_at l.control t) (terminal_at l t) ready))
+    (flags_like (peer_at l.control t) (terminal_at l t) _ ready _))
 
 pub urgent_at_stays : UrgentAtStays
 urgent_at_stays l t x line there is e =
     set_stays l t x line there (same_as (terminal_at l t) x _ is e refl refl refl)
     (like_as (peer_at l.control t) (terminal_at l t) x _ e
-    (urgent_at_like (peer_at l.control t) (terminal_at l t) _))
+    (flags_like (peer_at l.control t) (terminal_at l t) _ _ _))
 
 pub release_from_stays : BidLaws → ReleaseFromStays
 release_from_stays bids l t x line there same e =
@@ -118,7 +118,8 @@ release_from_stays bids l t x line there same e =
 
 -- the control station has as many parts as there are terminals, and each has its selection
 -- addresses
-peer_there : (l : LineValue) (t : ℕ) → IsLine l → t < terminal_count l → t < length l.control.peers
+pub peer_there : (l : LineValue) (t : ℕ) → IsLine l → t < terminal_count l
+    → t < length l.control.peers
 peer_there l t line there = subst (λ (n : ℕ). t < n) (sym line.stations.count) there
 
 select_there : (l : LineValue) (t s : ℕ) → IsLine l → t < terminal_count l → s < select_count l t
@@ -140,7 +141,7 @@ pub urgent_for_stays : UrgentForStays
 urgent_for_stays l t c line there is e =
     line_peer l.control c l.terminals l.pending l.trusted l.addressed t _ line
     (peer_there l t line there) e is
-    (urgent_for_like (peer_at l.control t) (terminal_at l t) _)
+    (flags_like (peer_at l.control t) (terminal_at l t) _ _ _)
 
 pub release_to_stays : BidLaws → ReleaseToStays
 release_to_stays bids l t s c line there select is e =

@@ -1,6 +1,6 @@
 -- What each accepted event does to the channels of a line.
 use Rattle.std.proofs.Common.{◌≡◌, ℕ, ◌<◌, Bool, true, List, length, IsTrue, Option, None, Some, Ok}
-use Rattle.std.proofs.Common.{refl, sym, ◌∙◌, ap, subst, arith}
+use Rattle.std.proofs.Common.{refl, sym, ◌∙◌, ap, subst}
 use Rattle.bsc_frame.specs.declared.message.Message.{Message}
 use Rattle.bsc_frame.specs.declared.message.Heard.{Heard}
 use Rattle.bsc_frame.specs.declared.message.Heard.TheVariants.{Whole}
@@ -20,7 +20,7 @@ use Rattle.bsc_line_model.specs.declared.event.Event.TheVariants.{OfferAt, Offer
 use Rattle.bsc_line_model.specs.declared.event.Event.TheVariants.{CarryEach, CarrySent, Silence}
 use Rattle.bsc_line_model.specs.declared.event.Event.TheVariants.{Ready, UrgentAt, UrgentFor}
 use Rattle.bsc_line_model.specs.declared.event.Event.TheVariants.{Release}
-use Rattle.bsc_line_model.specs.Line.{LineValue, terminal_in, terminal_at, terminal_count}
+use Rattle.bsc_line_model.specs.Line.{LineValue, terminal_in, terminal_at}
 use Rattle.bsc_line_model.specs.Line.{with_terminal, channel_of}
 use Rattle.bsc_line_model.specs.Terminals.{line_owner}
 use Rattle.bsc_line_model.specs.Hearing.{heard_in, heard_at, octets_in}
@@ -41,11 +41,7 @@ use Rattle.bsc_line_model.proofs.OutboundSteps.{outbound_silent_queue}
 use Rattle.bsc_line_model.proofs.Moving.{moves_addressed}
 use Rattle.bsc_line_model.proofs.DownMoves.{down_moves}
 use Rattle.bsc_line_model.proofs.UpMoves.{up_moves}
-
--- the control station keeps something for each terminal
-pub peer_there : (l : LineValue) (t : ℕ) → IsLine l → t < terminal_count l → t
-    < length l.control.peers
-peer_there l t is less = omega (arith, is.stations.count)
+use Rattle.bsc_line_model.proofs.EachEvent.{peer_there}
 
 -- a transmission is carried
 carry_moves : (laws : BidLaws) (old new : LineValue) (speaker : Speaker) (w : Message) (h : Heard)

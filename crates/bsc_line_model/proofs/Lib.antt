@@ -8,6 +8,7 @@ pub mod Making
 pub mod Calling
 pub mod SendingUp
 pub mod ActingUp
+pub mod CallsMissed
 pub mod CallsHeard
 pub mod RepliesHeard
 pub mod AnswersHeard

@@ -301,38 +301,10 @@ peer_like c ts t q there k =
           ];
     }
 
--- flags
-pub ready_like : (p : PeerValue) (x : TributaryValue) (ready : Bool)
-    → IsLike p x p (record x { ready = ready })
-ready_like p x ready =
-    record {
-      terminal = refl;
-      outbounds = refl;
-      mode = refl;
-      receiver = refl;
-      rests_up = λ h. h;
-      rests_down = λ k h. h;
-      bids_up = λ f h. h;
-      bids_down = λ k f h. h;
-    }
-
-pub urgent_at_like : (p : PeerValue) (x : TributaryValue) (urgent : Bool)
-    → IsLike p x p (record x { urgent = urgent })
-urgent_at_like p x urgent =
-    record {
-      terminal = refl;
-      outbounds = refl;
-      mode = refl;
-      receiver = refl;
-      rests_up = λ h. h;
-      rests_down = λ k h. h;
-      bids_up = λ f h. h;
-      bids_down = λ k f h. h;
-    }
-
-pub urgent_for_like : (p : PeerValue) (x : TributaryValue) (urgent : Bool)
-    → IsLike p x (record p { urgent = urgent }) x
-urgent_for_like p x urgent =
+-- flags of either
+pub flags_like : (p : PeerValue) (x : TributaryValue) (for_it ready at_it : Bool)
+    → IsLike p x (record p { urgent = for_it }) (record x { ready = ready; urgent = at_it })
+flags_like p x for_it ready at_it =
     record {
       terminal = refl;
       outbounds = refl;

@@ -26,7 +26,7 @@ use Rattle.bsc_line_model.specs.Kept.{IsTuned, IsLine}
 use Rattle.bsc_line_model.proofs.Stations.{terminal_there}
 use Rattle.bsc_line_model.proofs.Tuning.{NamesOwn, IsNotCalled, IsCalledBy, fair_not_called}
 use Rattle.bsc_line_model.proofs.Tuning.{each_fairly}
-use Rattle.bsc_line_model.proofs.DownMoves.{same_terminal}
+use Rattle.bsc_line_model.proofs.SendingDown.{same_terminal}
 
 -- a channel of this terminal is addressed
 pub record IsAddressed (addressed : Option (ℕ × Way)) (t : ℕ) : Type 0 where

@@ -24,13 +24,13 @@ use Rattle.bsc_control.specs.declared.way.Way.TheVariants.{FromTerminal, ToTermi
 use Rattle.bsc_control.specs.Peer.{PeerValue, OutboundValue, no_peer, no_outbound, outbound_at}
 use Rattle.bsc_control.specs.Peer.{with_outbound, outbound_after}
 use Rattle.bsc_control.specs.Control.{ControlValue, ControlStep, peer_at, peer, current}
-use Rattle.bsc_control.specs.Control.{terminal_of_entry, with_peer, with_current, sends}
+use Rattle.bsc_control.specs.Control.{terminal_of_entry, with_peer, sends}
 use Rattle.bsc_control.specs.CallOrder.{After, Start, Selection, Poll, next_call}
 use Rattle.bsc_control.specs.Kept.{outbound_of, IsControl, IsSelected, IsInBid, SuitsTask}
 use Rattle.bsc_control.specs.Table.{Hears, ActsOnSilence, poll_call_step, way_call_step}
 use Rattle.bsc_control.specs.Table.{next_call_step, perform_step, bid_step, after_bid}
 use Rattle.bsc_control.specs.Table.{selecting_step, receiving_step, polling_step, task_step}
-use Rattle.bsc_control.specs.Table.{rooms_after, repeated, silence_in, has_rvi}
+use Rattle.bsc_control.specs.Table.{rooms_after, repeated, silence_in, has_rvi, after_step}
 use Rattle.bsc_line_model.proofs.Entries.{HasPlaces, places, same_places, current_there, next_there}
 use Rattle.bsc_line_model.proofs.Stations.{same_or_not}
 use Rattle.bsc_line_model.proofs.QueueSteps.{begin_queue, silence_queue}
@@ -72,10 +72,6 @@ next_queues : (c : ControlValue) (after : After) (t k : ℕ) → HasPlaces c
     → (outbound_of (next_call_step c after).control t k).queue ≡ (outbound_of c t k).queue
 next_queues c after t k places =
     calls_queues c (next_call c after).place (next_call c after).way t k (next_there c after places)
-
--- what a step of the sender to selection address s leaves
-abbrev after_step : ControlValue → ℕ → SenderStep → ControlValue
-after_step c s step = with_current c (with_outbound (peer c) s (outbound_after step))
 
 -- this queue is the one to selection address s of the present terminal, and is the step's
 pub record IsStepped (c : ControlValue) (s : ℕ) (step : SenderStep) (t k : ℕ)

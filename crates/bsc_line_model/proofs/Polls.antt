@@ -11,8 +11,6 @@ use Rattle.bsc_frame.specs.declared.message.Message.TheVariants as msg
 use Rattle.bsc_frame.specs.declared.message.Heard.TheVariants.{Whole}
 use Rattle.bsc_frame.specs.Texts.{TextValue}
 use Rattle.bsc_text.specs.declared.alternation.Alternation.{Alternation}
-use Rattle.bsc_text.specs.declared.reply.Reply.{Reply}
-use Rattle.bsc_text.specs.declared.reply.Reply.TheVariants.{Ack0, Ack1, Nak, Wack, Rvi}
 use Rattle.bsc_text.specs.declared.phase.SentBlock.{SentBlock}
 use Rattle.bsc_text.specs.declared.phase.Phase.{Phase}
 use Rattle.bsc_text.specs.declared.phase.Phase.TheVariants.{Unanswered}
@@ -46,19 +44,20 @@ use Rattle.bsc_line_model.specs.Terminals.{answer_of}
 use Rattle.bsc_line_model.specs.Together.{IsQuiet, InTask, IsPolling, IsPolledWith, IsInBidUp}
 use Rattle.bsc_line_model.specs.Together.{FliesUp}
 use Rattle.bsc_line_model.specs.Rounds.{block_count, SameDelays}
-use Rattle.bsc_line_model.proofs.Stations.{same_or_not, terminal_there}
+use Rattle.bsc_line_model.proofs.Stations.{same_or_not, terminal_there, at_rest_in}
 use Rattle.bsc_line_model.proofs.SendingDown.{others_in_control, one_answers}
 use Rattle.bsc_line_model.proofs.Staying.{Stays, ControlStays, TerminalStays, control_same}
 use Rattle.bsc_line_model.proofs.Staying.{terminals_same, stays_then}
 use Rattle.bsc_line_model.proofs.DownControl.{HasCalled}
 use Rattle.bsc_line_model.proofs.DownTerminals.{hears_other}
 use Rattle.bsc_line_model.proofs.DownSteps.{Answers, current_there, terminal_here, stays_quiet}
-use Rattle.bsc_line_model.proofs.DownSteps.{at_rest, names_other}
+use Rattle.bsc_line_model.proofs.DownSteps.{names_other}
 use Rattle.bsc_line_model.proofs.UpTerminals.{IsInBlockUp, SendsUp, EndsUp, GoesOnUp, ack_no_call}
 use Rattle.bsc_line_model.proofs.UpTerminals.{hears_ack, hears_poll}
 use Rattle.bsc_line_model.proofs.UpControl.{IsPolled, CallsNext, takes_up, polled_out}
 use Rattle.bsc_line_model.proofs.Walking.{IsGood, Walks, Stepped, one_step}
 use Rattle.bsc_line_model.proofs.Selections.{VisitLaws, Comes, Calls, known_queue, current_same}
+use Rattle.bsc_text.proofs.Answering.{no_reply}
 
 -- the poll of terminal e goes on, with n blocks to send, and what the terminal sent is pending
 pub record IsInPoll (l : LineValue) (e place n : ℕ) : Type 0 where
@@ -99,14 +98,6 @@ one_acts e v old new place n there h polled others this = (
   },
 )
 
--- a call is no reply
-no_reply : (a : List ℕ) (r : Reply) → msg.Call a ≡ message_of r → ⊥
-no_reply a Ack0 e = cc
-no_reply a Ack1 e = cc
-no_reply a Nak e = cc
-no_reply a Wack e = cc
-no_reply a Rvi e = cc
-
 -- while a polling address is called no terminal sends
 pub all_quiet : (l : LineValue) (a : List ℕ) (replied : Replied) → IsGood l → l.control.task
     ≡ k.Polling replied → l.pending ≡ Some (record { speaker = sp.Control; message = msg.Call a })
@@ -132,7 +123,7 @@ all_quiet l a replied g task is t less =
         (current l.control) b.flight =
         subst (λ (o : Option Transmission). FliesUp o (current l.control) b.flight) is
         b.flies in
-        absurd (no_reply a flies.0 flies.1))
+        absurd (no_reply (msg.Call a) flies.0 refl flies.1))
 
 -- the polling address is called: the first block, or EOT
 call_up : (laws : VisitLaws) (l new : LineValue) (n : ℕ) → IsGood l → l.control.task
@@ -160,7 +151,7 @@ call_up laws l new n g task sure count is h =
           ap (λ (z : List ℕ). Some z) (sym own);
     } in
     let rests : (t : ℕ) → t < length l.terminals → IsAtRest (terminal_at l t).sender.phase =
-    λ t less. at_rest (terminal_at l t).mode (terminal_at l t).sender.phase
+    λ t less. at_rest_in (terminal_at l t).mode (terminal_at l t).sender.phase
     (length (terminal_at l t).spools) (all_quiet l a Nothing g task is t less).mode
     (g.line.stations.members t less).tributary.bid in
     let named : called_as x.terminal a ≡ Polling = (laws.names.polling x.terminal a).1 own in

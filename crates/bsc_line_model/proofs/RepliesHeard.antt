@@ -40,9 +40,8 @@ use Rattle.bsc_line_model.specs.Kept.{IsTuned, AreTuned, AreStations}
 use Rattle.bsc_line_model.specs.Together.{IsQuiet, AllQuiet, OthersQuiet, AllInControlMode, IsFresh}
 use Rattle.bsc_line_model.specs.Together.{IsSelectedWith, IsSelecting, IsInBidUp, IsPolling}
 use Rattle.bsc_line_model.specs.BidLaws.{BidLaws}
-use Rattle.bsc_line_model.proofs.Stations.{same_or_not}
+use Rattle.bsc_line_model.proofs.Stations.{same_or_not, receiving_into}
 use Rattle.bsc_line_model.proofs.SendingDown.{others_in_control, OneHears, one_hears}
-use Rattle.bsc_line_model.proofs.SendingDown.{receiving_into}
 use Rattle.bsc_line_model.proofs.SendingUp.{keeps_going, going_in}
 use Rattle.bsc_line_model.proofs.ActingUp.{HasActedUp, acts_up, present_after}
 use Rattle.bsc_line_model.proofs.CallsHeard.{with_others}

@@ -9,7 +9,6 @@ use Rattle.bsc_frame.specs.declared.message.Heard.{Heard}
 use Rattle.bsc_frame.specs.declared.message.Heard.TheVariants.{Whole, Failed, Noise}
 use Rattle.bsc_spool.specs.Spool.{SpoolValue}
 use Rattle.bsc_text.specs.declared.reply.Reply.{Reply}
-use Rattle.bsc_text.specs.declared.phase.Phase.{Phase}
 use Rattle.bsc_text.specs.Reply.{message_of}
 use Rattle.bsc_text.specs.Receiver.{ReceiverStep, Rooms, heard_step}
 use Rattle.bsc_text.specs.Fair.{IsFairlyHeard, IsTextMessage, IsCallCutShort}
@@ -19,7 +18,7 @@ use Rattle.bsc_tributary.specs.declared.mode.Mode.{Mode}
 use Rattle.bsc_tributary.specs.declared.mode.Mode.TheVariants.{Control, Receiving, Sending}
 use Rattle.bsc_tributary.specs.Tributary.{TributaryValue, TributaryStep, Hears, mode_step}
 use Rattle.bsc_tributary.specs.Tributary.{receive_step, rooms_after, spool_at, empty_spool}
-use Rattle.bsc_tributary.specs.Kept.{AfterHearing, IsNoCall, SuitsMode}
+use Rattle.bsc_tributary.specs.Kept.{AfterHearing, IsNoCall}
 use Rattle.bsc_control.specs.declared.way.Way.{Way}
 use Rattle.bsc_control.specs.declared.way.Way.TheVariants.{ToTerminal}
 use Rattle.bsc_control.specs.Peer.{PeerValue, outbound_at}
@@ -34,6 +33,7 @@ use Rattle.bsc_line_model.specs.Trust.{EachOf}
 use Rattle.bsc_line_model.specs.Kept.{IsTuned, AreTuned, AreStations}
 use Rattle.bsc_line_model.specs.Together.{IsQuiet, IsInBidDown, FliesDown, IsSending}
 use Rattle.bsc_line_model.specs.BidLaws.{BidLaws}
+use Rattle.bsc_line_model.proofs.Stations.{receiving_into}
 
 -- a text or ENQ
 abbrev pub IsBidMessage : Message → Type 0
@@ -76,6 +76,11 @@ no_call_heard w Noise b f = tt
 abbrev pub place_of : Option (ℕ × Way) → ℕ
 place_of None = 0
 place_of (Some a) = a.0
+
+-- the addressed channel is that of one terminal
+pub same_terminal : (addressed : Option (ℕ × Way)) (t u : ℕ) (way other : Way) → addressed
+    ≡ Some (t, way) → addressed ≡ Some (u, other) → t ≡ u
+same_terminal addressed t u way other a b = ap place_of (sym a ∙ b)
 
 -- another terminal than the addressed one is in control mode
 pub others_in_control : (addressed : Option (ℕ × Way)) (e t : ℕ) (way : Way) (mode : Mode)
@@ -206,10 +211,6 @@ receives_down laws p e s w h t u out there b bid fair x after =
     } in
     subst (λ (o : TributaryStep). IsInBidDown (sent_by (sp.Terminal e) o.sent) p e s o.tributary)
     (sym row) made
-
-pub receiving_into : (mode : Mode) (phase : Phase) (spools s : ℕ) → mode ≡ Receiving s
-    → SuitsMode mode phase spools → s < spools
-receiving_into mode phase spools s is k = (subst (λ (n : Mode). SuitsMode n phase spools) is k).1
 
 -- the control station goes on sending
 pub sends_down : (laws : BidLaws) (c : ControlValue) (old : List TributaryValue)

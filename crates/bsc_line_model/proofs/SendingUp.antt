@@ -27,9 +27,8 @@ use Rattle.bsc_control.specs.declared.task.Task.TheVariants.{Sending}
 use Rattle.bsc_control.specs.Peer.{PeerValue, OutboundValue, no_peer, no_outbound, outbound_at}
 use Rattle.bsc_control.specs.Peer.{with_outbound, outbound_after}
 use Rattle.bsc_control.specs.Control.{ControlValue, ControlStep, peer_at, peer, current}
-use Rattle.bsc_control.specs.Control.{with_current}
 use Rattle.bsc_control.specs.CallOrder.{After, Selection, next_call}
-use Rattle.bsc_control.specs.Table.{perform_step, bid_step, after_bid}
+use Rattle.bsc_control.specs.Table.{perform_step, bid_step, after_bid, after_step}
 use Rattle.bsc_line_model.specs.declared.transmission.Speaker.TheVariants as sp
 use Rattle.bsc_line_model.specs.declared.transmission.Transmission.{Transmission}
 use Rattle.bsc_line_model.specs.Transmission.{sent_by}
@@ -76,10 +75,6 @@ pub record HasActed (c : ControlValue) (ts : List TributaryValue) (s : ℕ) (ste
       (terminal_in ts (current c)).receiver.alternation (terminal_in ts (current c)).receiver.last
       (spool_at (terminal_in ts (current c)).spools s).records (sent_flight step.act)
   pub ended : IsEnded step.act step.sender.phase
-
--- what the step leaves at the control station
-abbrev after_step : ControlValue → ℕ → SenderStep → ControlValue
-after_step c s step = with_current c (with_outbound (peer c) s (outbound_after step))
 
 peer_is : (c : ControlValue) (s : ℕ) (step : SenderStep) → current c < length c.peers
     → peer (after_step c s step) ≡ with_outbound (peer c) s (outbound_after step)

@@ -8,9 +8,9 @@ use Rattle.std.proofs.lemmas.Option.{slice_get-get_or}
 use Rattle.bsc_frame.specs.declared.message.Heard.{Heard}
 use Rattle.bsc_text.specs.Terminal.{TerminalValue}
 use Rattle.bsc_tributary.specs.declared.mode.Mode.{Mode}
-use Rattle.bsc_tributary.specs.declared.mode.Mode.TheVariants.{Control}
+use Rattle.bsc_tributary.specs.declared.mode.Mode.TheVariants.{Control, Receiving, Sending}
 use Rattle.bsc_tributary.specs.Tributary.{TributaryValue}
-use Rattle.bsc_tributary.specs.Kept.{IsTributary, Keeps as TerminalKeeps, AfterHearing}
+use Rattle.bsc_tributary.specs.Kept.{IsTributary, SuitsMode, Keeps as TerminalKeeps, AfterHearing}
 use Rattle.bsc_control.specs.declared.way.Way.{Way}
 use Rattle.bsc_control.specs.Peer.{PeerValue, no_peer}
 use Rattle.bsc_control.specs.Control.{ControlValue, terminals, peer_at}
@@ -18,6 +18,8 @@ use Rattle.bsc_control.specs.Kept.{IsControl, Keeps as ControlKeeps}
 use Rattle.bsc_line_model.specs.Line.{no_terminal, terminal_in}
 use Rattle.bsc_line_model.specs.Terminals.{EachHears, EachKeeps}
 use Rattle.bsc_line_model.specs.Kept.{IsMember, AreStations, IsTuned, AreTuned}
+use Rattle.bsc_text.specs.declared.phase.Phase.{Phase}
+use Rattle.bsc_text.specs.Ready.{IsAtRest}
 
 -- the addresses of a peer are those of its terminal
 pub peer_terminal : (c : ControlValue) (t : ℕ) → t < length c.peers
@@ -138,3 +140,15 @@ tuned_at addressed ts e u there mode tuned =
         → IsTuned addressed e u.mode
     still_tuned (inl m) = subst (λ (n : Mode). IsTuned addressed e n) (sym m) tt
     still_tuned (inr m) = subst (λ (n : Mode). IsTuned addressed e n) (sym m) (tuned e there)
+
+-- a terminal that does not send is at rest
+pub at_rest_in : (mode : Mode) (phase : Phase) (n : ℕ) → mode ≢ Sending → SuitsMode mode phase n
+    → IsAtRest phase
+at_rest_in Control phase n ne k = k
+at_rest_in (Receiving s) phase n ne k = k.0
+at_rest_in Sending phase n ne k = absurd (ne refl)
+
+-- a terminal receives into one of its spools
+pub receiving_into : (mode : Mode) (phase : Phase) (spools s : ℕ) → mode ≡ Receiving s
+    → SuitsMode mode phase spools → s < spools
+receiving_into mode phase spools s is k = (subst (λ (n : Mode). SuitsMode n phase spools) is k).1

@@ -36,7 +36,7 @@ use Rattle.bsc_line_model.proofs.BlockCounts.{CutLaws, HasFirstBlock, IsEnd, has
 use Rattle.bsc_line_model.proofs.BlockCounts.{a_block}
 use Rattle.bsc_line_model.proofs.Staying.{TerminalStays}
 use Rattle.bsc_line_model.proofs.DownControl.{ack_step}
-use Rattle.bsc_line_model.proofs.DownTerminals.{rests_on}
+use Rattle.bsc_text.proofs.RestLemmas.{cut_at_rest}
 
 -- its block b is unanswered, with n after it
 pub record IsInBlockUp (x : TributaryValue) (n : ℕ) (b : SentBlock) : Type 0 where
@@ -132,11 +132,11 @@ hears_ack laws e x u out n b i is h =
         row
 
 -- its polling address is called
-abbrev called_up : TributaryValue → TributaryValue
+abbrev pub called_up : TributaryValue → TributaryValue
 called_up x = record (without_line x) { urgent = false }
 
 -- what the row says by the two tests
-abbrev poll_by : TributaryValue → Bool → Bool → TributaryStep
+abbrev pub poll_by : TributaryValue → Bool → Bool → TributaryStep
 poll_by x doubt none =
     if doubt then answer_step (called_up x) m.Eot
     else if none then answer_step (called_up x) m.Eot
@@ -178,5 +178,5 @@ hears_poll laws e x u out n a is rest sure called count h =
     let row : record { tributary = u; sent = out } ≡ poll_step x = h.row
     ∙ ap (λ (k : Called). call_step x k (rooms_after (Whole (m.Call a)) u)) called in
     let cut : is_in_doubt (cut_phase x.sender.phase) ≡ false =
-    ap is_in_doubt (rests_on x.sender.phase rest) ∙ sure in
+    ap is_in_doubt (cut_at_rest x.sender.phase rest) ∙ sure in
     poll_exact laws e x u out n is cut count row

@@ -15,8 +15,8 @@ use Rattle.bsc_control.specs.Control.{peer_at, peer, current, terminals}
 use Rattle.bsc_control.specs.Table.{select_address}
 use Rattle.bsc_line_model.specs.declared.transmission.Speaker.TheVariants as sp
 use Rattle.bsc_line_model.specs.Line.{LineValue, terminal_at}
-use Rattle.bsc_line_model.specs.Rounds.{block_count, selection_length, poll_length, visit_length}
-use Rattle.bsc_line_model.specs.Rounds.{HasMadeCall}
+use Rattle.bsc_line_model.specs.Rounds.{block_count, poll_length, visit_length}
+use Rattle.bsc_line_model.specs.Rounds.{HasMadeCall, outbound_length}
 use Rattle.bsc_line_model.proofs.Stations.{terminal_there}
 use Rattle.bsc_line_model.proofs.DownControl.{address_at}
 use Rattle.bsc_line_model.proofs.DownSteps.{terminal_here}
@@ -24,25 +24,23 @@ use Rattle.bsc_line_model.proofs.Walking.{IsGood}
 use Rattle.bsc_line_model.proofs.Selections.{Calls}
 use Rattle.bsc_line_model.proofs.Visits.{selections_length}
 
-abbrev length_of : OutboundValue → ℕ
-length_of o = selection_length (block_count o.queue)
-
 sum_from : (p : PeerValue) (from k : ℕ) → from + k ≡ length p.outbounds
-    → sum_by length_of (drop from p.outbounds) ≡ selections_length p from k
+    → sum_by outbound_length (drop from p.outbounds) ≡ selections_length p from k
 sum_from p from zero is =
-    ap (λ (os : List OutboundValue). sum_by length_of os)
+    ap (λ (os : List OutboundValue). sum_by outbound_length os)
     (drop_all from p.outbounds (omega (arith, is)))
 sum_from p from (suc k) is =
     let inside : from < length p.outbounds = omega (arith, is) in
     let first : drop from p.outbounds ≡ outbound_at p from ∷ drop (suc from) p.outbounds =
     drop-cons p.outbounds from no_outbound inside in
     let next : suc from ≡ from + 1 = omega arith in
-    let rest : sum_by length_of (drop (suc from) p.outbounds) ≡ selections_length p (from + 1) k =
-    ap (λ (j : ℕ). sum_by length_of (drop j p.outbounds)) next
+    let rest : sum_by outbound_length (drop (suc from) p.outbounds)
+    ≡ selections_length p (from + 1) k =
+    ap (λ (j : ℕ). sum_by outbound_length (drop j p.outbounds)) next
     ∙ sum_from p (from + 1) k (omega (arith, is)) in
-    ap (λ (os : List OutboundValue). sum_by length_of os) first
-    ∙ sum_by-cons length_of (outbound_at p from) (drop (suc from) p.outbounds)
-    ∙ ap (λ (j : ℕ). length_of (outbound_at p from) + j) rest
+    ap (λ (os : List OutboundValue). sum_by outbound_length os) first
+    ∙ sum_by-cons outbound_length (outbound_at p from) (drop (suc from) p.outbounds)
+    ∙ ap (λ (j : ℕ). outbound_length (outbound_at p from) + j) rest
 
 -- the number is that of the visit
 pub visit_is : (l : LineValue) (t : ℕ) → visit_length l t

@@ -40,12 +40,15 @@ selection_length (suc n) = 2 + 2 * suc n
 abbrev pub poll_length : ℕ → ℕ
 poll_length n = 2 + 2 * n
 
+-- the transmissions of a bid with all that waits for a selection address
+abbrev pub outbound_length : OutboundValue → ℕ
+outbound_length o = selection_length (block_count o.queue)
+
 -- the transmissions of a visit of a terminal: a selection of each of its selection addresses, and a
 -- poll
 abbrev pub visit_length : LineValue → ℕ → ℕ
 visit_length l t =
-    sum_by (λ (o : OutboundValue). selection_length (block_count o.queue))
-    (peer_at l.control t).outbounds
+    sum_by outbound_length (peer_at l.control t).outbounds
     + poll_length (block_count (terminal_at l t).queue)
 
 -- this terminal is among those that were visited

@@ -34,6 +34,15 @@ fits_next s q x (Some n) = tt
 pub fits_begin : (s : SenderValue) (q : QueueValue) → Fits s (begin_step s q)
 fits_begin s q = fits_next s q _ (next_block q)
 
+not_quiet : (s : SenderValue) (q : QueueValue) (x : Alternation) (n : Option Next)
+    → (sent_next s q x n).act ≡ a.Quiet → ⊥
+not_quiet s q x None e = cc
+not_quiet s q x (Some n) e = cc
+
+-- a bid begins by a block, or is over at once
+pub begin_not_quiet : (s : SenderValue) (q : QueueValue) → (begin_step s q).act ≡ a.Quiet → ⊥
+begin_not_quiet s q = not_quiet s q _ (next_block q)
+
 fits_accepted : (s : SenderValue) (q : QueueValue) (e : End) (x : Alternation)
     → Fits s (accepted s q e x)
 fits_accepted s q Etx x = tt

@@ -1,3 +1,4 @@
+pub mod Landing
 pub mod Answering
 pub mod BlockLemmas
 pub mod Choice
@@ -8,6 +9,7 @@ pub mod KeepLemmas
 pub mod OfferLemmas
 pub mod ReadyLemmas
 pub mod ReceiverSteps
+pub mod RestLemmas
 pub mod SelectLemmas
 pub mod StepLemmas
 pub mod Telling

@@ -20,7 +20,8 @@ use Rattle.bsc_text.specs.EachStep.{SilenceAgrees, BeginAgrees, OfferAgrees, Off
 use Rattle.bsc_text.specs.EachStep.{ReleaseKeepsRest, AgreementIsSound, LossAgrees}
 use Rattle.bsc_text.specs.EachStep.{OutwardIsTextOrEnq, ReplyIsLast}
 use Rattle.bsc_text.proofs.Hearing.{IsSenders, senders, receiver_keeps}
-use Rattle.bsc_text.proofs.Answering.{Leaves, at_same, still_on, back_last, sender_keeps}
+use Rattle.bsc_text.proofs.Answering.{still_on, back_last, sender_keeps}
+use Rattle.bsc_text.proofs.Landing.{Leaves, at_same}
 use Rattle.bsc_text.proofs.Answering.{silence_keeps, begin_keeps}
 use Rattle.bsc_text.proofs.OfferLemmas.{not_longer, bid_offered, resting_offered}
 use Rattle.bsc_text.proofs.FitLemmas.{Fits, fits_heard, fits_silence, fits_begin}

@@ -30,7 +30,7 @@ use Rattle.bsc_text.specs.Bid.{Bid, Turn, BidEvent, Exchange, Offering, answered
 use Rattle.bsc_text.specs.Bid.{receiver_in, sender_in, after_turn, after_event, IsFairTurn}
 use Rattle.bsc_text.specs.Bid.{AreEvents}
 use Rattle.bsc_text.specs.OneBid.{turn_count, is_begun, begun_in, most_turns, EndsSoon}
-use Rattle.bsc_text.proofs.Answering.{has_next}
+use Rattle.bsc_text.proofs.Landing.{has_next}
 use Rattle.bsc_text.proofs.Turning.{LawsBelow}
 
 -- no counter is over its limit

@@ -26,7 +26,8 @@ use Rattle.bsc_text.specs.OneBid.{SoundWithinTurns}
 use Rattle.bsc_text.specs.Agreement.{Flight, Outward, InBid, Continues, reply_flight, sent_flight}
 use Rattle.bsc_text.proofs.ReadyLemmas.{within_offered}
 use Rattle.bsc_text.proofs.Hearing.{RecordsBack, Keeps, fits, receiver_keeps}
-use Rattle.bsc_text.proofs.Answering.{NextLaw, Leaves, sender_keeps, settled_keeps, begin_keeps}
+use Rattle.bsc_text.proofs.Answering.{sender_keeps, settled_keeps, begin_keeps}
+use Rattle.bsc_text.proofs.Landing.{NextLaw, Leaves}
 use Rattle.bsc_text.proofs.Answering.{busy}
 use Rattle.bsc_text.proofs.OfferLemmas.{OffersQueue, continues_offered}
 use Rattle.bsc_text.proofs.FitLemmas.{Fits, fits_begin, fits_heard, fits_settled}

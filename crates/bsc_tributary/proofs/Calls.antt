@@ -8,8 +8,7 @@ use Rattle.bsc_frame.specs.declared.message.Message.TheVariants as m
 use Rattle.bsc_spool.specs.Queue.{waiting, next_block}
 use Rattle.bsc_spool.specs.Spool.{SpoolValue, room_asked}
 use Rattle.bsc_text.specs.declared.alternation.Alternation.TheVariants.{Odd}
-use Rattle.bsc_text.specs.declared.phase.Phase.{Phase}
-use Rattle.bsc_text.specs.declared.phase.Phase.TheVariants.{Idle, Unanswered, Held, InDoubt}
+use Rattle.bsc_text.specs.declared.phase.Phase.TheVariants.{Idle}
 use Rattle.bsc_text.specs.declared.reply.Reply.{Reply}
 use Rattle.bsc_text.specs.Ready.{IsReady, IsAtRest}
 use Rattle.bsc_text.specs.Reply.{message_of}
@@ -23,6 +22,7 @@ use Rattle.bsc_tributary.specs.Tributary.{act_step, poll_step, selection_step}
 use Rattle.bsc_tributary.specs.Kept.{IsTributary}
 use Rattle.bsc_tributary.proofs.Acts.{FollowsFrom, follows-sent_next, IsAtRest-cut_phase}
 use Rattle.bsc_tributary.proofs.Stays.{stays-act_step, stays-flags}
+use Rattle.bsc_text.proofs.RestLemmas.{idle_at_rest}
 
 -- the answer to a poll, of a terminal from which the line was taken
 abbrev poll_from : TributaryValue → TributaryStep
@@ -91,18 +91,11 @@ poll_step-begins t old step mode sent e sure some row mode_is sent_is =
     let here : act_step u (begin_step t.sender t.queue) ≡ poll_from u = rw (sure, wait) refl in
     done ∙ ap (act_step u) row ∙ here ∙ poll_from-poll_step t old e
 
--- a terminal from which the line was taken, and which is not in doubt, is idle
-at_rest_idle : (p : Phase) → IsAtRest p → is_in_doubt p ≡ false → p ≡ Idle
-at_rest_idle Idle rests sure = refl
-at_rest_idle (InDoubt k) rests sure = absurd (cc)
-at_rest_idle (Unanswered b) rests sure = absurd rests
-at_rest_idle (Held end alternation) rests sure = absurd rests
-
 pub without_line-idle : (t old : TributaryValue) → t ≡ without_line old → is_in_doubt t.sender.phase
     ≡ false →
     t.sender.phase ≡ Idle
 without_line-idle t old e sure =
-    at_rest_idle t.sender.phase (subst (λ (v : TributaryValue). IsAtRest v.sender.phase) (sym e)
+    idle_at_rest t.sender.phase (subst (λ (v : TributaryValue). IsAtRest v.sender.phase) (sym e)
     (IsAtRest-cut_phase old.sender.phase)) sure
 
 pub stays-begun : (t : TributaryValue) (step : SenderStep) (mode : Mode) → IsTributary t →

@@ -4,8 +4,9 @@ use Rattle.bsc_control.specs.Peer.{OutboundValue}
 use Rattle.bsc_control.specs.Control.{peer_at}
 use Rattle.bsc_line_model.specs.Line.{LineValue}
 use Rattle.bsc_line.specs.Counts.{in_u64}
-use Rattle.bsc_line.proofs.Lengths.{length_of, whole}
+use Rattle.bsc_line.proofs.Lengths.{whole}
 use Rattle.bsc_line.proofs.line.Line.visit.Goals as goal
+use Rattle.bsc_line_model.specs.Rounds.{outbound_length}
 
 pub returns-clause-value : goal.returns-clause-value
 returns-clause-value g c =
@@ -14,8 +15,8 @@ returns-clause-value g c =
     ∙ ap (λ (l : LineValue). length (peer_at l.control c.args.terminal).outbounds)
     c.self.view_is in
     let all : length os ≤ c.loop-select.select = omega (arith, count, c.loop-select-test.false) in
-    let none : sum_by length_of (drop c.loop-select.select os) ≡ 0 =
-    ap (λ (xs : List OutboundValue). sum_by length_of xs)
+    let none : sum_by outbound_length (drop c.loop-select.select os) ≡ 0 =
+    ap (λ (xs : List OutboundValue). sum_by outbound_length xs)
     (drop_all c.loop-select.select os all) in
     sym (whole c.loop-select.total c.loop-select.invariant.fits)
     ∙ ap (λ (n : ℕ). in_u64 (c.loop-select.total + n)) (sym none)

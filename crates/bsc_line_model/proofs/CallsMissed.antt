@@ -1,0 +1,125 @@
+-- What terminals do that missed a call.
+use Rattle.std.proofs.Common.{◌≡◌, ◌⊎◌, inl, inr, ℕ, ◌<◌, false, List, length, Option, None}
+use Rattle.std.proofs.Common.{refl, sym, ap, subst, arith}
+use Rattle.bsc_frame.specs.declared.message.Message.{Message}
+use Rattle.bsc_frame.specs.declared.message.Message.TheVariants as m
+use Rattle.bsc_frame.specs.declared.message.Heard.{Heard}
+use Rattle.bsc_frame.specs.declared.message.Heard.TheVariants.{Whole, Failed, Noise}
+use Rattle.bsc_text.specs.declared.phase.Phase.{Phase}
+use Rattle.bsc_text.specs.Agreement.{IsResting}
+use Rattle.bsc_tributary.specs.Tributary.{TributaryValue, TributaryStep, Hears, without_line}
+use Rattle.bsc_tributary.specs.Kept.{IsTributary, AfterHearing, StaysQuiet}
+use Rattle.bsc_control.specs.declared.task.Replied.{Replied}
+use Rattle.bsc_control.specs.Peer.{PeerValue}
+use Rattle.bsc_control.specs.Control.{ControlValue, peer_at, current}
+use Rattle.bsc_line_model.specs.Line.{terminal_in}
+use Rattle.bsc_line_model.specs.Terminals.{answer_of, EachHears, EachKeeps, first_answer}
+use Rattle.bsc_line_model.specs.Trust.{EachOf, IsMissed}
+use Rattle.bsc_line_model.specs.Kept.{AreStations}
+use Rattle.bsc_line_model.specs.Together.{IsQuiet, AllQuiet, IsSelecting, IsPolling}
+use Rattle.bsc_line_model.proofs.SendingDown.{none_before}
+use Rattle.bsc_text.proofs.RestLemmas.{cut_at_rest}
+use Rattle.bsc_line_model.proofs.Stations.{at_rest_in}
+
+-- the line is taken from it
+pub without_quiet : (p : PeerValue) (x : TributaryValue) → IsTributary x → IsQuiet p x
+    → IsQuiet p (without_line x)
+without_quiet p x is q =
+    record {
+      mode = λ sends. cc;
+      up = subst (λ (k : Phase). IsResting k x.queue p.spool.records)
+          (sym (cut_at_rest x.sender.phase
+          (at_rest_in x.mode x.sender.phase (length x.spools) q.mode is.bid))) q.up;
+      down = q.down;
+    }
+
+-- a terminal that is not called stays as it is, or gives up the line, and answers nothing
+pub record StepsBack (x u : TributaryValue) (out : Option Message) : Type 0 where
+  pub becomes : (u ≡ x) ⊎ (u ≡ without_line x)
+  pub silent : out ≡ None
+
+-- it gives up the line
+pub record GivesUp (x u : TributaryValue) (out : Option Message) : Type 0 where
+  pub becomes : u ≡ without_line x
+  pub silent : out ≡ None
+
+pub back_quiet : (p : PeerValue) (x u : TributaryValue) (out : Option Message) → IsTributary x
+    → IsQuiet p x → StepsBack x u out → IsQuiet p u
+back_quiet p x u out is q b =
+    elim b.becomes [
+      | inl e ↦ subst (λ (y : TributaryValue). IsQuiet p y) (sym e) q
+      | inr e ↦ subst (λ (y : TributaryValue). IsQuiet p y) (sym e) (without_quiet p x is q)
+    ]
+
+-- it missed the call
+pub misses : (x : TributaryValue) (h : Heard) (u : TributaryValue) (out : Option Message)
+    → IsMissed h → Hears x h u out → AfterHearing x h u out → StepsBack x u out
+misses x Noise u out f row after =
+    let q : StaysQuiet x u out = after.noise refl in
+    record { becomes = inl q.0; silent = q.1 }
+misses x (Whole m.Eot) u out f row after =
+    record {
+      becomes = inr (ap (λ (o : TributaryStep). o.tributary) row.row);
+      silent =
+          ap (λ (o : TributaryStep). o.sent) row.row;
+    }
+misses x Failed u out f row after = absurd f
+misses x (Whole (m.Call z)) u out f row after = absurd f
+misses x (Whole (m.Text z)) u out f row after = absurd f
+misses x (Whole m.Enq) u out f row after = absurd f
+misses x (Whole m.Ack0) u out f row after = absurd f
+misses x (Whole m.Ack1) u out f row after = absurd f
+misses x (Whole m.Nak) u out f row after = absurd f
+misses x (Whole m.Wack) u out f row after = absurd f
+misses x (Whole m.Rvi) u out f row after = absurd f
+
+nobody_answers : (old : List TributaryValue) (hears : ℕ → Heard) (new : List TributaryValue) (n : ℕ)
+    → ((k : ℕ) → k < n → answer_of old hears new k ≡ None) → first_answer old hears new n ≡ None
+nobody_answers old hears new n f =
+    none_before old hears new n n (omega arith) (λ k less ne. f k less)
+
+-- all missed it: no bid goes on, and nothing is on the line
+pub record AllBack (c : ControlValue) (old : List TributaryValue) (hears : ℕ → Heard)
+    (new : List TributaryValue) : Type 0 where
+  pub quiet : AllQuiet c new
+  pub first : first_answer old hears new (length old) ≡ None
+
+pub all_miss : (c : ControlValue) (old : List TributaryValue) (hears : ℕ → Heard)
+    (new : List TributaryValue) → AreStations c old → AllQuiet c old
+    → EachOf (length old) (λ t. IsMissed (hears t)) → EachHears old hears new
+    → EachKeeps old hears new → AllBack c old hears new
+all_miss c old hears new stations quiet missed each keeps =
+    let backs : (t : ℕ) → t < length old
+    → StepsBack (terminal_in old t) (terminal_in new t) (answer_of old hears new t) =
+    λ t less. misses (terminal_in old t) (hears t) (terminal_in new t) (answer_of old hears new t)
+    (missed t less) (each.each t less) (keeps t less) in
+    record {
+      quiet = λ t less.
+          let before : t < length old = omega (arith, each.count) in
+          back_quiet (peer_at c t) (terminal_in old t) (terminal_in new t)
+          (answer_of old hears new t) (stations.members t before).tributary (quiet t before)
+          (backs t before);
+      first = nobody_answers old hears new (length old) (λ t less. (backs t less).silent);
+    }
+
+pub selecting_missed : (c : ControlValue) (old : List TributaryValue) (hears : ℕ → Heard)
+    (new : List TributaryValue) (s : ℕ) → AreStations c old → AllQuiet c old
+    → EachOf (length old) (λ t. IsMissed (hears t)) → EachHears old hears new
+    → EachKeeps old hears new →
+    IsSelecting (first_answer old hears new (length old)) c new s false
+selecting_missed c old hears new s stations quiet missed each keeps =
+    let b : AllBack c old hears new = all_miss c old hears new stations quiet missed each keeps in
+    record { quiet = b.quiet; with_pending = rw (b.first) tt; fresh = tt }
+
+pub polling_missed : (c : ControlValue) (old : List TributaryValue) (hears : ℕ → Heard)
+    (new : List TributaryValue) (replied : Replied) → current c < length old → AreStations c old
+    → AllQuiet c old → EachOf (length old) (λ t. IsMissed (hears t)) → EachHears old hears new
+    → EachKeeps old hears new →
+    IsPolling (first_answer old hears new (length old)) c new replied
+polling_missed c old hears new replied there stations quiet missed each keeps =
+    let b : AllBack c old hears new = all_miss c old hears new stations quiet missed each keeps in
+    let after : current c < length new = omega (arith, each.count) in
+    record {
+      others = λ t less differ. b.quiet t less;
+      present = inl (b.quiet (current c) after, rw (b.first) tt);
+    }
