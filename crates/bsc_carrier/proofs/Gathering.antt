@@ -71,7 +71,8 @@ module _ {begun piece rest mid new : List ℕ} {head body : ℕ}
       let right_mid : IsLength (stated_length mid) =
       (omega (arith, same_mid, right.0.0), omega (arith, same_mid, right.0.1)) in
       let wanted_mid = wanted_after-right mid two_mid right_mid in (
-        (omega (arith, same_mid, same_new, right.0.0), omega (arith, same_mid, same_new, right.0.1)),
+        (omega (arith, same_mid, same_new, right.0.0),
+        omega (arith, same_mid, same_new, right.0.1)),
         omega (
           arith,
           same_mid,

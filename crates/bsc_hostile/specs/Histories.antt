@@ -1,12 +1,13 @@
 -- All records of a line beside those that its watch saw one after the other (own).
 use Rattle.std.specs.Prelude.{◌≡◌, ◌≢◌, ◌*◌, ◌/◌, ◌%◌, ◌^◌, ℕ, Bool, IsTrue, List, [], ◌∷◌, length}
-use Rattle.std.specs.Prelude.{take, bit_xor}
+use Rattle.std.specs.Prelude.{bit_xor}
 use Rattle.std.specs.List.{Contains}
 use Rattle.bsc_line_model.specs.Line.{LineValue, IsChannel, channel_of}
 use Rattle.bsc_hostile.specs.declared.broken.Broken.{Broken}
 use Rattle.bsc_hostile.specs.declared.broken.Broken.TheVariants as broken
 use Rattle.bsc_hostile.specs.declared.channel.Channel.{Channel}
 use Rattle.bsc_hostile.specs.declared.watch.Watch.{Watch}
+use Rattle.bsc_fixtures.specs.Records.{Begins}
 
 -- the digest with one more number
 abbrev pub with_number : ℕ → ℕ → ℕ
@@ -29,10 +30,6 @@ with_records digest (r ∷ rs) = with_records (with_record digest r) rs
 -- the digest of all records of a list
 abbrev pub digest_of : List (List ℕ) → ℕ
 digest_of rs = with_records 14695981039346656037 rs
-
--- the first records are the beginning of the second
-abbrev pub Begins : List (List ℕ) → List (List ℕ) → Type 0
-Begins xs ys = take (length xs) ys ≡ xs
 
 -- the line has this channel, its records are those that were seen, and on a trusted line what
 -- arrived is the beginning of what was offered

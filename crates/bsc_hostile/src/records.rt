@@ -2,7 +2,7 @@
 
 ghost use Rattle.std.specs.Prelude.{◌≡◌, ◌<◌, ◌↔◌, IsTrue, length};
 ghost use Rattle.bsc_hostile.specs.Histories as digests;
-ghost use Rattle.bsc_hostile.specs.Histories.{Begins};
+ghost use Rattle.bsc_fixtures.specs.Records.{Begins};
 
 use bsc_block::{Block, Record, unpack};
 use bsc_frame::{Heard, Message, Text, decode};

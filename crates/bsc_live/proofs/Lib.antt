@@ -3,6 +3,7 @@ mod Gathered
 mod Kept
 mod Places
 mod Sending
+mod PlaceLemmas
 mod Sessions
 mod Silences
 mod Streams

@@ -1,9 +1,8 @@
 -- A walk over a list: what holds of the places that it has passed, and of all once it has ended.
-use Rattle.std.proofs.Common.{◌≡◌, ◌≢◌, ℕ, suc, ◌+◌, ◌<◌, ◌≤◌, List, [], ◌∷◌, length, get_or}
+use Rattle.std.proofs.Common.{◌≡◌, ◌≢◌, ℕ, ◌+◌, ◌<◌, ◌≤◌, List, length, get_or}
 use Rattle.std.proofs.Common.{slice_set, refl, sym, ◌∙◌, subst, arith, get_or-set_other}
 use Rattle.std.proofs.Common.{get_or-set_same, below_more}
 use Rattle.std.proofs.lemmas.List.{get_or_default}
-use Rattle.std.specs.List.{AllZip}
 
 -- below this place each element went from one state to another so, and the others are as they were
 abbrev pub IsPassed : {S : Type 0} → (S → S → Type 0) → List S → List S → ℕ → Type 0
@@ -34,15 +33,3 @@ module _ {S : Type 0} (R : S → S → Type 0) where
         λ i d beyond. let other : i ≢ k = omega (arith, beyond) in
             get_or-set_other new k i y d other ∙ rest i d (omega (arith, beyond)),
       )
-
-pub AllZip-from_places : {S : Type 0} (R : S → S → Type 0) (old new : List S) → length new
-    ≡ length old → ((i : ℕ) (d : S) → i < length old → R (get_or old i d) (get_or new i d))
-    → AllZip R old new
-AllZip-from_places R [] [] long each = tt
-AllZip-from_places R [] (y ∷ new) long each = absurd (omega (arith, long))
-AllZip-from_places R (x ∷ old) [] long each = absurd (omega (arith, long))
-AllZip-from_places R (x ∷ old) (y ∷ new) long each = (
-  each 0 x (omega arith),
-  AllZip-from_places R old new (omega (arith, long))
-      (λ i d below. each (suc i) d (omega (arith, below))),
-)

@@ -1,16 +1,12 @@
 -- What the streams of a connection carry, step after step.
-use Rattle.std.proofs.Common.{◌≡◌, ◌≢◌, ℕ, ◌<◌, Bool, true, false, cond, List, [], ◌∷◌, ◌++◌}
-use Rattle.std.proofs.Common.{length, get_or, slice_get, slice_set, Option, None, Some, Result, Ok}
-use Rattle.std.proofs.Common.{◌⊎◌, inl, inr, refl, sym, ◌∙◌, ap, subst, append_assoc, append-nil}
+use Rattle.std.proofs.Common.{◌≡◌, ◌≢◌, ℕ, Bool, true, false, List, [], ◌∷◌, ◌++◌, length}
+use Rattle.std.proofs.Common.{slice_get, slice_set, Option, None, Some, Result, Ok, ◌⊎◌, inl, inr}
+use Rattle.std.proofs.Common.{refl, sym, ◌∙◌, ap, subst, append_assoc, append-nil}
 use Rattle.std.proofs.KnownBytes.{Consumes-nil, Appends-nil, Consumes-trans, Appends-trans}
-use Rattle.std.proofs.lemmas.Bool.{eq-eqb, eqb-true, eqb-false}
-use Rattle.std.proofs.lemmas.List.{get_or-set_same, get_or-set_other, length-set}
+use Rattle.std.proofs.lemmas.Bool.{eqb-false}
 use Rattle.std.proofs.lemmas.List.Concat.{flat_map-append}
-use Rattle.std.proofs.lemmas.List.Elements.{AllZip-get_or}
-use Rattle.std.proofs.lemmas.Slice.Zip.{AllZip-long}
-use Rattle.std.proofs.lemmas.Option.{slice_get_within, slice_get-get_or, get_or_from_slice_get}
 use Rattle.std.specs.Prelude.{nat_eq}
-use Rattle.std.specs.List.{AllByRecursion, AllZip, flat_map}
+use Rattle.std.specs.List.{flat_map}
 use Rattle.std.specs.Io.KnownBytes.{Appends, Consumes, Keeps}
 use Rattle.bsc_frame.specs.declared.message.Message.{Message}
 use Rattle.bsc_frame.specs.declared.message.Heard.{Heard}
@@ -27,69 +23,14 @@ use Rattle.bsc_live.specs.Connections.{ConnectionValue, Takes, TakesOpen, Sends}
 use Rattle.bsc_live.specs.Histories.{Happening, WasHeard, WasSilent, HasJoined, sent_where_some}
 use Rattle.bsc_live.specs.Histories.{heard_in, heard_at, sent_in, all_sent, IsNoJoining}
 use Rattle.bsc_live.specs.Histories.{NobodyJoins}
-use Rattle.bsc_live.specs.Attending.{ChangesAt, SendsAll, IsTakenAt, ReadsAt, TimesOut, Joins, Does}
+use Rattle.bsc_live.specs.Attending.{SendsAll, IsTakenAt, ReadsAt, TimesOut, Joins, Does}
 use Rattle.bsc_live.specs.Attending.{ended, goes_on, first_closed, first_awaiting}
 use Rattle.bsc_live.specs.Streams.{Carries, CarriedAt, CarriesFromStart, CarriesSinceJoining}
 use Rattle.bsc_live.specs.Streams.{CarriesHistory}
-
--- ---- places of a list
-
--- what is at a place after a change at another place was there before
-kept_at : {C : Type 0} (xs : List C) (at place : ℕ) (y c : C) → (at ≢ place)
-    → slice_get (slice_set xs at y) place ≡ Some c → slice_get xs place ≡ Some c
-kept_at xs at place y c other is =
-    let there : place < length xs =
-    subst (λ (n : ℕ). place < n) (length-set xs at y)
-    (slice_get_within (slice_set xs at y) place c is) in
-    let apart : place ≢ at = λ (same : place ≡ at). other (sym same) in
-    slice_get-get_or xs place c there
-    ∙ ap Some (sym (get_or-set_other xs at place y c apart)
-    ∙ get_or_from_slice_get (slice_set xs at y) place c c is)
-
--- what is at the place of a change is what was put there
-put_at : {C : Type 0} (xs : List C) (at place : ℕ) (y c : C) → at ≡ place
-    → slice_get (slice_set xs at y) place ≡ Some c → y ≡ c
-put_at xs at place y c same is =
-    let there : place < length xs =
-    subst (λ (n : ℕ). place < n) (length-set xs at y)
-    (slice_get_within (slice_set xs at y) place c is) in
-    let here : at < length xs = subst (λ (n : ℕ). n < length xs) (sym same) there in
-    sym (get_or-set_same xs at y c here)
-    ∙ ap (λ (n : ℕ). get_or (slice_set xs at y) n c) same
-    ∙ get_or_from_slice_get (slice_set xs at y) place c c is
-
-zipped_at : {C : Type 0} (Q : C → C → Type 0) (xs ys : List C) (place : ℕ) (y : C) → AllZip Q xs ys
-    → slice_get ys place ≡ Some y → (x : C) × (slice_get xs place ≡ Some x) × Q x y
-zipped_at Q xs ys place y all is =
-    let there : place < length xs =
-    subst (λ (n : ℕ). place < n) (AllZip-long Q xs ys all) (slice_get_within ys place y is) in (
-      get_or xs place y,
-      slice_get-get_or xs place y there,
-      subst (λ c. Q (get_or xs place y) c) (get_or_from_slice_get ys place y y is)
-          (AllZip-get_or Q xs ys place y y all there),
-    )
-
-by_test : (b : Bool) (at place : ℕ) → nat_eq at place ≡ b → (at ≡ place) ⊎ (nat_eq at place ≡ false)
-by_test true at place is = inl (eqb-true at place is)
-by_test false at place is = inr is
-
-same_place : (at place : ℕ) → (at ≡ place) ⊎ (nat_eq at place ≡ false)
-same_place at place = by_test (nat_eq at place) at place refl
-
--- ---- transmissions of a history
-
-heard_here : (at place : ℕ) (octets : List ℕ) → at ≡ place → heard_in place (WasHeard at octets)
-    ≡ octets ∷ []
-heard_here at place octets same = ap (λ (b : Bool). cond b (octets ∷ []) []) (eq-eqb at place same)
-
-heard_elsewhere : (at place : ℕ) (octets : List ℕ) → nat_eq at place ≡ false
-    → heard_in place (WasHeard at octets) ≡ []
-heard_elsewhere at place octets other = ap (λ (b : Bool). cond b (octets ∷ []) []) other
-
-pub all_of_both : {X : Type 0} (P : X → Type 0) (xs ys : List X) → AllByRecursion P xs
-    → AllByRecursion P ys → AllByRecursion P (xs ++ ys)
-all_of_both P [] ys first rest = rest
-all_of_both P (x ∷ xs) ys (here, first) rest = (here, all_of_both P xs ys first rest)
+use Rattle.bsc_live.proofs.PlaceLemmas.{kept_at, put_at, zipped_at, same_place, heard_here}
+use Rattle.bsc_live.proofs.PlaceLemmas.{heard_elsewhere}
+use Rattle.bsc_carrier.specs.Cable.{ChangesAt}
+use Rattle.bsc_octet.proofs.Elements.{all_append}
 
 module _ {R W F : Type 0} (remaining : R → Option (List ℕ)) (contents : W → Option (List ℕ))
     (framed : List ℕ → List ℕ)
@@ -326,7 +267,8 @@ module _ {R W F : Type 0} (remaining : R → Option (List ℕ)) (contents : W �
   came_part taken quiet at place before after b (inr (nowhere, nothing, same)) is is_up =
       came_kept place before after b same is is_up
   came_part taken quiet at place before after b (inl changes) is is_up =
-      elim (changed_at at place (λ b a. Takes remaining feeds b taken a) before after b changes is) [
+      elim
+        (changed_at at place (λ b a. Takes remaining feeds b taken a) before after b changes is) [
         | inl (same, (a, was, takes)) ↦ (
           a,
           was,
@@ -534,7 +476,7 @@ module _ {R W F : Type 0} (remaining : R → Option (List ℕ)) (contents : W �
               carries_both (heard_at place happened) (all_sent happened)
               (heard_at place history) (all_sent history) a m now sooner later in
               inl (
-                all_of_both (IsNoJoining place) happened history none nobody,
+                all_append (IsNoJoining place) happened history none nobody,
                 (
                   a,
                   was,

@@ -16,7 +16,7 @@ use Rattle.bsc_live.specs.declared.limits.TheConstants.{KEPT}
 use Rattle.bsc_live.specs.Framings.{GapsValue, Gathers, EndsAtGap}
 use Rattle.bsc_live.specs.Streams.{begun_of, GivesRecords, GivesByGaps}
 use Rattle.bsc_live.proofs.Gathered.{take_of_front}
-use Rattle.bsc_live.proofs.Sessions.{all_of_both}
+use Rattle.bsc_octet.proofs.Elements.{all_append}
 
 -- what a feed of socket records answers, and what else a station over them does
 abbrev pub record_feeds : SocketRecords → List ℕ → Result (ℕ × Bool) CarrierError → SocketRecords
@@ -41,7 +41,7 @@ records_both a b c g k h t p q = record {
       ∙ ap (λ (l : List ℕ). flat_map socket_record h ++ l) q.records
       ∙ sym (append_assoc (flat_map socket_record h) (flat_map socket_record t) (begun_of c))
       ∙ ap (λ (l : List ℕ). l ++ begun_of c) (sym (flat_map-append socket_record h t));
-  carried = all_of_both IsCarried h t p.carried q.carried;
+  carried = all_append IsCarried h t p.carried q.carried;
   rest = λ none. q.rest (p.rest none);
 }
 
@@ -102,7 +102,7 @@ gaps_both a b c g k h t p q = λ sooner begun.
           ∙ ap (λ (l : List ℕ). concat front.between ++ l) back.whole
           ∙ sym (append_assoc (concat front.between) (concat back.between) back.later)
           ∙ ap (λ (l : List ℕ). l ++ back.later) (sym (concat-append front.between back.between));
-      some = all_of_both (λ octets. octets ≢ []) front.between back.between front.some back.some;
+      some = all_append (λ octets. octets ≢ []) front.between back.between front.some back.some;
       first = ap₂ (λ (x y : List (List ℕ)). x ++ y) front.first back.first
           ∙ sym (map-append (take KEPT) front.between back.between);
       kept_of = back.kept_of;

@@ -1,6 +1,6 @@
 -- What a station that is attended does: what happens on its connections, step by step (own).
 use Rattle.std.specs.Prelude.{◌≡◌, ◌≢◌, ◌⊎◌, ℕ, Bool, true, List, [], ◌∷◌, ◌++◌, position, Option}
-use Rattle.std.specs.Prelude.{None, Some, is_none, Result, Ok, Err, slice_get, slice_set}
+use Rattle.std.specs.Prelude.{None, Some, is_none, Result, Ok, Err, slice_get}
 use Rattle.std.specs.List.{AllZip}
 use Rattle.bsc_frame.specs.declared.message.Message.{Message}
 use Rattle.bsc_frame.specs.declared.message.Heard.{Heard}
@@ -16,18 +16,13 @@ use Rattle.bsc_live.specs.declared.connection.Taken.{Taken}
 use Rattle.bsc_live.specs.declared.connection.Taken.TheVariants.{Nothing, Whole}
 use Rattle.bsc_live.specs.Connections.{ConnectionValue, Takes, Sends}
 use Rattle.bsc_live.specs.Histories.{Happening, WasHeard, WasSilent, HasJoined, sent_where_some}
+use Rattle.bsc_carrier.specs.Cable.{ChangesAt}
 
 -- a station, its connections, and who waits for what happens on them
 pub record Attended (S C T : Type 0) : Type 0 where
   pub station : S
   pub connections : List C
   pub waiter : T
-
--- the connection at this place goes from one state to another so, and all others stay as they were
-abbrev pub ChangesAt : {C : Type 0} → ℕ → (C → C → Type 0) → List C → List C → Type 0
-ChangesAt {C} place P old new =
-    (before : C) × (after : C) × (slice_get old place ≡ Some before)
-    × (new ≡ slice_set old place after) × P before after
 
 -- the place of the first connection that is closed
 abbrev pub first_closed : {R W F : Type 0} → List (ConnectionValue R W F) → Option ℕ

@@ -1,7 +1,8 @@
 use Rattle.std.proofs.Common.{arith}
 use Rattle.bsc_live.specs.Connections.{Sends}
-use Rattle.bsc_live.proofs.Places.{none_passed, one_passed, AllZip-from_places}
+use Rattle.bsc_live.proofs.Places.{none_passed, one_passed}
 use Rattle.bsc_live.proofs.attending.send_all.Goals as goal
+use Rattle.bsc_carrier.proofs.Places.{AllZip-from_places}
 
 pub connections-init : goal.connections-init
 connections-init g c =
