@@ -48,12 +48,6 @@ module _ {begun piece rest mid new : List ℕ} {head body : ℕ}
   stated_mid : 2 ≤ length begun → stated_length mid ≡ stated_length begun
   stated_mid two = ap stated_length took.mid_is ∙ stated_length-append begun (take head piece) two
 
-  -- where the record lacks an octet of length, none is left in the piece
-  pub short_exhausted : length new < 2 → head + body ≡ length piece
-  short_exhausted short =
-      let wanted = wanted_after-short begun (omega (arith, new_length)) in
-      omega (arith, wanted, rest_length, new_length)
-
   alone_at : length begun + (head + body) ≡ 2 → new ≡ take 2 (begun ++ piece)
   alone_at two = joined ∙ sym (take-append-add begun piece (head + body))
       ∙ ap (λ n. take n (begun ++ piece)) two
@@ -71,8 +65,10 @@ module _ {begun piece rest mid new : List ℕ} {head body : ℕ}
       let right_mid : IsLength (stated_length mid) =
       (omega (arith, same_mid, right.0.0), omega (arith, same_mid, right.0.1)) in
       let wanted_mid = wanted_after-right mid two_mid right_mid in (
-        (omega (arith, same_mid, same_new, right.0.0),
-        omega (arith, same_mid, same_new, right.0.1)),
+        (
+          omega (arith, same_mid, same_new, right.0.0),
+          omega (arith, same_mid, same_new, right.0.1),
+        ),
         omega (
           arith,
           same_mid,

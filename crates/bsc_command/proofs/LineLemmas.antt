@@ -105,10 +105,6 @@ pub record HasPrinted (show : Heard → List ℕ) (all left : List (List ℕ)) (
   pub printed : PrintsLines show done old new
 
 module _ {show : Heard → List ℕ} {all : List (List ℕ)} where
-  pub has_printed_none : (a : Option (List ℕ)) → HasPrinted show all all 0 a a
-  has_printed_none a =
-      record { done = []; whole = refl; count = refl; right = tt; printed = PrintsLines-nil show a }
-
   pub has_printed_more : {n : ℕ} {a b : Option (List ℕ)} (x : List ℕ) (left : List (List ℕ))
       (c : Option (List ℕ)) → HasPrinted show all (x ∷ left) n a b → is_wrong x ≡ false
       → PrintsLines show (x ∷ []) b c

@@ -71,7 +71,7 @@ pub(crate) fn wrong_together(alloc: Global, why: &str) -> Fault
 }
 
 /// The text of an option.
-fn text_of(text: &Option<String>) -> Option<&str> {
+fn given_text(text: &Option<String>) -> Option<&str> {
     match text {
         Some(text) => Some(text.as_str()),
         None => None,
@@ -96,7 +96,7 @@ fn number(
 ) -> Result<u64, Fault>
     ensures { IfErr result IsUsage }
 {
-    let Some(text) = text_of(given) else {
+    let Some(text) = given_text(given) else {
         return Ok(unless_given);
     };
     match number_of(text, most) {
@@ -109,7 +109,7 @@ fn number(
 fn read_role(alloc: Global, words: &StationWords) -> Result<Role, Fault>
     ensures { IfErr result IsUsage }
 {
-    match (words.control, text_of(&words.terminal)) {
+    match (words.control, given_text(&words.terminal)) {
         (true, None) => Ok(Role::Control),
         (false, Some(number)) => match number.parse::<u8>() {
             Ok(number) => Ok(Role::Terminal {
@@ -128,7 +128,7 @@ fn read_role(alloc: Global, words: &StationWords) -> Result<Role, Fault>
 fn read_place(alloc: Global, words: &StationWords) -> Result<Place<'_>, Fault>
     ensures { IfErr result IsUsage }
 {
-    match (text_of(&words.listen), text_of(&words.connect)) {
+    match (given_text(&words.listen), given_text(&words.connect)) {
         (Some(address), None) => Ok(Place::Listen { address }),
         (None, Some(address)) => Ok(Place::Connect { address }),
         _ => Err(wrong_together(
@@ -142,7 +142,7 @@ fn read_place(alloc: Global, words: &StationWords) -> Result<Place<'_>, Fault>
 fn read_limits(alloc: Global, words: &StationWords) -> Result<Limits, Fault>
     ensures { IfErr result IsUsage }
 {
-    let rounds = match text_of(&words.rounds) {
+    let rounds = match given_text(&words.rounds) {
         None => None,
         Some(text) => match number_of(text, u64::MAX) {
             Some(rounds) => Some(rounds),

@@ -17,12 +17,12 @@ use Rattle.bsc_control.specs.Control.{terminal_of_entry}
 use Rattle.bsc_control.specs.Kept.{outbound_of, phase_of, HasSettings, Keeps, IsCalled}
 use Rattle.bsc_control.specs.Peer.{OutboundValue, PeerValue, no_outbound, no_peer, outbound_at}
 use Rattle.bsc_control.specs.Peer.{with_outbound, outbound_after, is_selectable}
-use Rattle.bsc_control.specs.Table.{perform_step, bid_step, next_call_step}
+use Rattle.bsc_control.specs.Table.{act_step, bid_step, next_call_step}
 use Rattle.bsc_control.proofs.Calls.{IsCalm, KeepsSpools, HasShape, shape, entry_within}
 use Rattle.bsc_control.proofs.Calls.{keeps_spools-next_call_step, next_is_called}
 use Rattle.bsc_control.proofs.PeerLists.{same_at, same_map, holds_at}
 use Rattle.bsc_control.proofs.Replacing.{replaced, same_of, same_lengths, settings-replaced}
-use Rattle.bsc_control.proofs.SenderSteps.{LeavesPhase, StepKeeps}
+use Rattle.bsc_control.proofs.SenderSteps.{LeavesPhase, KeepsAndLeaves}
 
 -- the station once the sender to a selection address of the present terminal, and its queue, are
 -- these
@@ -176,26 +176,26 @@ keeps_spools-perform_step : (c : ControlValue) (s : ℕ) (o : OutboundValue) (ac
     (after : After) → OthersRest c s → OutboundKeeps (outbound_of c (current c) s) o
     → LeavesPhase act o.sender.phase
     → (act ≡ a.Quiet → c.task ≡ Sending s)
-    → KeepsSpools c (perform_step (stepped c s o) s act after).control
+    → KeepsSpools c (act_step (stepped c s o) s act after).control
 keeps_spools-perform_step c s o (a.Send text) after h keeps phase quiet =
     keeps_spools-goes_on c s o h keeps phase
 keeps_spools-perform_step c s o a.Enq after h keeps phase quiet =
     keeps_spools-goes_on c s o h keeps phase
 keeps_spools-perform_step c s o a.Over after h keeps phase quiet =
-    keeps_spools_after c (stepped c s o) (perform_step (stepped c s o) s a.Over after).control
+    keeps_spools_after c (stepped c s o) (act_step (stepped c s o) s a.Over after).control
     (keeps-stepped c s o keeps) (same_spools c s o)
     (keeps_spools-next_call_step (stepped c s o) after (calm-stepped c s o h keeps phase))
 keeps_spools-perform_step c s o a.Quiet after h keeps phase quiet =
     subst (λ (task : Task). KeepsSpools c (record (stepped c s o) { task = task }))
     (sym (quiet refl)) (keeps_spools-goes_on c s o h keeps phase)
 
-pub outbound_keeps : (o : OutboundValue) (step : SenderStep) → StepKeeps o.sender o.queue step
+pub outbound_keeps : (o : OutboundValue) (step : SenderStep) → KeepsAndLeaves o.sender o.queue step
     → OutboundKeeps o (outbound_after step)
 outbound_keeps o step k = record { setup = k.setup; format = k.format; offered = k.offered }
 
 pub keeps_spools-bid_step : (c : ControlValue) (s : ℕ) (step : SenderStep) (after : After)
     → OthersRest c s
-    → StepKeeps (outbound_of c (current c) s).sender (outbound_of c (current c) s).queue step
+    → KeepsAndLeaves (outbound_of c (current c) s).sender (outbound_of c (current c) s).queue step
     → (step.act ≡ a.Quiet → c.task ≡ Sending s) → KeepsSpools c (bid_step c s step after).control
 keeps_spools-bid_step c s step after h keeps quiet =
     keeps_spools-perform_step c s (outbound_after step) step.act after h
@@ -242,8 +242,8 @@ calls-perform_step : (c : ControlValue) (s : ℕ) (o : OutboundValue) (act : Act
     (address : List ℕ) → OthersRest c s → OutboundKeeps (outbound_of c (current c) s) o
     → LeavesPhase act o.sender.phase
     → (after ≡ Selection s) ⊎ (after ≡ Interruption)
-    → (perform_step (stepped c s o) s act after).sent ≡ Some (m.Call address)
-    → IsCalled (perform_step (stepped c s o) s act after).control (next_call c after) address
+    → (act_step (stepped c s o) s act after).sent ≡ Some (m.Call address)
+    → IsCalled (act_step (stepped c s o) s act after).control (next_call c after) address
 calls-perform_step c s o (a.Send text) after address h keeps phase which sent = absurd (cc)
 calls-perform_step c s o a.Enq after address h keeps phase which sent = absurd (cc)
 calls-perform_step c s o a.Over after address h keeps phase which sent =
@@ -255,7 +255,7 @@ calls-perform_step c s o a.Quiet after address h keeps phase which sent = absurd
 
 pub calls-bid_step : (c : ControlValue) (s : ℕ) (step : SenderStep) (after : After)
     (address : List ℕ) → OthersRest c s
-    → StepKeeps (outbound_of c (current c) s).sender (outbound_of c (current c) s).queue step
+    → KeepsAndLeaves (outbound_of c (current c) s).sender (outbound_of c (current c) s).queue step
     → (after ≡ Selection s) ⊎ (after ≡ Interruption)
     → (bid_step c s step after).sent ≡ Some (m.Call address)
     → IsCalled (bid_step c s step after).control (next_call c after) address

@@ -9,7 +9,8 @@ use Rattle.bsc_control.specs.declared.task.Task.{Task}
 use Rattle.bsc_control.specs.declared.task.Task.TheVariants.{AtRest, Selecting, Sending, Polling}
 use Rattle.bsc_control.specs.Peer.{OutboundValue, PeerValue, no_outbound, no_peer, outbound_at}
 use Rattle.bsc_control.specs.Peer.{with_outbound}
-use Rattle.bsc_control.specs.Control.{ControlValue, ControlStep, peer, current, with_current, quiet}
+use Rattle.bsc_control.specs.Control.{ControlValue, ControlStep, peer, current, with_current}
+use Rattle.bsc_control.specs.Control.{quiet_step}
 use Rattle.bsc_control.specs.Table.{Hears, task_step, rooms_after}
 
 -- writing what is there changes nothing
@@ -23,19 +24,19 @@ same_outbound p s =
     (set-get_or p.outbounds s no_outbound)
 
 quiet_in : (c : ControlValue) (task : Task) (rooms : Rooms) → c.task ≡ task
-    → task_step c task Noise rooms ≡ quiet c
+    → task_step c task Noise rooms ≡ quiet_step c
 quiet_in c AtRest rooms is = refl
 quiet_in c (Selecting s enquired) rooms is = refl
 quiet_in c (Sending s) rooms is =
-    ap (λ (p : PeerValue). quiet (with_current c p)) (same_outbound (peer c) s)
-    ∙ ap quiet (same_peer c)
+    ap (λ (p : PeerValue). quiet_step (with_current c p)) (same_outbound (peer c) s)
+    ∙ ap quiet_step (same_peer c)
 quiet_in c (Polling replied) rooms is =
-    ap (λ (d : ControlValue). quiet (record d { task = Polling replied })) (same_peer c)
-    ∙ ap (λ (task : Task). quiet (record c { task = task })) (sym is)
+    ap (λ (d : ControlValue). quiet_step (record d { task = Polling replied })) (same_peer c)
+    ∙ ap (λ (task : Task). quiet_step (record c { task = task })) (sym is)
 
 pub noise_changes_nothing : (old new : ControlValue) (sent : Option Message)
     → Hears old Noise new sent → (new ≡ old) × (sent ≡ None)
 noise_changes_nothing old new sent h =
-    let same : record { control = new; sent = sent } ≡ quiet old =
+    let same : record { control = new; sent = sent } ≡ quiet_step old =
     h.row ∙ quiet_in old old.task (rooms_after old Noise new) refl in
     (ap (λ (o : ControlStep). o.control) same, ap (λ (o : ControlStep). o.sent) same)

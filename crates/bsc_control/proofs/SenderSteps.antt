@@ -23,14 +23,14 @@ LeavesPhase a.Over phase = IsAtRest phase
 LeavesPhase a.Quiet phase = IsGoing phase
 
 -- the settings, the format and the offered records stay
-pub record StepKeeps (s : SenderValue) (q : QueueValue) (step : SenderStep) : Type 0 where
+pub record KeepsAndLeaves (s : SenderValue) (q : QueueValue) (step : SenderStep) : Type 0 where
   pub setup : step.sender.setup ≡ s.setup
   pub format : step.queue.format ≡ q.format
   pub offered : step.queue.offered ≡ q.offered
   pub phase : LeavesPhase step.act step.sender.phase
 
 step_keeps : (s : SenderValue) (q : QueueValue) (step : SenderStep) → each.StepKeeps s q step
-    → LeavesPhase step.act step.sender.phase → StepKeeps s q step
+    → LeavesPhase step.act step.sender.phase → KeepsAndLeaves s q step
 step_keeps s q step k phase =
     record { setup = k.setup_is; format = k.format_is; offered = k.offered_is; phase = phase }
 
@@ -46,18 +46,18 @@ begins : (s : SenderValue) (q : QueueValue) (x : Alternation) (next : Option Nex
 begins s q x None = tt
 begins s q x (Some next) = tt
 
-pub keeps-begin_step : (s : SenderValue) (q : QueueValue) → StepKeeps s q (begin_step s q)
+pub keeps-begin_step : (s : SenderValue) (q : QueueValue) → KeepsAndLeaves s q (begin_step s q)
 keeps-begin_step s q =
     step_keeps s q (begin_step s q) (keeps_begin s q) (begins s q Odd (next_block q))
 
 pub keeps-reply_step : (s : SenderValue) (q : QueueValue) (r : Option Reply) → IsGoing s.phase
-    → StepKeeps s q (reply_step s q r)
+    → KeepsAndLeaves s q (reply_step s q r)
 keeps-reply_step s q r goes =
     step_keeps s q (reply_step s q r) (keeps_reply s q r)
     (leaves (reply_step s q r).act s.phase (reply_step s q r).sender.phase goes (fits_reply s q r))
 
 pub keeps-silence_step : (s : SenderValue) (q : QueueValue) → IsGoing s.phase
-    → StepKeeps s q (silence_step s q)
+    → KeepsAndLeaves s q (silence_step s q)
 keeps-silence_step s q goes =
     step_keeps s q (silence_step s q) (keeps_silence s q)
     (leaves (silence_step s q).act s.phase (silence_step s q).sender.phase goes (fits_silence s q))

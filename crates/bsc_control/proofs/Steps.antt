@@ -21,13 +21,13 @@ use Rattle.bsc_control.specs.declared.way.Way.TheVariants.{ToTerminal}
 use Rattle.bsc_control.specs.Addresses.{IsAddressOf}
 use Rattle.bsc_control.specs.CallOrder.{After, Start, Selection, Interruption, Poll, next_call}
 use Rattle.bsc_control.specs.Control.{ControlValue, ControlStep, HasEntries, terminals, peer_at}
-use Rattle.bsc_control.specs.Control.{peer, current, quiet, sends}
+use Rattle.bsc_control.specs.Control.{peer, current, quiet_step, answer_step}
 use Rattle.bsc_control.specs.Kept.{SuitsTask, IsSelected, IsInBid, outbound_of, IsOrderly, Keeps}
 use Rattle.bsc_control.specs.Kept.{IsCalled, IsRepeated, GrowsByText, after_hearing, after_silence}
 use Rattle.bsc_control.specs.Kept.{way_of}
 use Rattle.bsc_control.specs.Peer.{PeerValue, no_peer}
 use Rattle.bsc_control.specs.Table.{poll_call_step, next_call_step, bid_step, after_bid}
-use Rattle.bsc_control.specs.Table.{selecting_step, receiving_step, replied_after, has_rvi}
+use Rattle.bsc_control.specs.Table.{selecting_step, receive_step, replied_after, has_rvi}
 use Rattle.bsc_control.specs.Table.{polling_step, task_step, repeated, silence_in, rooms_after}
 use Rattle.bsc_control.specs.Table.{Hears, ActsOnSilence, select_address}
 use Rattle.bsc_control.proofs.Bids.{OthersRest, keeps_spools-bid_step, calls-bid_step}
@@ -38,7 +38,7 @@ use Rattle.bsc_control.proofs.Calls.{next_is_called, terminal_there, selects_the
 use Rattle.bsc_control.proofs.PeerLists.{same_map, value_at, holds_at}
 use Rattle.bsc_text.proofs.ReceiverSteps.{TakesText, Grows, grows-heard_step, silent-heard_step}
 use Rattle.bsc_text.proofs.Choice.{choose}
-use Rattle.bsc_control.proofs.SenderSteps.{StepKeeps, keeps-begin_step}
+use Rattle.bsc_control.proofs.SenderSteps.{KeepsAndLeaves, keeps-begin_step}
 use Rattle.bsc_control.proofs.SenderSteps.{keeps-reply_step, keeps-silence_step}
 use Rattle.bsc_text.proofs.FitLemmas.{begin_not_quiet}
 
@@ -98,7 +98,7 @@ all_rest c s entries calm there =
           calm.settings;
     }
 
-hears-quiet : (c : ControlValue) (h : Heard) → IsOrderly c → HearingKeeps c h (quiet c)
+hears-quiet : (c : ControlValue) (h : Heard) → IsOrderly c → HearingKeeps c h (quiet_step c)
 hears-quiet c h o =
     record {
       keeps = keeps_same c;
@@ -142,7 +142,7 @@ silent-next c after entries calm e =
 -- what the sender does
 hears-bid_step : (c : ControlValue) (h : Heard) (s : ℕ) (step : SenderStep) (after : After)
     → OthersRest c s
-    → StepKeeps (outbound_of c (current c) s).sender (outbound_of c (current c) s).queue step
+    → KeepsAndLeaves (outbound_of c (current c) s).sender (outbound_of c (current c) s).queue step
     → (step.act ≡ a.Quiet → c.task ≡ Sending s) → (after ≡ Selection s) ⊎ (after ≡ Interruption)
     → after_hearing c.task h ≡ after → HearingKeeps c h (bid_step c s step after)
 hears-bid_step c h s step after others keeps quiet which e =
@@ -171,7 +171,7 @@ hears-selecting c h s (Some Nak) entries o calm selected e =
     hears-next c h (Selection s) entries calm e
 hears-selecting c h s (Some Wack) entries o calm selected e =
     choose (HearingKeeps c h) (nat_lt c.setup.waits (c.wacks + 1)) (next_call_step c (Selection s))
-    (sends (record c { task = Selecting s true; failures = 0; wacks = c.wacks + 1 }) m.Enq)
+    (answer_step (record c { task = Selecting s true; failures = 0; wacks = c.wacks + 1 }) m.Enq)
     (hears-next c h (Selection s) entries calm e)
     (record {
       keeps =
@@ -265,7 +265,7 @@ hears-receiving_step : (c : ControlValue) (h : Heard) (replied : Replied) (step 
     → HasEntries c → IsOrderly c → IsCalm c → c.task ≡ Polling replied
     → SuitsTask (Polling replied) (peer c)
     → Grows h (peer c).spool step → (step.reply ≡ None → step.receiver ≡ (peer c).receiver)
-    → HearingKeeps c h (receiving_step c replied step)
+    → HearingKeeps c h (receive_step c replied step)
 hears-receiving_step c h replied step entries o calm e suits grows silent =
     let t : ℕ = current c in
     let p : PeerValue =
@@ -296,7 +296,7 @@ hears-receiving_step c h replied step entries o calm e suits grows silent =
 
 hears-heard : (c : ControlValue) (h : Heard) (replied : Replied) (rooms : Rooms) → HasEntries c
     → IsOrderly c → IsCalm c → c.task ≡ Polling replied → SuitsTask (Polling replied) (peer c)
-    → HearingKeeps c h (receiving_step c replied
+    → HearingKeeps c h (receive_step c replied
     (heard_step (peer c).receiver (peer c).spool h (peer c).urgent rooms))
 hears-heard c h replied rooms entries o calm e suits =
     hears-receiving_step c h replied (heard_step (peer c).receiver (peer c).spool h (peer c).urgent
@@ -412,7 +412,7 @@ silent-selecting : (c : ControlValue) (s : ℕ) (enquired : Bool) → HasEntries
     → SilenceKeeps c (silence_in c (Selecting s enquired))
 silent-selecting c s enquired entries o calm e selected =
     choose (SilenceKeeps c) (nat_lt c.setup.tries (c.failures + 1)) (next_call_step c (Selection s))
-    (sends (record c { failures = c.failures + 1 }) (repeated c s enquired))
+    (answer_step (record c { failures = c.failures + 1 }) (repeated c s enquired))
     (silent-next c (Selection s) entries calm (ap after_silence e))
     (record {
       keeps =

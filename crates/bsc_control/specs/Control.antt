@@ -50,11 +50,11 @@ abbrev pub with_current : ControlValue → PeerValue → ControlValue
 with_current c p = with_peer c (current c) p
 
 -- nothing is sent
-abbrev pub quiet : ControlValue → ControlStep
-quiet c = record { control = c; sent = None }
+abbrev pub quiet_step : ControlValue → ControlStep
+quiet_step c = record { control = c; sent = None }
 
-abbrev pub sends : ControlValue → Message → ControlStep
-sends c message = record { control = c; sent = Some message }
+abbrev pub answer_step : ControlValue → Message → ControlStep
+answer_step c message = record { control = c; sent = Some message }
 
 -- the poll list names terminals, and the present entry is one of its entries
 pub record HasEntries (c : ControlValue) : Type 0 where

@@ -25,7 +25,8 @@ use Rattle.bsc_control.specs.declared.way.Way.{Way}
 use Rattle.bsc_control.specs.declared.way.Way.TheVariants.{FromTerminal, ToTerminal}
 use Rattle.bsc_control.specs.Peer.{PeerValue, outbound_at, with_outbound, outbound_after}
 use Rattle.bsc_control.specs.Control.{ControlValue, ControlStep, peer, peer_at, current}
-use Rattle.bsc_control.specs.Control.{terminal_of_entry, with_peer, with_current, quiet, sends}
+use Rattle.bsc_control.specs.Control.{terminal_of_entry, with_peer, with_current, quiet_step}
+use Rattle.bsc_control.specs.Control.{answer_step}
 use Rattle.bsc_control.specs.CallOrder.{Call, After, Start, Selection, Interruption, Poll}
 use Rattle.bsc_control.specs.CallOrder.{next_call}
 
@@ -49,7 +50,7 @@ abbrev pub poll_call_step : ControlValue → ℕ → ℕ → ControlStep
 poll_call_step c place failures =
     let t : ℕ = terminal_of_entry c place in
     let p : PeerValue = peer_at c t in
-    sends (record (with_peer c t (record p { receiver = new_receiver true })) {
+    answer_step (record (with_peer c t (record p { receiver = new_receiver true })) {
       place = place;
       task = Polling Nothing;
       failures = failures;
@@ -61,7 +62,7 @@ abbrev pub selection_call_step : ControlValue → ℕ → ℕ → ControlStep
 selection_call_step c place s =
     let t : ℕ = terminal_of_entry c place in
     let p : PeerValue = peer_at c t in
-    sends (record (with_peer c t (record p { urgent = false })) {
+    answer_step (record (with_peer c t (record p { urgent = false })) {
       place = place;
       task = Selecting s false;
       failures = 0;
@@ -89,8 +90,8 @@ performed c s o.Over message after = next_call_step c after
 performed c s o.Quiet message after = record { control = c; sent = message }
 
 -- the sender acts
-abbrev pub perform_step : ControlValue → ℕ → Act → After → ControlStep
-perform_step c s act after = performed c s (outcome_of act) (message_for act) after
+abbrev pub act_step : ControlValue → ℕ → Act → After → ControlStep
+act_step c s act after = performed c s (outcome_of act) (message_for act) after
 
 -- the present terminal's sender to this selection address made a step
 abbrev pub after_step : ControlValue → ℕ → SenderStep → ControlValue
@@ -98,7 +99,7 @@ after_step c s step = with_current c (with_outbound (peer c) s (outbound_after s
 
 -- what the sender then does
 abbrev pub bid_step : ControlValue → ℕ → SenderStep → After → ControlStep
-bid_step c s step after = perform_step (after_step c s step) s step.act after
+bid_step c s step after = act_step (after_step c s step) s step.act after
 
 -- what a bid that ends now is over by: RVI, or all else
 abbrev pub after_bid : ℕ → Option Reply → After
@@ -113,12 +114,12 @@ selecting_step c s (Some Ack0) =
 selecting_step c s (Some Nak) = next_call_step c (Selection s)
 selecting_step c s (Some Wack) =
     if nat_lt c.setup.waits (c.wacks + 1) then next_call_step c (Selection s)
-    else sends (record c { task = Selecting s true; failures = 0; wacks = c.wacks + 1 }) m.Enq
-selecting_step c s _ = quiet c
+    else answer_step (record c { task = Selecting s true; failures = 0; wacks = c.wacks + 1 }) m.Enq
+selecting_step c s _ = quiet_step c
 
 -- the receiver replies; RVI clears the urgent flag
-abbrev pub receiving_step : ControlValue → Replied → ReceiverStep → ControlStep
-receiving_step c replied step =
+abbrev pub receive_step : ControlValue → Replied → ReceiverStep → ControlStep
+receive_step c replied step =
     let p : PeerValue = peer c in
     record {
       control =
@@ -136,11 +137,11 @@ receiving_step c replied step =
 abbrev pub polling_step : ControlValue → Replied → Heard → Rooms → ControlStep
 polling_step c replied (Whole m.Eot) rooms = next_call_step c (Poll (has_rvi replied))
 polling_step c replied h rooms =
-    receiving_step c replied (heard_step (peer c).receiver (peer c).spool h (peer c).urgent rooms)
+    receive_step c replied (heard_step (peer c).receiver (peer c).spool h (peer c).urgent rooms)
 
 -- the table: what is heard
 abbrev pub task_step : ControlValue → Task → Heard → Rooms → ControlStep
-task_step c AtRest h rooms = quiet c
+task_step c AtRest h rooms = quiet_step c
 task_step c (Selecting s enquired) h rooms = selecting_step c s (reply_heard h)
 task_step c (Sending s) h rooms =
     bid_step c s
@@ -161,7 +162,7 @@ abbrev pub silence_in : ControlValue → Task → ControlStep
 silence_in c AtRest = next_call_step c Start
 silence_in c (Selecting s enquired) =
     if nat_lt c.setup.tries (c.failures + 1) then next_call_step c (Selection s)
-    else sends (record c { failures = c.failures + 1 }) (repeated c s enquired)
+    else answer_step (record c { failures = c.failures + 1 }) (repeated c s enquired)
 silence_in c (Sending s) =
     bid_step c s (silence_step (outbound_at (peer c) s).sender (outbound_at (peer c) s).queue)
     (Selection s)

@@ -3,13 +3,13 @@ use Rattle.std.proofs.Common.{◌≡◌, ℕ, ◌+◌, ◌-◌, ◌<◌, ◌≤�
 use Rattle.std.proofs.Common.{◌∙◌, arith}
 use Rattle.std.proofs.Common.{List, [], ◌∷◌, ◌++◌, length, take, drop, set, get_or, replicate}
 use Rattle.std.proofs.Common.{IsTrue, subst}
-use Rattle.std.proofs.Common.{length-take, take-append-drop, length-set, append_assoc, drop-drop}
+use Rattle.std.proofs.Common.{length-take, length-set, append_assoc, drop-drop}
 use Rattle.std.proofs.Common.{Option, Some, None, Result, Ok, Err, option_and_then}
 use Rattle.std.specs.List.{AllByRecursion}
 use Rattle.std.proofs.lemmas.Bool.{eqb-true, eqb-false}
 use Rattle.std.proofs.lemmas.List.{take_more_set, drop-set-lt, drop-replicate}
 use Rattle.bsc_octet.specs.Octet.{code_of}
-use Rattle.bsc_frame.specs.Addresses.{is_address_code, IsAddress, HoldsAddress}
+use Rattle.bsc_frame.specs.Addresses.{is_address_code, IsAddress}
 use Rattle.bsc_frame.specs.Message.{read_address}
 use Rattle.bsc_frame.specs.Reading.{called, call_of, call_to}
 use Rattle.bsc_frame.specs.declared.address.AddressError.{AddressError}
@@ -40,14 +40,6 @@ front_is : (b : List ℕ) (i : ℕ) (s : List ℕ) → Called b i s → 0 < i �
 front_is b i s c h =
     let long = front_long b i s c in
     record { some = omega (arith, long); most = omega (arith, long, c.within); each = c.codes }
-
--- and the buffer holds it
-pub called_holds : (b : List ℕ) (i : ℕ) (s : List ℕ) → Called b i s → 0 < i → HoldsAddress b i
-called_holds b i s c h = record {
-  address = front_is b i s c h;
-  long = front_long b i s c;
-  zeros = rw (front_long b i s c, sym c.zeros) (take-append-drop i b);
-}
 
 -- what is called decides the message
 message : (s : List ℕ) (o : Option (List ℕ)) → o ≡ called MAX_ADDRESS s
@@ -99,11 +91,13 @@ call_none b i s c l = message s None (called_none (take i b) i s c.reads l)
 
 -- ---- a code that may not stand in an address
 
+-- codes with a wrong one among them are not all right
 not_all : (front rest : List ℕ) (c : ℕ) → is_address_code c ≡ false
     → AllByRecursion (λ c. IsTrue (is_address_code c)) (front ++ c ∷ rest) → ⊥
 not_all [] rest c e h = let k : true ≡ false = sym h.0 ∙ e in cc
 not_all (x ∷ front) rest c e h = not_all front rest c e h.1
 
+-- codes that are no address are read as no call
 no_call : (r : Result (List ℕ) AddressError) (codes : List ℕ) → read_address codes ≡ r
     → (IsAddress codes → ⊥) → call_to r ≡ None
 no_call (Err x) codes e n = refl
@@ -111,6 +105,7 @@ no_call (Ok a) codes e n =
     let k = address_reads codes a e in
     absurd (n (subst IsAddress (sym k.0) k.1))
 
+-- whatever follows a wrong code, there is no call
 with_wrong : (front : List ℕ) (c : ℕ) (x : Option (List ℕ)) → is_address_code c ≡ false
     → option_and_then (λ codes. call_to (read_address codes)) (with_codes (front ++ c ∷ []) x)
     ≡ None

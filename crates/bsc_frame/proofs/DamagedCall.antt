@@ -29,6 +29,7 @@ pad_even h = let eight : count_ones 0xff ≡ 8 = ones-ones 8 in omega (arith, ei
 
 -- ---- what is heard of a call after its EOT
 
+-- no octet is ENQ
 abbrev NoEnq : List ℕ → Type 0
 NoEnq = AllByRecursion (λ x. x ≡ 0x85 → ⊥)
 

@@ -40,10 +40,12 @@ unit_first start end xs h =
     ∙ ap (λ (zs : List ℕ). slice_range xs start end ++ zs)
     (drop-drop (end - start) start xs ∙ ap (λ (k : ℕ). drop k xs) to)
 
+-- the first unit, or this one where there is none
 abbrev first_or : TextUnit → List TextUnit → TextUnit
 first_or d [] = d
 first_or d (u ∷ us) = u
 
+-- the units after the first
 abbrev after_first : List TextUnit → List TextUnit
 after_first [] = []
 after_first (u ∷ us) = us
@@ -112,6 +114,7 @@ text_alike ms ns xs ys e f a = λ i. marked_text (a.marks i) (a.chars i) (a.end 
 abbrev pub is_same_mark : Mark → Mark → Bool
 is_same_mark a b = (a.end == b.end) && beq a.em b.em
 
+-- the test of all that two texts keep: marks, ends and characters
 abbrev pub is_kept_alike : List Mark → List Mark → List ℕ → List ℕ → End → End → Bool
 is_kept_alike ms ns xs ys e f =
     pointwise is_same_mark ms ns && (sameb the_type e f && pointwise ◌==◌ xs ys)

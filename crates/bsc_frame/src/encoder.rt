@@ -63,7 +63,7 @@ fn put(octets: &mut UnitOctets, count: usize, octet: u8) -> usize
 fn put_em(octets: &mut UnitOctets, count: usize, em: bool) -> usize
     requires { count < MAX_UNIT_SENT }
     ensures octets { take result octets.new
-        ≡ take count octets.old ++ (if em then 0x19 ∷ [] else []) }
+        ≡ take count octets.old ++ (if em then EM_CODE ∷ [] else []) }
     ensures count { result ≤ count + 1 }
 {
     if em {

@@ -25,7 +25,7 @@ pub(crate) type UnitBuffer = [u8; UNIT_ROOM];
 /// Whether there is fill among the octets.
 #[tactic(auto, using(crate::proofs::SqueezeLemmas::fill_more))]
 pub(crate) fn has_fill(octets: &[u8]) -> bool
-    ensures { result ≡ list_any (is_octet 0x16) octets.now }
+    ensures { result ≡ list_any (is_octet SYN) octets.now }
 {
     let mut found = false;
     for octet in octets {

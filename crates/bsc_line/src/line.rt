@@ -34,14 +34,22 @@ use std::marker::Model;
 /// each of them.
 #[derive(Drop)]
 pub struct Line<A: Allocator> {
+    /// The control station.
     control: Control<A>,
+
+    /// The terminals, in the order of their numbers.
     terminals: Vec<Tributary<A>, A>,
-    // What nobody has heard yet, and its octets: a wire has none where nothing is sent.
+
+    /// What nobody has heard yet.
     sent: Option<Transmission>,
+
+    /// The octets of what nobody has heard yet, and none where nothing is sent.
     wire: Wire,
-    // Whether each transmission so far was heard fairly.
+
+    /// Whether each transmission so far was heard fairly.
     trusted: bool,
-    // The channel that the last call named which all terminals heard whole.
+
+    /// The channel that the last call named which all terminals heard whole.
     addressed: Option<(usize, Way)>,
 }
 

@@ -123,7 +123,7 @@ fn hear_all<A: Allocator>(
     first
 }
 
-/// The same of a vector.
+/// All terminals of a vector hear: what the first of them answers.
 pub(crate) fn hear_in<A: Allocator>(
     terminals: &mut Vec<Tributary<A>, A>,
     hearings: &Hearings<'_>,

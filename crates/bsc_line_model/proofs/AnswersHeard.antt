@@ -25,11 +25,11 @@ use Rattle.bsc_control.specs.declared.task.Replied.{Replied}
 use Rattle.bsc_control.specs.declared.task.Task.{Task}
 use Rattle.bsc_control.specs.declared.task.Task.TheVariants.{AtRest, Selecting, Sending, Polling}
 use Rattle.bsc_control.specs.Peer.{PeerValue, OutboundValue, no_peer, outbound_at}
-use Rattle.bsc_control.specs.Control.{ControlValue, ControlStep, peer, current, with_current, quiet}
+use Rattle.bsc_control.specs.Control.{ControlValue, ControlStep, peer, current, with_current}
 use Rattle.bsc_control.specs.CallOrder.{After, Selection, Poll, next_call}
 use Rattle.bsc_control.specs.Kept.{IsSelected, SuitsTask, AfterHearing}
 use Rattle.bsc_control.specs.Table.{Hears, next_call_step, bid_step, selecting_step, polling_step}
-use Rattle.bsc_control.specs.Table.{task_step, receiving_step, has_rvi, replied_after, rooms_after}
+use Rattle.bsc_control.specs.Table.{task_step, receive_step, has_rvi, replied_after, rooms_after}
 use Rattle.bsc_line_model.specs.declared.transmission.Speaker.TheVariants as sp
 use Rattle.bsc_line_model.specs.declared.transmission.Transmission.{Transmission}
 use Rattle.bsc_line_model.specs.Transmission.{sent_by}
@@ -190,7 +190,7 @@ selecting_answered laws c ts s t (m.Call z) enquired stations task h = absurd h.
 
 -- in a poll what is no EOT goes to the receiver
 polling_by : (c : ControlValue) (replied : Replied) (h : Heard) (rooms : Rooms) → IsNoCall h
-    → polling_step c replied h rooms ≡ receiving_step c replied
+    → polling_step c replied h rooms ≡ receive_step c replied
     (heard_step (peer c).receiver (peer c).spool h (peer c).urgent rooms)
 polling_by c replied Failed rooms k = refl
 polling_by c replied Noise rooms k = refl
@@ -251,8 +251,8 @@ polling_received laws c ts t w h rooms replied stations others b fair =
           reply_flies_up e step.reply;
       bid = agrees.bid;
     } in
-    let polls : IsPolling (sent_by sp.Control (receiving_step c replied step).sent)
-    (receiving_step c replied step).control ts (replied_after replied step.reply) = record {
+    let polls : IsPolling (sent_by sp.Control (receive_step c replied step).sent)
+    (receive_step c replied step).control ts (replied_after replied step.reply) = record {
       others =
           λ k less differ. subst (λ (z : PeerValue). IsQuiet z (terminal_in ts k))
           (sym (get_or-set_other c.peers e k q no_peer differ)) (others k less differ);

@@ -36,10 +36,12 @@ use Rattle.bsc_control.specs.declared.way.Way.TheVariants.{FromTerminal, ToTermi
 use Rattle.bsc_control.specs.Peer.{PeerValue, OutboundValue, no_peer, outbound_at, with_outbound}
 use Rattle.bsc_control.specs.Peer.{outbound_after}
 use Rattle.bsc_control.specs.Control.{ControlValue, ControlStep, peer_at, peer, current}
-use Rattle.bsc_control.specs.Control.{terminal_of_entry, with_peer, with_current, sends}
+use Rattle.bsc_control.specs.Control.{terminal_of_entry, with_peer, with_current}
+use Rattle.bsc_control.specs.Control.{answer_step as control_answers}
 use Rattle.bsc_control.specs.CallOrder.{After, Selection, Poll, next_call}
 use Rattle.bsc_control.specs.Table.{Hears as ControlHears, task_step, selecting_step, polling_step}
-use Rattle.bsc_control.specs.Table.{receiving_step, bid_step, perform_step, next_call_step}
+use Rattle.bsc_control.specs.Table.{receive_step, bid_step, act_step as control_acts}
+use Rattle.bsc_control.specs.Table.{next_call_step}
 use Rattle.bsc_control.specs.Table.{way_call_step, after_bid, has_rvi, rooms_after as rooms_up}
 use Rattle.bsc_line_model.proofs.Stations.{same_or_not}
 
@@ -234,7 +236,7 @@ next_grows : (c : ControlValue) (after : After) → ControlGrows c (next_call_st
 next_grows c after = calls_by_grow c (next_call c after).place (next_call c after).way
 
 performs_grow : (c : ControlValue) (s : ℕ) (act : Act) (after : After)
-    → ControlGrows c (perform_step c s act after).control
+    → ControlGrows c (control_acts c s act after).control
 performs_grow c s (a.Send text) after =
     record { count = refl; spools = λ t less. grows_same (peer_at c t).spool.delays }
 performs_grow c s a.Enq after =
@@ -247,7 +249,7 @@ acted_grows : (c : ControlValue) (s : ℕ) (step : SenderStep) (after : After)
 acted_grows c s step after =
     let o : OutboundValue = outbound_after step in
     let d : ControlValue = with_current c (with_outbound (peer c) s o) in
-    control_then_grows c d (perform_step d s step.act after).control
+    control_then_grows c d (control_acts d s step.act after).control
     (peers_set c d (current c) (with_outbound (peer c) s o) refl (grows_same (peer c).spool.delays))
     (performs_grow d s step.act after)
 
@@ -260,7 +262,7 @@ selecting_grows c s (Some Ack0) =
 selecting_grows c s (Some Nak) = next_grows c (Selection s)
 selecting_grows c s (Some Wack) =
     choose (λ (x : ControlStep). ControlGrows c x.control) (nat_lt c.setup.waits (c.wacks + 1))
-    (next_call_step c (Selection s)) (sends
+    (next_call_step c (Selection s)) (control_answers
     (record c { task = k.Selecting s true; failures = 0; wacks = c.wacks + 1 }) m.Enq)
     (next_grows c (Selection s)) (record {
       count = refl;
@@ -271,11 +273,11 @@ selecting_grows c s (Some Ack1) = control_same_grows c
 selecting_grows c s (Some Rvi) = control_same_grows c
 
 receives_grow : (c : ControlValue) (replied : Replied) (h : Heard) (rooms : Rooms)
-    → ControlGrows c (receiving_step c replied
+    → ControlGrows c (receive_step c replied
     (heard_step (peer c).receiver (peer c).spool h (peer c).urgent rooms)).control
 receives_grow c replied h rooms =
     let out : ReceiverStep = heard_step (peer c).receiver (peer c).spool h (peer c).urgent rooms in
-    peers_set c (receiving_step c replied out).control (current c) _ refl
+    peers_set c (receive_step c replied out).control (current c) _ refl
     (heard_grows (peer c).receiver (peer c).spool h (peer c).urgent rooms)
 
 polling_grows : (c : ControlValue) (replied : Replied) (h : Heard) (rooms : Rooms)

@@ -62,7 +62,8 @@ answers_addressed addressed t x u h sent after answered tuned never =
       | inr eot ↦
           absurd
           (silent sent
-          (after.taken (subst (λ (g : Heard). TakesLine x.terminal g) (sym eot) tt)).1 answered)
+          (after.gives_up_line
+          (subst (λ (g : Heard). TakesLine x.terminal g) (sym eot) tt)).1 answered)
     ]
 
 -- a terminal that answers a call was called by an address of its own, and is addressed then
@@ -71,7 +72,7 @@ called_addressed : (laws : NamesOwn) (new : Option (ℕ × Way)) (ts : List Term
     → AfterHearing x (Whole (m.Call a)) u sent → IsTrue (is_some sent) →
     (called : Called) → called_as x.terminal a ≡ called → IsAddressed new t
 called_addressed laws new ts t x u a sent b after answered Other e =
-    absurd (silent sent (after.taken e).1 answered)
+    absurd (silent sent (after.gives_up_line e).1 answered)
 called_addressed laws new ts t x u a sent b after answered Polling e =
     record {
       way = FromTerminal;
@@ -99,7 +100,7 @@ called_addressed laws new ts t x u a sent b after answered (Selection s) e =
 missed_silent : (x u : TributaryValue) (h : Heard) (sent : Option Message) → AfterHearing x h u sent
     → IsMissed h → sent ≡ None
 missed_silent x u Noise sent after f = (after.noise refl).1
-missed_silent x u (Whole m.Eot) sent after f = (after.taken tt).1
+missed_silent x u (Whole m.Eot) sent after f = (after.gives_up_line tt).1
 missed_silent x u _ sent after f = absurd f
 
 -- what is the case where a transmission of the control station is heard on a line that is trusted

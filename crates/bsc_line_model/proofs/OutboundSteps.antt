@@ -24,12 +24,12 @@ use Rattle.bsc_control.specs.declared.way.Way.TheVariants.{FromTerminal, ToTermi
 use Rattle.bsc_control.specs.Peer.{PeerValue, OutboundValue, no_peer, no_outbound, outbound_at}
 use Rattle.bsc_control.specs.Peer.{with_outbound, outbound_after}
 use Rattle.bsc_control.specs.Control.{ControlValue, ControlStep, peer_at, peer, current}
-use Rattle.bsc_control.specs.Control.{terminal_of_entry, with_peer, sends}
+use Rattle.bsc_control.specs.Control.{terminal_of_entry, with_peer, answer_step}
 use Rattle.bsc_control.specs.CallOrder.{After, Start, Selection, Poll, next_call}
 use Rattle.bsc_control.specs.Kept.{outbound_of, IsControl, IsSelected, IsInBid, SuitsTask}
 use Rattle.bsc_control.specs.Table.{Hears, ActsOnSilence, poll_call_step, way_call_step}
-use Rattle.bsc_control.specs.Table.{next_call_step, perform_step, bid_step, after_bid}
-use Rattle.bsc_control.specs.Table.{selecting_step, receiving_step, polling_step, task_step}
+use Rattle.bsc_control.specs.Table.{next_call_step, act_step, bid_step, after_bid}
+use Rattle.bsc_control.specs.Table.{selecting_step, receive_step, polling_step, task_step}
 use Rattle.bsc_control.specs.Table.{rooms_after, repeated, silence_in, has_rvi, after_step}
 use Rattle.bsc_line_model.proofs.Entries.{HasPlaces, places, same_places, current_there, next_there}
 use Rattle.bsc_line_model.proofs.Stations.{same_or_not}
@@ -129,7 +129,7 @@ stepped_queues c s step t k there select =
 
 -- what it does then changes no queue
 performs_queues : (c : ControlValue) (s : ℕ) (act : Act) (after : After) (t k : ℕ) → HasPlaces c
-    → (outbound_of (perform_step c s act after).control t k).queue ≡ (outbound_of c t k).queue
+    → (outbound_of (act_step c s act after).control t k).queue ≡ (outbound_of c t k).queue
 performs_queues c s (a.Send text) after t k places = refl
 performs_queues c s a.Enq after t k places = refl
 performs_queues c s a.Over after t k places = next_queues c after t k places
@@ -173,7 +173,7 @@ OutboundHears c h d t k = ((outbound_of d t k).queue ≡ (outbound_of c t k).que
 
 -- a selection is answered
 wack_queues : (c : ControlValue) (s : ℕ) (over : Bool) (t k : ℕ) → HasPlaces c →
-    (outbound_of (if over then next_call_step c (Selection s) else sends
+    (outbound_of (if over then next_call_step c (Selection s) else answer_step
     (record c { task = Selecting s true; failures = 0; wacks = c.wacks + 1 }) m.Enq).control t
     k).queue ≡ (outbound_of c t k).queue
 wack_queues c s true t k places = next_queues c (Selection s) t k places
@@ -195,7 +195,7 @@ selecting_queues c s (Some Rvi) t k places select = refl
 
 -- a poll is answered
 receives_queues : (c : ControlValue) (replied : Replied) (step : ReceiverStep) (t k : ℕ)
-    → HasPlaces c → (outbound_of (receiving_step c replied step).control t k).queue
+    → HasPlaces c → (outbound_of (receive_step c replied step).control t k).queue
     ≡ (outbound_of c t k).queue
 receives_queues c replied step t k places =
     written_queues c (current c) (record (peer c) {
@@ -292,7 +292,7 @@ outbound_queue c d h out t k is row =
 
 -- a silence leaves all queues as they were
 selects_again : (c : ControlValue) (s : ℕ) (enquired over : Bool) (t k : ℕ) → HasPlaces c →
-    (outbound_of (if over then next_call_step c (Selection s) else sends
+    (outbound_of (if over then next_call_step c (Selection s) else answer_step
     (record c { failures = c.failures + 1 }) (repeated c s enquired)).control t k).queue
     ≡ (outbound_of c t k).queue
 selects_again c s enquired true t k listed = next_queues c (Selection s) t k listed

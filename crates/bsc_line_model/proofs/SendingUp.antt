@@ -28,7 +28,7 @@ use Rattle.bsc_control.specs.Peer.{PeerValue, OutboundValue, no_peer, no_outboun
 use Rattle.bsc_control.specs.Peer.{with_outbound, outbound_after}
 use Rattle.bsc_control.specs.Control.{ControlValue, ControlStep, peer_at, peer, current}
 use Rattle.bsc_control.specs.CallOrder.{After, Selection, next_call}
-use Rattle.bsc_control.specs.Table.{perform_step, bid_step, after_bid, after_step}
+use Rattle.bsc_control.specs.Table.{act_step, bid_step, after_bid, after_step}
 use Rattle.bsc_line_model.specs.declared.transmission.Speaker.TheVariants as sp
 use Rattle.bsc_line_model.specs.declared.transmission.Transmission.{Transmission}
 use Rattle.bsc_line_model.specs.Transmission.{sent_by}
@@ -176,9 +176,9 @@ pub performed : (laws : BidLaws) (c : ControlValue) (ts : List TributaryValue) (
     (step : SenderStep) (after : After) (act : Act) → step.act ≡ act → HasActed c ts s step
     → (act ≡ a.Quiet → (c.task ≡ Sending s) × IsGoing step.sender.phase) →
     length c.peers ≡ length ts → HasPlaces (after_step c s step) →
-    InTask (perform_step (after_step c s step) s act after).control.task
-    (sent_by sp.Control (perform_step (after_step c s step) s act after).sent)
-    (perform_step (after_step c s step) s act after).control ts
+    InTask (act_step (after_step c s step) s act after).control.task
+    (sent_by sp.Control (act_step (after_step c s step) s act after).sent)
+    (act_step (after_step c s step) s act after).control ts
 performed laws c ts s step after (a.Send text) is h keeps count entries =
     let x : TributaryValue = terminal_in ts (current c) in
     bid_after c ts s step (Some (record { speaker = sp.Control; message = m.Text text }))

@@ -23,7 +23,7 @@ use Rattle.bsc_control.specs.Peer.{PeerValue, OutboundValue, no_peer}
 use Rattle.bsc_control.specs.Control.{ControlValue, ControlStep, peer_at, peer, current}
 use Rattle.bsc_control.specs.Control.{terminal_of_entry}
 use Rattle.bsc_control.specs.CallOrder.{Poll, way_from, next_place}
-use Rattle.bsc_control.specs.Table.{Hears, task_step, receiving_step, make_call_step}
+use Rattle.bsc_control.specs.Table.{Hears, task_step, receive_step, make_call_step}
 use Rattle.bsc_control.specs.Table.{next_call_step, replied_after, has_rvi, rooms_after}
 use Rattle.bsc_line_model.proofs.Staying.{ControlStays, peer_written, call_stays}
 use Rattle.bsc_line_model.proofs.DownControl.{HasCalled, call_is, call_lists}
@@ -65,9 +65,9 @@ takes_up c d sent t alternation place there i not_urgent counted same less h =
       urgent =
           if sends_rvi r.reply then false else p.urgent;
     } in
-    let row : record { control = d; sent = sent } ≡ receiving_step c i.replied r =
+    let row : record { control = d; sent = sent } ≡ receive_step c i.replied r =
     h.row ∙ ap (λ (k : Task). task_step c k w rooms) i.task
-    ∙ ap (λ (b : Bool). receiving_step c i.replied (text_step p.receiver p.spool t b rooms))
+    ∙ ap (λ (b : Bool). receive_step c i.replied (text_step p.receiver p.spool t b rooms))
     not_urgent in
     let now : peer_at d e ≡ q = ap (λ (o : ControlStep). peer_at o.control e) row
     ∙ get_or-set_same c.peers e q no_peer there in

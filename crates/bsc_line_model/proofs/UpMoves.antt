@@ -28,7 +28,7 @@ use Rattle.bsc_control.specs.declared.way.Way.TheVariants.{FromTerminal, ToTermi
 use Rattle.bsc_control.specs.Peer.{PeerValue, OutboundValue, no_peer, outbound_at}
 use Rattle.bsc_control.specs.Control.{ControlValue, ControlStep, peer_at, peer, current}
 use Rattle.bsc_control.specs.Kept.{outbound_of, Stores}
-use Rattle.bsc_control.specs.Table.{Hears, task_step, receiving_step, rooms_after}
+use Rattle.bsc_control.specs.Table.{Hears, task_step, receive_step, rooms_after}
 use Rattle.bsc_line_model.specs.declared.transmission.Speaker.TheVariants as sp
 use Rattle.bsc_line_model.specs.declared.transmission.Transmission.{Transmission}
 use Rattle.bsc_line_model.specs.Line.{LineValue, terminal_in, terminal_at, terminal_count}
@@ -88,7 +88,7 @@ spool_after c d t out replied row task there =
     let p : PeerValue = peer c in
     let rooms : Rooms = rooms_after c (Whole (m.Text t)) d in
     let step : ReceiverStep = heard_step p.receiver p.spool (Whole (m.Text t)) p.urgent rooms in
-    let becomes : record { control = d; sent = out } ≡ receiving_step c replied step = row.row
+    let becomes : record { control = d; sent = out } ≡ receive_step c replied step = row.row
     ∙ ap (λ (k : Task). task_step c k (Whole (m.Text t)) rooms) task in
     ap (λ (o : ControlStep). (peer_at o.control (current c)).spool) becomes
     ∙ ap (λ (q : PeerValue). q.spool) (get_or-set_same c.peers (current c)

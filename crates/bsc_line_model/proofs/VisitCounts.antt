@@ -23,6 +23,7 @@ use Rattle.bsc_line_model.proofs.DownSteps.{terminal_here}
 use Rattle.bsc_line_model.proofs.Walking.{IsGood}
 use Rattle.bsc_line_model.proofs.Selections.{Calls}
 use Rattle.bsc_line_model.proofs.Visits.{selections_length}
+use Rattle.bsc_frame.proofs.ControlLemmas.{some_is}
 
 sum_from : (p : PeerValue) (from k : ℕ) → from + k ≡ length p.outbounds
     → sum_by outbound_length (drop from p.outbounds) ≡ selections_length p from k
@@ -61,15 +62,11 @@ no_selections p from (suc k) within none =
       no_selections p (from + 1) k (omega (arith, within)) none,
     ) refl
 
--- the first call of an entry, as it is pending
-some_same : (a b : List ℕ) → Some a ≡ Some b → a ≡ b
-some_same a b e = cc
-
 address_is : (x : TerminalValue) (way : Way) (a : List ℕ) → address_for x way ≡ Some a
     → ((s : ℕ) → way ≡ ToTerminal s → s < length x.selects) → a ≡ address_at x way
-address_is x FromTerminal a e within = some_same a x.poll (sym e)
+address_is x FromTerminal a e within = some_is a x.poll (sym e)
 address_is x (ToTerminal s) a e within =
-    some_same a (select_address x s) (sym e ∙ slice_get-get_or x.selects s x.poll (within s refl))
+    some_is a (select_address x s) (sym e ∙ slice_get-get_or x.selects s x.poll (within s refl))
 
 -- a visit of an entry begins: its first call is pending
 pub begins : (l : LineValue) (place : ℕ) (address : List ℕ) (way : Way) → IsGood l

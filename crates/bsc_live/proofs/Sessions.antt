@@ -268,7 +268,7 @@ module _ {R W F : Type 0} (remaining : R → Option (List ℕ)) (contents : W �
       came_kept place before after b same is is_up
   came_part taken quiet at place before after b (inl changes) is is_up =
       elim
-        (changed_at at place (λ b a. Takes remaining feeds b taken a) before after b changes is) [
+      (changed_at at place (λ b a. Takes remaining feeds b taken a) before after b changes is) [
         | inl (same, (a, was, takes)) ↦ (
           a,
           was,

@@ -239,6 +239,7 @@ fn time_out<S: Station, R: Read + Drop, W: Write + Drop, F: Framing + Drop, M: M
 {
     match first_awaiting(connections) {
         Some(connection) => {
+            // It is the place of a connection that awaits a gap, so a transmission has ended.
             let _ = connections[connection].gap();
             answer_at(station, connections, connection, monitor)
         }

@@ -34,9 +34,13 @@ pub enum Taken {
 /// of the transmissions that arrive.
 #[derive(Drop)]
 pub struct Connection<R, W, F> {
+    /// The two directions, while it is open.
     ends: Option<(R, W)>,
+
+    /// What is held of the transmissions that arrive.
     framing: F,
-    // A write failed, and no read has told that yet.
+
+    /// Whether a write failed and no read has told that yet.
     is_untold: bool,
 }
 

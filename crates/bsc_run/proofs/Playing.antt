@@ -1,24 +1,20 @@
 -- What has been played of a script so far.
 use Rattle.std.proofs.Common.{◌≡◌, ◌<◌, ◌≤◌, ℕ, zero, suc, ◌+◌, List, [], ◌∷◌, ◌++◌, length, map}
-use Rattle.std.proofs.Common.{drop, get_or, inl, inr, Option, Result, Ok, Err, refl, sym, ap, subst}
+use Rattle.std.proofs.Common.{drop, get_or, inl, inr, Option, Result, Ok, Err, refl, sym, ap}
 use Rattle.std.proofs.Common.{arith, append_assoc, append-nil, add-one}
 use Rattle.std.specs.Io.KnownBytes.{Appends}
 use Rattle.std.proofs.KnownBytes.{Appends-nil, Appends-trans}
 use Rattle.bsc_carrier.specs.Cable.{CableValue}
-use Rattle.bsc_line_model.specs.declared.error.LineError.{LineError}
 use Rattle.bsc_line_model.specs.Line.{LineValue}
 use Rattle.bsc_line_model.specs.Kept.{IsLine}
 use Rattle.bsc_script.specs.Actions.{NumberedEvent}
 use Rattle.bsc_run.specs.declared.error.RunError.{RunError}
 use Rattle.bsc_run.specs.declared.error.RunError.TheVariants.{Refused}
-use Rattle.bsc_run.specs.declared.error.StepError.{StepError}
 use Rattle.bsc_run.specs.declared.error.StepError.TheVariants as fault
-use Rattle.bsc_names.specs.declared.error.PrintError.{PrintError}
 use Rattle.bsc_names.specs.declared.error.PrintError.TheVariants as print
-use Rattle.bsc_run.specs.Faults.{fault_at, run_fault}
 use Rattle.bsc_run.specs.Printed.{report_of}
 use Rattle.bsc_run.specs.Plays.{Plays, Played, Runs, TakesStep, WhereWhole}
-use Rattle.bsc_run.specs.Steps.{Accepts, Acts, Refuses, trace_after}
+use Rattle.bsc_run.specs.Steps.{Accepts, trace_after}
 
 drop_map_suc : {X Y : Type 0} (f : X → Y) (xs : List X) (i : ℕ) (x : X) → i < length xs → x
     ≡ get_or xs i x → drop i (map f xs) ≡ f x ∷ drop (suc i) (map f xs)
@@ -112,49 +108,6 @@ pub has_played_none : {S : Type 0} (contents remaining : S → Option (List ℕ)
     → HasPlayed contents remaining all first before all first before a a
 has_played_none contents remaining all first before a =
     record { text = []; written = Appends-nil a; goes = λ result new after rest p. p }
-
-module _ {S : Type 0} (contents remaining : S → Option (List ℕ)) (step : NumberedEvent)
-    (old new : LineValue) (before after : CableValue S) where
-  -- an event that is accepted, with what is printed after it
-  pub takes_step : (a b : Option (List ℕ))
-      → Acts contents remaining step.event old before (Ok tt) new after
-      → Appends a b (trace_after step.event new)
-      → TakesStep contents remaining step old before (Ok tt) new after a b
-  takes_step a b h written =
-      record { accepted = h.accepted; fits = h.fits; printed = written; refused = λ line why q. cc }
-
-  -- an event that is refused, or broken off by a fault
-  pub takes_error : (a : Option (List ℕ)) (e : StepError)
-      → Acts contents remaining step.event old before (Err e) new after
-      → TakesStep contents remaining step old before (Err (fault_at step.line e)) new after a a
-  takes_error a fault.Output h =
-      record { accepted = tt; fits = tt; printed = tt; refused = λ line why q. cc }
-  takes_error a fault.Socket h =
-      record { accepted = tt; fits = tt; printed = tt; refused = λ line why q. cc }
-  takes_error a fault.Memory h =
-      record { accepted = tt; fits = tt; printed = tt; refused = λ line why q. cc }
-  takes_error a (fault.Refused w) h = record {
-    accepted = tt;
-    fits = tt;
-    printed = tt;
-    refused = λ line why q.
-        let place : line ≡ step.line = cc in
-        let same : w ≡ why = cc in
-        let r = h.refused w refl in (
-          place,
-          subst (λ (k : LineError). Refuses step.event k old new) same r.0,
-          r.1,
-          Appends-nil a,
-        );
-  }
-
-  -- what was to be printed was not
-  pub takes_unprinted : (a b : Option (List ℕ)) (e : PrintError)
-      → TakesStep contents remaining step old before (Err (run_fault e)) new after a b
-  takes_unprinted a b print.Output =
-      record { accepted = tt; fits = tt; printed = tt; refused = λ line why q. cc }
-  takes_unprinted a b print.Memory =
-      record { accepted = tt; fits = tt; printed = tt; refused = λ line why q. cc }
 
 -- the report is written after what was played
 pub runs_reported : {S : Type 0} (contents remaining : S → Option (List ℕ))

@@ -58,7 +58,7 @@ fn front(random: &mut Random, mut octets: Vec<u8>) -> Vec<u8> {
 }
 
 /// The octets and some pads after them, sometimes too many to be read.
-fn padded(random: &mut Random, mut octets: Vec<u8>) -> Result<Vec<u8>, AllocError> {
+fn with_more_pads(random: &mut Random, mut octets: Vec<u8>) -> Result<Vec<u8>, AllocError> {
     let count = if random.one_in(64) {
         2048usize.saturating_add(random.below(2))
     } else {
@@ -72,7 +72,7 @@ fn padded(random: &mut Random, mut octets: Vec<u8>) -> Result<Vec<u8>, AllocErro
 /// off, where a call may become EOT.
 pub fn damaged(random: &mut Random, octets: Vec<u8>) -> Result<Vec<u8>, AllocError> {
     match random.below(4) {
-        0 => padded(random, octets),
+        0 => with_more_pads(random, octets),
         1 => Ok(front(random, octets)),
         _ => Ok(turned(random, octets)),
     }

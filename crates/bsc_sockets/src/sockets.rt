@@ -65,7 +65,7 @@ pub(crate) enum Sought {
 }
 
 impl<'a, N: Net + Clock, A: Allocator + Copy> Sockets<'a, N, A> {
-    /// So many places, with no connection and no listener.
+    /// This many places, with no connection and no listener.
     pub(crate) fn new(
         runtime: &'a N,
         alloc: A,

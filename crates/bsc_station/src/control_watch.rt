@@ -17,12 +17,25 @@ use std::io::Write;
 /// to which no other peer can connect ends too once a connection of it is closed. (Own.)
 #[derive(Drop)]
 pub struct ControlWatch<'a, A: Allocator, T: Drop, W, D> {
+    /// What prints.
     watch: Watch<'a, A, T, W, D>,
+
+    /// When it ends.
     limits: Limits,
+
+    /// The visits of the poll list that were made.
     visits: Visits,
+
+    /// The rounds of the poll list that were made.
     rounds: Rounds,
+
+    /// Whether other peers may connect later.
     listens: bool,
+
+    /// Whether it ends since a connection was closed.
     closed: bool,
+
+    /// Whether it has ended.
     ended: bool,
 }
 

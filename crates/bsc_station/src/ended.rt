@@ -43,7 +43,10 @@ impl Station for Ended {
 /// Prints what is heard last, and ends with it, or with a time-out or the end of a connection.
 #[derive(Drop)]
 pub struct LastWatch<'a, A: Allocator, T: Drop, W, D> {
+    /// What prints.
     pub(crate) watch: Watch<'a, A, T, W, D>,
+
+    /// Whether it has ended.
     pub(crate) ended: bool,
 }
 

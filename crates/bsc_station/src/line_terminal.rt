@@ -19,8 +19,13 @@ use std::marker::Model;
 /// A terminal, which knows its number and its addresses on the line (own).
 #[derive(Drop)]
 pub struct LineTerminal<A: Allocator> {
+    /// Its number on the line, counted from 0.
     number: usize,
+
+    /// Its addresses.
     terminal: Terminal,
+
+    /// The terminal.
     tributary: Tributary<A>,
 }
 

@@ -6,6 +6,7 @@ ghost use Rattle.bsc_block.specs.Blocks.{AreShort};
 ghost use Rattle.bsc_block.specs.declared.record.RecordError.{RecordError as Why};
 ghost use Rattle.bsc_station.specs.Offers.{AreRecords, IsFirstRefused};
 
+use bsc_block::limits::MAX_FULL;
 use bsc_block::{Record, RecordError};
 use bsc_input::{split_line, without_return};
 use std::alloc::Allocator;
@@ -34,7 +35,7 @@ pub fn read_records<A: Allocator>(
     full: u8,
 ) -> Result<Vec<Record, A>, OfferError>
     requires low { 1 ≤ full }
-    requires high { full ≤ 144 }
+    requires high { full ≤ MAX_FULL }
     ensures lines { IfOk result (λ records. records.items ≡ lines text.now) }
     ensures records { IfOk result (λ records. AreRecords full records.items) }
     ensures short { IfOk result (λ records. AreShort full records.items) }

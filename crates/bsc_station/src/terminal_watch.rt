@@ -10,8 +10,13 @@ use std::io::Write;
 /// Prints what happens to a terminal, and ends it when its connection is closed (own).
 #[derive(Drop)]
 pub struct TerminalWatch<'a, A: Allocator, T: Drop, W, D> {
+    /// What prints.
     watch: Watch<'a, A, T, W, D>,
+
+    /// The fault by which the connection was closed, where it was one.
     closed: Option<CarrierError>,
+
+    /// Whether it has ended.
     ended: bool,
 }
 

@@ -24,10 +24,20 @@ pub struct Printing {
 #[derive(Drop)]
 pub struct Watch<'a, A: Allocator, T: Drop, W, D> {
     alloc: A,
+
+    /// How records and traces are printed.
     printing: Printing,
+
+    /// Tells the time of a trace.
     timer: T,
+
+    /// How many records of each channel were printed.
     printed: Vec<usize, A>,
+
+    /// What takes the records.
     out: &'a mut W,
+
+    /// What takes the trace.
     errors: &'a mut D,
 }
 

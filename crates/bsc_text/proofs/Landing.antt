@@ -128,7 +128,8 @@ accepted_keeps law s q Etb expected alternation last spooled h front more counte
 
 -- WACK came
 pub delayed_keeps : (s : SenderValue) (q : QueueValue) (e : End)
-    (expected alternation : Alternation) (spooled : List (List ℕ)) → IsQueue q → spooled ≡ take q.known q.offered
+    (expected alternation : Alternation) (spooled : List (List ℕ)) → IsQueue q
+    → spooled ≡ take q.known q.offered
     → AreWaiting 0 e (length (waiting q)) → alternation ≡ expected →
     LeavesQueue q alternation Wack spooled (delayed s q e expected)
 delayed_keeps s q e expected alternation spooled h front more counted =

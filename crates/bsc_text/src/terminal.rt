@@ -89,6 +89,7 @@ impl Terminal {
         requires { place < length self.now.selects }
         ensures { slice_get self.now.selects place ≡ Some result }
     {
+        // A field is read, so that the invariant is known here.
         let _ = &self.count;
         self.selects[place]
     }

@@ -47,7 +47,7 @@ record Changes (old : TributaryValue) (h : Heard) (step : TributaryStep) : Type 
   grows : (s : ℕ)
       → GrowsByText old.mode h s (spool_at old.spools s).records
       (spool_at step.tributary.spools s).records
-  taken : TakesLine old.terminal h → (step.tributary.mode ≡ Control) × (step.sent ≡ None)
+  gives_up_line : TakesLine old.terminal h → (step.tributary.mode ≡ Control) × (step.sent ≡ None)
   control : old.mode ≡ Control → IsNoCall h → StaysQuiet old step.tributary step.sent
   noise : h ≡ Noise → StaysQuiet old step.tributary step.sent
 
@@ -86,7 +86,7 @@ record CallChanges (old : TributaryValue) (called : Called) (step : TributarySte
       ≡ spool_at old.spools s
   same_records : (s : ℕ) → (spool_at step.tributary.spools s).records
       ≡ (spool_at old.spools s).records
-  taken : called ≡ Other → (step.tributary.mode ≡ Control) × (step.sent ≡ None)
+  gives_up_line : called ≡ Other → (step.tributary.mode ≡ Control) × (step.sent ≡ None)
 
 keeps_all : (t : TributaryValue) (urgent : Bool)
     → Keeps t (record (without_line t) { urgent = urgent })
@@ -114,7 +114,7 @@ polled_changes t =
       mode = inl refl;
       other_spools = λ s ne. refl;
       same_records = λ s. refl;
-      taken = λ e. absurd (cc);
+      gives_up_line = λ e. absurd (cc);
     } in
     choose (CallChanges t Polling) (is_in_doubt d.sender.phase) (answer_step d m.Eot) _ eot
     (choose (CallChanges t Polling) (nat_eq (length (waiting d.queue)) 0) (answer_step d m.Eot)
@@ -132,7 +132,7 @@ polled_changes t =
       mode = begun_mode d.sender d.queue Odd (next_block d.queue);
       other_spools = λ s ne. refl;
       same_records = λ s. refl;
-      taken = λ e. absurd (cc);
+      gives_up_line = λ e. absurd (cc);
     }))
 
 selected_changes : (t : TributaryValue) (s : ℕ) (room ready : Bool) → s < length t.spools →
@@ -159,7 +159,7 @@ selected_changes t s room true within =
                 ∙ ap (λ n. (spool_at t.spools n).records) (sym at.same)
             | inr beside ↦ ap (λ (x : SpoolValue). x.records) beside.is
           ];
-      taken = λ e. absurd (cc);
+      gives_up_line = λ e. absurd (cc);
     }
 selected_changes t s room false within =
     record {
@@ -168,7 +168,7 @@ selected_changes t s room false within =
       mode = inl refl;
       other_spools = λ r ne. refl;
       same_records = λ r. refl;
-      taken = λ e. absurd (cc);
+      gives_up_line = λ e. absurd (cc);
     }
 
 other_changes : (t : TributaryValue) → CallChanges t Other (quiet_step (without_line t))
@@ -179,7 +179,7 @@ other_changes t =
       other_spools = λ s ne. refl;
       same_records =
           λ s. refl;
-      taken = λ e. (refl, refl);
+      gives_up_line = λ e. (refl, refl);
     }
 
 call_changes : (t : TributaryValue) (address : List ℕ) (called : Called) (rooms : Rooms) →
@@ -199,7 +199,7 @@ from_call t address step c =
       mode = c.mode;
       other_spools = c.other_spools;
       grows = λ s. inl (c.same_records s);
-      taken = c.taken;
+      gives_up_line = c.gives_up_line;
       control = λ e plain. absurd plain;
       noise = λ e. absurd (cc);
     }
@@ -356,7 +356,7 @@ from_mode t h rooms plain is =
       mode = mode_is_after t h (mode_step t t.mode h rooms).tributary.mode plain c.mode;
       other_spools = c.other_spools;
       grows = c.grows;
-      taken = λ takes. absurd (takes_none t h plain takes);
+      gives_up_line = λ takes. absurd (takes_none t h plain takes);
       control = λ e also. c.control e;
       noise = λ e. noise_quiet t h t.mode rooms e;
     })
@@ -369,7 +369,7 @@ changes t (Whole m.Eot) rooms is =
       mode = refl;
       other_spools = λ s ne. refl;
       grows = λ s. inl refl;
-      taken = λ takes. (refl, refl);
+      gives_up_line = λ takes. (refl, refl);
       control = λ e plain. absurd plain;
       noise = λ e. absurd (cc);
     }
@@ -401,7 +401,7 @@ after_hearing old h new sent was is hears =
       other_spools = c.other_spools;
       grows =
           c.grows;
-      taken = c.taken;
+      gives_up_line = c.gives_up_line;
       control = c.control;
       noise = c.noise;
     }

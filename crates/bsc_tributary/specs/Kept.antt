@@ -120,7 +120,7 @@ pub record AfterHearing (old : TributaryValue) (h : Heard) (new : TributaryValue
       → spool_at new.spools s ≡ spool_at old.spools s
   pub grows : (s : ℕ) → GrowsByText old.mode h s (spool_at old.spools s).records
       (spool_at new.spools s).records
-  pub taken : TakesLine old.terminal h → (new.mode ≡ Control) × (sent ≡ None)
+  pub gives_up_line : TakesLine old.terminal h → (new.mode ≡ Control) × (sent ≡ None)
   pub control : old.mode ≡ Control → IsNoCall h → StaysQuiet old new sent
   pub noise : h ≡ Noise → StaysQuiet old new sent
 

@@ -6,11 +6,11 @@ use Rattle.refusing_alloc.specs.declared.tally.Rule.TheVariants.{Nothing, Nth, F
 
 -- whether a rule refuses a request, by its place in the order of requests, the first being 1, and
 -- by its size
-abbrev pub IsRefused : Rule → ℕ → ℕ → Type 0
-IsRefused Nothing place size = ⊥
-IsRefused (Nth request) place size = place ≡ request
-IsRefused (From request) place size = request ≤ place
-IsRefused (LargerThan most) place size = most < size
+abbrev pub RefusesRequest : Rule → ℕ → ℕ → Type 0
+RefusesRequest Nothing place size = ⊥
+RefusesRequest (Nth request) place size = place ≡ request
+RefusesRequest (From request) place size = request ≤ place
+RefusesRequest (LargerThan most) place size = most < size
 
 -- one more, as far as the machine counts
 abbrev pub next_count : ℕ → ℕ

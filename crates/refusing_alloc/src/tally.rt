@@ -1,7 +1,7 @@
 //! Which requests are refused, and the count of them. This is the whole decision of the allocator,
 //! kept apart from it so that its contract can be stated: no contract sees what a cell holds.
 ghost use Rattle.std.specs.Prelude.{◌≡◌, ◌↔◌, IsTrue};
-ghost use Rattle.refusing_alloc.specs.Refusals.{IsRefused, next_count, count_if};
+ghost use Rattle.refusing_alloc.specs.Refusals.{RefusesRequest, next_count, count_if};
 
 /// Which requests are refused. Requests are counted from 1, and sizes are in octets.
 #[derive(Clone, Copy, Debug, PartialEq, Eq)]
@@ -54,7 +54,7 @@ impl Tally {
     /// at `usize::MAX` stays there.
     pub(crate) fn ask(&mut self, size: usize) -> bool
         ensures refuses { IsTrue result
-            ↔ IsRefused self.old.rule (next_count self.old.requests) size }
+            ↔ RefusesRequest self.old.rule (next_count self.old.requests) size }
         ensures rule { self.new.rule ≡ self.old.rule }
         ensures requests { self.new.requests ≡ next_count self.old.requests }
         ensures refused { self.new.refused ≡ count_if result self.old.refused }

@@ -5,13 +5,16 @@ use Rattle.std.proofs.lemmas.Bool.{agree_below, agree_below_at, eqb-true}
 use Rattle.bsc_octet.specs.Octet.{odd_octet}
 use Rattle.bsc_frame.proofs.encoder.carried.Goals as goal
 
+-- the exclusive or of the two halves of an octet, in its low half
 fours : ℕ → ℕ
 fours x = bit_xor x (x / 16)
 
+-- and of the two halves of that, in its lowest two bits
 twos : ℕ → ℕ
 unfolding fours
 twos x = bit_xor (fours x) (fours x / 4)
 
+-- the octet with its parity bit, as the code computes it
 folded : ℕ → ℕ
 unfolding fours twos
 folded x = bit_or x (bit_and (255 - bit_xor (twos x) (twos x / 2)) 1 * 128 % 256)
