@@ -1,12 +1,22 @@
-ghost use Rattle.std.specs.Prelude.{◌≡◌, length, IfOk, None};
+ghost use Rattle.std.specs.Prelude.{◌≡◌, ◌≤◌, length, IfOk, None};
 
 use super::Cable;
 use crate::error::{CarrierError, Octets};
 use crate::memory::MemoryStream;
 use std::alloc::Global;
-use std::net::{TcpListener, TcpStream};
+use std::io::{Read, Write};
+use std::net::{Net, OpenListener, OpenStream, TcpListener};
 use std::process::Abort;
 use std::test::Fail;
+
+/// Inputs that begin with no whole record, and the error that each is where one has to come.
+const WRONG_INPUTS: [(&[u8], CarrierError); 5] = [
+    (&[], CarrierError::Short),
+    (&[0x00], CarrierError::Short),
+    (&[0x00, 0x02, 0x04], CarrierError::Short),
+    (&[0x00, 0x00], CarrierError::Length),
+    (&[0x08, 0x01], CarrierError::Length),
+];
 
 /// Two connections over memory. The terminals' ends give these octets, and the control station's
 /// ends a record of EOT.
@@ -103,13 +113,7 @@ fn input_that_ends_before_a_record_is_short(rt: HostRuntime) -> Result<(), Fail>
 /// The first error of a cable may be one of `up`.
 #[test]
 fn what_is_read_at_the_control_end_is_told(rt: HostRuntime) -> Result<(), Fail> {
-    for (input, error) in [
-        ([].as_slice(), CarrierError::Short),
-        ([0x00].as_slice(), CarrierError::Short),
-        ([0x00, 0x02, 0x04].as_slice(), CarrierError::Short),
-        ([0x00, 0x00].as_slice(), CarrierError::Length),
-        ([0x08, 0x01].as_slice(), CarrierError::Length),
-    ] {
+    for (input, error) in WRONG_INPUTS {
         let mut cable = one_connection(&rt, rt.alloc(), input, &[0x00, 0x01, 0x16])?;
         let mut heard = Octets::new();
         heard.push(0x42);
@@ -118,6 +122,38 @@ fn what_is_read_at_the_control_end_is_told(rt: HostRuntime) -> Result<(), Fail> 
         assert_eq!(rt; cable.down(&[0x16], &mut heard), Err(error));
         assert_eq!(rt; count_calls(&cable), calls);
         assert_eq!(rt; heard.as_slice(), [0x42].as_slice());
+    }
+    Ok(())
+}
+
+/// The first error of a cable whose terminals' ends give these octets is this one of `down`, after
+/// which no end is touched.
+fn check_error_of_down(
+    rt: &impl Abort,
+    alloc: Global,
+    first: &[u8],
+    second: &[u8],
+    error: CarrierError,
+) -> Result<(), Fail> {
+    let mut cable = two_connections(rt, alloc, first, second)?;
+    let mut heard = Octets::new();
+    heard.push(0x42);
+    assert_eq!(rt; cable.down(&[0x16], &mut heard), Err(error));
+    let calls = count_calls(&cable);
+    assert_eq!(rt; cable.up(0, &[0x04], &mut heard), Err(error));
+    assert_eq!(rt; cable.down(&[0x16], &mut heard), Err(error));
+    assert_eq!(rt; count_calls(&cable), calls);
+    assert_eq!(rt; heard.as_slice(), [0x42].as_slice());
+    Ok(())
+}
+
+/// The first error of a cable may be one of `down`, at the first terminal's end or at a later one.
+#[test]
+fn what_is_read_at_a_terminals_end_is_told(rt: HostRuntime) -> Result<(), Fail> {
+    let whole = [0x00, 0x01, 0x16];
+    for (input, error) in WRONG_INPUTS {
+        check_error_of_down(&rt, rt.alloc(), input, &whole, error)?;
+        check_error_of_down(&rt, rt.alloc(), &whole, input, error)?;
     }
     Ok(())
 }
@@ -171,34 +207,98 @@ fn first_failed_call_is_the_error_from_then_on(rt: HostRuntime) -> Result<(), Fa
     Ok(())
 }
 
-#[test]
-fn sixty_four_connections_carry_the_largest_record_each_way(rt: HostRuntime) -> Result<(), Fail> {
-    let listener = TcpListener::bind(&rt, "127.0.0.1:0")?;
+/// This many connections over the loopback address.
+fn loopback_connections<R: Net + Abort>(
+    rt: &R,
+    alloc: Global,
+    count: usize,
+) -> Result<Cable<R::Stream>, Fail>
+    requires least { 1 ≤ count }
+    requires most { count ≤ 64 }
+    ensures { IfOk result (λ cable. length cable.terminal_ends ≡ count) }
+{
+    let listener = TcpListener::bind(rt, "127.0.0.1:0")?;
     let address = listener.local_addr()?;
-    let mut control_ends = Vec::new(rt.alloc());
-    let mut terminal_ends = Vec::new(rt.alloc());
-    for _ in 0..64u8 {
-        let near = TcpStream::connect(&rt, address)?;
+    let mut control_ends = Vec::new(alloc);
+    let mut terminal_ends = Vec::new(alloc);
+    for _ in 0..count {
+        let near = rt.connect(address)?;
         let (far, _) = listener.accept()?;
         near.set_nodelay(true)?;
         far.set_nodelay(true)?;
         control_ends.push(near)?;
         terminal_ends.push(far)?;
     }
-    assert_eq!(rt; control_ends.len(), 64);
-    assert_eq!(rt; terminal_ends.len(), 64);
-    let mut cable = Cable::new(control_ends, terminal_ends);
+    assert_eq!(rt; control_ends.len(), count);
+    assert_eq!(rt; terminal_ends.len(), count);
+    Ok(Cable::new(control_ends, terminal_ends))
+}
+
+#[test]
+fn sixty_four_connections_carry_the_largest_record_each_way(rt: HostRuntime) -> Result<(), Fail> {
+    let mut cable = loopback_connections(&rt, rt.alloc(), 64)?;
     let sent = [0x16; 2048];
     let mut heard = Octets::new();
     assert_eq!(rt; cable.down(&sent, &mut heard), Ok(()));
     assert_eq!(rt; heard.as_slice(), sent.as_slice());
     'terminals: for terminal in 0..64usize {
-        heard.clear();
+        let sent = [0x80 + terminal as u8; 2048];
         assert_eq!(rt; cable.up(terminal, &sent, &mut heard), Ok(()));
         assert_eq!(rt; heard.as_slice(), sent.as_slice());
-        heard.clear();
+        let sent = [0xc0 + terminal as u8; 2048];
         assert_eq!(rt; cable.down_to(terminal, &sent, &mut heard), Ok(()));
         assert_eq!(rt; heard.as_slice(), sent.as_slice());
+    }
+    Ok(())
+}
+
+/// Octets of which no two near each other are the same.
+fn many_octets() -> [u8; 2048] {
+    let mut octets = [0; 2048];
+    for (place, octet) in octets.iter_mut().enumerate() {
+        *octet = (place % 251) as u8;
+    }
+    octets
+}
+
+/// Whether the first octets go down to all terminals, the second up from the first terminal, and
+/// the first down to it again, each in place of what was heard before.
+fn goes_each_way<S: Read + Write + Drop>(
+    cable: &mut Cable<S>,
+    first: &[u8],
+    second: &[u8],
+    heard: &mut Octets,
+) -> bool
+    requires there { 1 ≤ length cable.old.terminal_ends }
+    requires first_some { 1 ≤ length first.now }
+    requires first_most { length first.now ≤ 2048 }
+    requires second_some { 1 ≤ length second.now }
+    requires second_most { length second.now ≤ 2048 }
+{
+    let goes_down = cable.down(first, heard).is_ok() && heard.as_slice() == first;
+    let goes_up = cable.up(0, second, heard).is_ok() && heard.as_slice() == second;
+    let goes_to = cable.down_to(0, first, heard).is_ok() && heard.as_slice() == first;
+    goes_down && goes_up && goes_to
+}
+
+/// While the octets of one way become more, those of the other way become fewer, so that what is
+/// heard takes the place of fewer octets and of more.
+#[test]
+fn each_length_is_carried_each_way(rt: HostRuntime) -> Result<(), Fail> {
+    let mut cable = loopback_connections(&rt, rt.alloc(), 1)?;
+    let octets = many_octets();
+    let mut heard = Octets::new();
+    for length in 1..=2048usize {
+        assert_eq!(rt; cable.terminals(), 1);
+        assert!(rt;
+            goes_each_way(
+                &mut cable,
+                &octets[..length],
+                &octets[length - 1..],
+                &mut heard
+            ),
+            "{length}"
+        );
     }
     Ok(())
 }
