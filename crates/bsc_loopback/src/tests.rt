@@ -1,4 +1,4 @@
-use super::connect;
+use super::{LoopbackError, connect};
 use bsc_carrier::Octets;
 use std::test::Fail;
 
@@ -23,5 +23,16 @@ fn sixty_four_connections_are_made(rt: HostRuntime) -> Result<(), Fail> {
     let octets = [0x55; 2_048];
     cable.down(&octets, &mut heard)?;
     assert!(rt; heard.as_slice() == &octets[..]);
+    Ok(())
+}
+
+#[test]
+fn errors_are_printed(rt: HostRuntime) -> Result<(), Fail> {
+    for (error, text) in [
+        (LoopbackError::Sockets, "cannot make the sockets"),
+        (LoopbackError::Memory, "out of memory"),
+    ] {
+        assert_eq!(rt; error.to_string(rt.alloc())?.as_str(), text);
+    }
     Ok(())
 }
