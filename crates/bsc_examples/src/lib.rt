@@ -1,5 +1,5 @@
 //! The code that README.md shows to the author of an emulator, so that the gate proves and runs it.
-//! The tests print the errors that such code may meet.
+//! The tests also print the errors of the libraries.
 #![tactic(auto)]
 
 mod line;

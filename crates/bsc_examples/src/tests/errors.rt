@@ -1,9 +1,15 @@
-//! The text of each error that the libraries answer and that no command prints.
+//! The texts of errors of the libraries, among them each that the tests of no other crate print.
 
 use bsc_block::{FormatError, RecordError};
 use bsc_carrier::CarrierError;
+use bsc_config::ConfigError;
 use bsc_control::SetupError;
 use bsc_frame::AddressError;
+use bsc_input::InputError;
+use bsc_live::LiveError;
+use bsc_names::PrintError;
+use bsc_run::RunError;
+use bsc_station::OfferError;
 use bsc_text::{ReleaseError, SettingError, TerminalError};
 use std::test::Fail;
 
@@ -89,5 +95,51 @@ fn texts_of_records_and_carriers(rt: HostRuntime) -> Result<(), Fail> {
     ] {
         assert_eq!(rt; error.to_string(rt.alloc())?.as_str(), text);
     }
+    Ok(())
+}
+
+#[test]
+fn texts_of_inputs_outputs_and_waits(rt: HostRuntime) -> Result<(), Fail> {
+    for (error, text) in [
+        (InputError::TooLong, "input too long"),
+        (InputError::Device, "input fault"),
+        (InputError::Memory, "out of memory"),
+    ] {
+        assert_eq!(rt; error.to_string(rt.alloc())?.as_str(), text);
+    }
+    for (error, text) in [
+        (PrintError::Output, "output fault"),
+        (PrintError::Memory, "out of memory"),
+    ] {
+        assert_eq!(rt; error.to_string(rt.alloc())?.as_str(), text);
+    }
+    for (error, text) in [
+        (LiveError::Wait, "cannot wait for the sockets"),
+        (LiveError::Count, "too much happened"),
+        (LiveError::Output, "output fault"),
+        (LiveError::Memory, "out of memory"),
+    ] {
+        assert_eq!(rt; error.to_string(rt.alloc())?.as_str(), text);
+    }
+    Ok(())
+}
+
+/// The command tells these as faults of its own, with texts of their own.
+#[test]
+fn texts_that_the_command_replaces(rt: HostRuntime) -> Result<(), Fail> {
+    for (error, text) in [
+        (RunError::Output, "output fault"),
+        (RunError::Memory, "out of memory"),
+    ] {
+        assert_eq!(rt; error.to_string(rt.alloc())?.as_str(), text);
+    }
+    assert_eq!(rt;
+        OfferError::Memory.to_string(rt.alloc())?.as_str(),
+        "out of memory"
+    );
+    assert_eq!(rt;
+        ConfigError::Memory.to_string(rt.alloc())?.as_str(),
+        "out of memory"
+    );
     Ok(())
 }
