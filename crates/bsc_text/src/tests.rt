@@ -111,16 +111,17 @@ fn a_lost_acknowledgement_is_asked_for_again(rt: HostRuntime) -> Result<(), Fail
 
 #[test]
 fn a_lost_text_is_sent_again(rt: HostRuntime) -> Result<(), Fail> {
-    for (count, end) in [(7, End::Etx), (8, End::Etb)] {
+    for (count, end, late) in [(7, End::Etx, 1), (8, End::Etb, 0)] {
         let mut bidder = Bidder::new(rt.alloc(), setup(3, 10)?);
         let mut receiver = Receiver::new();
         let mut spool = Spool::new(rt.alloc());
         bidder.offer_empty(count)?;
+        assert_eq!(rt; receiver.begin(true), Reply::Ack0);
         let first = bidder.begin()?;
         assert!(rt; first.sends_text(7, end));
 
-        // It is lost, and another record is offered.
-        bidder.offer_empty(1)?;
+        // It is lost. A record that is offered behind the last block does not change its end.
+        bidder.offer_empty(late)?;
         let again = bidder.silence();
         assert!(rt; again.enquires());
         assert_eq!(rt;
