@@ -217,21 +217,28 @@ fn waits_are_limited(rt: HostRuntime) -> Result<(), Fail> {
     Ok(())
 }
 
-/// How many transmissions the bid takes that begins now, where one of these comes after each of
-/// them: a reply, or a silence where there is none. None where the bid does not end.
+/// How many transmissions the bid of one record takes that begins now, where one of these comes
+/// after each of them: a reply, or a silence where there is none. None where the first is not its
+/// text, where a later one is not ENQ, or where the bid does not end.
 fn transmissions<A: Allocator>(
     bidder: &mut Bidder<A>,
     heard: &[Option<Reply>],
 ) -> Result<Option<usize>, Fail> {
     let mut act = bidder.begin()?;
-    for (place, reply) in heard.iter().enumerate() {
-        if !matches!(&act, Act::Sends(_)) {
-            return Ok(Some(place));
-        }
+    if !act.sends_text(1, End::Etx) {
+        return Ok(None);
+    }
+    for (count, reply) in (1usize..).zip(heard) {
         act = match reply {
             Some(reply) => bidder.reply(&whole(*reply)),
             None => bidder.silence(),
         };
+        if act.is_over() {
+            return Ok(Some(count));
+        }
+        if !act.enquires() {
+            return Ok(None);
+        }
     }
     Ok(None)
 }
