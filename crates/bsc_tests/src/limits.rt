@@ -10,6 +10,7 @@ use crate::play::wrong_left;
 use bsc_control::Way::{FromTerminal, ToTerminal};
 use bsc_line::Speaker::Control;
 use bsc_line::{Line, LineError};
+use bsc_text::Terminal;
 use std::alloc::{AllocError, Allocator, Global};
 use std::process::Abort;
 use std::test::Fail;
@@ -90,6 +91,23 @@ fn a_record_each_way_of_each_address_arrives_in_one_round(rt: HostRuntime) -> Re
         (wrong_terminal(&line), line.trusted(), line.pending()),
         (None, true, Some((Control, CALL_POLL_FIRST)))
     );
+    Ok(())
+}
+
+/// How many terminals a new line has that is made with these, of which it polls only the last.
+fn terminals_on(alloc: Global, terminals: &[Terminal]) -> Result<usize, Fail> {
+    let last = u8::try_from(terminals.len())?.saturating_sub(1);
+    let line = line_of(alloc, terminals, &[last], 3)?;
+    Ok(line.terminals())
+}
+
+#[test]
+fn a_line_has_each_number_of_terminals_from_1_to_64(rt: HostRuntime) -> Result<(), Fail> {
+    let terminals = most_terminals()?;
+    for count in 1..=64usize {
+        let first = terminals.get(..count).ok_or("too few terminals")?;
+        assert_eq!(rt; terminals_on(rt.alloc(), first)?, count);
+    }
     Ok(())
 }
 
