@@ -1,17 +1,19 @@
-//! That memory which is there is granted at any size: the longest lists of records, and the longest
-//! text. The largest lines are in `limits.rt`.
+//! That memory which is there is granted at any size: the longest lists of records, the longest
+//! records, and the longest text. The largest lines are in `limits.rt`.
 
-use crate::channels::Has::Arrived;
+use crate::channels::Has::{Arrived, Delivered};
 use crate::channels::{has_left, is_channel};
-use crate::events::HI;
+use crate::events::{HI, NONE};
 use crate::fixtures::line_of_two;
 use crate::limits::carry_on;
 use bsc_block::Record;
 use bsc_control::Way;
 use bsc_control::Way::{FromTerminal, ToTerminal};
-use bsc_fixtures::octets::{ACK1, CALL_POLL_B};
+use bsc_fixtures::lines::two_terminals;
+use bsc_fixtures::octets::{ACK0, ACK1, CALL_POLL_A, CALL_POLL_B, CALL_SELECT_A};
 use bsc_line::Speaker::{Control, Terminal};
-use bsc_line::{Line, LineError};
+use bsc_line::{Line, LineError, Speaker};
+use bsc_text::Setup;
 use std::alloc::{AllocError, Allocator, Global};
 use std::test::Fail;
 
@@ -142,5 +144,110 @@ fn the_longest_text_is_stored_whole(rt: HostRuntime) -> Result<(), Fail> {
     assert_eq!(rt; polls_longest(&mut polled, &text), Ok(true));
     let mut selected = line_of_two(rt.alloc())?;
     assert_eq!(rt; selects_longest(&mut selected, &text), Ok(true));
+    Ok(())
+}
+
+/// Records of as many characters as there may be, each of another character.
+const LONG: &[&[u8]] = &[
+    &[b'A'; 144],
+    &[b'B'; 144],
+    &[b'C'; 144],
+    &[b'D'; 144],
+    &[b'E'; 144],
+    &[b'F'; 144],
+];
+
+/// The first octets of a text that begins with the first of them: SYN twice, STX and A.
+const TEXT_OF_A: &[u8] = &[0x16, 0x16, 0x02, 0xc1];
+
+/// What is pending at the moments of a bid at which records are offered: who sent it, and its first
+/// octets.
+type Moments<'a> = &'a [(Speaker, &'a [u8])];
+
+/// After the call, after the text and after the acknowledgement of a poll.
+const POLLED: Moments<'static> = &[
+    (Control, CALL_POLL_A),
+    (Terminal(0), TEXT_OF_A),
+    (Control, ACK1),
+];
+
+/// The same of a selection, which is acknowledged too.
+const SELECTED: Moments<'static> = &[
+    (Control, CALL_SELECT_A),
+    (Terminal(0), ACK0),
+    (Control, TEXT_OF_A),
+    (Terminal(0), ACK1),
+];
+
+/// Offers a record on this way of terminal 0.
+fn offer_on<A: Allocator>(line: &mut Line<A>, way: Way, codes: &[u8]) -> Result<(), LineError> {
+    match way {
+        FromTerminal => line.offer_at(0, codes),
+        ToTerminal(select) => line.offer_for(0, select, codes),
+    }
+}
+
+/// Whether this station sent what is pending, and that begins with these octets.
+fn is_pending<A: Allocator>(line: &Line<A>, speaker: Speaker, front: &[u8]) -> bool {
+    match line.pending() {
+        Some((sender, octets)) => sender == speaker && octets.starts_with(front),
+        None => false,
+    }
+}
+
+/// Offers two long records on this way of terminal 0, lets a silence pass, and offers one of the
+/// others at each of these moments: whether each of them came.
+fn offer_within<A: Allocator>(
+    line: &mut Line<A>,
+    way: Way,
+    moments: Moments<'_>,
+) -> Result<bool, LineError> {
+    offer_on(line, way, LONG[0])?;
+    offer_on(line, way, LONG[1])?;
+    line.silence()?;
+    for ((speaker, front), record) in moments.iter().zip(&LONG[2..]) {
+        if !is_pending(line, *speaker, front) {
+            return Ok(false);
+        }
+        offer_on(line, way, record)?;
+        line.carry_sent()?;
+    }
+    Ok(true)
+}
+
+/// The same, and carries this many further transmissions: whether each record was delivered.
+fn delivers_long<A: Allocator>(
+    line: &mut Line<A>,
+    way: Way,
+    moments: Moments<'_>,
+    further: usize,
+) -> Result<bool, LineError> {
+    let came = offer_within(line, way, moments)?;
+    carry_on(line, further)?;
+    let records = LONG.get(..moments.len().saturating_add(2)).unwrap_or(NONE);
+    Ok(came && has_left(line, 0, way, &Delivered(records)))
+}
+
+/// A new line of two terminals on which records are of up to 144 characters, and blocks count up to
+/// 400: two records go in one block.
+fn line_of_longest(alloc: Global) -> Result<Line<Global>, Fail> {
+    let setup = Setup::new(144, 400, 3, 10)?;
+    Ok(Line::new(alloc, setup, &two_terminals(), &[0, 1])?)
+}
+
+#[test]
+fn the_longest_records_are_taken_while_a_bid_goes_on(rt: HostRuntime) -> Result<(), Fail> {
+    // After the second text come ACK0, the third text, ACK1, at a poll EOT, and the next call.
+    for (way, moments, further, call) in [
+        (FromTerminal, POLLED, 5, CALL_POLL_B),
+        (ToTerminal(0), SELECTED, 4, CALL_POLL_A),
+    ] {
+        let mut line = line_of_longest(rt.alloc())?;
+        assert_eq!(rt; delivers_long(&mut line, way, moments, further), Ok(true));
+        assert_eq!(rt;
+            (line.trusted(), line.pending()),
+            (true, Some((Control, call)))
+        );
+    }
     Ok(())
 }
