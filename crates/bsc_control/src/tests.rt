@@ -231,6 +231,22 @@ fn a_selection_waits_for_room(rt: HostRuntime) -> Result<(), Fail> {
 }
 
 #[test]
+fn seven_records_wait_for_room(rt: HostRuntime) -> Result<(), Fail> {
+    let mut control = control_of(rt.alloc(), &two_terminals(), &[0, 1], 3)?;
+    offer_empty(&mut control, 7)?;
+    for (heard, answer) in [
+        (SILENCE, CALL_SELECT_A),
+        (WACK, ENQ),
+        (ACK0, TEXT_LAST_SEVEN),
+        (ACK1, CALL_POLL_A),
+    ] {
+        assert_eq!(rt; sent_after(&mut control, heard).as_slice(), answer);
+    }
+    assert_eq!(rt; known(&control, 0, 0), Some(7));
+    Ok(())
+}
+
+#[test]
 fn each_selection_address_is_called_in_turn(rt: HostRuntime) -> Result<(), Fail> {
     let mut control = control_of(rt.alloc(), &two_terminals_by_three(), &[0, 1], 3)?;
     offer(&mut control, 0, 0, b"HI")?;
