@@ -1,9 +1,10 @@
 //! That memory which is there is granted at any size: scripts and inputs of a mebibyte, and the
 //! longest text.
 
-use bsc_command::{MAX_INPUT, names, show};
+use bsc_command::{MAX_INPUT, name, names, show};
 use bsc_script::{Action, Step, read_script};
 use std::alloc::{AllocError, Allocator, Global};
+use std::str;
 use std::test::Fail;
 
 /// This text as often as it fits into a mebibyte, and line feeds up to its end.
@@ -91,21 +92,40 @@ fn an_input_of_a_mebibyte_has_each_name(rt: HostRuntime) -> Result<(), Fail> {
     Ok(())
 }
 
-#[test]
-fn each_unit_of_the_longest_text_is_shown(rt: HostRuntime) -> Result<(), Fail> {
-    // Each unit is 144 times A, EM, the ending character and the check, to which the even number of
-    // A adds nothing.
-    let chars = repeated(rt.alloc(), b"C1", 144)?;
-    let mut input = Vec::from_slice(rt.alloc(), b"161602")?;
+/// The text with the most octets that are sent, as hexadecimal text: each of its seven units is 144
+/// times A, EM, the ending character and the check, to which the even number of A adds nothing.
+fn longest_text(alloc: Global) -> Result<Vec<u8>, AllocError> {
+    let chars = repeated(alloc, b"C1", 144)?;
+    let mut input = Vec::from_slice(alloc, b"161602")?;
     for _ in 0..6u8 {
         input.extend_from_slice(&chars)?;
         input.extend_from_slice(b"191F86")?;
     }
     input.extend_from_slice(&chars)?;
     input.extend_from_slice(b"19831AFF")?;
+    Ok(input)
+}
 
+/// The name of the longest text.
+const LONGEST_NAME: &[u8] = b"TEXT ETX 7\n";
+
+#[test]
+fn the_longest_text_has_its_name(rt: HostRuntime) -> Result<(), Fail> {
+    let input = longest_text(rt.alloc())?;
+    let mut out = Vec::new(rt.alloc());
+    name(rt.alloc(), str::from_utf8(&input)?, &mut out)?;
+    assert_eq!(rt; out.as_slice(), LONGEST_NAME);
+    out.clear();
+    names(rt.alloc(), &input, &mut out)?;
+    assert_eq!(rt; out.as_slice(), LONGEST_NAME);
+    Ok(())
+}
+
+#[test]
+fn each_unit_of_the_longest_text_is_shown(rt: HostRuntime) -> Result<(), Fail> {
+    let input = longest_text(rt.alloc())?;
     let codes = repeated(rt.alloc(), b"41", 144)?;
-    let mut shown = Vec::from_slice(rt.alloc(), b"TEXT ETX 7\n")?;
+    let mut shown = Vec::from_slice(rt.alloc(), LONGEST_NAME)?;
     for _ in 0..7u8 {
         shown.extend_from_slice(b"unit ")?;
         shown.extend_from_slice(&codes)?;
