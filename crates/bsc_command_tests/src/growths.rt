@@ -1,6 +1,6 @@
 //! Growths refused: each in turn, all from one on, and all above a size.
 
-use bsc_command::{Fault, names};
+use bsc_command::{Fault, name, names};
 use refusing_alloc::{Refusal, Refusing};
 use std::test::Fail;
 
@@ -32,6 +32,33 @@ fn each_growth_of_names_is_refused(rt: HostRuntime) -> Result<(), Fail> {
             let mut out = Vec::new(rt.alloc());
             let answer = names(&refusing, INPUT, &mut out);
             assert!(rt; is_due(&out, answer, refusing.refused() > 0));
+        }
+    }
+    Ok(())
+}
+
+/// A text of one unit, as hexadecimal text.
+const TEXT: &str = "16 16 02 C8 49 19 83 9B FF";
+
+/// Whether out of memory is told, and nothing is printed, where a growth is refused, and else the
+/// name of the text is printed.
+fn is_name_due(printed: &[u8], answer: Result<(), Fault>, is_refused: bool) -> bool {
+    match answer {
+        Ok(()) => !is_refused && printed == b"TEXT ETX 1\n".as_slice(),
+        Err(Fault::OutOfMemory) => is_refused && printed.is_empty(),
+        Err(_) => false,
+    }
+}
+
+#[test]
+fn each_growth_of_name_is_refused(rt: HostRuntime) -> Result<(), Fail> {
+    let refusing = Refusing::new(rt.alloc());
+    for refusal in [Refusal::Nth, Refusal::From, Refusal::Above { octets: 1 }] {
+        for number in refusing.in_turn(refusal, 4..99) {
+            number?;
+            let mut out = Vec::new(rt.alloc());
+            let answer = name(&refusing, TEXT, &mut out);
+            assert!(rt; is_name_due(&out, answer, refusing.refused() > 0));
         }
     }
     Ok(())
