@@ -1,6 +1,6 @@
 -- Noise changes no control station, and none answers it (GA27-3004: what is not understood is not
 -- answered).
-use Rattle.std.proofs.Common.{◌≡◌, ℕ, List, Option, None, refl, ap, sym, ◌∙◌}
+use Rattle.std.proofs.Common.{◌≡◌, ℕ, List, Option, refl, ap, sym, ◌∙◌}
 use Rattle.std.proofs.lemmas.List.{set-get_or}
 use Rattle.bsc_frame.specs.declared.message.Message.{Message}
 use Rattle.bsc_frame.specs.declared.message.Heard.TheVariants.{Noise}
@@ -12,6 +12,7 @@ use Rattle.bsc_control.specs.Peer.{with_outbound}
 use Rattle.bsc_control.specs.Control.{ControlValue, ControlStep, peer, current, with_current}
 use Rattle.bsc_control.specs.Control.{quiet_step}
 use Rattle.bsc_control.specs.Table.{Hears, task_step, rooms_after}
+use Rattle.bsc_text.specs.Station.{StaysQuiet}
 
 -- writing what is there changes nothing
 same_peer : (c : ControlValue) → with_current c (peer c) ≡ c
@@ -35,7 +36,7 @@ quiet_in c (Polling replied) rooms is =
     ∙ ap (λ (task : Task). quiet_step (record c { task = task })) (sym is)
 
 pub noise_changes_nothing : (old new : ControlValue) (sent : Option Message)
-    → Hears old Noise new sent → (new ≡ old) × (sent ≡ None)
+    → Hears old Noise new sent → StaysQuiet old new sent
 noise_changes_nothing old new sent h =
     let same : record { control = new; sent = sent } ≡ quiet_step old =
     h.row ∙ quiet_in old old.task (rooms_after old Noise new) refl in

@@ -1,6 +1,6 @@
 -- What holds of every control station, and what a transmission or a silence may change of it (own).
 use Rattle.std.specs.Prelude.{◌≡◌, ◌⊎◌, ◌≤◌, ◌<◌, ℕ, ◌+◌, true, false, List, ◌++◌, length, Option}
-use Rattle.std.specs.Prelude.{None, Some, All}
+use Rattle.std.specs.Prelude.{Some, All}
 use Rattle.bsc_frame.specs.declared.message.Message.{Message}
 use Rattle.bsc_frame.specs.declared.message.Message.TheVariants as m
 use Rattle.bsc_frame.specs.declared.message.Heard.{Heard}
@@ -27,6 +27,7 @@ use Rattle.bsc_control.specs.CallOrder.{Call, After, Start, Selection, Poll, nex
 use Rattle.bsc_control.specs.Peer.{OutboundValue, PeerValue, IsNewPeer, outbound_at}
 use Rattle.bsc_control.specs.Control.{ControlValue, HasEntries, terminals, peer_at, peer, current}
 use Rattle.bsc_control.specs.Table.{Hears, ActsOnSilence, after_bid, has_rvi}
+use Rattle.bsc_text.specs.Station.{StaysQuiet}
 
 -- a selection address was called: records wait for it, and there is no doubt and no bid
 pub record IsSelected (p : PeerValue) (s : ℕ) : Type 0 where
@@ -109,7 +110,7 @@ abbrev pub IsTaskOf : Way → Task → Type 0
 IsTaskOf FromTerminal task = task ≡ Polling Nothing
 IsTaskOf (ToTerminal s) task = task ≡ Selecting s false
 
--- the address of this call is called, with tries and waits of its own
+-- the address of this call is called, with the counters at 0
 pub record IsCalled (c : ControlValue) (call : Call) (address : List ℕ) : Type 0 where
   pub place : c.place ≡ call.place
   pub called : IsAddressOf (terminals c) (current c) call.way address
@@ -169,7 +170,7 @@ pub record AfterHearing (old : ControlValue) (h : Heard) (new : ControlValue)
       → IsCalled new (next_call old (after_hearing old.task h)) address
   pub spools : (t : ℕ)
       → GrowsByText old h t (peer_at old t).spool.records (peer_at new t).spool.records
-  pub noise : h ≡ Noise → (new ≡ old) × (sent ≡ None)
+  pub noise : h ≡ Noise → StaysQuiet old new sent
 
 -- what a control station is after a silence: each call that it makes is the next one, or the same
 -- again

@@ -73,7 +73,7 @@ abbrev pub way_call_step : ControlValue → ℕ → Way → ControlStep
 way_call_step c place FromTerminal = poll_call_step c place 0
 way_call_step c place (ToTerminal s) = selection_call_step c place s
 
--- a call, with its own tries and waits
+-- a call, with the counters at 0
 abbrev pub make_call_step : ControlValue → Call → ControlStep
 make_call_step c call = way_call_step c call.place call.way
 

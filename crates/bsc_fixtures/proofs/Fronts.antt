@@ -7,7 +7,7 @@ use Rattle.std.proofs.lemmas.Option.{slice_get-map, slice_get_past}
 use Rattle.std.specs.Borrow.{Bor}
 use Rattle.bsc_fixtures.specs.Records.{values}
 
--- what stands at a place of the lists behind references
+-- what stands at a place of the lists that references lend
 pub values_within : (xs : List (Bor (List ℕ))) (i : ℕ) (x : Bor (List ℕ)) → i < length xs → x
     ≡ get_or xs i x → slice_get (values xs) i ≡ Some x.now
 values_within xs i x l e =

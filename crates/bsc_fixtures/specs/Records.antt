@@ -2,7 +2,7 @@
 use Rattle.std.specs.Prelude.{◌≡◌, ℕ, List, length, take, map}
 use Rattle.std.specs.Borrow.{Bor}
 
--- the lists behind references
+-- the lists that references lend
 abbrev pub values : List (Bor (List ℕ)) → List (List ℕ)
 values xs = map (λ (x : Bor (List ℕ)). x.now) xs
 

@@ -8,7 +8,7 @@ use Rattle.bsc_frame.specs.declared.message.Heard.TheVariants.{Whole, Failed, No
 use Rattle.bsc_text.specs.declared.phase.Phase.{Phase}
 use Rattle.bsc_text.specs.Agreement.{IsResting}
 use Rattle.bsc_tributary.specs.Tributary.{TributaryValue, TributaryStep, Hears, without_line}
-use Rattle.bsc_tributary.specs.Kept.{IsTributary, AfterHearing, StaysQuiet}
+use Rattle.bsc_tributary.specs.Kept.{IsTributary, AfterHearing}
 use Rattle.bsc_control.specs.declared.task.Replied.{Replied}
 use Rattle.bsc_control.specs.Peer.{PeerValue}
 use Rattle.bsc_control.specs.Control.{ControlValue, peer_at, current}
@@ -20,6 +20,7 @@ use Rattle.bsc_line_model.specs.Together.{IsQuiet, AllQuiet, IsSelecting, IsPoll
 use Rattle.bsc_line_model.proofs.SendingDown.{none_before}
 use Rattle.bsc_text.proofs.RestLemmas.{cut_at_rest}
 use Rattle.bsc_line_model.proofs.Stations.{at_rest_in}
+use Rattle.bsc_text.specs.Station.{StaysQuiet}
 
 -- the line is taken from it
 pub without_quiet : (p : PeerValue) (x : TributaryValue) → IsTributary x → IsQuiet p x

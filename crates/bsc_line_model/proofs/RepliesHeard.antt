@@ -24,7 +24,7 @@ use Rattle.bsc_tributary.specs.declared.mode.Mode.{Mode}
 use Rattle.bsc_tributary.specs.declared.mode.Mode.TheVariants.{Control, Receiving}
 use Rattle.bsc_tributary.specs.Tributary.{TributaryValue, TributaryStep, Hears, mode_step, act_step}
 use Rattle.bsc_tributary.specs.Tributary.{receive_step, rooms_after, spool_at, empty_spool}
-use Rattle.bsc_tributary.specs.Kept.{AfterHearing, IsNoCall, StaysQuiet}
+use Rattle.bsc_tributary.specs.Kept.{AfterHearing, IsNoCall}
 use Rattle.bsc_control.specs.declared.task.Replied.{Replied}
 use Rattle.bsc_control.specs.declared.way.Way.{Way}
 use Rattle.bsc_control.specs.declared.way.Way.TheVariants.{FromTerminal, ToTerminal}
@@ -45,6 +45,7 @@ use Rattle.bsc_line_model.proofs.SendingDown.{others_in_control, OneHears, one_h
 use Rattle.bsc_line_model.proofs.SendingUp.{keeps_going, going_in}
 use Rattle.bsc_line_model.proofs.ActingUp.{HasActedUp, acts_up, present_after}
 use Rattle.bsc_line_model.proofs.CallsHeard.{with_others}
+use Rattle.bsc_text.specs.Station.{StaysQuiet}
 
 reply_no_call : (r : Reply) → IsNoCall (Whole (message_of r))
 reply_no_call Ack0 = tt

@@ -171,7 +171,7 @@ const POLLED: Moments<'static> = &[
     (Control, ACK1),
 ];
 
-/// The same of a selection, which is acknowledged too.
+/// After each of these moments of a selection, which is acknowledged too.
 const SELECTED: Moments<'static> = &[
     (Control, CALL_SELECT_A),
     (Terminal(0), ACK0),
@@ -215,7 +215,7 @@ fn offer_within<A: Allocator>(
     Ok(true)
 }
 
-/// The same, and carries this many further transmissions: whether each record was delivered.
+/// Offers these, and carries this many further transmissions: whether each record was delivered.
 fn delivers_long<A: Allocator>(
     line: &mut Line<A>,
     way: Way,

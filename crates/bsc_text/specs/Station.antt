@@ -8,3 +8,7 @@ use Rattle.bsc_frame.specs.Wire.{wire}
 abbrev pub IsSent : Option Message → Bool → List ℕ → Type 0
 IsSent None sent octets = (sent ≡ false) × (octets ≡ [])
 IsSent (Some m) sent octets = (sent ≡ true) × (octets ≡ wire m) × IsMessage m
+
+-- A station of either kind stays as it is, and sends nothing.
+abbrev pub StaysQuiet : {S : Type 0} → S → S → Option Message → Type 0
+StaysQuiet old new sent = (new ≡ old) × (sent ≡ None)

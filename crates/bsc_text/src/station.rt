@@ -1,11 +1,11 @@
 //! What a station of the line is: it hears transmissions, and it answers or keeps still.
 
-ghost use Rattle.std.specs.Prelude.{◌≡◌, Option, Bool, None};
+ghost use Rattle.std.specs.Prelude.{◌≡◌, Option, Bool};
 ghost use Rattle.bsc_frame.specs.declared.message.Message.{Message as MessageValue};
 ghost use Rattle.bsc_frame.specs.declared.message.Heard.{Heard as HeardValue};
 ghost use Rattle.bsc_frame.specs.declared.message.Heard.TheVariants.{Noise};
 ghost use Rattle.bsc_frame.specs.Spells.{IsHeardAs};
-ghost use Rattle.bsc_text.specs.Station.{IsSent};
+ghost use Rattle.bsc_text.specs.Station.{IsSent, StaysQuiet};
 
 use bsc_frame::{Heard, Message, Wire, decode, encode};
 
@@ -70,7 +70,7 @@ pub trait Station {
 
     /// Noise changes nothing, and nothing is sent.
     ghost ignores_noise: { (old new : Self) (sent : Option MessageValue)
-        → hears old Noise new sent → (new ≡ old) × (sent ≡ None) };
+        → hears old Noise new sent → StaysQuiet old new sent };
 }
 
 /// Puts the octets of the message into the wire, in place of what it had, and nothing where there

@@ -120,7 +120,7 @@ fn a_lost_text_is_sent_again(rt: HostRuntime) -> Result<(), Fail> {
         let first = bidder.begin()?;
         assert!(rt; first.sends_text(7, end));
 
-        // It is lost. A record that is offered behind the last block does not change its end.
+        // It is lost. A record that is offered after the last block does not change its end.
         bidder.offer_empty(late)?;
         let again = bidder.silence();
         assert!(rt; again.enquires());

@@ -29,7 +29,7 @@ use Rattle.bsc_tributary.specs.Tributary.{quiet_step, answer_step, without_line,
 use Rattle.bsc_tributary.specs.Tributary.{act_step, receive_step, poll_step, selection_step}
 use Rattle.bsc_tributary.specs.Tributary.{call_step, mode_step, hear_step, Hears, rooms_after}
 use Rattle.bsc_tributary.specs.Kept.{IsTributary, SuitsMode, Keeps, GrowsByText, IsModeCalled}
-use Rattle.bsc_tributary.specs.Kept.{IsModeAfter, TakesLine, IsNoCall, StaysQuiet, AfterHearing}
+use Rattle.bsc_tributary.specs.Kept.{IsModeAfter, TakesLine, IsNoCall, AfterHearing}
 use Rattle.bsc_tributary.specs.Kept.{AfterSilence, IsHearing}
 use Rattle.bsc_tributary.proofs.Acts.{FollowsFrom, follows-sent_next, follows-reply_step}
 use Rattle.bsc_tributary.proofs.Acts.{follows-silence_step, mode_after-Sending}
@@ -37,6 +37,7 @@ use Rattle.bsc_tributary.proofs.CallsHeard.{begun_mode, within-selects}
 use Rattle.bsc_tributary.proofs.InMode.{hear_step-no_call}
 use Rattle.bsc_tributary.proofs.Noise.{quiet_in}
 use Rattle.bsc_tributary.proofs.Stays.{stays-without_line}
+use Rattle.bsc_text.specs.Station.{StaysQuiet}
 
 -- what a row changes
 record Changes (old : TributaryValue) (h : Heard) (step : TributaryStep) : Type 0 where

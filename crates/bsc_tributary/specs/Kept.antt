@@ -21,6 +21,7 @@ use Rattle.bsc_tributary.specs.declared.mode.Mode.{Mode}
 use Rattle.bsc_tributary.specs.declared.mode.Mode.TheVariants.{Control, Receiving, Sending}
 use Rattle.bsc_tributary.specs.Called.{called_as}
 use Rattle.bsc_tributary.specs.Tributary.{TributaryValue, Hears, ActsOnSilence, spool_at}
+use Rattle.bsc_text.specs.Station.{StaysQuiet}
 
 -- a bid goes on exactly while the terminal sends, and it receives into a spool that it has
 abbrev pub SuitsMode : Mode → Phase → ℕ → Type 0
@@ -105,10 +106,6 @@ abbrev pub IsNoCall : Heard → Type 0
 IsNoCall (Whole m.Eot) = ⊥
 IsNoCall (Whole (m.Call address)) = ⊥
 IsNoCall h = Unit {0}
-
--- Nothing is sent and nothing changes.
-abbrev pub StaysQuiet : TributaryValue → TributaryValue → Option Message → Type 0
-StaysQuiet old new sent = (new ≡ old) × (sent ≡ None)
 
 -- what a terminal is once it has heard a transmission, and what it may send
 pub record AfterHearing (old : TributaryValue) (h : Heard) (new : TributaryValue)
