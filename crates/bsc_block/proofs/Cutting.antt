@@ -5,49 +5,49 @@ use Rattle.std.proofs.Common.{length-drop}
 use Rattle.bsc_block.specs.Format.{FormatValue, IsFormat}
 use Rattle.bsc_block.specs.Blocks.{taken, cut, blocks, AreShort}
 use Rattle.bsc_octet.proofs.Elements.{all_drop}
-use Rattle.bsc_block.proofs.Taking.{taken-IsTaken, taken-some}
+use Rattle.bsc_block.proofs.Taking.{taken_is_taken, taken_some}
 
 -- the records after the next block
 rest : FormatValue → List (List ℕ) → List (List ℕ)
 rest f rs = drop (taken f rs) rs
 
-length-rest : (f : FormatValue) (r : List ℕ) (rs : List (List ℕ)) → IsFormat f
+length_rest : (f : FormatValue) (r : List ℕ) (rs : List (List ℕ)) → IsFormat f
     → AreShort f.full (r ∷ rs)
     → length (rest f (r ∷ rs)) ≤ length rs
 unfolding rest
-length-rest f r rs i s =
+length_rest f r rs i s =
     omega (
       arith,
       length-drop (taken f (r ∷ rs)) (r ∷ rs),
-      taken-some f (r ∷ rs) (taken f (r ∷ rs)) i s (taken-IsTaken f (r ∷ rs)) (λ e. cc),
+      taken_some f (r ∷ rs) (taken f (r ∷ rs)) i s (taken_is_taken f (r ∷ rs)) (λ e. cc),
     )
 
-short-rest : (f : FormatValue) (rs : List (List ℕ)) → AreShort f.full rs
+short_rest : (f : FormatValue) (rs : List (List ℕ)) → AreShort f.full rs
     → AreShort f.full (rest f rs)
 unfolding rest
-short-rest f rs s = all_drop (λ r. length r ≤ f.full) (taken f rs) rs s
+short_rest f rs s = all_drop (λ r. length r ≤ f.full) (taken f rs) rs s
 
 -- more blocks than there are records are not cut
-cut-length : (n m : ℕ) (f : FormatValue) (rs : List (List ℕ)) → IsFormat f → AreShort f.full rs
+cut_length : (n m : ℕ) (f : FormatValue) (rs : List (List ℕ)) → IsFormat f → AreShort f.full rs
     → length rs ≤ n → length rs ≤ m → cut n f rs ≡ cut m f rs
 unfolding rest
-cut-length zero zero f rs i s l k = refl
-cut-length zero (suc m) f [] i s l k = refl
-cut-length zero (suc m) f (r ∷ rs) i s l k = absurd (omega arith)
-cut-length (suc n) zero f [] i s l k = refl
-cut-length (suc n) zero f (r ∷ rs) i s l k = absurd (omega arith)
-cut-length (suc n) (suc m) f [] i s l k = refl
-cut-length (suc n) (suc m) f (r ∷ rs) i s l k =
-    let shorter : length (rest f (r ∷ rs)) ≤ length rs = length-rest f r rs i s in
+cut_length zero zero f rs i s l k = refl
+cut_length zero (suc m) f [] i s l k = refl
+cut_length zero (suc m) f (r ∷ rs) i s l k = absurd (omega arith)
+cut_length (suc n) zero f [] i s l k = refl
+cut_length (suc n) zero f (r ∷ rs) i s l k = absurd (omega arith)
+cut_length (suc n) (suc m) f [] i s l k = refl
+cut_length (suc n) (suc m) f (r ∷ rs) i s l k =
+    let shorter : length (rest f (r ∷ rs)) ≤ length rs = length_rest f r rs i s in
     ap (λ bs. take (taken f (r ∷ rs)) (r ∷ rs) ∷ bs)
-    (cut-length n m f (rest f (r ∷ rs)) i (short-rest f (r ∷ rs) s) (omega arith) (omega arith))
+    (cut_length n m f (rest f (r ∷ rs)) i (short_rest f (r ∷ rs) s) (omega arith) (omega arith))
 
-pub blocks-next : (f : FormatValue) (rs : List (List ℕ)) → IsFormat f → AreShort f.full rs → rs ≢ []
+pub blocks_next : (f : FormatValue) (rs : List (List ℕ)) → IsFormat f → AreShort f.full rs → rs ≢ []
     → blocks f rs ≡ take (taken f rs) rs ∷ blocks f (drop (taken f rs) rs)
 unfolding rest
-blocks-next f [] i s n = absurd (n refl)
-blocks-next f (r ∷ rs) i s n =
-    let shorter : length (rest f (r ∷ rs)) ≤ length rs = length-rest f r rs i s in
+blocks_next f [] i s n = absurd (n refl)
+blocks_next f (r ∷ rs) i s n =
+    let shorter : length (rest f (r ∷ rs)) ≤ length rs = length_rest f r rs i s in
     ap (λ bs. take (taken f (r ∷ rs)) (r ∷ rs) ∷ bs)
-    (cut-length (length rs) (length (rest f (r ∷ rs))) f (rest f (r ∷ rs)) i
-    (short-rest f (r ∷ rs) s) (omega arith) (omega arith))
+    (cut_length (length rs) (length (rest f (r ∷ rs))) f (rest f (r ∷ rs)) i
+    (short_rest f (r ∷ rs) s) (omega arith) (omega arith))

@@ -6,13 +6,13 @@ use Rattle.bsc_block.specs.Format.{FormatValue}
 use Rattle.bsc_block.specs.Blocks.{cost, front_cost}
 
 -- one record more
-pub front_cost-more : (f : FormatValue) (k : ℕ) (rs : List (List ℕ)) (d : List ℕ) → k < length rs
+pub front_cost_more : (f : FormatValue) (k : ℕ) (rs : List (List ℕ)) (d : List ℕ) → k < length rs
     → front_cost f (k + 1) rs ≡ front_cost f k rs + cost f (get_or rs k d)
-front_cost-more f k rs d l = sum_by_more (cost f) rs k d l
+front_cost_more f k rs d l = sum_by_more (cost f) rs k d l
 
 -- more records count no less
-pub front_cost-le : (f : FormatValue) (j k : ℕ) (rs : List (List ℕ)) → j ≤ k
+pub front_cost_le : (f : FormatValue) (j k : ℕ) (rs : List (List ℕ)) → j ≤ k
     → front_cost f j rs ≤ front_cost f k rs
-front_cost-le f j k rs l =
+front_cost_le f j k rs l =
     let part : front_cost f j rs ≡ front_cost f j (take k rs) = rw (take-take j k rs l) refl in
     omega (arith, part, sum_by-take-le (cost f) (take k rs) j)

@@ -12,20 +12,20 @@ use Rattle.bsc_block.specs.Records.{IsRecord}
 use Rattle.bsc_octet.proofs.Elements.{all_slice_get}
 use Rattle.bsc_block.specs.Blocks.{unit_of, holds_record, records_in}
 
-pub records_in-append : (us vs : List TextUnit) → records_in (us ++ vs) ≡ records_in us
+pub records_in_append : (us vs : List TextUnit) → records_in (us ++ vs) ≡ records_in us
     ++ records_in vs
-records_in-append us vs = rw (filter-append holds_record us vs, map-append) refl
+records_in_append us vs = rw (filter-append holds_record us vs, map-append) refl
 
 -- a unit that is built for a record holds it
 held : (full : ℕ) (r : List ℕ) → 1 ≤ full → holds_record (unit_of full r) ≡ true
 held full [] l = grind (arith, nat_tests)
 held full (c ∷ r) l = grind (arith, nat_tests)
 
-pub records_in-units : (full : ℕ) (rs : List (List ℕ)) → 1 ≤ full
+pub records_in_units : (full : ℕ) (rs : List (List ℕ)) → 1 ≤ full
     → records_in (map (unit_of full) rs) ≡ rs
-records_in-units full [] l = refl
-records_in-units full (r ∷ rs) l =
-    rw (held full r l) (ap (λ rest. r ∷ rest) (records_in-units full rs l))
+records_in_units full [] l = refl
+records_in_units full (r ∷ rs) l =
+    rw (held full r l) (ap (λ rest. r ∷ rest) (records_in_units full rs l))
 
 -- one unit more
 more : (us : List TextUnit) (i : ℕ) (u : TextUnit) → slice_get us i ≡ Some u
@@ -34,19 +34,19 @@ more us i u e =
     let front : take (i + 1) us ≡ take i us ++ u ∷ [] =
     take_more us i u (slice_get_within us i u e)
     ∙ ap (λ v. take i us ++ v ∷ []) (get_or_from_slice_get us i u u e) in
-    rw front (records_in-append (take i us) (u ∷ []))
+    rw front (records_in_append (take i us) (u ∷ []))
 
-pub records_in-held : (us : List TextUnit) (i : ℕ) (u : TextUnit) → slice_get us i ≡ Some u
+pub records_in_held : (us : List TextUnit) (i : ℕ) (u : TextUnit) → slice_get us i ≡ Some u
     → holds_record u ≡ true → records_in (take (i + 1) us) ≡ records_in (take i us) ++ u.chars ∷ []
-records_in-held us i u e h = rw (more us i u e, h) refl
+records_in_held us i u e h = rw (more us i u e, h) refl
 
-pub records_in-empty : (us : List TextUnit) (i : ℕ) (u : TextUnit) → slice_get us i ≡ Some u
+pub records_in_empty : (us : List TextUnit) (i : ℕ) (u : TextUnit) → slice_get us i ≡ Some u
     → holds_record u ≡ false → records_in (take (i + 1) us) ≡ records_in (take i us)
-records_in-empty us i u e h = rw (more us i u e, h) (append-nil (records_in (take i us)))
+records_in_empty us i u e h = rw (more us i u e, h) (append-nil (records_in (take i us)))
 
 -- the characters of a unit of a text are those of a record
-pub unit-IsRecord : (us : List TextUnit) (i : ℕ) (u : TextUnit) → AllByRecursion IsUnit us
+pub unit_is_record : (us : List TextUnit) (i : ℕ) (u : TextUnit) → AllByRecursion IsUnit us
     → slice_get us i ≡ Some u → IsRecord u.chars
-unit-IsRecord us i u h e =
+unit_is_record us i u h e =
     let k : IsUnit u = all_slice_get IsUnit us i u h e in
     record { most = k.most; each = k.each }

@@ -5,27 +5,27 @@ use Rattle.std.proofs.Common.{◌∷◌, length, Bool, true, false, min, nat_le,
 use Rattle.std.proofs.lemmas.Bool.{leb-true, le-leb, cases_lt}
 use Rattle.bsc_block.specs.Format.{FormatValue, IsFormat}
 use Rattle.bsc_block.specs.Blocks.{front_cost, greatest, taken, IsTaken, AreShort}
-use Rattle.bsc_block.proofs.Fronts.{front_cost-le}
+use Rattle.bsc_block.proofs.Fronts.{front_cost_le}
 use Rattle.bsc_frame.specs.declared.limits.TheConstants.{MAX_UNITS}
 
-pub greatest-le : (p : ℕ → Bool) (n : ℕ) → greatest p n ≤ n
-greatest-le p zero = omega arith
-greatest-le p (suc n) =
+pub greatest_le : (p : ℕ → Bool) (n : ℕ) → greatest p n ≤ n
+greatest_le p zero = omega arith
+greatest_le p (suc n) =
     elim (p (suc n)) as (λ b. (if b then suc n else greatest p n) ≤ suc n)
-    [ true ↦ omega arith | false ↦ omega (arith, greatest-le p n) ]
+    [ true ↦ omega arith | false ↦ omega (arith, greatest_le p n) ]
 
-pub greatest-passes : (p : ℕ → Bool) (n : ℕ) → p 0 ≡ true → p (greatest p n) ≡ true
-greatest-passes p zero z = z
-greatest-passes p (suc n) z = split (p (suc n)) refl (greatest-passes p n z)
+pub greatest_passes : (p : ℕ → Bool) (n : ℕ) → p 0 ≡ true → p (greatest p n) ≡ true
+greatest_passes p zero z = z
+greatest_passes p (suc n) z = split (p (suc n)) refl (greatest_passes p n z)
   where
     split : (b : Bool) → p (suc n) ≡ b → p (greatest p n) ≡ true
         → p (if b then suc n else greatest p n) ≡ true
     split true e below = e
     split false e below = below
 
-pub greatest-above : (p : ℕ → Bool) (n j : ℕ) → j ≤ n → p j ≡ true → j ≤ greatest p n
-greatest-above p zero j l e = l
-greatest-above p (suc n) j l e = split (p (suc n)) refl (λ below. greatest-above p n j below e)
+pub greatest_above : (p : ℕ → Bool) (n j : ℕ) → j ≤ n → p j ≡ true → j ≤ greatest p n
+greatest_above p zero j l e = l
+greatest_above p (suc n) j l e = split (p (suc n)) refl (λ below. greatest_above p n j below e)
   where
     last : p (suc n) ≡ false → (n < j) ⊎ (j ≤ n) → (j ≤ n → j ≤ greatest p n) → j ≤ greatest p n
     last f (inr below) above = above below
@@ -41,26 +41,26 @@ fits_none : (f : FormatValue) (rs : List (List ℕ)) → front_cost f 0 rs ≤ f
 fits_none f rs = omega arith
 
 -- the definition gives the number that the relation describes
-pub taken-IsTaken : (f : FormatValue) (rs : List (List ℕ)) → IsTaken f rs (taken f rs)
-taken-IsTaken f rs =
+pub taken_is_taken : (f : FormatValue) (rs : List (List ℕ)) → IsTaken f rs (taken f rs)
+taken_is_taken f rs =
     let p : ℕ → Bool = λ k. nat_le (front_cost f k rs) f.block_chars in
-    let most : taken f rs ≤ min MAX_UNITS (length rs) = greatest-le p (min MAX_UNITS (length rs)) in
+    let most : taken f rs ≤ min MAX_UNITS (length rs) = greatest_le p (min MAX_UNITS (length rs)) in
     let passes : p (taken f rs) ≡ true =
-    greatest-passes p (min MAX_UNITS (length rs))
+    greatest_passes p (min MAX_UNITS (length rs))
     (le-leb (front_cost f 0 rs) f.block_chars (fits_none f rs)) in
     record {
       few = omega arith;
       there = omega arith;
       fits = leb-true (front_cost f (taken f rs) rs) f.block_chars passes;
       greatest =
-          λ j few there fits. greatest-above p (min MAX_UNITS (length rs)) j (omega arith)
+          λ j few there fits. greatest_above p (min MAX_UNITS (length rs)) j (omega arith)
           (le-leb (front_cost f j rs) f.block_chars fits);
     }
 
 -- and no other
-pub IsTaken-taken : (f : FormatValue) (rs : List (List ℕ)) (k : ℕ) → IsTaken f rs k → k ≡ taken f rs
-IsTaken-taken f rs k t =
-    let u : IsTaken f rs (taken f rs) = taken-IsTaken f rs in
+pub is_taken_taken : (f : FormatValue) (rs : List (List ℕ)) (k : ℕ) → IsTaken f rs k → k ≡ taken f rs
+is_taken_taken f rs k t =
+    let u : IsTaken f rs (taken f rs) = taken_is_taken f rs in
     omega (arith, t.greatest (taken f rs) u.few u.there u.fits, u.greatest k t.few t.there t.fits)
 
 -- a front that fits is the block where it is all, or has seven records, or one record more does not
@@ -79,13 +79,13 @@ stops_there f rs k few there fits stop =
       where
         within : (k < j) ⊎ (j ≤ k) → j ≤ k
         within (inr below) = below
-        within (inl above) = absurd (omega (arith, front_cost-le f (k + 1) j rs (omega arith)))
+        within (inl above) = absurd (omega (arith, front_cost_le f (k + 1) j rs (omega arith)))
 
 -- a short record fits by itself
-pub taken-some : (f : FormatValue) (rs : List (List ℕ)) (k : ℕ) → IsFormat f → AreShort f.full rs
+pub taken_some : (f : FormatValue) (rs : List (List ℕ)) (k : ℕ) → IsFormat f → AreShort f.full rs
     → IsTaken f rs k → rs ≢ [] → 1 ≤ k
-taken-some f [] k i s t n = absurd (n refl)
-taken-some f (r ∷ rs) k i s t n =
+taken_some f [] k i s t n = absurd (n refl)
+taken_some f (r ∷ rs) k i s t n =
     t.greatest 1 (omega arith) (omega arith) (one (nat_lt (length r) f.full))
   where
     one : (b : Bool) → 0 + (length r + 1 + (if b then 1 else 0)) ≤ f.block_chars

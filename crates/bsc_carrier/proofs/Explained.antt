@@ -12,14 +12,14 @@ use Rattle.bsc_carrier.specs.declared.error.CarrierError.TheVariants.{Unequal}
 use Rattle.bsc_carrier.proofs.Places.{Any-later, Any-first}
 
 -- what gave a record began with it
-pub BeginsWith-given : (octets : List ℕ) (old new : Option (List ℕ)) → IsCarried octets
+pub begins_with_given : (octets : List ℕ) (old new : Option (List ℕ)) → IsCarried octets
     → Consumes old new (socket_record octets) → BeginsWith octets old
-BeginsWith-given octets None new carried given = (carried, tt)
-BeginsWith-given octets (Some all) None carried given = absurd given
-BeginsWith-given octets (Some all) (Some rest) carried given = (carried, (rest, given))
+begins_with_given octets None new carried given = (carried, tt)
+begins_with_given octets (Some all) None carried given = absurd given
+begins_with_given octets (Some all) (Some rest) carried given = (carried, (rest, given))
 
 -- the first end gave a record, and an end after it did not give the same
-pub Explains-later : {S : Type 0} (remaining : S → Option (List ℕ)) (ends : List S)
+pub explains_later : {S : Type 0} (remaining : S → Option (List ℕ)) (ends : List S)
     (octets : List ℕ) (d : S) (e : CarrierError)
     → 1 ≤ length ends → BeginsWith octets (remaining (get_or ends 0 d))
     → (IsErrOf {T = Unit {0}} (Err e) Length
@@ -28,12 +28,12 @@ pub Explains-later : {S : Type 0} (remaining : S → Option (List ℕ)) (ends : 
     → Any (λ end. IfSome (remaining end) IsPartial) (drop 1 ends))
     → (IsErrOf {T = Unit {0}} (Err e) Unequal → BeginsOther remaining octets (drop 1 ends))
     → Explains remaining e ends
-Explains-later remaining ends octets d Length some first wrong short unequal =
+explains_later remaining ends octets d Length some first wrong short unequal =
     Any-later (λ end. IfSome (remaining end) HasWrongLength) ends (wrong refl)
-Explains-later remaining ends octets d Short some first wrong short unequal =
+explains_later remaining ends octets d Short some first wrong short unequal =
     Any-later (λ end. IfSome (remaining end) IsPartial) ends (short refl)
-Explains-later remaining ends octets d Device some first wrong short unequal = tt
-Explains-later remaining ends octets d Unequal some first wrong short unequal =
+explains_later remaining ends octets d Device some first wrong short unequal = tt
+explains_later remaining ends octets d Unequal some first wrong short unequal =
     let (other, differs, found) = unequal refl in (
       octets,
       Any-first (λ end. BeginsWith octets (remaining end)) ends d some first,

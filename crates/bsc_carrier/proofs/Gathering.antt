@@ -9,8 +9,8 @@ use Rattle.bsc_carrier.specs.Record.{IsLength, IsWrongLength}
 use Rattle.bsc_carrier.specs.Front.{stated_length, IsPartial, HasWrongLength}
 use Rattle.bsc_carrier.specs.Assembler.{wanted_after, IsBegun}
 use Rattle.bsc_carrier.proofs.Fronts.{not_wrong_and_right}
-use Rattle.bsc_carrier.proofs.Wanted.{stated_length-append, wanted_after-short, wanted_after-right}
-use Rattle.bsc_carrier.proofs.Wanted.{wanted_after-wrong}
+use Rattle.bsc_carrier.proofs.Wanted.{stated_length_append, wanted_after_short, wanted_after_right}
+use Rattle.bsc_carrier.proofs.Wanted.{wanted_after_wrong}
 
 -- of the piece `head` octets and then `body` octets were taken, each time as many as were wanted
 -- and there
@@ -43,10 +43,10 @@ module _ {begun piece rest mid new : List ℕ} {head body : ℕ}
   new_length = ap length joined ∙ simp (length-append, length-take) (omega (arith, within))
 
   stated_new : 2 ≤ length mid → stated_length new ≡ stated_length mid
-  stated_new two = ap stated_length took.new_is ∙ stated_length-append mid (take body rest) two
+  stated_new two = ap stated_length took.new_is ∙ stated_length_append mid (take body rest) two
 
   stated_mid : 2 ≤ length begun → stated_length mid ≡ stated_length begun
-  stated_mid two = ap stated_length took.mid_is ∙ stated_length-append begun (take head piece) two
+  stated_mid two = ap stated_length took.mid_is ∙ stated_length_append begun (take head piece) two
 
   alone_at : length begun + (head + body) ≡ 2 → new ≡ take 2 (begun ++ piece)
   alone_at two = joined ∙ sym (take-append-add begun piece (head + body))
@@ -58,13 +58,13 @@ module _ {begun piece rest mid new : List ℕ} {head body : ℕ}
       × (length new < 2 + stated_length new → head + body ≡ length piece)
   right_goes_on two partial =
       let right = partial two in
-      let wanted = wanted_after-right begun two right.0 in
+      let wanted = wanted_after_right begun two right.0 in
       let two_mid : 2 ≤ length mid = omega (arith, mid_length) in
       let same_mid = stated_mid two in
       let same_new = stated_new two_mid in
       let right_mid : IsLength (stated_length mid) =
       (omega (arith, same_mid, right.0.0), omega (arith, same_mid, right.0.1)) in
-      let wanted_mid = wanted_after-right mid two_mid right_mid in (
+      let wanted_mid = wanted_after_right mid two_mid right_mid in (
         (
           omega (arith, same_mid, same_new, right.0.0),
           omega (arith, same_mid, same_new, right.0.1),
@@ -98,7 +98,7 @@ module _ {begun piece rest mid new : List ℕ} {head body : ℕ}
   length_ends : length begun < 2 → 2 ≤ length new → (length mid ≡ 2)
       × (stated_length new ≡ stated_length mid)
   length_ends short two =
-      let wanted = wanted_after-short begun short in
+      let wanted = wanted_after_short begun short in
       let two_mid : length mid ≡ 2 = omega (arith, wanted, mid_length, new_length, rest_length) in
       (two_mid, stated_new (omega (arith, two_mid)))
 
@@ -107,10 +107,10 @@ module _ {begun piece rest mid new : List ℕ} {head body : ℕ}
       × (stated_length new ≡ stated_length begun)
   stopped_stays stopped =
       let two : 2 ≤ length begun = omega (arith, stopped.1) in
-      let none = wanted_after-wrong begun stopped.0 in
+      let none = wanted_after_wrong begun stopped.0 in
       let two_mid : 2 ≤ length mid = omega (arith, mid_length, two) in
       let none_mid =
-      wanted_after-wrong mid (
+      wanted_after_wrong mid (
         two_mid,
         subst IsWrongLength (sym (stated_mid two)) stopped.0.1,
       ) in
@@ -124,7 +124,7 @@ module _ {begun piece rest mid new : List ℕ} {head body : ℕ}
         | inl short ↦
             let ends = length_ends short wrong.0 in
             let two_mid : 2 ≤ length mid = omega (arith, ends.0) in
-            let none_mid = wanted_after-wrong mid (two_mid, subst IsWrongLength ends.1 wrong.1) in
+            let none_mid = wanted_after_wrong mid (two_mid, subst IsWrongLength ends.1 wrong.1) in
             alone_at (omega (arith, ends.0, none_mid, mid_length))
         | inr two ↦ absurd (not_wrong_and_right (stated_length new) wrong.1
             (right_goes_on two partial).0)
@@ -139,7 +139,7 @@ module _ {begun piece rest mid new : List ℕ} {head body : ℕ}
         | inl short ↦
             let ends = length_ends short two in
             let right_mid : IsLength (stated_length mid) = subst IsLength ends.1 right in
-            let wanted_mid = wanted_after-right mid (omega (arith, ends.0)) right_mid in
+            let wanted_mid = wanted_after_right mid (omega (arith, ends.0)) right_mid in
             omega (arith, ends.0, ends.1, wanted_mid, mid_length, new_length, right.0)
         | inr whole ↦ (right_goes_on whole partial).1
       ]
@@ -155,7 +155,7 @@ module _ {begun piece rest mid new : List ℕ} {head body : ℕ}
         | inl short ↦
             let ends = length_ends short two in
             let right_mid : IsLength (stated_length mid) = subst IsLength ends.1 right in
-            let wanted_mid = wanted_after-right mid (omega (arith, ends.0)) right_mid in
+            let wanted_mid = wanted_after_right mid (omega (arith, ends.0)) right_mid in
             omega (
               arith,
               ends.0,

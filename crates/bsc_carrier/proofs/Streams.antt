@@ -9,15 +9,15 @@ use Rattle.bsc_carrier.specs.Front.{stated_length, BeginsRecord, IsPartial, HasW
 use Rattle.bsc_carrier.specs.Assembler.{AssemblerValue, Fed}
 use Rattle.bsc_carrier.specs.Stream.{Splits, Assembles, ended, goes_on, completes}
 use Rattle.bsc_carrier.specs.declared.error.CarrierError.TheVariants.{Length}
-use Rattle.bsc_carrier.proofs.Fronts.{stated_length-record, not_whole_and_partial}
-use Rattle.bsc_carrier.proofs.Fronts.{not_whole_and_wrong, IsPartial-nil, HasWrongLength-append}
+use Rattle.bsc_carrier.proofs.Fronts.{stated_length_record, not_whole_and_partial}
+use Rattle.bsc_carrier.proofs.Fronts.{not_whole_and_wrong, is_partial_nil, has_wrong_length_append}
 
 -- a record at the front of a stream, and what follows it, are determined
 one_record : (a b x y : List ℕ) → IsCarried a → IsCarried b → socket_record a ++ x ≡ socket_record b
     ++ y → (a ≡ b) × (x ≡ y)
 one_record a b x y carried_a carried_b same =
-    let lengths : length a ≡ length b = sym (stated_length-record a x carried_a)
-    ∙ ap stated_length same ∙ stated_length-record b y carried_b in
+    let lengths : length a ≡ length b = sym (stated_length_record a x carried_a)
+    ∙ ap stated_length same ∙ stated_length_record b y carried_b in
     let later : a ++ x ≡ b ++ y = ap (drop 2) same in (
       sym (take-append_seam a x) ∙ ap₂ take lengths later ∙ take-append_seam b y,
       sym (drop-append_seam a x) ∙ ap₂ drop lengths later ∙ drop-append_seam b y,
@@ -72,7 +72,7 @@ splits_when_fed {old = old} partial (goes_on {piece = piece} {pieces = pieces} t
     )
 splits_when_fed {old = old} {new = new} partial
     (completes {mid = mid} {piece = piece} {pieces = pieces} {records = records} taken fed more) =
-    let none : IsPartial mid.begun = subst IsPartial (sym fed.3) IsPartial-nil in
+    let none : IsPartial mid.begun = subst IsPartial (sym fed.3) is_partial_nil in
     let (split, left) = splits_when_fed none more in
     let record_of = socket_record mid.complete in
     let rest = drop taken piece ++ concat pieces in
@@ -102,11 +102,11 @@ pub splits_when_wrong : (old mid new : AssemblerValue) (pieces records : List (L
     → Fed mid piece (Err Length) new → Splits (concat pieces ++ piece) records (mid.begun ++ piece)
     × HasWrongLength (mid.begun ++ piece)
 splits_when_wrong old mid new pieces records piece none more fed =
-    let split = (splits_when_fed (subst IsPartial (sym none) IsPartial-nil) more).0 in
+    let split = (splits_when_fed (subst IsPartial (sym none) is_partial_nil) more).0 in
     let stream = mid.begun ++ piece in
     let wrong : HasWrongLength stream =
     subst HasWrongLength (take-append-drop 2 stream)
-    (HasWrongLength-append (take 2 stream) (drop 2 stream)
+    (has_wrong_length_append (take 2 stream) (drop 2 stream)
     (subst HasWrongLength fed.1 fed.0)) in
     let front : concat pieces ≡ flat_map socket_record records ++ mid.begun =
     ap (λ l. l ++ concat pieces) (sym none) ∙ split.whole in

@@ -8,16 +8,16 @@ use Rattle.bsc_carrier.specs.Front.{stated_length, HasWrongLength}
 use Rattle.bsc_carrier.specs.Assembler.{wanted_after}
 
 -- what follows two octets does not change the length that they state
-pub stated_length-append : (begun more : List ℕ) → 2 ≤ length begun → stated_length (begun ++ more)
+pub stated_length_append : (begun more : List ℕ) → 2 ≤ length begun → stated_length (begun ++ more)
     ≡ stated_length begun
-stated_length-append begun more two = ap (from_be_bytes w16) (take-append-le 2 begun more two)
+stated_length_append begun more two = ap (from_be_bytes w16) (take-append-le 2 begun more two)
 
-pub wanted_after-short : (begun : List ℕ) → length begun < 2 → wanted_after begun ≡ 2 - length begun
-wanted_after-short begun short = grind (arith, common_steps)
+pub wanted_after_short : (begun : List ℕ) → length begun < 2 → wanted_after begun ≡ 2 - length begun
+wanted_after_short begun short = grind (arith, common_steps)
 
-pub wanted_after-right : (begun : List ℕ) → 2 ≤ length begun → IsLength (stated_length begun)
+pub wanted_after_right : (begun : List ℕ) → 2 ≤ length begun → IsLength (stated_length begun)
     → wanted_after begun ≡ 2 + stated_length begun - length begun
-wanted_after-right begun two right = grind (arith, common_steps)
+wanted_after_right begun two right = grind (arith, common_steps)
 
-pub wanted_after-wrong : (begun : List ℕ) → HasWrongLength begun → wanted_after begun ≡ 0
-wanted_after-wrong begun wrong = grind (arith, common_steps)
+pub wanted_after_wrong : (begun : List ℕ) → HasWrongLength begun → wanted_after begun ≡ 0
+wanted_after_wrong begun wrong = grind (arith, common_steps)

@@ -3,6 +3,7 @@ use Rattle.std.proofs.Common.{◌≡◌, ℕ, ◌+◌, map, List, [], ◌∷◌,
 use Rattle.std.proofs.Common.{None, length, refl, sym, ap, subst, ◌∙◌, append_assoc, append-nil}
 use Rattle.std.proofs.Common.{length-append}
 use Rattle.std.proofs.Math.Seq.{take-append_seam}
+use Rattle.std.proofs.lemmas.List.Concat.{flat_map-append}
 use Rattle.std.specs.Prelude.{IfSome, if◌then◌else◌}
 use Rattle.std.specs.Option.{option_to_list}
 use Rattle.std.specs.List.{flat_map}
@@ -16,43 +17,37 @@ use Rattle.bsc_command.specs.Lines.{AreShown, PrintsInput, PrintsLines, StopsAt,
 use Rattle.bsc_command.specs.Lines.{is_traced, is_wrong, last_part, transmission}
 use Rattle.bsc_input.specs.Hexadecimal.{octets_of}
 use Rattle.bsc_command.proofs.ListLemmas.{NonePasses, NonePasses-more, position-append}
-use Rattle.bsc_command.proofs.ListLemmas.{position-none}
+use Rattle.bsc_command.proofs.ListLemmas.{position_none}
 
-AreShown-append : (show : Heard → List ℕ) (xs ys : List (List ℕ)) (t u : List ℕ)
+are_shown_append : (show : Heard → List ℕ) (xs ys : List (List ℕ)) (t u : List ℕ)
     → AreShown show xs t → AreShown show ys u → AreShown show (xs ++ ys) (t ++ u)
-AreShown-append show [] ys t u h k = rw h k
-AreShown-append show (x ∷ xs) ys t u (heard, rest, is_heard, e, more) k = (
+are_shown_append show [] ys t u h k = rw h k
+are_shown_append show (x ∷ xs) ys t u (heard, rest, is_heard, e, more) k = (
   heard,
   rest ++ u,
   is_heard,
   rw e (append_assoc (show heard) rest u),
-  AreShown-append show xs ys rest u more k,
+  are_shown_append show xs ys rest u more k,
 )
 
-flat_map-append : {X Y : Type 0} (f : X → List Y) (xs ys : List X) → flat_map f (xs ++ ys)
-    ≡ flat_map f xs ++ flat_map f ys
-flat_map-append f [] ys = refl
-flat_map-append f (x ∷ xs) ys = ap (λ l. f x ++ l) (flat_map-append f xs ys)
-    ∙ sym (append_assoc (f x) (flat_map f xs) (flat_map f ys))
+prints_lines_nil : (show : Heard → List ℕ) (a : Option (List ℕ)) → PrintsLines show [] a a
+prints_lines_nil show a = record { text = []; shown = refl; appended = Appends-nil a }
 
-PrintsLines-nil : (show : Heard → List ℕ) (a : Option (List ℕ)) → PrintsLines show [] a a
-PrintsLines-nil show a = record { text = []; shown = refl; appended = Appends-nil a }
-
-PrintsLines-append : (show : Heard → List ℕ) (xs ys : List (List ℕ)) (a b c : Option (List ℕ))
+prints_lines_append : (show : Heard → List ℕ) (xs ys : List (List ℕ)) (a b c : Option (List ℕ))
     → PrintsLines show xs a b → PrintsLines show ys b c → PrintsLines show (xs ++ ys) a c
-PrintsLines-append show xs ys a b c p q = record {
+prints_lines_append show xs ys a b c p q = record {
   text = p.text ++ q.text;
   shown =
       rw (flat_map-append transmission xs ys)
-      (AreShown-append show _ _ p.text q.text p.shown q.shown);
+      (are_shown_append show _ _ p.text q.text p.shown q.shown);
   appended = Appends-trans a b c p.text q.text p.appended q.appended;
 }
 
 -- a line that gives a transmission
-pub PrintsLines-one : (show : Heard → List ℕ) (line text octets : List ℕ) (a b : Option (List ℕ))
+pub prints_lines_one : (show : Heard → List ℕ) (line text octets : List ℕ) (a b : Option (List ℕ))
     → digits line ≡ text → is_blank text ≡ false
     → octets_of text ≡ Some octets → Prints show octets a b → PrintsLines show (line ∷ []) a b
-PrintsLines-one show line text octets a b same blank e p =
+prints_lines_one show line text octets a b same blank e p =
     let P : List ℕ → Type 0 = λ t. AreShown show (given t ++ []) (show p.heard) in
     record {
       text = show p.heard;
@@ -63,27 +58,27 @@ PrintsLines-one show line text octets a b same blank e p =
     }
 
 -- a line that gives none
-pub PrintsLines-skip : (show : Heard → List ℕ) (line text : List ℕ) (a : Option (List ℕ))
+pub prints_lines_skip : (show : Heard → List ℕ) (line text : List ℕ) (a : Option (List ℕ))
     → digits line ≡ text → given text ≡ []
     → PrintsLines show (line ∷ []) a a
-PrintsLines-skip show line text a same e =
+prints_lines_skip show line text a same e =
     let P : List (List ℕ) → Type 0 = λ ts. AreShown show (ts ++ []) [] in
     record { text = []; shown = subst P (sym (ap given same ∙ e)) refl; appended = Appends-nil a }
 
 -- the hexadecimal text of a line, where it is one of a trace or is not
-pub digits-traced : (line : List ℕ) → is_traced line ≡ true → digits line
+pub digits_traced : (line : List ℕ) → is_traced line ≡ true → digits line
     ≡ last_part (parts_at 32 line)
-digits-traced line e = ap (λ b. if b then last_part (parts_at 32 line) else line) e
+digits_traced line e = ap (λ b. if b then last_part (parts_at 32 line) else line) e
 
-pub digits-plain : (line : List ℕ) → is_traced line ≡ false → digits line ≡ line
-digits-plain line e = ap (λ b. if b then last_part (parts_at 32 line) else line) e
+pub digits_plain : (line : List ℕ) → is_traced line ≡ false → digits line ≡ line
+digits_plain line e = ap (λ b. if b then last_part (parts_at 32 line) else line) e
 
 -- blank text gives none, and text that is not hexadecimal gives none
-pub given-blank : (text : List ℕ) → is_blank text ≡ true → given text ≡ []
-given-blank text e = ap (λ b. if b then [] else option_to_list (octets_of text)) e
+pub given_blank : (text : List ℕ) → is_blank text ≡ true → given text ≡ []
+given_blank text e = ap (λ b. if b then [] else option_to_list (octets_of text)) e
 
-pub given-wrong : (text : List ℕ) → is_blank text ≡ false → octets_of text ≡ None → given text ≡ []
-given-wrong text blank e =
+pub given_wrong : (text : List ℕ) → is_blank text ≡ false → octets_of text ≡ None → given text ≡ []
+given_wrong text blank e =
     ap (λ b. if b then [] else option_to_list (octets_of text)) blank ∙ ap option_to_list e
 
 -- what a text's first line leaves
@@ -114,7 +109,7 @@ module _ {show : Heard → List ℕ} {all : List (List ℕ)} where
     whole = h.whole ∙ sym (append_assoc h.done (x ∷ []) left);
     count = length-append h.done (x ∷ []) ∙ ap (λ k. k + 1) h.count;
     right = NonePasses-more is_wrong h.done x h.right e;
-    printed = PrintsLines-append show h.done (x ∷ []) a b c h.printed p;
+    printed = prints_lines_append show h.done (x ∷ []) a b c h.printed p;
   }
 
 module _ {show : Heard → List ℕ} {input : List ℕ} {n : ℕ} {a b : Option (List ℕ)} where
@@ -123,7 +118,7 @@ module _ {show : Heard → List ℕ} {input : List ℕ} {n : ℕ} {a b : Option 
   has_printed_all h =
       let all_done : lines_of input ≡ h.done = h.whole ∙ append-nil h.done in
       record {
-        right = rw all_done (position-none is_wrong h.done h.right);
+        right = rw all_done (position_none is_wrong h.done h.right);
         printed =
             rw all_done h.printed;
       }

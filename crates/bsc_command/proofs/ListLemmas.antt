@@ -24,8 +24,8 @@ module _ {X : Type 0} (p : X → Bool) where
   position_or_len-append (x ∷ xs) y ys h e = let k = position_or_len-append xs y ys h.1 e in
       rw h.0 (omega (arith, k))
 
-  pub position-none : (xs : List X) → NonePasses xs → position p xs ≡ None
-  position-none xs h =
+  pub position_none : (xs : List X) → NonePasses xs → position p xs ≡ None
+  position_none xs h =
       let e = position_or_len-none xs h in
       sym (cond_above (position_or_len p xs) (length xs) (Some (position_or_len p xs)) None None
       (omega (arith, e)) refl)

@@ -4,14 +4,14 @@ use Rattle.std.proofs.lemmas.List.Splits.{length-slice_split}
 use Rattle.bsc_input.specs.Parts.{parts_at}
 use Rattle.bsc_command.specs.Lines.{last_part}
 
-last_part-cons : (part : List ℕ) (parts : List (List ℕ)) → 0 < length parts
+last_part_cons : (part : List ℕ) (parts : List (List ℕ)) → 0 < length parts
     → last_part (part ∷ parts) ≡ last_part parts
-last_part-cons part [] h = absurd (omega arith)
-last_part-cons part (next ∷ parts) h = refl
+last_part_cons part [] h = absurd (omega arith)
+last_part_cons part (next ∷ parts) h = refl
 
 -- a text has parts, so what comes before them is not the last
-pub last_part-more : (value : ℕ) (part text : List ℕ) → last_part (part ∷ parts_at value text)
+pub last_part_more : (value : ℕ) (part text : List ℕ) → last_part (part ∷ parts_at value text)
     ≡ last_part (parts_at value text)
-last_part-more value part text =
-    last_part-cons part (parts_at value text)
+last_part_more value part text =
+    last_part_cons part (parts_at value text)
     (omega (arith, length-slice_split (λ octet. octet == value) text))

@@ -21,11 +21,11 @@ after_one : {V : Type 0} (done : List V) (x : V) (o : Option (List V))
 after_one done x None = refl
 after_one done x (Some xs) = ap Some (sym (append_assoc done (x ∷ []) xs))
 
-pub read_each-next : {V : Type 0} (read : Data → Option V) (vs : List Value) (done : List V) (i : ℕ)
+pub read_each_next : {V : Type 0} (read : Data → Option V) (vs : List Value) (done : List V) (i : ℕ)
     (v : Value) (x : V) → i < length vs → v ≡ get_or vs i v → read (view v) ≡ Some x
     → option_map (λ xs. done ++ xs) (read_each read (items_view (drop i vs)))
     ≡ option_map (λ xs. (done ++ x ∷ []) ++ xs) (read_each read (items_view (drop (i + 1) vs)))
-read_each-next read vs done i v x below is reads =
+read_each_next read vs done i v x below is reads =
     let rest = read_each read (items_view (drop (i + 1) vs)) in
     ap (λ items. option_map (λ xs. done ++ xs) (read_each read items)) (next_item vs i v below is)
     ∙ ap (λ o. option_map (λ xs. done ++ xs)
@@ -33,10 +33,10 @@ read_each-next read vs done i v x below is reads =
     ∙ after_one done x rest
 
 -- where a value can't be read, all of them can't
-pub read_each-stop : {V : Type 0} (read : Data → Option V) (vs : List Value) (done : List V) (i : ℕ)
+pub read_each_stop : {V : Type 0} (read : Data → Option V) (vs : List Value) (done : List V) (i : ℕ)
     (v : Value) → i < length vs → v ≡ get_or vs i v → read (view v) ≡ None
     → option_map (λ xs. done ++ xs) (read_each read (items_view (drop i vs))) ≡ None
-read_each-stop read vs done i v below is reads =
+read_each_stop read vs done i v below is reads =
     let rest = read_each read (items_view (drop (i + 1) vs)) in
     ap (λ items. option_map (λ xs. done ++ xs) (read_each read items)) (next_item vs i v below is)
     ∙ ap (λ o. option_map (λ xs. done ++ xs)

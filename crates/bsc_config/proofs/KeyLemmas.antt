@@ -16,9 +16,9 @@ first_in owner (k ∷ ks) =
     cond (is_known owner (string_bytes k)) (first_in owner ks) (Some (string_bytes k))
 
 -- it is that of the table with these entries
-pub first_in-keys : (owner : Owner) (es : List (String Global × Value))
+pub first_in_keys : (owner : Owner) (es : List (String Global × Value))
     → first_unknown owner (members_view es) ≡ first_in owner (keys_of es)
-first_in-keys owner [] = refl
-first_in-keys owner (e ∷ es) =
+first_in_keys owner [] = refl
+first_in_keys owner (e ∷ es) =
     ap (λ o. cond (is_known owner (string_bytes e.0)) o (Some (string_bytes e.0)))
-    (first_in-keys owner es)
+    (first_in_keys owner es)

@@ -19,9 +19,9 @@ use Rattle.bsc_control.specs.Peer.{OutboundValue, PeerValue, no_outbound, no_pee
 use Rattle.bsc_control.specs.Peer.{with_outbound, outbound_after, is_selectable}
 use Rattle.bsc_control.specs.Table.{act_step, bid_step, next_call_step}
 use Rattle.bsc_control.proofs.Calls.{IsCalm, KeepsSpools, HasShape, shape, entry_within}
-use Rattle.bsc_control.proofs.Calls.{keeps_spools-next_call_step, next_is_called}
+use Rattle.bsc_control.proofs.Calls.{keeps_spools_next_call_step, next_is_called}
 use Rattle.bsc_control.proofs.PeerLists.{same_at, same_map, holds_at}
-use Rattle.bsc_control.proofs.Replacing.{replaced, same_of, same_lengths, settings-replaced}
+use Rattle.bsc_control.proofs.Replacing.{replaced, same_of, same_lengths, settings_replaced}
 use Rattle.bsc_control.proofs.SenderSteps.{LeavesPhase, KeepsAndLeaves}
 
 -- the station once the sender to a selection address of the present terminal, and its queue, are
@@ -41,9 +41,9 @@ same_spools c s o t =
     same_at (λ (p : PeerValue). p.spool) c.peers (current c) t (with_outbound (peer c) s o) no_peer
     refl
 
-pub keeps-stepped : (c : ControlValue) (s : ℕ) (o : OutboundValue)
+pub keeps_stepped : (c : ControlValue) (s : ℕ) (o : OutboundValue)
     → OutboundKeeps (outbound_of c (current c) s) o → Keeps c (stepped c s o)
-keeps-stepped c s o k =
+keeps_stepped c s o k =
     record {
       setup = refl;
       poll_list = refl;
@@ -55,29 +55,29 @@ keeps-stepped c s o k =
       offered = same_of (λ (x : OutboundValue). x.queue.offered) c (current c) s o k.offered;
     }
 
-settings-stepped : (c : ControlValue) (s : ℕ) (o : OutboundValue)
+settings_stepped : (c : ControlValue) (s : ℕ) (o : OutboundValue)
     → OutboundKeeps (outbound_of c (current c) s) o
     → ((t k : ℕ) → k < length (peer_at c t).outbounds → HasSettings c (outbound_of c t k))
     → (t k : ℕ) → k < length (peer_at (stepped c s o) t).outbounds
     → HasSettings (stepped c s o) (outbound_of (stepped c s o) t k)
-settings-stepped c s o keeps h = settings-replaced c (current c) s o keeps.setup keeps.format h
+settings_stepped c s o keeps h = settings_replaced c (current c) s o keeps.setup keeps.format h
 
 -- the outbound that was replaced is the new one
-outbound-stepped : (c : ControlValue) (s : ℕ) (o : OutboundValue) → current c < length c.peers → s
+outbound_stepped : (c : ControlValue) (s : ℕ) (o : OutboundValue) → current c < length c.peers → s
     < length (peer c).outbounds → outbound_of (stepped c s o) (current c) s ≡ o
-outbound-stepped c s o within there =
+outbound_stepped c s o within there =
     ap (λ (p : PeerValue). outbound_at p s)
     (get_or-set_same c.peers (current c) (with_outbound (peer c) s o) no_peer within)
     ∙ get_or-set_same (peer c).outbounds s o no_outbound there
 
 -- a fact about all phases but the one that is replaced holds of all phases once it holds of the new
 -- one
-phases-stepped : (P : ℕ → ℕ → Phase → Type 0) (c : ControlValue) (s : ℕ) (o : OutboundValue)
+phases_stepped : (P : ℕ → ℕ → Phase → Type 0) (c : ControlValue) (s : ℕ) (o : OutboundValue)
     → current c < length c.peers → s < length (peer c).outbounds
     → P (current c) s o.sender.phase
     → ((t k : ℕ) → ((t ≡ current c) × (k ≡ s) → ⊥) → P t k (phase_of c t k))
     → (t k : ℕ) → P t k (phase_of (stepped c s o) t k)
-phases-stepped P c s o within there new others t k =
+phases_stepped P c s o within there new others t k =
     holds_at (λ (j : ℕ) (p : PeerValue). (i : ℕ) → P j i (outbound_at p i).sender.phase) c.peers
     (current c) (with_outbound (peer c) s o) no_peer
     (holds_at (λ (i : ℕ) (x : OutboundValue). P (current c) i x.sender.phase) (peer c).outbounds s o
@@ -98,24 +98,24 @@ current_within : (c : ControlValue) → HasEntries c → current c < length c.pe
 current_within c h = entry_within c c.place h h.place
 
 -- the sender has ended its bid
-pub calm-stepped : (c : ControlValue) (s : ℕ) (o : OutboundValue) → OthersRest c s
+pub calm_stepped : (c : ControlValue) (s : ℕ) (o : OutboundValue) → OthersRest c s
     → OutboundKeeps (outbound_of c (current c) s) o → IsAtRest o.sender.phase
     → IsCalm (stepped c s o)
-calm-stepped c s o h keeps rests =
+calm_stepped c s o h keeps rests =
     record {
       rests =
-          phases-stepped (λ (t k : ℕ) (phase : Phase). IsAtRest phase) c s o
+          phases_stepped (λ (t k : ℕ) (phase : Phase). IsAtRest phase) c s o
           (current_within c h.entries) h.there rests h.rests;
-      settings = settings-stepped c s o keeps h.settings;
+      settings = settings_stepped c s o keeps h.settings;
     }
 
 -- the sender goes on
-pub keeps_spools-goes_on : (c : ControlValue) (s : ℕ) (o : OutboundValue) → OthersRest c s
+pub keeps_spools_goes_on : (c : ControlValue) (s : ℕ) (o : OutboundValue) → OthersRest c s
     → OutboundKeeps (outbound_of c (current c) s) o → IsGoing o.sender.phase
     → KeepsSpools c (record (stepped c s o) { task = Sending s })
-keeps_spools-goes_on c s o h keeps goes =
+keeps_spools_goes_on c s o h keeps goes =
     let within = current_within c h.entries in
-    let kept : Keeps c (stepped c s o) = keeps-stepped c s o keeps in
+    let kept : Keeps c (stepped c s o) = keeps_stepped c s o keeps in
     record {
       keeps =
           record {
@@ -135,11 +135,11 @@ keeps_spools-goes_on c s o h keeps goes =
                       h.there;
                   going =
                       subst (λ (x : OutboundValue). IsGoing x.sender.phase)
-                      (sym (outbound-stepped c s o within h.there)) goes;
+                      (sym (outbound_stepped c s o within h.there)) goes;
                 };
             rests =
                 λ t k unused.
-                phases-stepped (λ (j i : ℕ) (phase : Phase). ((j ≡ current c) × (i ≡ s) → ⊥)
+                phases_stepped (λ (j i : ℕ) (phase : Phase). ((j ≡ current c) × (i ≡ s) → ⊥)
                 → IsAtRest phase) c s o within h.there
                 (λ used. absurd (used (refl, refl)))
                 (λ j i other used. h.rests j i used)
@@ -147,7 +147,7 @@ keeps_spools-goes_on c s o h keeps goes =
             settings =
                 λ t k there.
                 let was : HasSettings (stepped c s o) (outbound_of (stepped c s o) t k) =
-                settings-stepped c s o keeps h.settings t k there in
+                settings_stepped c s o keeps h.settings t k there in
                 record { setup = was.setup; format = was.format };
           };
       spools = same_spools c s o;
@@ -172,38 +172,38 @@ keeps_spools_after a b c k spools f =
     }
 
 -- the sender acts, and after the bid the next call is made
-keeps_spools-perform_step : (c : ControlValue) (s : ℕ) (o : OutboundValue) (act : Act)
+keeps_spools_perform_step : (c : ControlValue) (s : ℕ) (o : OutboundValue) (act : Act)
     (after : After) → OthersRest c s → OutboundKeeps (outbound_of c (current c) s) o
     → LeavesPhase act o.sender.phase
     → (act ≡ a.Quiet → c.task ≡ Sending s)
     → KeepsSpools c (act_step (stepped c s o) s act after).control
-keeps_spools-perform_step c s o (a.Send text) after h keeps phase quiet =
-    keeps_spools-goes_on c s o h keeps phase
-keeps_spools-perform_step c s o a.Enq after h keeps phase quiet =
-    keeps_spools-goes_on c s o h keeps phase
-keeps_spools-perform_step c s o a.Over after h keeps phase quiet =
+keeps_spools_perform_step c s o (a.Send text) after h keeps phase quiet =
+    keeps_spools_goes_on c s o h keeps phase
+keeps_spools_perform_step c s o a.Enq after h keeps phase quiet =
+    keeps_spools_goes_on c s o h keeps phase
+keeps_spools_perform_step c s o a.Over after h keeps phase quiet =
     keeps_spools_after c (stepped c s o) (act_step (stepped c s o) s a.Over after).control
-    (keeps-stepped c s o keeps) (same_spools c s o)
-    (keeps_spools-next_call_step (stepped c s o) after (calm-stepped c s o h keeps phase))
-keeps_spools-perform_step c s o a.Quiet after h keeps phase quiet =
+    (keeps_stepped c s o keeps) (same_spools c s o)
+    (keeps_spools_next_call_step (stepped c s o) after (calm_stepped c s o h keeps phase))
+keeps_spools_perform_step c s o a.Quiet after h keeps phase quiet =
     subst (λ (task : Task). KeepsSpools c (record (stepped c s o) { task = task }))
-    (sym (quiet refl)) (keeps_spools-goes_on c s o h keeps phase)
+    (sym (quiet refl)) (keeps_spools_goes_on c s o h keeps phase)
 
 pub outbound_keeps : (o : OutboundValue) (step : SenderStep) → KeepsAndLeaves o.sender o.queue step
     → OutboundKeeps o (outbound_after step)
 outbound_keeps o step k = record { setup = k.setup; format = k.format; offered = k.offered }
 
-pub keeps_spools-bid_step : (c : ControlValue) (s : ℕ) (step : SenderStep) (after : After)
+pub keeps_spools_bid_step : (c : ControlValue) (s : ℕ) (step : SenderStep) (after : After)
     → OthersRest c s
     → KeepsAndLeaves (outbound_of c (current c) s).sender (outbound_of c (current c) s).queue step
     → (step.act ≡ a.Quiet → c.task ≡ Sending s) → KeepsSpools c (bid_step c s step after).control
-keeps_spools-bid_step c s step after h keeps quiet =
-    keeps_spools-perform_step c s (outbound_after step) step.act after h
+keeps_spools_bid_step c s step after h keeps quiet =
+    keeps_spools_perform_step c s (outbound_after step) step.act after h
     (outbound_keeps (outbound_of c (current c) s) step keeps) keeps.phase quiet
 
-shape-stepped : (c : ControlValue) (s : ℕ) (o : OutboundValue) → HasShape c
+shape_stepped : (c : ControlValue) (s : ℕ) (o : OutboundValue) → HasShape c
     → HasShape (stepped c s o)
-shape-stepped c s o h =
+shape_stepped c s o h =
     let lengths : length (stepped c s o).peers ≡ length c.peers =
     length-set c.peers (current c) (with_outbound (peer c) s o) in
     record {
@@ -219,10 +219,10 @@ shape-stepped c s o h =
     }
 
 -- a bid to selection address s changes nothing of the addresses above it
-next-stepped : (c : ControlValue) (s : ℕ) (o : OutboundValue) (after : After)
+next_stepped : (c : ControlValue) (s : ℕ) (o : OutboundValue) (after : After)
     → (after ≡ Selection s) ⊎ (after ≡ Interruption) → next_call (stepped c s o) after
     ≡ next_call c after
-next-stepped c s o after (inl e) =
+next_stepped c s o after (inl e) =
     let above : drop (s + 1) (peer (stepped c s o)).outbounds ≡ drop (s + 1) (peer c).outbounds =
     same_at (λ (p : PeerValue). drop (s + 1) p.outbounds) c.peers (current c) (current c)
     (with_outbound (peer c) s o) no_peer
@@ -234,31 +234,31 @@ next-stepped c s o after (inl e) =
           way_at (s + 1) (position is_selectable os);
     }) above in
     subst (λ (x : After). next_call (stepped c s o) x ≡ next_call c x) (sym e) same
-next-stepped c s o after (inr e) =
+next_stepped c s o after (inr e) =
     subst (λ (x : After). next_call (stepped c s o) x ≡ next_call c x) (sym e) refl
 
 -- a call after a bid is the next one
-calls-perform_step : (c : ControlValue) (s : ℕ) (o : OutboundValue) (act : Act) (after : After)
+calls_perform_step : (c : ControlValue) (s : ℕ) (o : OutboundValue) (act : Act) (after : After)
     (address : List ℕ) → OthersRest c s → OutboundKeeps (outbound_of c (current c) s) o
     → LeavesPhase act o.sender.phase
     → (after ≡ Selection s) ⊎ (after ≡ Interruption)
     → (act_step (stepped c s o) s act after).sent ≡ Some (m.Call address)
     → IsCalled (act_step (stepped c s o) s act after).control (next_call c after) address
-calls-perform_step c s o (a.Send text) after address h keeps phase which sent = absurd (cc)
-calls-perform_step c s o a.Enq after address h keeps phase which sent = absurd (cc)
-calls-perform_step c s o a.Over after address h keeps phase which sent =
+calls_perform_step c s o (a.Send text) after address h keeps phase which sent = absurd (cc)
+calls_perform_step c s o a.Enq after address h keeps phase which sent = absurd (cc)
+calls_perform_step c s o a.Over after address h keeps phase which sent =
     subst (λ (call : Call). IsCalled (next_call_step (stepped c s o) after).control call address)
-    (next-stepped c s o after which)
-    (next_is_called (stepped c s o) after address (shape-stepped c s o (shape c h.entries))
-    (calm-stepped c s o h keeps phase) sent)
-calls-perform_step c s o a.Quiet after address h keeps phase which sent = absurd (cc)
+    (next_stepped c s o after which)
+    (next_is_called (stepped c s o) after address (shape_stepped c s o (shape c h.entries))
+    (calm_stepped c s o h keeps phase) sent)
+calls_perform_step c s o a.Quiet after address h keeps phase which sent = absurd (cc)
 
-pub calls-bid_step : (c : ControlValue) (s : ℕ) (step : SenderStep) (after : After)
+pub calls_bid_step : (c : ControlValue) (s : ℕ) (step : SenderStep) (after : After)
     (address : List ℕ) → OthersRest c s
     → KeepsAndLeaves (outbound_of c (current c) s).sender (outbound_of c (current c) s).queue step
     → (after ≡ Selection s) ⊎ (after ≡ Interruption)
     → (bid_step c s step after).sent ≡ Some (m.Call address)
     → IsCalled (bid_step c s step after).control (next_call c after) address
-calls-bid_step c s step after address h keeps which sent =
-    calls-perform_step c s (outbound_after step) step.act after address h
+calls_bid_step c s step after address h keeps which sent =
+    calls_perform_step c s (outbound_after step) step.act after address h
     (outbound_keeps (outbound_of c (current c) s) step keeps) keeps.phase which sent

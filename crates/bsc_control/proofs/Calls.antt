@@ -59,9 +59,9 @@ pub same_outbounds : (c : ControlValue) (t : ℕ) (p : PeerValue) → IsSamePeer
 same_outbounds c t p same j =
     same_at (λ (x : PeerValue). x.outbounds) c.peers t j p no_peer same.outbounds
 
-pub keeps-moved : (c : ControlValue) (t : ℕ) (p : PeerValue) (place : ℕ) (task : Task)
+pub keeps_moved : (c : ControlValue) (t : ℕ) (p : PeerValue) (place : ℕ) (task : Task)
     (failures wacks : ℕ) → IsSamePeer c t p → Keeps c (moved c t p place task failures wacks)
-keeps-moved c t p place task failures wacks same =
+keeps_moved c t p place task failures wacks same =
     record {
       setup = refl;
       poll_list = refl;
@@ -73,20 +73,20 @@ keeps-moved c t p place task failures wacks same =
           (same_outbounds c t p same j);
     }
 
-pub rests-moved : (c : ControlValue) (t : ℕ) (p : PeerValue) → IsSamePeer c t p → (j s : ℕ)
+pub rests_moved : (c : ControlValue) (t : ℕ) (p : PeerValue) → IsSamePeer c t p → (j s : ℕ)
     → IsAtRest (phase_of c j s)
     → IsAtRest (get_or (get_or (set c.peers t p) j no_peer).outbounds s no_outbound).sender.phase
-rests-moved c t p same j s h =
+rests_moved c t p same j s h =
     subst (λ (os : List OutboundValue). IsAtRest (get_or os s no_outbound).sender.phase)
     (sym (same_outbounds c t p same j)) h
 
-pub settings-moved : (c : ControlValue) (t : ℕ) (p : PeerValue) (place : ℕ) (task : Task)
+pub settings_moved : (c : ControlValue) (t : ℕ) (p : PeerValue) (place : ℕ) (task : Task)
     (failures wacks : ℕ) → IsSamePeer c t p
     → ((j s : ℕ) → s < length (peer_at c j).outbounds → HasSettings c (outbound_of c j s))
     → (j s : ℕ) → s < length (peer_at (moved c t p place task failures wacks) j).outbounds
     → HasSettings (moved c t p place task failures wacks)
     (outbound_of (moved c t p place task failures wacks) j s)
-settings-moved c t p place task failures wacks same h j s there =
+settings_moved c t p place task failures wacks same h j s there =
     let e = same_outbounds c t p same j in
     let k : HasSettings c (outbound_of c j s) =
     h j s (subst (λ (os : List OutboundValue). s < length os) e there) in
@@ -97,19 +97,19 @@ settings-moved c t p place task failures wacks same h j s there =
     }
 
 -- a polling address is called
-pub keeps_spools-poll_call_step : (c : ControlValue) (place failures : ℕ) → IsCalm c
+pub keeps_spools_poll_call_step : (c : ControlValue) (place failures : ℕ) → IsCalm c
     → KeepsSpools c (poll_call_step c place failures).control
-keeps_spools-poll_call_step c place failures calm =
+keeps_spools_poll_call_step c place failures calm =
     let t : ℕ = terminal_of_entry c place in
     let p : PeerValue = record (peer_at c t) { receiver = new_receiver true } in
     let same : IsSamePeer c t p = record { terminal = refl; outbounds = refl } in
     record {
-      keeps = keeps-moved c t p place (Polling Nothing) failures 0 same;
+      keeps = keeps_moved c t p place (Polling Nothing) failures 0 same;
       orderly =
           record {
             suits = value_at (λ (x : PeerValue). x.receiver) c.peers t p no_peer refl;
-            rests = λ j s unused. rests-moved c t p same j s (calm.rests j s);
-            settings = settings-moved c t p place (Polling Nothing) failures 0 same calm.settings;
+            rests = λ j s unused. rests_moved c t p same j s (calm.rests j s);
+            settings = settings_moved c t p place (Polling Nothing) failures 0 same calm.settings;
           };
       spools = λ j. same_at (λ (x : PeerValue). x.spool) c.peers t j p no_peer refl;
     }
@@ -129,22 +129,22 @@ selected_in p q s e h =
     }
 
 -- a selection address is called for which records wait
-pub keeps_spools-selection_call_step : (c : ControlValue) (place s : ℕ) → IsCalm c
+pub keeps_spools_selection_call_step : (c : ControlValue) (place s : ℕ) → IsCalm c
     → IsSelected (peer_at c (terminal_of_entry c place)) s
     → KeepsSpools c (selection_call_step c place s).control
-keeps_spools-selection_call_step c place s calm selected =
+keeps_spools_selection_call_step c place s calm selected =
     let t : ℕ = terminal_of_entry c place in
     let p : PeerValue = record (peer_at c t) { urgent = false } in
     let same : IsSamePeer c t p = record { terminal = refl; outbounds = refl } in
     record {
-      keeps = keeps-moved c t p place (Selecting s false) 0 0 same;
+      keeps = keeps_moved c t p place (Selecting s false) 0 0 same;
       orderly =
           record {
             suits =
                 selected_in (peer_at c t) (get_or (set c.peers t p) t no_peer) s
                 (same_outbounds c t p same t) selected;
-            rests = λ j k unused. rests-moved c t p same j k (calm.rests j k);
-            settings = settings-moved c t p place (Selecting s false) 0 0 same calm.settings;
+            rests = λ j k unused. rests_moved c t p same j k (calm.rests j k);
+            settings = settings_moved c t p place (Selecting s false) 0 0 same calm.settings;
           };
       spools = λ j. same_at (λ (x : PeerValue). x.spool) c.peers t j p no_peer refl;
     }
@@ -189,37 +189,37 @@ selected_way p from s (Some i) rests e h =
     subst (λ (k : ℕ). IsSelected p k) at (selected_place p from i rests e)
 
 -- a call by a way that is the polling address or an address for which records wait
-keeps_spools-way_call_step : (c : ControlValue) (place : ℕ) (way : Way) → IsCalm c
+keeps_spools_way_call_step : (c : ControlValue) (place : ℕ) (way : Way) → IsCalm c
     → ((s : ℕ) → way ≡ ToTerminal s → IsSelected (peer_at c (terminal_of_entry c place)) s)
     → KeepsSpools c (way_call_step c place way).control
-keeps_spools-way_call_step c place FromTerminal calm selected =
-    keeps_spools-poll_call_step c place 0 calm
-keeps_spools-way_call_step c place (ToTerminal s) calm selected =
-    keeps_spools-selection_call_step c place s calm (selected s refl)
+keeps_spools_way_call_step c place FromTerminal calm selected =
+    keeps_spools_poll_call_step c place 0 calm
+keeps_spools_way_call_step c place (ToTerminal s) calm selected =
+    keeps_spools_selection_call_step c place s calm (selected s refl)
 
-selected-from : (c : ControlValue) (t from : ℕ) → IsCalm c → (s : ℕ) → way_from (peer_at c t) from
+selected_from : (c : ControlValue) (t from : ℕ) → IsCalm c → (s : ℕ) → way_from (peer_at c t) from
     ≡ ToTerminal s → IsSelected (peer_at c t) s
-selected-from c t from calm s h =
+selected_from c t from calm s h =
     selected_way (peer_at c t) from s (position is_selectable (drop from (peer_at c t).outbounds))
     (calm.rests t) refl h
 
 -- whatever it comes after, the way of the next call is the polling address or one for which records
 -- wait
-pub next-selected : (c : ControlValue) (after : After) → IsCalm c → (s : ℕ)
+pub next_selected : (c : ControlValue) (after : After) → IsCalm c → (s : ℕ)
     → (next_call c after).way ≡ ToTerminal s
     → IsSelected (peer_at c (terminal_of_entry c (next_call c after).place)) s
-next-selected c Start calm s h = selected-from c (current c) 0 calm s h
-next-selected c (Selection k) calm s h = selected-from c (current c) (k + 1) calm s h
-next-selected c Interruption calm s h = absurd (cc)
-next-selected c (Poll true) calm s h = selected-from c (current c) 0 calm s h
-next-selected c (Poll false) calm s h =
-    selected-from c (terminal_of_entry c (next_place c)) 0 calm s h
+next_selected c Start calm s h = selected_from c (current c) 0 calm s h
+next_selected c (Selection k) calm s h = selected_from c (current c) (k + 1) calm s h
+next_selected c Interruption calm s h = absurd (cc)
+next_selected c (Poll true) calm s h = selected_from c (current c) 0 calm s h
+next_selected c (Poll false) calm s h =
+    selected_from c (terminal_of_entry c (next_place c)) 0 calm s h
 
-pub keeps_spools-next_call_step : (c : ControlValue) (after : After) → IsCalm c
+pub keeps_spools_next_call_step : (c : ControlValue) (after : After) → IsCalm c
     → KeepsSpools c (next_call_step c after).control
-keeps_spools-next_call_step c after calm =
-    keeps_spools-way_call_step c (next_call c after).place (next_call c after).way calm
-    (next-selected c after calm)
+keeps_spools_next_call_step c after calm =
+    keeps_spools_way_call_step c (next_call c after).place (next_call c after).way calm
+    (next_selected c after calm)
 
 within_if : (b : Bool) (place n : ℕ) → place < n → nat_eq (place + 1) n ≡ b
     → (if b then 0 else place + 1) < n
@@ -324,4 +324,4 @@ pub next_is_called : (c : ControlValue) (after : After) (address : List ℕ) →
     → IsCalled (next_call_step c after).control (next_call c after) address
 next_is_called c after address shaped calm sent =
     calls_it c (next_call c after).place (next_call c after).way address shaped
-    (next_call_within c after shaped.place) (next-selected c after calm) sent
+    (next_call_within c after shaped.place) (next_selected c after calm) sent

@@ -23,9 +23,9 @@ use Rattle.bsc_control.specs.Peer.{with_outbound, offered, outbound_released}
 use Rattle.bsc_control.specs.Table.{Hears, ActsOnSilence}
 use Rattle.bsc_control.specs.Ways.{IsSelection, select_of}
 use Rattle.bsc_control.proofs.Noise.{noise_changes_nothing}
-use Rattle.bsc_control.proofs.Entries.{peer-with_outbound, entries-with_peer}
+use Rattle.bsc_control.proofs.Entries.{peer_with_outbound, entries_with_peer}
 use Rattle.bsc_control.proofs.PeerLists.{same_map}
-use Rattle.bsc_control.proofs.Replacing.{replaced, Follows, orderly-replaced, orderly-flags}
+use Rattle.bsc_control.proofs.Replacing.{replaced, Follows, orderly_replaced, orderly_flags}
 use Rattle.bsc_text.proofs.Choice.{choose}
 use Rattle.bsc_control.proofs.Steps.{HearingKeeps, SilenceKeeps, hearing_keeps, silence_keeps}
 
@@ -79,9 +79,9 @@ after_silence_is old new sent is entries row =
       spools = well.spools;
     }
 
-pub keeps_setup-with_peer : (c : ControlValue) (t : ℕ) (p : PeerValue) → p.terminal
+pub keeps_setup_with_peer : (c : ControlValue) (t : ℕ) (p : PeerValue) → p.terminal
     ≡ (peer_at c t).terminal → KeepsSetup c (with_peer c t p)
-keeps_setup-with_peer c t p same =
+keeps_setup_with_peer c t p same =
     record {
       poll_list = refl;
       terminals =
@@ -91,14 +91,14 @@ keeps_setup-with_peer c t p same =
     }
 
 -- an outbound is replaced by one that follows it
-control-replaced : (c : ControlValue) (t s : ℕ) (o : OutboundValue) → IsControl c → t
+control_replaced : (c : ControlValue) (t s : ℕ) (o : OutboundValue) → IsControl c → t
     < length c.peers → s < length (peer_at c t).outbounds → o.sender.setup
     ≡ (outbound_of c t s).sender.setup → o.queue.format ≡ (outbound_of c t s).queue.format
     → Follows (outbound_of c t s) o → HasEntries (replaced c t s o) → IsControl (replaced c t s o)
-control-replaced c t s o h within there setup format follows entries =
+control_replaced c t s o h within there setup format follows entries =
     still_control c (replaced c t s o) h
-    (keeps_setup-with_peer c t (with_outbound (peer_at c t) s o) refl) entries
-    (orderly-replaced c t s o within there setup format follows h.orderly)
+    (keeps_setup_with_peer c t (with_outbound (peer_at c t) s o) refl) entries
+    (orderly_replaced c t s o within there setup format follows h.orderly)
 
 more_wait : (q : QueueValue) (r : List ℕ) → 1 ≤ length (waiting q) → 1
     ≤ length (drop q.known (q.offered ++ r ∷ []))
@@ -127,8 +127,8 @@ unchanged o =
     }
 
 -- a record is offered
-keeps_outbound-offered : (o : OutboundValue) (r : List ℕ) → KeepsOutbound o (offered o r)
-keeps_outbound-offered o r =
+keeps_outbound_offered : (o : OutboundValue) (r : List ℕ) → KeepsOutbound o (offered o r)
+keeps_outbound_offered o r =
     record {
       setup = refl;
       format = refl;
@@ -142,22 +142,22 @@ keeps_outbound-offered o r =
           };
     }
 
-pub keeps_outbound-offer : {E : Type 0} (answer : Result (Unit {0}) E) (o x : OutboundValue)
+pub keeps_outbound_offer : {E : Type 0} (answer : Result (Unit {0}) E) (o x : OutboundValue)
     (r : List ℕ) → OnOk answer (x ≡ offered o r) → OnErr answer (x ≡ o) → KeepsOutbound o x
-keeps_outbound-offer (Ok u) o x r ok err =
-    subst (KeepsOutbound o) (sym ok) (keeps_outbound-offered o r)
-keeps_outbound-offer (Err e) o x r ok err = subst (KeepsOutbound o) (sym err) (unchanged o)
+keeps_outbound_offer (Ok u) o x r ok err =
+    subst (KeepsOutbound o) (sym ok) (keeps_outbound_offered o r)
+keeps_outbound_offer (Err e) o x r ok err = subst (KeepsOutbound o) (sym err) (unchanged o)
 
 -- a release changes only an outbound in doubt
 abbrev pub after_release : ReleaseStep → OutboundValue
 after_release step = record { sender = step.sender; queue = step.queue }
 
-release-in : (o : OutboundValue) (phase : Phase) (count : ℕ) → o.sender.phase ≡ phase
+keeps_release_in : (o : OutboundValue) (phase : Phase) (count : ℕ) → o.sender.phase ≡ phase
     → KeepsOutbound o (after_release (release_in o.sender o.queue phase count))
-release-in o Idle count e = unchanged o
-release-in o (Unanswered b) count e = unchanged o
-release-in o (Held end alternation) count e = unchanged o
-release-in o (InDoubt k) count e =
+keeps_release_in o Idle count e = unchanged o
+keeps_release_in o (Unanswered b) count e = unchanged o
+keeps_release_in o (Held end alternation) count e = unchanged o
+keeps_release_in o (InDoubt k) count e =
     choose (λ (x : ReleaseStep). KeepsOutbound o (after_release x))
     ((count == o.queue.known) || (count == (o.queue.known + k))) _ _
     (record {
@@ -173,10 +173,10 @@ release-in o (InDoubt k) count e =
     })
     (unchanged o)
 
-pub keeps_outbound-release : (o x : OutboundValue) (count : ℕ) → x ≡ outbound_released o count
+pub keeps_outbound_release : (o x : OutboundValue) (count : ℕ) → x ≡ outbound_released o count
     → KeepsOutbound o x
-keeps_outbound-release o x count e =
-    subst (KeepsOutbound o) (sym e) (release-in o o.sender.phase count refl)
+keeps_outbound_release o x count e =
+    subst (KeepsOutbound o) (sym e) (keeps_release_in o o.sender.phase count refl)
 
 -- what a call on one terminal leaves: still a control station, with the same addresses
 pub record StaysControl (old new : ControlValue) : Type 0 where
@@ -184,14 +184,14 @@ pub record StaysControl (old new : ControlValue) : Type 0 where
   pub same : terminals new ≡ terminals old
 
 -- the urgent flag of a terminal is set
-pub stays-set_urgent : (c : ControlValue) (t : ℕ) → IsControl c → t < length c.peers
+pub stays_set_urgent : (c : ControlValue) (t : ℕ) → IsControl c → t < length c.peers
     → StaysControl c (with_peer c t (record (peer_at c t) { urgent = true }))
-stays-set_urgent c t h within =
+stays_set_urgent c t h within =
     let p : PeerValue = record (peer_at c t) { urgent = true } in
     let was : IsPeer (peer_at c t) = h.entries.peers t no_peer within in
-    let keeps : KeepsSetup c (with_peer c t p) = keeps_setup-with_peer c t p refl in
+    let keeps : KeepsSetup c (with_peer c t p) = keeps_setup_with_peer c t p refl in
     let entries : HasEntries (with_peer c t p) =
-    entries-with_peer c t p (record {
+    entries_with_peer c t p (record {
       terminal = was.terminal;
       outbounds = was.outbounds;
       ready = was.ready;
@@ -199,23 +199,23 @@ stays-set_urgent c t h within =
     record {
       control =
           still_control c (with_peer c t p) h keeps entries
-          (orderly-flags c t p refl refl h.orderly);
+          (orderly_flags c t p refl refl h.orderly);
       same = keeps.terminals;
     }
 
 -- what is sent to a selection address is replaced
-pub stays-replaced : (c : ControlValue) (t s : ℕ) (x : OutboundValue) → IsControl c → t
+pub stays_replaced : (c : ControlValue) (t s : ℕ) (x : OutboundValue) → IsControl c → t
     < length c.peers → s < length (peer_at c t).outbounds → IsOutbound x
     → KeepsOutbound (outbound_of c t s) x → StaysControl c (replaced c t s x)
-stays-replaced c t s x h within there ready keeps =
+stays_replaced c t s x h within there ready keeps =
     let p : PeerValue = with_outbound (peer_at c t) s x in
     let entries : HasEntries (replaced c t s x) =
-    entries-with_peer c t p (peer-with_outbound (peer_at c t) s x ready
+    entries_with_peer c t p (peer_with_outbound (peer_at c t) s x ready
     (h.entries.peers t no_peer within)) h.entries in
     record {
       control =
-          control-replaced c t s x h within there keeps.setup keeps.format keeps.follows entries;
-      same = (keeps_setup-with_peer c t p refl).terminals;
+          control_replaced c t s x h within there keeps.setup keeps.format keeps.follows entries;
+      same = (keeps_setup_with_peer c t p refl).terminals;
     }
 
 pub selection_there : (way : Way) (n : ℕ) → IsSelection way n → select_of way < n

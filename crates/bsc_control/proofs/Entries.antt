@@ -6,18 +6,18 @@ use Rattle.std.specs.List.{All}
 use Rattle.bsc_control.specs.Control.{ControlValue, HasEntries, with_peer}
 use Rattle.bsc_control.specs.Peer.{OutboundValue, PeerValue, IsOutbound, IsPeer, with_outbound}
 
-pub peer-with_outbound : (p : PeerValue) (s : ℕ) (o : OutboundValue) → IsOutbound o → IsPeer p
+pub peer_with_outbound : (p : PeerValue) (s : ℕ) (o : OutboundValue) → IsOutbound o → IsPeer p
     → IsPeer (with_outbound p s o)
-peer-with_outbound p s o is h =
+peer_with_outbound p s o is h =
     record {
       terminal = h.terminal;
       outbounds = length-set p.outbounds s o ∙ h.outbounds;
       ready = All-set IsOutbound p.outbounds s o is h.ready;
     }
 
-pub entries-with_peer : (c : ControlValue) (t : ℕ) (p : PeerValue) → IsPeer p → HasEntries c
+pub entries_with_peer : (c : ControlValue) (t : ℕ) (p : PeerValue) → IsPeer p → HasEntries c
     → HasEntries (with_peer c t p)
-entries-with_peer c t p is h =
+entries_with_peer c t p is h =
     record {
       place = h.place;
       entries =

@@ -7,8 +7,8 @@ use Rattle.bsc_control.specs.Control.{ControlValue, peer_at, with_peer}
 use Rattle.bsc_control.specs.Kept.{IsControl, outbound_of}
 use Rattle.bsc_control.specs.Peer.{OutboundValue, PeerValue, IsOutbound, no_outbound, no_peer}
 use Rattle.bsc_control.specs.Peer.{outbound_at, with_outbound}
-use Rattle.bsc_control.proofs.Controls.{KeepsOutbound, StaysControl, stays-set_urgent}
-use Rattle.bsc_control.proofs.Controls.{stays-replaced}
+use Rattle.bsc_control.proofs.Controls.{KeepsOutbound, StaysControl, stays_set_urgent}
+use Rattle.bsc_control.proofs.Controls.{stays_replaced}
 use Rattle.bsc_control.proofs.Replacing.{replaced}
 
 -- the station c has the fields d, and what it keeps for this terminal has the fields p
@@ -58,25 +58,25 @@ replaced_is c d t s p x h =
     ∙ ap (λ (y : ControlValue). with_peer y t (with_outbound (peer_at c t) s x)) h.station
 
 -- the urgent flag is set
-pub stays-flag : {c d : ControlValue} {t : ℕ} {p : PeerValue} → IsControl c
+pub stays_flag : {c d : ControlValue} {t : ℕ} {p : PeerValue} → IsControl c
     → IsPeerReached c d t p → StaysControl c (with_peer d t (record p { urgent = true }))
-stays-flag {c} {d} {t} {p} h reached =
+stays_flag {c} {d} {t} {p} h reached =
     let was : PeerValue = peer_at c t in
     let same : with_peer d t (record p { urgent = true })
     ≡ with_peer c t (record was { urgent = true }) =
     ap (λ (y : PeerValue). with_peer d t (record y { urgent = true })) reached.peer
     ∙ ap (λ (y : ControlValue). with_peer y t (record was { urgent = true })) reached.station in
-    subst (StaysControl c) (sym same) (stays-set_urgent c t h reached.within)
+    subst (StaysControl c) (sym same) (stays_set_urgent c t h reached.within)
 
 -- what is sent to the address is replaced
-pub stays-reached : {c d : ControlValue} {t s : ℕ} {p : PeerValue} {o x : OutboundValue}
+pub stays_reached : {c d : ControlValue} {t s : ℕ} {p : PeerValue} {o x : OutboundValue}
     → IsControl c → IsReached c d t s p o → IsOutbound x → KeepsOutbound o x
     → StaysControl c (with_peer d t (with_outbound p s x))
-stays-reached {c} {d} {t} {s} {p} {o} {x} h reached ready keeps =
+stays_reached {c} {d} {t} {s} {p} {o} {x} h reached ready keeps =
     let kept : KeepsOutbound (outbound_of c t s) x =
     subst (λ (y : OutboundValue). KeepsOutbound y x) reached.outbound keeps in
     subst (StaysControl c) (sym (replaced_is c d t s p x reached.reached))
-    (stays-replaced c t s x h reached.reached.within reached.there ready kept)
+    (stays_replaced c t s x h reached.reached.within reached.there ready kept)
 
 -- by what is there: nothing changes
 same_replaced : (c : ControlValue) (t s : ℕ) → replaced c t s (outbound_of c t s) ≡ c
@@ -85,11 +85,11 @@ same_replaced c t s =
     (set-get_or (peer_at c t).outbounds s no_outbound)
     ∙ ap (λ ps. record c { peers = ps }) (set-get_or c.peers t no_peer)
 
-pub unchanged-reached : {E : Type 0} {c d : ControlValue} {t s : ℕ} {p : PeerValue}
+pub unchanged_reached : {E : Type 0} {c d : ControlValue} {t s : ℕ} {p : PeerValue}
     {o : OutboundValue}
     (answer : Result (Unit {0}) E) (x : OutboundValue) → IsReached c d t s p o
     → OnErr answer (x ≡ o) → OnErr answer (with_peer d t (with_outbound p s x) ≡ c)
-unchanged-reached (Ok u) x reached err = err
-unchanged-reached {E} {c} {d} {t} {s} {p} {o} (Err e) x reached err =
+unchanged_reached (Ok u) x reached err = err
+unchanged_reached {E} {c} {d} {t} {s} {p} {o} (Err e) x reached err =
     replaced_is c d t s p x reached.reached ∙ ap (replaced c t s) (err ∙ reached.outbound)
     ∙ same_replaced c t s

@@ -22,21 +22,21 @@ use Rattle.bsc_control.proofs.Owners.{Owner}
 pub all_differ : (xs : List (List ℕ)) → IsDistinct (pointwise ◌==◌) xs → AllPairs (λ a b. a ≢ b) xs
 all_differ xs h = AllPairs-from_IsDistinct bytes_eq-Decides xs h
 
-slice_get-front : (xs ys : List (List ℕ)) (k : ℕ) → k < length xs → slice_get (xs ++ ys) k
+slice_get_front : (xs ys : List (List ℕ)) (k : ℕ) → k < length xs → slice_get (xs ++ ys) k
     ≡ slice_get xs k
-slice_get-front [] ys k within = absurd (omega (arith, within))
-slice_get-front (x ∷ xs) ys zero within = refl
-slice_get-front (x ∷ xs) ys (suc k) within = slice_get-front xs ys k (omega arith)
+slice_get_front [] ys k within = absurd (omega (arith, within))
+slice_get_front (x ∷ xs) ys zero within = refl
+slice_get_front (x ∷ xs) ys (suc k) within = slice_get_front xs ys k (omega arith)
 
-slice_get-seam : (xs ys : List (List ℕ)) (y : List ℕ) → slice_get (xs ++ y ∷ ys) (length xs)
+slice_get_seam : (xs ys : List (List ℕ)) (y : List ℕ) → slice_get (xs ++ y ∷ ys) (length xs)
     ≡ Some y
-slice_get-seam [] ys y = refl
-slice_get-seam (x ∷ xs) ys y = slice_get-seam xs ys y
+slice_get_seam [] ys y = refl
+slice_get_seam (x ∷ xs) ys y = slice_get_seam xs ys y
 
 -- a repeat stays the first one whatever comes after
-repeat-more : (xs ys : List (List ℕ)) (i j : ℕ) → IsFirstRepeat xs i j
+repeat_more : (xs ys : List (List ℕ)) (i j : ℕ) → IsFirstRepeat xs i j
     → IsFirstRepeat (xs ++ ys) i j
-repeat-more xs ys i j h =
+repeat_more xs ys i j h =
     let before : i < j = h.before in
     let within : j < length xs = h.within in
     let below : i < length xs = omega arith in
@@ -44,32 +44,32 @@ repeat-more xs ys i j h =
     record {
       before = before;
       within = omega (arith, within, length-append xs ys);
-      same = slice_get-front xs ys i below ∙ h.same ∙ sym (slice_get-front xs ys j within);
+      same = slice_get_front xs ys i below ∙ h.same ∙ sym (slice_get_front xs ys j within);
       first = subst (AllPairs (λ a b. a ≢ b)) (sym (take-append-le j xs ys upto)) h.first;
     }
 
 -- so does a clash
-pub refuses-more : (old more rest : List (List ℕ)) (e : SetupError) → RefusesAddresses old more e
+pub refuses_more : (old more rest : List (List ℕ)) (e : SetupError) → RefusesAddresses old more e
     → RefusesAddresses old (more ++ rest) e
-refuses-more old more rest Memory h = tt
-refuses-more old more rest (SameAddress i j) h =
+refuses_more old more rest Memory h = tt
+refuses_more old more rest (SameAddress i j) h =
     subst (λ xs. IsFirstRepeat xs i j) (append_assoc old more rest)
-    (repeat-more (old ++ more) rest i j h)
-refuses-more old more rest NoTerminal h = absurd h
-refuses-more old more rest TooMany h = absurd h
-refuses-more old more rest EmptyPollList h = absurd h
-refuses-more old more rest (PollList place) h = absurd h
+    (repeat_more (old ++ more) rest i j h)
+refuses_more old more rest NoTerminal h = absurd h
+refuses_more old more rest TooMany h = absurd h
+refuses_more old more rest EmptyPollList h = absurd h
+refuses_more old more rest (PollList place) h = absurd h
 
 -- what came in between may be told of as new
-pub refuses-earlier : (old first more : List (List ℕ)) (e : SetupError)
+pub refuses_earlier : (old first more : List (List ℕ)) (e : SetupError)
     → RefusesAddresses (old ++ first) more e → RefusesAddresses old (first ++ more) e
-refuses-earlier old first more Memory h = tt
-refuses-earlier old first more (SameAddress i j) h =
+refuses_earlier old first more Memory h = tt
+refuses_earlier old first more (SameAddress i j) h =
     subst (λ xs. IsFirstRepeat xs i j) (append_assoc old first more) h
-refuses-earlier old first more NoTerminal h = absurd h
-refuses-earlier old first more TooMany h = absurd h
-refuses-earlier old first more EmptyPollList h = absurd h
-refuses-earlier old first more (PollList place) h = absurd h
+refuses_earlier old first more NoTerminal h = absurd h
+refuses_earlier old first more TooMany h = absurd h
+refuses_earlier old first more EmptyPollList h = absurd h
+refuses_earlier old first more (PollList place) h = absurd h
 
 -- an address that is found among keys that differ is the first repeat
 pub first_repeat : (es : List Owner) (a : List ℕ) (i n : ℕ)
@@ -86,8 +86,8 @@ first_repeat es a i n found counted distinct =
     (record {
       before = below;
       within = omega (arith, length-append ks (a ∷ []));
-      same = slice_get-front ks (a ∷ []) i below ∙ slice_get-get_or ks i a below
-          ∙ ap Some (sym same) ∙ sym (slice_get-seam ks [] a);
+      same = slice_get_front ks (a ∷ []) i below ∙ slice_get-get_or ks i a below
+          ∙ ap Some (sym same) ∙ sym (slice_get_seam ks [] a);
       first =
           subst (AllPairs (λ x y. x ≢ y)) (sym (take-append_seam ks (a ∷ [])))
           (all_differ ks distinct);

@@ -32,12 +32,12 @@ same_lengths c t s o j =
     same_at (λ (p : PeerValue). length p.outbounds) c.peers t j (with_outbound (peer_at c t) s o)
     no_peer (length-set (peer_at c t).outbounds s o)
 
-pub settings-replaced : (c : ControlValue) (t s : ℕ) (o : OutboundValue) → o.sender.setup
+pub settings_replaced : (c : ControlValue) (t s : ℕ) (o : OutboundValue) → o.sender.setup
     ≡ (outbound_of c t s).sender.setup → o.queue.format ≡ (outbound_of c t s).queue.format
     → ((j k : ℕ) → k < length (peer_at c j).outbounds → HasSettings c (outbound_of c j k))
     → (j k : ℕ) → k < length (peer_at (replaced c t s o) j).outbounds
     → HasSettings (replaced c t s o) (outbound_of (replaced c t s o) j k)
-settings-replaced c t s o setup format h j k there =
+settings_replaced c t s o setup format h j k there =
     let was : HasSettings c (outbound_of c j k) =
     h j k (subst (λ (n : ℕ). k < n) (same_lengths c t s o j) there) in
     record {
@@ -89,11 +89,11 @@ suits_following (Polling WithoutRvi) p q receiver lengths follows suits = tt
 suits_following (Polling WithRvi) p q receiver lengths follows suits = tt
 
 -- the station stays in order where one outbound is replaced by one that follows it
-pub orderly-replaced : (c : ControlValue) (t s : ℕ) (o : OutboundValue) → t < length c.peers → s
+pub orderly_replaced : (c : ControlValue) (t s : ℕ) (o : OutboundValue) → t < length c.peers → s
     < length (peer_at c t).outbounds → o.sender.setup ≡ (outbound_of c t s).sender.setup
     → o.queue.format ≡ (outbound_of c t s).queue.format
     → Follows (outbound_of c t s) o → IsOrderly c → IsOrderly (replaced c t s o)
-orderly-replaced c t s o within there setup format follows h =
+orderly_replaced c t s o within there setup format follows h =
     let all = follows_everywhere c t s o within there follows in
     record {
       suits =
@@ -104,13 +104,13 @@ orderly-replaced c t s o within there setup format follows h =
           (all (current c))
           h.suits;
       rests = λ j k unused. (all j k).rests (h.rests j k unused);
-      settings = settings-replaced c t s o setup format h.settings;
+      settings = settings_replaced c t s o setup format h.settings;
     }
 
 -- and where only flags of a terminal change
-pub orderly-flags : (c : ControlValue) (t : ℕ) (p : PeerValue) → p.receiver ≡ (peer_at c t).receiver
+pub orderly_flags : (c : ControlValue) (t : ℕ) (p : PeerValue) → p.receiver ≡ (peer_at c t).receiver
     → p.outbounds ≡ (peer_at c t).outbounds → IsOrderly c → IsOrderly (with_peer c t p)
-orderly-flags c t p receiver outbounds h =
+orderly_flags c t p receiver outbounds h =
     let same =
     λ (j : ℕ). same_at (λ (x : PeerValue). x.outbounds) c.peers t j p no_peer outbounds in
     let follows =

@@ -46,18 +46,18 @@ begins : (s : SenderValue) (q : QueueValue) (x : Alternation) (next : Option Nex
 begins s q x None = tt
 begins s q x (Some next) = tt
 
-pub keeps-begin_step : (s : SenderValue) (q : QueueValue) → KeepsAndLeaves s q (begin_step s q)
-keeps-begin_step s q =
+pub keeps_begin_step : (s : SenderValue) (q : QueueValue) → KeepsAndLeaves s q (begin_step s q)
+keeps_begin_step s q =
     step_keeps s q (begin_step s q) (keeps_begin s q) (begins s q Odd (next_block q))
 
-pub keeps-reply_step : (s : SenderValue) (q : QueueValue) (r : Option Reply) → IsGoing s.phase
+pub keeps_reply_step : (s : SenderValue) (q : QueueValue) (r : Option Reply) → IsGoing s.phase
     → KeepsAndLeaves s q (reply_step s q r)
-keeps-reply_step s q r goes =
+keeps_reply_step s q r goes =
     step_keeps s q (reply_step s q r) (keeps_reply s q r)
     (leaves (reply_step s q r).act s.phase (reply_step s q r).sender.phase goes (fits_reply s q r))
 
-pub keeps-silence_step : (s : SenderValue) (q : QueueValue) → IsGoing s.phase
+pub keeps_silence_step : (s : SenderValue) (q : QueueValue) → IsGoing s.phase
     → KeepsAndLeaves s q (silence_step s q)
-keeps-silence_step s q goes =
+keeps_silence_step s q goes =
     step_keeps s q (silence_step s q) (keeps_silence s q)
     (leaves (silence_step s q).act s.phase (silence_step s q).sender.phase goes (fits_silence s q))

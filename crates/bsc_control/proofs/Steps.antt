@@ -30,16 +30,16 @@ use Rattle.bsc_control.specs.Table.{poll_call_step, next_call_step, bid_step, af
 use Rattle.bsc_control.specs.Table.{selecting_step, receive_step, replied_after, has_rvi}
 use Rattle.bsc_control.specs.Table.{polling_step, task_step, repeated, silence_in, rooms_after}
 use Rattle.bsc_control.specs.Table.{Hears, ActsOnSilence, select_address}
-use Rattle.bsc_control.proofs.Bids.{OthersRest, keeps_spools-bid_step, calls-bid_step}
+use Rattle.bsc_control.proofs.Bids.{OthersRest, keeps_spools_bid_step, calls_bid_step}
 use Rattle.bsc_control.proofs.Calls.{IsCalm, KeepsSpools, IsSamePeer, shape, entry_within}
-use Rattle.bsc_control.proofs.Calls.{keeps-moved, rests-moved, settings-moved}
-use Rattle.bsc_control.proofs.Calls.{keeps_spools-poll_call_step, keeps_spools-next_call_step}
+use Rattle.bsc_control.proofs.Calls.{keeps_moved, rests_moved, settings_moved}
+use Rattle.bsc_control.proofs.Calls.{keeps_spools_poll_call_step, keeps_spools_next_call_step}
 use Rattle.bsc_control.proofs.Calls.{next_is_called, terminal_there, selects_there}
 use Rattle.bsc_control.proofs.PeerLists.{same_map, value_at, holds_at}
-use Rattle.bsc_text.proofs.ReceiverSteps.{TakesText, Grows, grows-heard_step, silent-heard_step}
+use Rattle.bsc_text.proofs.ReceiverSteps.{TakesText, Grows, grows_heard_step, silent_heard_step}
 use Rattle.bsc_text.proofs.Choice.{choose}
-use Rattle.bsc_control.proofs.SenderSteps.{KeepsAndLeaves, keeps-begin_step}
-use Rattle.bsc_control.proofs.SenderSteps.{keeps-reply_step, keeps-silence_step}
+use Rattle.bsc_control.proofs.SenderSteps.{KeepsAndLeaves, keeps_begin_step}
+use Rattle.bsc_control.proofs.SenderSteps.{keeps_reply_step, keeps_silence_step}
 use Rattle.bsc_text.proofs.FitLemmas.{begin_not_quiet}
 
 -- what a transmission that is heard leaves
@@ -98,8 +98,8 @@ all_rest c s entries calm there =
           calm.settings;
     }
 
-hears-quiet : (c : ControlValue) (h : Heard) → IsOrderly c → HearingKeeps c h (quiet_step c)
-hears-quiet c h o =
+hears_quiet : (c : ControlValue) (h : Heard) → IsOrderly c → HearingKeeps c h (quiet_step c)
+hears_quiet c h o =
     record {
       keeps = keeps_same c;
       orderly = o;
@@ -109,11 +109,11 @@ hears-quiet c h o =
     }
 
 -- the next call is made
-hears-next : (c : ControlValue) (h : Heard) (after : After) → HasEntries c → IsCalm c
+hears_next : (c : ControlValue) (h : Heard) (after : After) → HasEntries c → IsCalm c
     → after_hearing c.task h ≡ after → HearingKeeps c h (next_call_step c after)
-hears-next c h after entries calm e =
+hears_next c h after entries calm e =
     let f : KeepsSpools c (next_call_step c after).control =
-    keeps_spools-next_call_step c after calm in
+    keeps_spools_next_call_step c after calm in
     record {
       keeps = f.keeps;
       orderly = f.orderly;
@@ -124,11 +124,11 @@ hears-next c h after entries calm e =
           (next_is_called c after address (shape c entries) calm sent);
     }
 
-silent-next : (c : ControlValue) (after : After) → HasEntries c → IsCalm c → after_silence c.task
+silent_next : (c : ControlValue) (after : After) → HasEntries c → IsCalm c → after_silence c.task
     ≡ after → SilenceKeeps c (next_call_step c after)
-silent-next c after entries calm e =
+silent_next c after entries calm e =
     let f : KeepsSpools c (next_call_step c after).control =
-    keeps_spools-next_call_step c after calm in
+    keeps_spools_next_call_step c after calm in
     record {
       keeps = f.keeps;
       orderly = f.orderly;
@@ -140,14 +140,14 @@ silent-next c after entries calm e =
     }
 
 -- what the sender does
-hears-bid_step : (c : ControlValue) (h : Heard) (s : ℕ) (step : SenderStep) (after : After)
+hears_bid_step : (c : ControlValue) (h : Heard) (s : ℕ) (step : SenderStep) (after : After)
     → OthersRest c s
     → KeepsAndLeaves (outbound_of c (current c) s).sender (outbound_of c (current c) s).queue step
     → (step.act ≡ a.Quiet → c.task ≡ Sending s) → (after ≡ Selection s) ⊎ (after ≡ Interruption)
     → after_hearing c.task h ≡ after → HearingKeeps c h (bid_step c s step after)
-hears-bid_step c h s step after others keeps quiet which e =
+hears_bid_step c h s step after others keeps quiet which e =
     let f : KeepsSpools c (bid_step c s step after).control =
-    keeps_spools-bid_step c s step after others keeps quiet in
+    keeps_spools_bid_step c s step after others keeps quiet in
     record {
       keeps = f.keeps;
       orderly = f.orderly;
@@ -155,24 +155,24 @@ hears-bid_step c h s step after others keeps quiet which e =
       calls =
           λ address sent. subst (λ (x : After). IsCalled (bid_step c s step after).control
           (next_call c x) address) (sym e)
-          (calls-bid_step c s step after address others keeps which sent);
+          (calls_bid_step c s step after address others keeps which sent);
     }
 
 -- a selection is answered
-hears-selecting : (c : ControlValue) (h : Heard) (s : ℕ) (r : Option Reply) → HasEntries c
+hears_selecting : (c : ControlValue) (h : Heard) (s : ℕ) (r : Option Reply) → HasEntries c
     → IsOrderly c → IsCalm c → IsSelected (peer c) s → after_hearing c.task h ≡ Selection s
     → HearingKeeps c h (selecting_step c s r)
-hears-selecting c h s (Some Ack0) entries o calm selected e =
+hears_selecting c h s (Some Ack0) entries o calm selected e =
     let k = outbound_of c (current c) s in
-    hears-bid_step c h s (begin_step k.sender k.queue) (Selection s)
-    (all_rest c s entries calm selected.there) (keeps-begin_step k.sender k.queue)
+    hears_bid_step c h s (begin_step k.sender k.queue) (Selection s)
+    (all_rest c s entries calm selected.there) (keeps_begin_step k.sender k.queue)
     (λ q. absurd (begin_not_quiet k.sender k.queue q)) (inl refl) e
-hears-selecting c h s (Some Nak) entries o calm selected e =
-    hears-next c h (Selection s) entries calm e
-hears-selecting c h s (Some Wack) entries o calm selected e =
+hears_selecting c h s (Some Nak) entries o calm selected e =
+    hears_next c h (Selection s) entries calm e
+hears_selecting c h s (Some Wack) entries o calm selected e =
     choose (HearingKeeps c h) (nat_lt c.setup.waits (c.wacks + 1)) (next_call_step c (Selection s))
     (answer_step (record c { task = Selecting s true; failures = 0; wacks = c.wacks + 1 }) m.Enq)
-    (hears-next c h (Selection s) entries calm e)
+    (hears_next c h (Selection s) entries calm e)
     (record {
       keeps =
           record {
@@ -198,9 +198,9 @@ hears-selecting c h s (Some Wack) entries o calm selected e =
       spools = λ t. inl refl;
       calls = λ address sent. absurd (cc);
     })
-hears-selecting c h s (Some Ack1) entries o calm selected e = hears-quiet c h o
-hears-selecting c h s (Some Rvi) entries o calm selected e = hears-quiet c h o
-hears-selecting c h s None entries o calm selected e = hears-quiet c h o
+hears_selecting c h s (Some Ack1) entries o calm selected e = hears_quiet c h o
+hears_selecting c h s (Some Rvi) entries o calm selected e = hears_quiet c h o
+hears_selecting c h s None entries o calm selected e = hears_quiet c h o
 
 which_after_bid : (s : ℕ) (r : Option Reply) → (after_bid s r ≡ Selection s)
     ⊎ (after_bid s r ≡ Interruption)
@@ -261,12 +261,12 @@ stores c h replied old new e (inr x) =
     })
 
 -- the receiver replies
-hears-receiving_step : (c : ControlValue) (h : Heard) (replied : Replied) (step : ReceiverStep)
+hears_receiving_step : (c : ControlValue) (h : Heard) (replied : Replied) (step : ReceiverStep)
     → HasEntries c → IsOrderly c → IsCalm c → c.task ≡ Polling replied
     → SuitsTask (Polling replied) (peer c)
     → Grows h (peer c).spool step → (step.reply ≡ None → step.receiver ≡ (peer c).receiver)
     → HearingKeeps c h (receive_step c replied step)
-hears-receiving_step c h replied step entries o calm e suits grows silent =
+hears_receiving_step c h replied step entries o calm e suits grows silent =
     let t : ℕ = current c in
     let p : PeerValue =
     record (peer c) {
@@ -278,12 +278,12 @@ hears-receiving_step c h replied step entries o calm e suits grows silent =
     let same : IsSamePeer c t p = record { terminal = refl; outbounds = refl } in
     let task : Task = Polling (replied_after replied step.reply) in
     record {
-      keeps = keeps-moved c t p c.place task c.failures c.wacks same;
+      keeps = keeps_moved c t p c.place task c.failures c.wacks same;
       orderly =
           record {
             suits = suits_after c p replied step.reply silent suits;
-            rests = λ j k unused. rests-moved c t p same j k (calm.rests j k);
-            settings = settings-moved c t p c.place task c.failures c.wacks same calm.settings;
+            rests = λ j k unused. rests_moved c t p same j k (calm.rests j k);
+            settings = settings_moved c t p c.place task c.failures c.wacks same calm.settings;
           };
       spools =
           holds_at (λ (j : ℕ) (x : PeerValue). GrowsByText c h j (peer_at c j).spool.records
@@ -294,61 +294,61 @@ hears-receiving_step c h replied step entries o calm e suits grows silent =
       calls = λ address sent. absurd (no_call step.reply address sent);
     }
 
-hears-heard : (c : ControlValue) (h : Heard) (replied : Replied) (rooms : Rooms) → HasEntries c
+hears_heard : (c : ControlValue) (h : Heard) (replied : Replied) (rooms : Rooms) → HasEntries c
     → IsOrderly c → IsCalm c → c.task ≡ Polling replied → SuitsTask (Polling replied) (peer c)
     → HearingKeeps c h (receive_step c replied
     (heard_step (peer c).receiver (peer c).spool h (peer c).urgent rooms))
-hears-heard c h replied rooms entries o calm e suits =
-    hears-receiving_step c h replied (heard_step (peer c).receiver (peer c).spool h (peer c).urgent
+hears_heard c h replied rooms entries o calm e suits =
+    hears_receiving_step c h replied (heard_step (peer c).receiver (peer c).spool h (peer c).urgent
     rooms) entries o calm e suits
-    (grows-heard_step (peer c).receiver (peer c).spool h (peer c).urgent rooms)
-    (silent-heard_step (peer c).receiver (peer c).spool h (peer c).urgent rooms)
+    (grows_heard_step (peer c).receiver (peer c).spool h (peer c).urgent rooms)
+    (silent_heard_step (peer c).receiver (peer c).spool h (peer c).urgent rooms)
 
 -- a poll is answered
-hears-polling : (c : ControlValue) (h : Heard) (replied : Replied) (rooms : Rooms) → HasEntries c
+hears_polling : (c : ControlValue) (h : Heard) (replied : Replied) (rooms : Rooms) → HasEntries c
     → IsOrderly c → IsCalm c → c.task ≡ Polling replied → SuitsTask (Polling replied) (peer c)
     → HearingKeeps c h (polling_step c replied h rooms)
-hears-polling c (Whole m.Eot) replied rooms entries o calm e suits =
-    hears-next c (Whole m.Eot) (Poll (has_rvi replied)) entries calm
+hears_polling c (Whole m.Eot) replied rooms entries o calm e suits =
+    hears_next c (Whole m.Eot) (Poll (has_rvi replied)) entries calm
     (ap (λ (task : Task). after_hearing task (Whole m.Eot)) e)
-hears-polling c Noise replied rooms entries o calm e suits =
-    hears-heard c Noise replied rooms entries o calm e suits
-hears-polling c Failed replied rooms entries o calm e suits =
-    hears-heard c Failed replied rooms entries o calm e suits
-hears-polling c (Whole (m.Call x)) replied rooms entries o calm e suits =
-    hears-heard c (Whole (m.Call x)) replied rooms entries o calm e suits
-hears-polling c (Whole m.Enq) replied rooms entries o calm e suits =
-    hears-heard c (Whole m.Enq) replied rooms entries o calm e suits
-hears-polling c (Whole m.Ack0) replied rooms entries o calm e suits =
-    hears-heard c (Whole m.Ack0) replied rooms entries o calm e suits
-hears-polling c (Whole m.Ack1) replied rooms entries o calm e suits =
-    hears-heard c (Whole m.Ack1) replied rooms entries o calm e suits
-hears-polling c (Whole m.Nak) replied rooms entries o calm e suits =
-    hears-heard c (Whole m.Nak) replied rooms entries o calm e suits
-hears-polling c (Whole m.Wack) replied rooms entries o calm e suits =
-    hears-heard c (Whole m.Wack) replied rooms entries o calm e suits
-hears-polling c (Whole m.Rvi) replied rooms entries o calm e suits =
-    hears-heard c (Whole m.Rvi) replied rooms entries o calm e suits
-hears-polling c (Whole (m.Text x)) replied rooms entries o calm e suits =
-    hears-heard c (Whole (m.Text x)) replied rooms entries o calm e suits
+hears_polling c Noise replied rooms entries o calm e suits =
+    hears_heard c Noise replied rooms entries o calm e suits
+hears_polling c Failed replied rooms entries o calm e suits =
+    hears_heard c Failed replied rooms entries o calm e suits
+hears_polling c (Whole (m.Call x)) replied rooms entries o calm e suits =
+    hears_heard c (Whole (m.Call x)) replied rooms entries o calm e suits
+hears_polling c (Whole m.Enq) replied rooms entries o calm e suits =
+    hears_heard c (Whole m.Enq) replied rooms entries o calm e suits
+hears_polling c (Whole m.Ack0) replied rooms entries o calm e suits =
+    hears_heard c (Whole m.Ack0) replied rooms entries o calm e suits
+hears_polling c (Whole m.Ack1) replied rooms entries o calm e suits =
+    hears_heard c (Whole m.Ack1) replied rooms entries o calm e suits
+hears_polling c (Whole m.Nak) replied rooms entries o calm e suits =
+    hears_heard c (Whole m.Nak) replied rooms entries o calm e suits
+hears_polling c (Whole m.Wack) replied rooms entries o calm e suits =
+    hears_heard c (Whole m.Wack) replied rooms entries o calm e suits
+hears_polling c (Whole m.Rvi) replied rooms entries o calm e suits =
+    hears_heard c (Whole m.Rvi) replied rooms entries o calm e suits
+hears_polling c (Whole (m.Text x)) replied rooms entries o calm e suits =
+    hears_heard c (Whole (m.Text x)) replied rooms entries o calm e suits
 
-hears-task : (c : ControlValue) (task : Task) (h : Heard) (rooms : Rooms) → HasEntries c
+hears_task : (c : ControlValue) (task : Task) (h : Heard) (rooms : Rooms) → HasEntries c
     → IsOrderly c → c.task ≡ task → HearingKeeps c h (task_step c task h rooms)
-hears-task c AtRest h rooms entries o e = hears-quiet c h o
-hears-task c (Selecting s enquired) h rooms entries o e =
+hears_task c AtRest h rooms entries o e = hears_quiet c h o
+hears_task c (Selecting s enquired) h rooms entries o e =
     let selected : IsSelected (peer c) s =
     subst (λ (task : Task). SuitsTask task (peer c)) e o.suits in
-    hears-selecting c h s (reply_heard h) entries o (calm_while c o (λ k used. absurd (cc)))
+    hears_selecting c h s (reply_heard h) entries o (calm_while c o (λ k used. absurd (cc)))
     selected (ap (λ (task : Task). after_hearing task h) e)
-hears-task c (Sending s) h rooms entries o e =
+hears_task c (Sending s) h rooms entries o e =
     let bid : IsInBid (peer c) s = subst (λ (task : Task). SuitsTask task (peer c)) e o.suits in
     let k = outbound_of c (current c) s in
-    hears-bid_step c h s (reply_step k.sender k.queue (reply_heard h)) (after_bid s (reply_heard h))
+    hears_bid_step c h s (reply_step k.sender k.queue (reply_heard h)) (after_bid s (reply_heard h))
     (others_rest c s entries o e bid.there)
-    (keeps-reply_step k.sender k.queue (reply_heard h) bid.going) (λ q. e)
+    (keeps_reply_step k.sender k.queue (reply_heard h) bid.going) (λ q. e)
     (which_after_bid s (reply_heard h)) (ap (λ (task : Task). after_hearing task h) e)
-hears-task c (Polling replied) h rooms entries o e =
-    hears-polling c h replied rooms entries o (calm_while c o (λ k used. absurd (cc))) e
+hears_task c (Polling replied) h rooms entries o e =
+    hears_polling c h replied rooms entries o (calm_while c o (λ k used. absurd (cc))) e
     (subst (λ (task : Task). SuitsTask task (peer c)) e o.suits)
 
 -- what a control station is once it has heard a transmission
@@ -357,7 +357,7 @@ pub hearing_keeps : (old : ControlValue) (h : Heard) (new : ControlValue) (sent 
     → HearingKeeps old h (record { control = new; sent = sent })
 hearing_keeps old h new sent entries o heard =
     subst (HearingKeeps old h) (sym heard.row)
-    (hears-task old old.task h (rooms_after old h new) entries o refl)
+    (hears_task old old.task h (rooms_after old h new) entries o refl)
 
 -- a selection is called again, or ENQ is sent again
 repeats : (c : ControlValue) (s : ℕ) (enquired : Bool) (address : List ℕ) → HasEntries c → c.task
@@ -407,13 +407,13 @@ repeats_poll c address entries e sent =
       failures = refl;
     }
 
-silent-selecting : (c : ControlValue) (s : ℕ) (enquired : Bool) → HasEntries c → IsOrderly c
+silent_selecting : (c : ControlValue) (s : ℕ) (enquired : Bool) → HasEntries c → IsOrderly c
     → IsCalm c → c.task ≡ Selecting s enquired → IsSelected (peer c) s
     → SilenceKeeps c (silence_in c (Selecting s enquired))
-silent-selecting c s enquired entries o calm e selected =
+silent_selecting c s enquired entries o calm e selected =
     choose (SilenceKeeps c) (nat_lt c.setup.tries (c.failures + 1)) (next_call_step c (Selection s))
     (answer_step (record c { failures = c.failures + 1 }) (repeated c s enquired))
-    (silent-next c (Selection s) entries calm (ap after_silence e))
+    (silent_next c (Selection s) entries calm (ap after_silence e))
     (record {
       keeps =
           record {
@@ -440,21 +440,21 @@ silent-selecting c s enquired entries o calm e selected =
       calls = λ address sent. inr (repeats c s enquired address entries e selected cc);
     })
 
-silent-task : (c : ControlValue) (task : Task) → HasEntries c → IsOrderly c → c.task ≡ task
+silent_task : (c : ControlValue) (task : Task) → HasEntries c → IsOrderly c → c.task ≡ task
     → SilenceKeeps c (silence_in c task)
-silent-task c AtRest entries o e =
-    silent-next c Start entries (calm_while c o (λ k used. absurd (cc))) (ap after_silence e)
-silent-task c (Selecting s enquired) entries o e =
-    silent-selecting c s enquired entries o (calm_while c o (λ k used. absurd (cc))) e
+silent_task c AtRest entries o e =
+    silent_next c Start entries (calm_while c o (λ k used. absurd (cc))) (ap after_silence e)
+silent_task c (Selecting s enquired) entries o e =
+    silent_selecting c s enquired entries o (calm_while c o (λ k used. absurd (cc))) e
     (subst (λ (task : Task). SuitsTask task (peer c)) e o.suits)
-silent-task c (Sending s) entries o e =
+silent_task c (Sending s) entries o e =
     let bid : IsInBid (peer c) s = subst (λ (task : Task). SuitsTask task (peer c)) e o.suits in
     let k = outbound_of c (current c) s in
     let others = others_rest c s entries o e bid.there in
     let step = silence_step k.sender k.queue in
-    let keeps = keeps-silence_step k.sender k.queue bid.going in
+    let keeps = keeps_silence_step k.sender k.queue bid.going in
     let f : KeepsSpools c (bid_step c s step (Selection s)).control =
-    keeps_spools-bid_step c s step (Selection s) others keeps (λ q. e) in
+    keeps_spools_bid_step c s step (Selection s) others keeps (λ q. e) in
     record {
       keeps = f.keeps;
       orderly = f.orderly;
@@ -462,15 +462,15 @@ silent-task c (Sending s) entries o e =
       calls = λ address sent.
           inl (subst (λ (x : After). IsCalled (bid_step c s step (Selection s)).control
           (next_call c x) address) (sym (ap after_silence e))
-          (calls-bid_step c s step (Selection s) address others keeps (inl refl) sent));
+          (calls_bid_step c s step (Selection s) address others keeps (inl refl) sent));
     }
-silent-task c (Polling Nothing) entries o e =
+silent_task c (Polling Nothing) entries o e =
     let calm = calm_while c o (λ k used. absurd (cc)) in
     let f : KeepsSpools c (poll_call_step c c.place (c.failures + 1)).control =
-    keeps_spools-poll_call_step c c.place (c.failures + 1) calm in
+    keeps_spools_poll_call_step c c.place (c.failures + 1) calm in
     choose (SilenceKeeps c) (nat_lt c.setup.tries (c.failures + 1)) (next_call_step c (Poll false))
     (poll_call_step c c.place (c.failures + 1))
-    (silent-next c (Poll false) entries calm (ap after_silence e))
+    (silent_next c (Poll false) entries calm (ap after_silence e))
     (record {
       keeps = f.keeps;
       orderly = f.orderly;
@@ -478,14 +478,14 @@ silent-task c (Polling Nothing) entries o e =
       calls =
           λ address sent. inr (repeats_poll c address entries e sent);
     })
-silent-task c (Polling WithoutRvi) entries o e =
-    silent-next c (Poll false) entries (calm_while c o (λ k used. absurd (cc))) (ap after_silence e)
-silent-task c (Polling WithRvi) entries o e =
-    silent-next c (Poll true) entries (calm_while c o (λ k used. absurd (cc))) (ap after_silence e)
+silent_task c (Polling WithoutRvi) entries o e =
+    silent_next c (Poll false) entries (calm_while c o (λ k used. absurd (cc))) (ap after_silence e)
+silent_task c (Polling WithRvi) entries o e =
+    silent_next c (Poll true) entries (calm_while c o (λ k used. absurd (cc))) (ap after_silence e)
 
 -- what a control station is after a silence
 pub silence_keeps : (old new : ControlValue) (sent : Option Message) → HasEntries old
     → IsOrderly old → ActsOnSilence old new sent
     → SilenceKeeps old (record { control = new; sent = sent })
 silence_keeps old new sent entries o row =
-    subst (SilenceKeeps old) (sym row) (silent-task old old.task entries o refl)
+    subst (SilenceKeeps old) (sym row) (silent_task old old.task entries o refl)

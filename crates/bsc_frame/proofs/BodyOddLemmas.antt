@@ -3,7 +3,7 @@ use Rattle.std.proofs.Common.{inl, inr, ℕ, false, refl, arith, List, [], ◌�
 use Rattle.std.specs.List.{AllByRecursion}
 use Rattle.std.specs.Int.Count.{ones}
 use Rattle.bsc_octet.specs.Octet.{IsOdd, odd_octet}
-use Rattle.bsc_octet.proofs.ParityLemmas.{IsOdd-odd_octet}
+use Rattle.bsc_octet.proofs.ParityLemmas.{is_odd_odd_octet}
 use Rattle.bsc_frame.specs.Addresses.{is_address_code}
 use Rattle.bsc_frame.specs.Spells.{AreAll, IsBody, IsCall}
 use Rattle.bsc_frame.specs.TurnedBits.{IsBodyOctet}
@@ -17,39 +17,39 @@ use Rattle.bsc_octet.proofs.Elements.{all_append}
 
 pub eot_odd : IsOdd 0x04
 unfolding odd_octet ones
-eot_odd = IsOdd-odd_octet 0x04 (omega arith)
+eot_odd = is_odd_odd_octet 0x04 (omega arith)
 
 pub enq_odd : IsOdd 0x85
 unfolding odd_octet ones
-enq_odd = IsOdd-odd_octet 0x05 (omega arith)
+enq_odd = is_odd_odd_octet 0x05 (omega arith)
 
 pub nak_odd : IsOdd 0x15
 unfolding odd_octet ones
-nak_odd = IsOdd-odd_octet 0x15 (omega arith)
+nak_odd = is_odd_odd_octet 0x15 (omega arith)
 
 pub dle_odd : IsOdd 0x10
 unfolding odd_octet ones
-dle_odd = IsOdd-odd_octet 0x10 (omega arith)
+dle_odd = is_odd_odd_octet 0x10 (omega arith)
 
 pub stx_odd : IsOdd 0x02
 unfolding odd_octet ones
-stx_odd = IsOdd-odd_octet 0x02 (omega arith)
+stx_odd = is_odd_odd_octet 0x02 (omega arith)
 
 pub ack0_odd : IsOdd 0xb0
 unfolding odd_octet ones
-ack0_odd = IsOdd-odd_octet 0x30 (omega arith)
+ack0_odd = is_odd_odd_octet 0x30 (omega arith)
 
 pub ack1_odd : IsOdd 0x31
 unfolding odd_octet ones
-ack1_odd = IsOdd-odd_octet 0x31 (omega arith)
+ack1_odd = is_odd_odd_octet 0x31 (omega arith)
 
 pub wack_odd : IsOdd 0x3b
 unfolding odd_octet ones
-wack_odd = IsOdd-odd_octet 0x3b (omega arith)
+wack_odd = is_odd_odd_octet 0x3b (omega arith)
 
 pub rvi_odd : IsOdd 0xbc
 unfolding odd_octet ones
-rvi_odd = IsOdd-odd_octet 0x3c (omega arith)
+rvi_odd = is_odd_odd_octet 0x3c (omega arith)
 
 -- ---- calls
 
@@ -58,7 +58,7 @@ pub address_odd : (a : List ℕ) → AllByRecursion (λ c. IsTrue (is_address_co
     → AllByRecursion IsOdd (map odd_octet a)
 address_odd [] h = tt
 address_odd (c ∷ a) h = let k = plain c h.0 in
-    (IsOdd-odd_octet c (omega (arith, k.high)), address_odd a h.1)
+    (is_odd_odd_octet c (omega (arith, k.high)), address_odd a h.1)
 
 -- the octets of a call after its EOT and PAD
 pub called_odd : (syns a : List ℕ) → AreAll 0x16 syns

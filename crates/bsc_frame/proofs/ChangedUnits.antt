@@ -7,8 +7,8 @@ use Rattle.std.specs.List.{AllByRecursion}
 use Rattle.std.specs.Int.Count.{ones}
 use Rattle.std.proofs.lemmas.List.{map-append}
 use Rattle.bsc_octet.specs.Octet.{odd_octet, longitudinal_sum, code_of}
-use Rattle.bsc_octet.proofs.ParityLemmas.{odd_of_low, odd_octet-low, code_of_odd, code_of-odd_octet}
-use Rattle.bsc_octet.proofs.SumLemmas.{longitudinal_sum-lt}
+use Rattle.bsc_octet.proofs.ParityLemmas.{odd_of_low, odd_octet_low, code_of_odd, code_of_odd_octet}
+use Rattle.bsc_octet.proofs.SumLemmas.{longitudinal_sum_lt}
 use Rattle.bsc_frame.specs.Texts.{TextUnit, IsUnit}
 use Rattle.bsc_frame.specs.Units.{unit_codes, unit_wire, units_wire, ending}
 use Rattle.bsc_frame.specs.Reading.{low_bits, is_ending_code, is_ending_octet, after_check, unit_at}
@@ -18,7 +18,7 @@ use Rattle.bsc_frame.specs.declared.text.End.{End}
 use Rattle.bsc_frame.proofs.ReadLemmas.{test_false}
 use Rattle.bsc_frame.proofs.CarriedLemmas.{ending_same}
 use Rattle.bsc_frame.proofs.GatherLemmas.{IsOther, IsRun, gathered_read}
-use Rattle.bsc_frame.proofs.UnitLemmas.{unit_at_read, run_unit, length-unit_codes}
+use Rattle.bsc_frame.proofs.UnitLemmas.{unit_at_read, run_unit, length_unit_codes}
 use Rattle.bsc_frame.proofs.TextUnits.{ending_is}
 use Rattle.bsc_frame.proofs.TextUnits.{filled_plain}
 use Rattle.bsc_frame.proofs.UnitSteps.{units_stop}
@@ -49,7 +49,7 @@ run_changed (b ∷ k ∷ front) c d back was o e r =
 
 -- two codes that are carried by the same octet are the same
 same_odd : (c d : ℕ) → c < 128 → d < 128 → odd_octet c ≡ odd_octet d → c ≡ d
-same_odd c d l k e = sym (odd_octet-low c l) ∙ ap (λ o. o % 128) e ∙ odd_octet-low d k
+same_odd c d l k e = sym (odd_octet_low c l) ∙ ap (λ o. o % 128) e ∙ odd_octet_low d k
 
 -- after codes with another check there is no rest
 wrong_check : (codes : List ℕ) (k : ℕ) (rest : List ℕ)
@@ -83,8 +83,8 @@ changed_code after_us front c d back rest r l differs was o e =
     (run_changed front c d back was o e r)
     (omega (arith, l, length-append front (c ∷ back), length-append front (d ∷ back)))
     (λ same. differs (one_changed front d c back o.code (run_member front c back r).code
-    (same_odd (longitudinal_sum codes) (longitudinal_sum sent) (longitudinal_sum-lt codes)
-    (longitudinal_sum-lt sent) same)))
+    (same_odd (longitudinal_sum codes) (longitudinal_sum sent) (longitudinal_sum_lt codes)
+    (longitudinal_sum_lt sent) same)))
 
 -- ---- octets by the codes that they carry
 
@@ -163,15 +163,15 @@ old_no_end : (c old : ℕ) → c < 128 → odd_octet c ≡ old → is_ending_oct
     → is_ending_code c ≡ false
 old_no_end c old l e h =
     let carried : code_of (odd_octet c) ≡ Some (low_bits (odd_octet c)) =
-    code_of-odd_octet c l ∙ ap Some (sym (odd_octet-low c l)) in
-    ap is_ending_code (sym (odd_octet-low c l)) ∙ ending_same (odd_octet c) carried
+    code_of_odd_octet c l ∙ ap Some (sym (odd_octet_low c l)) in
+    ap is_ending_code (sym (odd_octet_low c l)) ∙ ending_same (odd_octet c) carried
     ∙ ap is_ending_octet e ∙ h
 
 -- ---- a unit
 
 -- a unit within its limits has few enough codes to be read
 fits : (u : TextUnit) (e : ℕ) → IsUnit u → length (unit_codes u e) ≤ MAX_UNIT_CODES
-fits u e h = omega (arith, h.most, length-unit_codes u e)
+fits u e h = omega (arith, h.most, length_unit_codes u e)
 
 -- a change in the octets of the codes of a unit leaves no unit
 in_codes : (after_us : Bool) (u : TextUnit) (e : ℕ) (before : List ℕ) (old new : ℕ)

@@ -12,7 +12,7 @@ use Rattle.std.proofs.lemmas.Bool.{eqb-true, eqb-false}
 use Rattle.std.proofs.lemmas.Bool.Decides.{nat_tests}
 use Rattle.std.proofs.lemmas.Slice.Eq.{bytes_eq-Decides}
 use Rattle.bsc_octet.specs.Octet.{odd_octet, code_of}
-use Rattle.bsc_octet.proofs.ParityLemmas.{odd_cases, code_of_some, code_of-odd_octet}
+use Rattle.bsc_octet.proofs.ParityLemmas.{odd_cases, code_of_some, code_of_odd_octet}
 use Rattle.bsc_frame.specs.Addresses.{IsAddress, is_address_code}
 use Rattle.bsc_frame.specs.Message.{read_address, first_wrong}
 use Rattle.bsc_frame.specs.Spells.{AreAll, IsCall, IsBody}
@@ -25,7 +25,7 @@ use Rattle.bsc_frame.specs.declared.message.Message.TheVariants.{Wack, Rvi}
 use Rattle.bsc_frame.specs.declared.message.Message.TheVariants.{Text}
 use Rattle.bsc_frame.proofs.AddressLemmas.{is_address}
 use Rattle.bsc_frame.proofs.ReadLemmas.{test_false, has_room}
-use Rattle.bsc_frame.proofs.FrontLemmas.{parts, skip-pass, skip_none, pass_are, are_pass}
+use Rattle.bsc_frame.proofs.FrontLemmas.{parts, skip_pass, skip_none, pass_are, are_pass}
 use Rattle.bsc_frame.specs.declared.limits.TheConstants.{MAX_ADDRESS}
 
 -- which way a test went
@@ -76,7 +76,7 @@ called_wire room (c ∷ a) h p =
     let k : IsPlain c = plain c p.0 in
     let no : (odd_octet c == 0x85) ≡ false = plain_odd c 0x85 k (inl refl) in
     let some : (room == 0) ≡ false = test_false room 0 (has_room (length a) room h) in
-    let code : code_of (odd_octet c) ≡ Some c = code_of-odd_octet c (omega (arith, k.high)) in
+    let code : code_of (odd_octet c) ≡ Some c = code_of_odd_octet c (omega (arith, k.high)) in
     let rest : called (room - 1) (map odd_octet a ++ 0x85 ∷ []) ≡ Some a =
     called_wire (room - 1) a (omega arith) p.1 in
     rw (no, some, code, rest) refl
@@ -233,12 +233,12 @@ call_read rest a c =
     ap (drop 1) c.whole ∙ append_assoc (c.pads ++ c.syns) (map odd_octet a) (0x85 ∷ [])
     ∙ append_assoc c.pads c.syns tail in
     let first : skip (is_octet 0xff) rest ≡ c.syns ++ tail =
-    ap (skip (is_octet 0xff)) grouped ∙ skip-pass (is_octet 0xff) c.pads (c.syns ++ tail)
+    ap (skip (is_octet 0xff)) grouped ∙ skip_pass (is_octet 0xff) c.pads (c.syns ++ tail)
     (are_pass 0xff c.pads c.are_pads)
     ∙ skip_none (is_octet 0xff) (c.syns ++ tail)
     (begins_syns c.syns tail c.are_syns (begins_address 0xff a (inr refl) c.address)) in
     let second : skip (is_octet 0x16) (c.syns ++ tail) ≡ tail =
-    skip-pass (is_octet 0x16) c.syns tail (are_pass 0x16 c.syns c.are_syns)
+    skip_pass (is_octet 0x16) c.syns tail (are_pass 0x16 c.syns c.are_syns)
     ∙ skip_none (is_octet 0x16) tail (begins_address 0x16 a (inl refl) c.address) in
     rw (
       first,

@@ -17,7 +17,7 @@ use Rattle.bsc_frame.specs.declared.message.Message.TheVariants.{Wack, Rvi, Text
 use Rattle.bsc_frame.specs.declared.message.Heard.TheVariants.{Whole, Failed, Noise}
 use Rattle.bsc_frame.proofs.ReadLemmas.{test_false}
 use Rattle.bsc_frame.proofs.OddLemmas.{syn_odd}
-use Rattle.bsc_frame.proofs.HeardLemmas.{heard_spelled, heard_failed, length-wire, one_message}
+use Rattle.bsc_frame.proofs.HeardLemmas.{heard_spelled, heard_failed, length_wire, one_message}
 use Rattle.bsc_frame.proofs.TextUnits.{wire_units}
 use Rattle.bsc_frame.proofs.BodyOddLemmas.{eot_odd, enq_odd, nak_odd, dle_odd, stx_odd, ack0_odd}
 use Rattle.bsc_frame.proofs.BodyOddLemmas.{ack1_odd, wack_odd, rvi_odd}
@@ -244,7 +244,7 @@ spelled_fill m h place new n l p k =
 
 -- a change makes a transmission no longer, so it is heard
 small : (m : Message) → IsMessage m → (place new : ℕ) → length (set (wire m) place new) ≤ MAX_HEARD
-small m h place new = omega (arith, length-set (wire m) place new, length-wire m h)
+small m h place new = omega (arith, length-set (wire m) place new, length_wire m h)
 
 -- with a leading pad in place of the first SYN the message is still spelled
 pad_spells : (m : Message) (body : List ℕ) (new : ℕ) → length (set (framed body) 0 new) ≤ MAX_HEARD

@@ -5,7 +5,7 @@ use Rattle.std.proofs.Common.{ap, ◌∙◌, arith, List, [], ◌∷◌, ◌++�
 use Rattle.std.proofs.Common.{append_assoc}
 use Rattle.std.proofs.lemmas.Bool.{eqb-true}
 use Rattle.bsc_octet.specs.Octet.{odd_octet, code_of}
-use Rattle.bsc_octet.proofs.ParityLemmas.{odd_cases, code_of_some, code_of-odd_octet}
+use Rattle.bsc_octet.proofs.ParityLemmas.{odd_cases, code_of_some, code_of_odd_octet}
 use Rattle.bsc_frame.specs.Spells.{AreAll, AreFilled}
 use Rattle.bsc_frame.specs.Reading.{is_ending_code, before_gathered, gather_code, gathered}
 use Rattle.bsc_frame.proofs.ReadLemmas.{test_false, has_room}
@@ -18,10 +18,10 @@ EndsUnit (c ∷ []) = is_ending_code c ≡ true
 EndsUnit (c ∷ d ∷ cs) = EndsUnit (d ∷ cs)
 
 -- the last code of a unit is an ending character
-pub EndsUnit-last : (front : List ℕ) (e : ℕ) → EndsUnit (front ++ e ∷ []) → is_ending_code e ≡ true
-EndsUnit-last [] e h = h
-EndsUnit-last (c ∷ []) e h = h
-EndsUnit-last (c ∷ d ∷ front) e h = EndsUnit-last (d ∷ front) e h
+pub ends_unit_last : (front : List ℕ) (e : ℕ) → EndsUnit (front ++ e ∷ []) → is_ending_code e ≡ true
+ends_unit_last [] e h = h
+ends_unit_last (c ∷ []) e h = h
+ends_unit_last (c ∷ d ∷ front) e h = ends_unit_last (d ∷ front) e h
 
 -- octets that begin with these codes, filled, of which the last ends a unit, and the rest
 pub record Gathers (octets codes rest : List ℕ) : Type 0 where
@@ -151,7 +151,7 @@ gathered_read room [] front rest f r l = absurd r
 gathered_read room (c ∷ []) front rest f r l =
     let some : (room == 0) ≡ false = test_false room 0 (has_room 0 room l) in
     let first : gathered room (odd_octet c ∷ rest) ≡ Some (c ∷ [], rest) =
-    rw (odd_other c r.0, some, code_of-odd_octet c r.0.code, r.1) refl in
+    rw (odd_other c r.0, some, code_of_odd_octet c r.0.code, r.1) refl in
     let here : front ≡ f.0 ++ odd_octet c ∷ [] = f.3 ∙ ap (λ z. f.0 ++ odd_octet c ∷ z) f.4 in
     ap (λ z. gathered room (z ++ rest)) here
     ∙ ap (gathered room) (append_assoc f.0 (odd_octet c ∷ []) rest)
@@ -161,7 +161,7 @@ gathered_read room (c ∷ d ∷ cs) front rest f r l =
     let more : gathered (room - 1) (f.1 ++ rest) ≡ Some (d ∷ cs, rest) =
     gathered_read (room - 1) (d ∷ cs) f.1 rest f.4 r.2 (omega arith) in
     let first : gathered room (odd_octet c ∷ f.1 ++ rest) ≡ Some (c ∷ d ∷ cs, rest) =
-    rw (odd_other c r.0, some, code_of-odd_octet c r.0.code, r.1, more) refl in
+    rw (odd_other c r.0, some, code_of_odd_octet c r.0.code, r.1, more) refl in
     ap (λ z. gathered room (z ++ rest)) f.3
     ∙ ap (gathered room) (append_assoc f.0 (odd_octet c ∷ f.1) rest)
     ∙ after_fill room f.0 (odd_octet c ∷ f.1 ++ rest) f.2 ∙ first

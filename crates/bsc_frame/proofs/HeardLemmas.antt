@@ -19,10 +19,10 @@ use Rattle.bsc_frame.specs.declared.message.Message.TheVariants.{Wack, Rvi}
 use Rattle.bsc_frame.specs.declared.message.Message.TheVariants.{Text}
 use Rattle.bsc_frame.specs.declared.message.Heard.{Heard}
 use Rattle.bsc_frame.specs.declared.message.Heard.TheVariants.{Whole, Failed, Noise}
-use Rattle.bsc_frame.proofs.FrontLemmas.{bodies, heard_carried, Ends, trimmed-body, trimmed-begins}
+use Rattle.bsc_frame.proofs.FrontLemmas.{bodies, heard_carried, Ends, trimmed_body, trimmed_begins}
 use Rattle.bsc_frame.proofs.ControlLemmas.{control_reads, control_read, IsControl, chosen}
 use Rattle.bsc_frame.proofs.TextUnits.{units_at_reads, units_at_read, units_end, wire_units}
-use Rattle.bsc_frame.proofs.TextUnits.{length-units_wire}
+use Rattle.bsc_frame.proofs.TextUnits.{length_units_wire}
 use Rattle.bsc_frame.specs.declared.limits.TheConstants.{MAX_UNITS, MAX_SENT}
 
 -- ---- bodies
@@ -156,7 +156,7 @@ heard_spelled octets m s =
     let stops : begins (is_octet 0x16) (s.body ++ s.carried.trail) ≡ false =
     ap (λ b. begins (is_octet 0x16) (b ++ s.carried.trail)) p.begins_other.2 ∙ p.begins_other.3 in
     heard_carried octets s.body s.carried s.small stops
-    ∙ ap heard_body (trimmed-body s.body s.carried.trail p.ends s.carried.are_trail)
+    ∙ ap heard_body (trimmed_body s.body s.carried.trail p.ends s.carried.are_trail)
     ∙ body_read s.body m s.is_body
 
 -- a message is no noise
@@ -221,7 +221,7 @@ failed_heard octets e =
 -- octets that are failed by the relation are heard as failed
 pub heard_failed : (octets : List ℕ) → IsFailed octets → heard octets ≡ Failed
 heard_failed octets f =
-    let t = trimmed-begins 0x02 (f.rest ++ f.carried.trail) refl in
+    let t = trimmed_begins 0x02 (f.rest ++ f.carried.trail) refl in
     let same : heard octets ≡ heard_body (0x02 ∷ t.0) =
     heard_carried octets (0x02 ∷ f.rest) f.carried f.small refl ∙ ap heard_body t.1 in
     elim (text_loud t.0) [
@@ -255,9 +255,9 @@ one_message octets m n s t =
     cc
 
 -- what is sent for a message is at most this long
-pub length-wire : (m : Message) → IsMessage m → length (wire m) ≤ MAX_SENT
-length-wire Eot h = omega arith
-length-wire (Call a) h =
+pub length_wire : (m : Message) → IsMessage m → length (wire m) ≤ MAX_SENT
+length_wire Eot h = omega arith
+length_wire (Call a) h =
     omega (
       arith,
       h.most,
@@ -265,17 +265,17 @@ length-wire (Call a) h =
       length-append (map odd_octet a) (0x85 ∷ []),
       length-map a odd_octet,
     )
-length-wire Enq h = omega arith
-length-wire Nak h = omega arith
-length-wire Ack0 h = omega arith
-length-wire Ack1 h = omega arith
-length-wire Wack h = omega arith
-length-wire Rvi h = omega arith
-length-wire (Text t) h =
+length_wire Enq h = omega arith
+length_wire Nak h = omega arith
+length_wire Ack0 h = omega arith
+length_wire Ack1 h = omega arith
+length_wire Wack h = omega arith
+length_wire Rvi h = omega arith
+length_wire (Text t) h =
     omega (
       arith,
       h.most,
-      length-units_wire t.units t.end h.each,
+      length_units_wire t.units t.end h.each,
       length-append (units_wire t.units t.end) (0xff ∷ []),
     )
 
@@ -301,9 +301,9 @@ sent body m short h = record {
 
 -- what is sent for a message spells it
 pub wire_spells : (m : Message) → IsMessage m → Spells (wire m) m
-wire_spells Eot h = sent _ Eot (length-wire Eot h) refl
+wire_spells Eot h = sent _ Eot (length_wire Eot h) refl
 wire_spells (Call a) h =
-    sent _ (Call a) (length-wire (Call a) h)
+    sent _ (Call a) (length_wire (Call a) h)
     (record {
       pads = 0xff ∷ [];
       syns = 0x16 ∷ 0x16 ∷ [];
@@ -312,14 +312,14 @@ wire_spells (Call a) h =
       are_syns = (refl, (refl, tt));
       address = h;
     })
-wire_spells Enq h = sent _ Enq (length-wire Enq h) refl
-wire_spells Nak h = sent _ Nak (length-wire Nak h) refl
-wire_spells Ack0 h = sent _ Ack0 (length-wire Ack0 h) refl
-wire_spells Ack1 h = sent _ Ack1 (length-wire Ack1 h) refl
-wire_spells Wack h = sent _ Wack (length-wire Wack h) refl
-wire_spells Rvi h = sent _ Rvi (length-wire Rvi h) refl
+wire_spells Enq h = sent _ Enq (length_wire Enq h) refl
+wire_spells Nak h = sent _ Nak (length_wire Nak h) refl
+wire_spells Ack0 h = sent _ Ack0 (length_wire Ack0 h) refl
+wire_spells Ack1 h = sent _ Ack1 (length_wire Ack1 h) refl
+wire_spells Wack h = sent _ Wack (length_wire Wack h) refl
+wire_spells Rvi h = sent _ Rvi (length_wire Rvi h) refl
 wire_spells (Text t) h =
-    sent _ (Text t) (length-wire (Text t) h)
+    sent _ (Text t) (length_wire (Text t) h)
     (record {
       rest = units_wire t.units t.end;
       whole = refl;

@@ -48,10 +48,10 @@ top_and false true = refl
 top_and false false = refl
 
 -- tests that agree pass the same front
-pub prefix_len-same : (p q : ℕ → Bool) → ((x : ℕ) → p x ≡ q x) → (xs : List ℕ)
+pub prefix_len_same : (p q : ℕ → Bool) → ((x : ℕ) → p x ≡ q x) → (xs : List ℕ)
     → prefix_len p xs ≡ prefix_len q xs
-prefix_len-same p q e [] = refl
-prefix_len-same p q e (x ∷ xs) = rw (e x, prefix_len-same p q e xs) refl
+prefix_len_same p q e [] = refl
+prefix_len_same p q e (x ∷ xs) = rw (e x, prefix_len_same p q e xs) refl
 
 -- not of not
 pub not_twice : (b : Bool) → not (not b) ≡ b

@@ -3,7 +3,7 @@ use Rattle.std.proofs.Common.{◌≡◌, true, false, refl, sym, ap, subst}
 use Rattle.std.specs.Bool.{Decides}
 use lib.Pointwise.{bytes_decides}
 use mathlib.Core.Bool.{true≢false}
-use Rattle.bsc_frame.specs.TextEquality.{text-Decides}
+use Rattle.bsc_frame.specs.TextEquality.{text_decides}
 use Rattle.bsc_frame.specs.declared.message.Message.{Message}
 use Rattle.bsc_frame.specs.declared.message.Message.TheVariants.{Eot, Call, Enq, Ack0, Ack1, Nak}
 use Rattle.bsc_frame.specs.declared.message.Message.TheVariants.{Wack, Rvi}
@@ -96,7 +96,7 @@ told (Text t) Ack1 e = absurd (never e)
 told (Text t) Nak e = absurd (never e)
 told (Text t) Wack e = absurd (never e)
 told (Text t) Rvi e = absurd (never e)
-told (Text t) (Text u) e = ap Text ((text-Decides t u).0 e)
+told (Text t) (Text u) e = ap Text ((text_decides t u).0 e)
 
 -- a message compares as equal to itself
 itself : (m : Message) → eq-value.it m m ≡ true
@@ -108,8 +108,8 @@ itself Ack1 = refl
 itself Nak = refl
 itself Wack = refl
 itself Rvi = refl
-itself (Text t) = (text-Decides t t).1 refl
+itself (Text t) = (text_decides t t).1 refl
 
 -- so the comparison tells exactly whether two messages are the same
-pub message-Decides : (m n : Message) → Decides (eq-value.it m n) (m ≡ n)
-message-Decides m n = (told m n, λ e. subst (λ (k : Message). eq-value.it m k ≡ true) e (itself m))
+pub message_decides : (m n : Message) → Decides (eq-value.it m n) (m ≡ n)
+message_decides m n = (told m n, λ e. subst (λ (k : Message). eq-value.it m k ≡ true) e (itself m))

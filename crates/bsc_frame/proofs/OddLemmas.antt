@@ -5,8 +5,8 @@ use Rattle.std.proofs.Common.{None, All}
 use Rattle.std.specs.List.{AllByRecursion}
 use Rattle.std.proofs.lemmas.List.Elements.{All-from_recursion}
 use Rattle.bsc_octet.specs.Octet.{odd_octet, longitudinal_sum, IsOdd}
-use Rattle.bsc_octet.proofs.ParityLemmas.{IsOdd-odd_octet}
-use Rattle.bsc_octet.proofs.SumLemmas.{longitudinal_sum-lt}
+use Rattle.bsc_octet.proofs.ParityLemmas.{is_odd_odd_octet}
+use Rattle.bsc_octet.proofs.SumLemmas.{longitudinal_sum_lt}
 use Rattle.bsc_frame.specs.Texts.{TextUnit, TextValue, IsUnit}
 use Rattle.bsc_frame.specs.Units.{unit_codes, ending}
 use Rattle.bsc_frame.specs.Spells.{AreAll, AreFilled, AreUnits}
@@ -22,7 +22,7 @@ use Rattle.bsc_octet.proofs.Elements.{all_append}
 
 pub syn_odd : IsOdd 0x16
 unfolding odd_octet ones
-syn_odd = IsOdd-odd_octet 0x16 (omega arith)
+syn_odd = is_odd_odd_octet 0x16 (omega arith)
 
 -- fill has odd parity
 pub fill_odd : (fill : List ℕ) → AreAll 0x16 fill → AllByRecursion IsOdd fill
@@ -35,7 +35,7 @@ filled_odd : (codes front : List ℕ) → AreFilled codes front → AllByRecursi
 filled_odd [] front f h = rw f tt
 filled_odd (c ∷ cs) front f h =
     rw f.3 (all_append IsOdd f.0 (odd_octet c ∷ f.1) (fill_odd f.0 f.2)
-    (IsOdd-odd_octet c h.0, filled_odd cs f.1 f.4 h.1))
+    (is_odd_odd_octet c h.0, filled_odd cs f.1 f.4 h.1))
 
 -- the codes of a unit are below 128
 run_small : (codes : List ℕ) → IsRun codes → AllByRecursion (λ c. c < 128) codes
@@ -53,8 +53,8 @@ units_odd after_us (u ∷ us) end octets a h =
     (run_unit u (ending us end) h.0 (ending_is us end)) in
     rw a.5 (all_append IsOdd a.1 (odd_octet (longitudinal_sum (a.0 ++ unit_codes u (ending us end)))
     ∷ a.2) (filled_odd _ a.1 a.4 (run_small _ run)) (
-      IsOdd-odd_octet (longitudinal_sum (a.0 ++ unit_codes u (ending us end)))
-          (longitudinal_sum-lt (a.0 ++ unit_codes u (ending us end))),
+      is_odd_odd_octet (longitudinal_sum (a.0 ++ unit_codes u (ending us end)))
+          (longitudinal_sum_lt (a.0 ++ unit_codes u (ending us end))),
       units_odd true us end a.2 a.6 h.1,
     ))
 

@@ -24,10 +24,10 @@ rest_is s i = take_all (length s - i) (drop i s) (omega (arith, length-drop i s)
 -- ---- trimmed
 
 -- one PAD more at the end changes nothing
-pub trimmed-push_pad : (xs : List ℕ) → trimmed (xs ++ 0xff ∷ []) ≡ trimmed xs
+pub trimmed_push_pad : (xs : List ℕ) → trimmed (xs ++ 0xff ∷ []) ≡ trimmed xs
 unfolding trimmed
-trimmed-push_pad [] = refl
-trimmed-push_pad (x ∷ xs) = ap (before_rest x) (trimmed-push_pad xs)
+trimmed_push_pad [] = refl
+trimmed_push_pad (x ∷ xs) = ap (before_rest x) (trimmed_push_pad xs)
 
 -- an octet that is no PAD stays
 other_stays : (x : ℕ) (b : Bool) → (x == 0xff) ≡ b → x ≢ 0xff → cond b [] (x ∷ []) ≡ x ∷ []
@@ -35,11 +35,11 @@ other_stays x true e h = absurd (h (eqb-true x 0xff e))
 other_stays x false e h = refl
 
 -- a list that ends with another octet than PAD is left whole
-pub trimmed-push_other : (xs : List ℕ) (x : ℕ) → x ≢ 0xff → trimmed (xs ++ x ∷ []) ≡ xs ++ x ∷ []
+pub trimmed_push_other : (xs : List ℕ) (x : ℕ) → x ≢ 0xff → trimmed (xs ++ x ∷ []) ≡ xs ++ x ∷ []
 unfolding trimmed
-trimmed-push_other [] x h = other_stays x (x == 0xff) refl h
-trimmed-push_other (y ∷ []) x h = rw (other_stays x (x == 0xff) refl h) refl
-trimmed-push_other (y ∷ z ∷ xs) x h = rw (trimmed-push_other (z ∷ xs) x h) refl
+trimmed_push_other [] x h = other_stays x (x == 0xff) refl h
+trimmed_push_other (y ∷ []) x h = rw (other_stays x (x == 0xff) refl h) refl
+trimmed_push_other (y ∷ z ∷ xs) x h = rw (trimmed_push_other (z ∷ xs) x h) refl
 
 -- a front that ends with PAD may be taken one shorter
 pub trimmed_less : (s : List ℕ) (n : ℕ) → 0 < n → n ≤ length s → get_or s (n - 1) 0 ≡ 0xff
@@ -48,7 +48,7 @@ trimmed_less s n p l e =
     let back : n ≡ (n - 1) + 1 = omega arith in
     let split : take n s ≡ take (n - 1) s ++ 0xff ∷ [] =
     ap (λ k. take k s) back ∙ take_more s (n - 1) 0 (omega arith) ∙ rw e refl in
-    rw split (sym (trimmed-push_pad (take (n - 1) s)))
+    rw split (sym (trimmed_push_pad (take (n - 1) s)))
 
 -- and one that does not is what is left
 pub trimmed_done : (s : List ℕ) (n : ℕ) → trimmed (take n s) ≡ trimmed s → 0 < n → n ≤ length s
@@ -58,7 +58,7 @@ trimmed_done s n same p l e =
     let split : take n s ≡ take (n - 1) s ++ get_or s (n - 1) 0 ∷ [] =
     ap (λ k. take k s) back ∙ take_more s (n - 1) 0 (omega arith) in
     let stays : trimmed (take n s) ≡ take n s =
-    rw split (trimmed-push_other (take (n - 1) s) (get_or s (n - 1) 0) e) in
+    rw split (trimmed_push_other (take (n - 1) s) (get_or s (n - 1) 0) e) in
     sym stays ∙ same
 
 -- and of PAD only nothing is left

@@ -10,7 +10,7 @@ use Rattle.std.specs.List.{prefix_len}
 use Rattle.std.proofs.lemmas.List.{drop_all}
 use Rattle.std.proofs.lemmas.Bool.{eqb-true}
 use Rattle.bsc_frame.specs.Reading.{skip, is_either, is_octet, is_pad_octet, trimmed}
-use Rattle.bsc_frame.proofs.ReadLemmas.{rest_is, trimmed-push_pad}
+use Rattle.bsc_frame.proofs.ReadLemmas.{rest_is, trimmed_push_pad}
 
 -- what a loop over the octets keeps: at of them were counted
 pub record CountedTo (p : ℕ → Bool) (at : ℕ) (s : List ℕ) : Type 0 where
@@ -102,16 +102,16 @@ skip_head test x s true e h = let one : 1 + prefix_len test s ≡ suc (prefix_le
 skip_head test x s false e h = rw e refl
 
 -- what is skipped is the front that passes
-skip-drop : (test : ℕ → Bool) (s : List ℕ) → skip test s ≡ drop (prefix_len test s) s
+skip_drop : (test : ℕ → Bool) (s : List ℕ) → skip test s ≡ drop (prefix_len test s) s
 unfolding skip
-skip-drop test [] = refl
-skip-drop test (x ∷ s) = skip_head test x s (test x) refl (skip-drop test s)
+skip_drop test [] = refl
+skip_drop test (x ∷ s) = skip_head test x s (test x) refl (skip_drop test s)
 
 -- tests that agree skip the same
-skip-same : (p q : ℕ → Bool) → ((x : ℕ) → p x ≡ q x) → (s : List ℕ) → skip p s ≡ skip q s
+skip_same : (p q : ℕ → Bool) → ((x : ℕ) → p x ≡ q x) → (s : List ℕ) → skip p s ≡ skip q s
 unfolding skip
-skip-same p q e [] = refl
-skip-same p q e (x ∷ s) = rw (e x, skip-same p q e s) refl
+skip_same p q e [] = refl
+skip_same p q e (x ∷ s) = rw (e x, skip_same p q e s) refl
 
 -- a test or itself
 twice : (b : Bool) → (b || b) ≡ b
@@ -121,14 +121,14 @@ twice false = refl
 -- the octets after a front of leading pads
 pub skip_pads : (s : List ℕ) (n : ℕ) → n ≡ prefix_len (is_either 0x55 0xaa) s
     → take (length s - n) (drop n s) ≡ skip is_pad_octet s
-skip_pads s n e = rest_is s n ∙ ap (λ k. drop k s) e ∙ sym (skip-drop (is_either 0x55 0xaa) s)
+skip_pads s n e = rest_is s n ∙ ap (λ k. drop k s) e ∙ sym (skip_drop (is_either 0x55 0xaa) s)
 
 -- the octets after a front of this octet
 pub skip_all : (s : List ℕ) (n octet : ℕ) → n ≡ prefix_len (is_either octet octet) s
     → take (length s - n) (drop n s) ≡ skip (is_octet octet) s
 skip_all s n octet e =
-    rest_is s n ∙ ap (λ k. drop k s) e ∙ sym (skip-drop (is_either octet octet) s)
-    ∙ skip-same (is_either octet octet) (is_octet octet) (λ x. twice (x == octet)) s
+    rest_is s n ∙ ap (λ k. drop k s) e ∙ sym (skip_drop (is_either octet octet) s)
+    ∙ skip_same (is_either octet octet) (is_octet octet) (λ x. twice (x == octet)) s
 
 -- ---- what is trimmed
 
@@ -141,7 +141,7 @@ pad_head : (front : List ℕ) (x : ℕ) (pads : List ℕ) (b : Bool) → (x == 0
 pad_head front x pads true e h l =
     let pad : x ≡ 0xff = eqb-true x 0xff e in
     ap trimmed (sym (append_assoc front (x ∷ []) pads)) ∙ h (omega arith)
-    ∙ ap (λ z. trimmed (front ++ z ∷ [])) pad ∙ trimmed-push_pad front
+    ∙ ap (λ z. trimmed (front ++ z ∷ [])) pad ∙ trimmed_push_pad front
 pad_head front x pads false e h l = absurd (omega arith)
 
 -- PAD at the end changes nothing

@@ -15,7 +15,7 @@ use Rattle.bsc_frame.specs.contracts.text.End.{the_type}
 use Rattle.bsc_frame.specs.Texts.{TextUnit, TextValue, units_from, AreMarked, HoldsText}
 use Rattle.bsc_frame.specs.Texts.{marked_text}
 use Rattle.bsc_frame.specs.Same.{is_same_text}
-use Rattle.bsc_frame.specs.TextEquality.{text-Decides, both_true}
+use Rattle.bsc_frame.specs.TextEquality.{text_decides, both_true}
 use Rattle.bsc_frame.specs.declared.text.End.{End}
 use Rattle.bsc_frame.specs.declared.text.End.TheVariants.{Etb, Etx}
 use Rattle.bsc_frame.specs.declared.text.Mark.{Mark}
@@ -120,27 +120,27 @@ is_kept_alike ms ns xs ys e f =
     pointwise is_same_mark ms ns && (sameb the_type e f && pointwise ◌==◌ xs ys)
 
 -- the comparison of marks tells exactly whether they are the same
-mark-Decides : (a b : Mark) → Decides (is_same_mark a b) (a ≡ b)
-mark-Decides a b =
+mark_decides : (a b : Mark) → Decides (is_same_mark a b) (a ≡ b)
+mark_decides a b =
     both_true (a.end == b.end) (beq a.em b.em) (unsigned_Decides a.end b.end)
     (booleans_Decides a.em b.em)
     (λ end em i. record { end = end i; em = em i }) (ap (λ (m : Mark). m.end))
     (ap (λ (m : Mark). m.em))
 
 -- and that of ends
-ends-Decides : (e f : End) → Decides (sameb the_type e f) (e ≡ f)
-ends-Decides Etb Etb = (λ t. refl, λ t. refl)
-ends-Decides Etb Etx = (λ t. absurd (cc), λ t. absurd (cc))
-ends-Decides Etx Etb = (λ t. absurd (cc), λ t. absurd (cc))
-ends-Decides Etx Etx = (λ t. refl, λ t. refl)
+ends_decides : (e f : End) → Decides (sameb the_type e f) (e ≡ f)
+ends_decides Etb Etb = (λ t. refl, λ t. refl)
+ends_decides Etb Etx = (λ t. absurd (cc), λ t. absurd (cc))
+ends_decides Etx Etb = (λ t. absurd (cc), λ t. absurd (cc))
+ends_decides Etx Etx = (λ t. refl, λ t. refl)
 
 -- and that of what two texts keep
-kept-Decides : (ms ns : List Mark) (xs ys : List ℕ) (e f : End)
+kept_decides : (ms ns : List Mark) (xs ys : List ℕ) (e f : End)
     → Decides (is_kept_alike ms ns xs ys e f) (IsKeptAlike ms ns xs ys e f)
-kept-Decides ms ns xs ys e f =
+kept_decides ms ns xs ys e f =
     both_true {P = ms ≡ ns} {Q = (e ≡ f) × (xs ≡ ys)} (pointwise is_same_mark ms ns)
-    (sameb the_type e f && pointwise ◌==◌ xs ys) (pointwise_decides mark-Decides ms ns)
-    (both_true (sameb the_type e f) (pointwise ◌==◌ xs ys) (ends-Decides e f) (bytes_decides xs ys)
+    (sameb the_type e f && pointwise ◌==◌ xs ys) (pointwise_decides mark_decides ms ns)
+    (both_true (sameb the_type e f) (pointwise ◌==◌ xs ys) (ends_decides e f) (bytes_decides xs ys)
     (λ a b. (a, b)) (λ a. a.0) (λ a. a.1))
     (λ a b. record { marks = a; end = b.0; chars = b.1 }) (λ a. a.marks) (λ a. (a.end, a.chars))
 
@@ -150,12 +150,12 @@ pub tells_text : (ms ns : List Mark) (xs ys : List ℕ) (e f : End) (a b : TextV
     marked_text ms xs e ≡ a → marked_text ns ys f ≡ b → r ≡ is_kept_alike ms ns xs ys e f → r
     ≡ is_same_text a b
 tells_text ms ns xs ys e f a b r h k is_a is_b tests =
-    let d = kept-Decides ms ns xs ys e f in
+    let d = kept_decides ms ns xs ys e f in
     tests ∙ one_answer (is_kept_alike ms ns xs ys e f) (is_same_text a b) (
       λ t. sym is_a ∙ text_alike ms ns xs ys e f (d.0 t) ∙ is_b,
       λ same. d.1 (kept_alike ms ns xs ys e f h k (is_a ∙ same ∙ sym is_b)),
     )
-    (text-Decides a b)
+    (text_decides a b)
 
 -- three tests in turn
 pub third_tells : (p q r s : Bool) → p ≡ true → q ≡ true → s ≡ r → s ≡ (p && (q && r))

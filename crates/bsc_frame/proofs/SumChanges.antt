@@ -6,13 +6,13 @@ use Rattle.std.specs.Int.{bit_at}
 use Rattle.std.proofs.lemmas.Nat.Bits.{bit_at_xor, bit_at-lt}
 use Rattle.std.proofs.lemmas.List.Sums.{sum_by-cons}
 use Rattle.bsc_octet.specs.Octet.{longitudinal_sum, with_bit}
-use Rattle.bsc_octet.proofs.LaneLemmas.{with_bit-append, test_bit}
+use Rattle.bsc_octet.proofs.LaneLemmas.{with_bit_append, test_bit}
 
 -- the members with a bit, around one of them
 around_bit : (i : ℕ) (front : List ℕ) (c : ℕ) (back : List ℕ)
     → with_bit i (front ++ c ∷ back) ≡ with_bit i front + (bit_at c i + with_bit i back)
 around_bit i front c back =
-    with_bit-append i front (c ∷ back)
+    with_bit_append i front (c ∷ back)
     ∙ ap (λ n. with_bit i front + n) (sum_by-cons (λ y. cond (bit_at y i == 1) 1 0) c back
     ∙ ap (λ n. n + with_bit i back) (test_bit c i))
 

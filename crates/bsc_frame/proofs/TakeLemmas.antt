@@ -17,7 +17,7 @@ use Rattle.bsc_frame.specs.Reading.{◌>>=◌, low_bits, is_octet, begins, is_ot
 use Rattle.bsc_frame.specs.Reading.{is_before_ending, is_ending_code, is_ending_octet, IsFront}
 use Rattle.bsc_frame.specs.Reading.{AreParts}
 use Rattle.bsc_frame.specs.Reading.{after_check, after_start, read_unit, unit_before, unit_at}
-use Rattle.bsc_frame.proofs.UnitLemmas.{length-unit_codes}
+use Rattle.bsc_frame.proofs.UnitLemmas.{length_unit_codes}
 use Rattle.bsc_frame.proofs.UnitCodes.{unit_of_reads, unit_of_read}
 use Rattle.bsc_frame.proofs.CarriedLemmas.{AreCarried, ending_same, em_is, check_low, start_low}
 use Rattle.bsc_frame.proofs.CutLemmas.{gathered_none, cut}
@@ -58,7 +58,7 @@ long_unit after_us codes octets l =
           arith,
           r.1.most,
           ap length r.0,
-          length-unit_codes f.0 f.1,
+          length_unit_codes f.0 f.1,
           length_start after_us codes,
         ))
 

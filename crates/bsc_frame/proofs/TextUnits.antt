@@ -8,7 +8,7 @@ use Rattle.std.proofs.lemmas.Bool.{eqb-true, eqb-false}
 use Rattle.std.proofs.lemmas.List.{length-map}
 use Rattle.std.specs.Int.Count.{ones-ones}
 use Rattle.bsc_octet.specs.Octet.{odd_octet, longitudinal_sum}
-use Rattle.bsc_octet.proofs.SumLemmas.{longitudinal_sum-lt}
+use Rattle.bsc_octet.proofs.SumLemmas.{longitudinal_sum_lt}
 use Rattle.bsc_octet.proofs.ParityLemmas.{odd_cases}
 use Rattle.bsc_frame.proofs.FrontLemmas.{Ends}
 use Rattle.bsc_frame.specs.Texts.{TextUnit, TextValue, IsUnit}
@@ -20,7 +20,7 @@ use Rattle.bsc_frame.specs.declared.text.End.TheVariants.{Etb, Etx}
 use Rattle.bsc_frame.proofs.ReadLemmas.{test_false}
 use Rattle.bsc_frame.proofs.ControlLemmas.{chosen, some_is}
 use Rattle.bsc_frame.specs.declared.limits.TheConstants.{MAX_UNIT_SENT}
-use Rattle.bsc_frame.proofs.UnitLemmas.{bind_some, UnitAt, unit_at_reads, length-unit_codes}
+use Rattle.bsc_frame.proofs.UnitLemmas.{bind_some, UnitAt, unit_at_reads, length_unit_codes}
 use Rattle.bsc_frame.proofs.UnitLemmas.{unit_at_read}
 use Rattle.bsc_frame.proofs.UnitCodes.{ending_cases}
 
@@ -174,26 +174,26 @@ wire_units after_us (u ∷ us) end = (
 )
 
 -- and at most three octets more
-pub length-unit_wire : (u : TextUnit) (e : ℕ) → length (unit_wire u e) ≤ length u.chars + 3
-length-unit_wire u e =
+pub length_unit_wire : (u : TextUnit) (e : ℕ) → length (unit_wire u e) ≤ length u.chars + 3
+length_unit_wire u e =
     omega (
       arith,
-      length-unit_codes u e,
+      length_unit_codes u e,
       length-append (map odd_octet (unit_codes u e))
           (odd_octet (longitudinal_sum (unit_codes u e)) ∷ []),
       length-map (unit_codes u e) odd_octet,
     )
 
 -- what is sent for units within their limits is at most this long
-pub length-units_wire : (us : List TextUnit) (end : End) → AllByRecursion IsUnit us
+pub length_units_wire : (us : List TextUnit) (end : End) → AllByRecursion IsUnit us
     → length (units_wire us end) ≤ MAX_UNIT_SENT * length us
-length-units_wire [] end h = omega arith
-length-units_wire (u ∷ us) end h =
+length_units_wire [] end h = omega arith
+length_units_wire (u ∷ us) end h =
     omega (
       arith,
       h.0.most,
-      length-unit_wire u (ending us end),
-      length-units_wire us end h.1,
+      length_unit_wire u (ending us end),
+      length_units_wire us end h.1,
       length-append (unit_wire u (ending us end)) (units_wire us end),
     )
 
@@ -229,7 +229,7 @@ units_end after_us (u ∷ []) end octets a h =
       whole = a.5 ∙ rw a.6 refl;
       other =
           odd_no_pad (longitudinal_sum (a.0 ++ unit_codes u (ending [] end)))
-          (longitudinal_sum-lt (a.0 ++ unit_codes u (ending [] end)));
+          (longitudinal_sum_lt (a.0 ++ unit_codes u (ending [] end)));
     }
 units_end after_us (u ∷ v ∷ us) end octets a h =
     rw a.5

@@ -12,7 +12,7 @@ use Rattle.bsc_frame.specs.Spells.{AreFilled, IsStart}
 use Rattle.bsc_frame.specs.Reading.{◌>>=◌, is_ending_code, gathered, after_check, after_start}
 use Rattle.bsc_frame.specs.Reading.{read_unit, unit_at}
 use Rattle.bsc_frame.proofs.ControlLemmas.{chosen, some_is}
-use Rattle.bsc_frame.proofs.GatherLemmas.{gathered_reads, gathered_read, EndsUnit-last, IsOther}
+use Rattle.bsc_frame.proofs.GatherLemmas.{gathered_reads, gathered_read, ends_unit_last, IsOther}
 use Rattle.bsc_frame.proofs.GatherLemmas.{IsRun}
 use Rattle.bsc_frame.specs.declared.limits.TheConstants.{MAX_UNIT_CODES}
 use Rattle.bsc_frame.proofs.UnitCodes.{unit_of_reads, ending_cases, ending_no_char, unit_of_read}
@@ -73,7 +73,7 @@ unit_at_reads after_us octets f h =
           (check_reads g.0.0 g.0.1 r.0 r.1
           ∙ ap (λ z. odd_octet (longitudinal_sum z) ∷ r.0) all);
       unit = codes.1;
-      ends = EndsUnit-last (start.0 ++ (w.0.0.chars ++ cond w.0.0.em (0x19 ∷ []) [])) w.0.1
+      ends = ends_unit_last (start.0 ++ (w.0.0.chars ++ cond w.0.0.em (0x19 ∷ []) [])) w.0.1
           (rw (all
           ∙ sym (append_assoc start.0 (w.0.0.chars ++ cond w.0.0.em (0x19 ∷ []) [])
           (w.0.1 ∷ []))) at gathers.ends);
@@ -162,8 +162,8 @@ length_start after_us start (inl e) = omega (arith, ap length e)
 length_start after_us start (inr e) = omega (arith, ap length e.1)
 
 -- a unit has at most two codes more than characters
-pub length-unit_codes : (u : TextUnit) (e : ℕ) → length (unit_codes u e) ≤ length u.chars + 2
-length-unit_codes u e =
+pub length_unit_codes : (u : TextUnit) (e : ℕ) → length (unit_codes u e) ≤ length u.chars + 2
+length_unit_codes u e =
     omega (
       arith,
       length_em u.em,
@@ -183,7 +183,7 @@ unit_at_read after_us octets u e rest a =
       arith,
       a.unit.most,
       length_start after_us a.start a.is_start,
-      length-unit_codes u e,
+      length_unit_codes u e,
       length-append a.start (unit_codes u e),
     ) in
     let gathers : gathered MAX_UNIT_CODES octets

@@ -10,7 +10,7 @@ use Rattle.std.proofs.Math.Seq.{drop-append_seam}
 use Rattle.std.proofs.lemmas.List.Elements.{All-drop}
 use Rattle.bsc_frame.specs.Units.{unit_codes}
 use Rattle.bsc_octet.specs.Octet.{IsOdd, odd_octet, longitudinal_sum}
-use Rattle.bsc_octet.proofs.SumLemmas.{longitudinal_sum-lt}
+use Rattle.bsc_octet.proofs.SumLemmas.{longitudinal_sum_lt}
 use Rattle.bsc_frame.specs.Texts.{TextUnit, TextValue}
 use Rattle.bsc_frame.specs.Drafts.{draft_units, IsDraft, TakesUnit, ReadsText}
 use Rattle.bsc_frame.specs.Reading.{after_check, unit_at, units_at, before_units, last_unit}
@@ -25,7 +25,7 @@ use Rattle.bsc_frame.specs.declared.limits.TheConstants.{MAX_UNITS}
 
 -- a sum is below 128
 is_code : (s : List ℕ) → nat_lt (longitudinal_sum s) 128 ≡ true
-is_code s = grind (arith, nat_tests, longitudinal_sum-lt s)
+is_code s = grind (arith, nat_tests, longitudinal_sum_lt s)
 
 -- the sum has an octet
 pub check_no : (s : List ℕ)

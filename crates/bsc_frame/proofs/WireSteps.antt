@@ -11,7 +11,7 @@ use Rattle.std.proofs.lemmas.List.Elements.{recursion_from_All, All-from_recursi
 use Rattle.std.proofs.lemmas.List.Elements.{All-cons}
 use Rattle.std.proofs.lemmas.List.Elements.{All-nil}
 use Rattle.bsc_octet.specs.Octet.{odd_octet, longitudinal_sum, is_record_char}
-use Rattle.bsc_octet.proofs.ParityLemmas.{odd_octet-low}
+use Rattle.bsc_octet.proofs.ParityLemmas.{odd_octet_low}
 use Rattle.std.specs.Int.Count.{ones}
 use Rattle.bsc_frame.specs.Reading.{low_bits}
 use Rattle.bsc_frame.proofs.CarriedLemmas.{sum_low}
@@ -20,7 +20,7 @@ use Rattle.bsc_frame.specs.Units.{unit_codes, unit_wire, units_wire, ending, end
 use Rattle.bsc_frame.specs.declared.limits.TheConstants.{MAX_UNITS, MAX_UNIT_SENT, MAX_SENT}
 use Rattle.bsc_frame.specs.declared.text.End.{End}
 use Rattle.bsc_frame.proofs.UnitLemmas.{char_lt}
-use Rattle.bsc_frame.proofs.TextUnits.{length-units_wire}
+use Rattle.bsc_frame.proofs.TextUnits.{length_units_wire}
 
 -- record characters are codes of seven bits
 all_small : (chars : List ℕ) → AllByRecursion (λ c. IsTrue (is_record_char c)) chars
@@ -79,7 +79,7 @@ chars_small u h = All-from_recursion (λ c. c < 128) u.chars (all_small u.chars 
 low_odd : (codes : List ℕ) → AllByRecursion (λ c. c < 128) codes
     → map low_bits (map odd_octet codes) ≡ codes
 low_odd [] h = refl
-low_odd (c ∷ codes) h = rw (odd_octet-low c h.0, low_odd codes h.1) refl
+low_odd (c ∷ codes) h = rw (odd_octet_low c h.0, low_odd codes h.1) refl
 
 -- the sum of the octets is that of their codes
 sum_odd : (codes : List ℕ) → All (λ c. c < 128) codes
@@ -155,7 +155,7 @@ wire_next w first us i u end e h =
 -- the units of a text within its limits have at most this many octets
 wire_long : (us : List TextUnit) (end : End) → length us ≤ MAX_UNITS → AllByRecursion IsUnit us
     → length (units_wire us end) ≤ MAX_UNITS * MAX_UNIT_SENT
-wire_long us end l h = omega (arith, length-units_wire us end h)
+wire_long us end l h = omega (arith, length_units_wire us end h)
 
 -- so there is room for one more of them
 pub wire_room : (w first : List ℕ) (us : List TextUnit) (i : ℕ) (u : TextUnit) (end : End)

@@ -30,21 +30,21 @@ both_true true t p q join first second = (λ e. join (p.0 refl) (q.0 e), λ r. q
 both_true false t p q join first second = (λ e. absurd (cc), λ r. p.1 (first r))
 
 -- the comparison of units, of ends and of texts tells exactly whether they are the same
-unit-Decides : (a b : TextUnit) → Decides (is_same_unit a b) (a ≡ b)
-unit-Decides a b =
+unit_decides : (a b : TextUnit) → Decides (is_same_unit a b) (a ≡ b)
+unit_decides a b =
     both_true (pointwise ◌==◌ a.chars b.chars) (beq a.em b.em) (bytes_decides a.chars b.chars)
     (booleans_Decides a.em b.em) (λ chars em i. record { chars = chars i; em = em i })
     (ap (λ (u : TextUnit). u.chars)) (ap (λ (u : TextUnit). u.em))
 
-pub end-Decides : (a b : End) → Decides (end_code a == end_code b) (a ≡ b)
-end-Decides Etb Etb = (λ e. refl, λ e. refl)
-end-Decides Etb Etx = (λ e. absurd (cc), λ e. absurd (cc))
-end-Decides Etx Etb = (λ e. absurd (cc), λ e. absurd (cc))
-end-Decides Etx Etx = (λ e. refl, λ e. refl)
+pub end_decides : (a b : End) → Decides (end_code a == end_code b) (a ≡ b)
+end_decides Etb Etb = (λ e. refl, λ e. refl)
+end_decides Etb Etx = (λ e. absurd (cc), λ e. absurd (cc))
+end_decides Etx Etb = (λ e. absurd (cc), λ e. absurd (cc))
+end_decides Etx Etx = (λ e. refl, λ e. refl)
 
-pub text-Decides : (a b : TextValue) → Decides (is_same_text a b) (a ≡ b)
-text-Decides a b =
+pub text_decides : (a b : TextValue) → Decides (is_same_text a b) (a ≡ b)
+text_decides a b =
     both_true (pointwise is_same_unit a.units b.units) (end_code a.end == end_code b.end)
-    (pointwise_decides unit-Decides a.units b.units) (end-Decides a.end b.end)
+    (pointwise_decides unit_decides a.units b.units) (end_decides a.end b.end)
     (λ units end i. record { units = units i; end = end i })
     (ap (λ (t : TextValue). t.units)) (ap (λ (t : TextValue). t.end))

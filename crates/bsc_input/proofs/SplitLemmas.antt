@@ -18,24 +18,24 @@ test_of_none true k e = cc
 test_of_none false k e = refl
 
 -- what stands before that octet
-pub before_first-some : (p : ℕ → Bool) (xs : List ℕ) (i : ℕ) → position p xs ≡ Some i
+pub before_first_some : (p : ℕ → Bool) (xs : List ℕ) (i : ℕ) → position p xs ≡ Some i
     → before_first p xs ≡ take i xs
-before_first-some p xs i e = ap (λ k. take k xs) (test_of_some _ (position_or_len p xs) i e).1
+before_first_some p xs i e = ap (λ k. take k xs) (test_of_some _ (position_or_len p xs) i e).1
 
-pub before_first-none : (p : ℕ → Bool) (xs : List ℕ) → position p xs ≡ None → before_first p xs ≡ xs
-before_first-none p xs e =
+pub before_first_none : (p : ℕ → Bool) (xs : List ℕ) → position p xs ≡ None → before_first p xs ≡ xs
+before_first_none p xs e =
     take_all (position_or_len p xs) xs (ltb-false _ _ (test_of_none _ (position_or_len p xs) e))
 
-pub slice_split-some : (p : ℕ → Bool) (xs : List ℕ) (i : ℕ) → position p xs ≡ Some i
+pub slice_split_finds_some : (p : ℕ → Bool) (xs : List ℕ) (i : ℕ) → position p xs ≡ Some i
     → slice_split p xs ≡ take i xs ∷ slice_split p (drop (i + 1) xs)
-slice_split-some p xs i e =
+slice_split_finds_some p xs i e =
     let test = test_of_some _ (position_or_len p xs) i e in
     let P : ℕ → Type 0 = λ k. slice_split p xs ≡ take k xs ∷ slice_split p (drop (k + 1) xs) in
     subst P test.1 (slice_split_first p xs 0 (ltb-true _ _ test.0))
 
-pub slice_split-none : (p : ℕ → Bool) (xs : List ℕ) → position p xs ≡ None → slice_split p xs ≡ xs
+pub slice_split_finds_none : (p : ℕ → Bool) (xs : List ℕ) → position p xs ≡ None → slice_split p xs ≡ xs
     ∷ []
-slice_split-none p xs e =
+slice_split_finds_none p xs e =
     let long : length xs ≤ position_or_len p xs =
     ltb-false _ _ (test_of_none _ (position_or_len p xs) e) in
     slice_split_none p xs (λ k d below. fails_before_first p xs k d (omega arith))

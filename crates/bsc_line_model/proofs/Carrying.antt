@@ -125,9 +125,9 @@ before_none p xs i d true e none within = absurd (cc)
 before_none p xs i d false e none within = let far : length xs ≤ position_or_len p xs =
     grind (arith, nat_tests) in fails_before_first p xs i d (omega arith)
 
-position-none : {X : Type 0} → (p : X → Bool) (xs : List X) (i : ℕ) (d : X) → position p xs ≡ None
+position_none : {X : Type 0} → (p : X → Bool) (xs : List X) (i : ℕ) (d : X) → position p xs ≡ None
     → i < length xs → p (get_or xs i d) ≡ false
-position-none p xs i d none less =
+position_none p xs i d none less =
     before_none p xs i d (nat_lt (position_or_len p xs) (length xs)) refl none less
 
 -- the control station acted on a silence
@@ -135,7 +135,7 @@ nobody_sends : (ts : List TributaryValue) → line_owner ts ≡ None → (t : �
     → (terminal_in ts t).mode ≢ Sending
 nobody_sends ts none t less sends =
     let no : holds (terminal_in ts t).mode ≡ false =
-    position-none (λ (x : TributaryValue). holds x.mode) ts t no_terminal none less in
+    position_none (λ (x : TributaryValue). holds x.mode) ts t no_terminal none less in
     let yes : holds (terminal_in ts t).mode ≡ true = ap holds sends in
     let both : true ≡ false = sym yes ∙ no in cc
 

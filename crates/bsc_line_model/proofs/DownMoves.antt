@@ -32,7 +32,7 @@ use Rattle.bsc_control.specs.Peer.{PeerValue, OutboundValue, outbound_at}
 use Rattle.bsc_control.specs.Control.{ControlValue, peer_at, peer, current}
 use Rattle.bsc_control.specs.Kept.{outbound_of}
 use Rattle.bsc_control.specs.Table.{select_address}
-use Rattle.bsc_tributary.proofs.InMode.{hear_step-no_call}
+use Rattle.bsc_tributary.proofs.InMode.{hear_step_no_call}
 use Rattle.bsc_line_model.specs.declared.transmission.Speaker.TheVariants as sp
 use Rattle.bsc_line_model.specs.declared.transmission.Transmission.{Transmission}
 use Rattle.bsc_line_model.specs.Line.{LineValue, terminal_in, terminal_at, terminal_count}
@@ -125,7 +125,7 @@ lands_down laws p e s w h x u out there b never fair row =
     let r : ReceiverStep = heard_step x.receiver spool h x.urgent rooms in
     let o : OutboundValue = outbound_at p s in
     let becomes : record { tributary = u; sent = out } ≡ receive_step x s r =
-    row.row ∙ hear_step-no_call x h rooms never ∙ ap (λ (n : Mode). mode_step x n h rooms) b.mode in
+    row.row ∙ hear_step_no_call x h rooms never ∙ ap (λ (n : Mode). mode_step x n h rooms) b.mode in
     let flying : InBid o.sender.phase o.queue x.receiver.alternation x.receiver.last spool.records
     (Outward w) =
     subst (λ (f : Flight). InBid o.sender.phase o.queue x.receiver.alternation x.receiver.last

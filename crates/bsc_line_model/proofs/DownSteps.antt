@@ -33,7 +33,7 @@ use Rattle.bsc_control.specs.Addresses.{IsAddressOf}
 use Rattle.bsc_control.specs.Peer.{PeerValue, IsPeer, no_peer, outbound_at}
 use Rattle.bsc_control.specs.Control.{ControlValue, peer, current, terminals}
 use Rattle.bsc_control.specs.Table.{select_address}
-use Rattle.bsc_tributary.proofs.InMode.{hear_step-no_call}
+use Rattle.bsc_tributary.proofs.InMode.{hear_step_no_call}
 use Rattle.bsc_line_model.specs.declared.transmission.Speaker.TheVariants as sp
 use Rattle.bsc_line_model.specs.declared.transmission.Transmission.{Transmission}
 use Rattle.bsc_line_model.specs.Transmission.{sent_by}
@@ -104,7 +104,7 @@ pub stays_quiet : (e : ℕ) (way : Way) (t : ℕ) (x u : TributaryValue) (out : 
     (h : Heard) → x.mode ≡ Control → IsNoCall h → Hears x h u out → Answers e way t x u out None
 stays_quiet e way t x u out h mode never heard =
     let row : record { tributary = u; sent = out } ≡ quiet_step x = heard.row
-    ∙ hear_step-no_call x h (rooms_after h u) never
+    ∙ hear_step_no_call x h (rooms_after h u) never
     ∙ ap (λ (n : Mode). mode_step x n h (rooms_after h u)) mode in
     record {
       says = ap (λ (o : TributaryStep). o.sent) row;

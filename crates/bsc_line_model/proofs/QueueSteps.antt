@@ -23,7 +23,7 @@ use Rattle.bsc_tributary.specs.declared.mode.Mode.{Mode}
 use Rattle.bsc_tributary.specs.declared.mode.Mode.TheVariants.{Control, Receiving, Sending}
 use Rattle.bsc_tributary.specs.Called.{called_as}
 use Rattle.bsc_tributary.specs.Kept.{IsNoCall}
-use Rattle.bsc_tributary.proofs.InMode.{hear_step-no_call}
+use Rattle.bsc_tributary.proofs.InMode.{hear_step_no_call}
 use Rattle.bsc_tributary.specs.Tributary.{TributaryValue, TributaryStep, Hears, ActsOnSilence}
 use Rattle.bsc_tributary.specs.Tributary.{spool_at, without_line, answer_step, act_step, poll_step}
 use Rattle.bsc_tributary.specs.Tributary.{selection_step, call_step, mode_step, silence_in}
@@ -109,7 +109,7 @@ no_call_queue : (x u : TributaryValue) (h : Heard) (out : Option Message) → Is
     → Hears x h u out → QueueHears x h u
 no_call_queue x u h out never row =
     in_mode x.mode refl (ap (λ (o : TributaryStep). o.tributary.queue)
-    (row.row ∙ hear_step-no_call x h (rooms_after h u) never))
+    (row.row ∙ hear_step_no_call x h (rooms_after h u) never))
   where
     in_mode : (mode : Mode) → x.mode ≡ mode → u.queue
         ≡ (mode_step x mode h (rooms_after h u)).tributary.queue → QueueHears x h u

@@ -30,7 +30,7 @@ use Rattle.bsc_control.specs.declared.way.Way.{Way}
 use Rattle.bsc_control.specs.declared.way.Way.TheVariants.{FromTerminal, ToTerminal}
 use Rattle.bsc_control.specs.Peer.{PeerValue, outbound_at}
 use Rattle.bsc_control.specs.Control.{ControlValue, peer_at, peer, current}
-use Rattle.bsc_tributary.proofs.InMode.{hear_step-no_call}
+use Rattle.bsc_tributary.proofs.InMode.{hear_step_no_call}
 use Rattle.bsc_line_model.specs.declared.transmission.Speaker.TheVariants as sp
 use Rattle.bsc_line_model.specs.Transmission.{sent_by}
 use Rattle.bsc_line_model.specs.Line.{terminal_in}
@@ -73,7 +73,7 @@ replied_up laws p e r h x u out b is fair row =
     subst (λ (f : Flight). InBid x.sender.phase x.queue p.receiver.alternation p.receiver.last
     p.spool.records f) is b.bid in
     let becomes : record { tributary = u; sent = out } ≡ act_step x step =
-    row.row ∙ hear_step-no_call x h (rooms_after h u) (reply_heard_whole r h fair)
+    row.row ∙ hear_step_no_call x h (rooms_after h u) (reply_heard_whole r h fair)
     ∙ ap (λ (n : Mode). mode_step x n h (rooms_after h u)) b.mode in
     let agrees : SenderAgrees x.queue p.receiver.alternation p.receiver.last p.spool.records step =
     laws.answering x.sender x.queue p.receiver.alternation p.receiver.last p.spool.records (Some r)
@@ -253,7 +253,7 @@ enquired_terminal p e s x u h out ts q f there row after (inl whole) =
     let rooms : Rooms = rooms_after h u in
     let first : record { tributary = u; sent = out }
     ≡ enq_answer x s x.receiver.alternation x.receiver.last rooms.first =
-    row.row ∙ hear_step-no_call x h rooms (enq_no_call h (inl whole))
+    row.row ∙ hear_step_no_call x h rooms (enq_no_call h (inl whole))
     ∙ ap (λ (z : Heard). mode_step x x.mode z rooms) whole
     ∙ ap (λ (n : Mode). mode_step x n (Whole m.Enq) rooms) f.mode in
     let even : record { tributary = u; sent = out }

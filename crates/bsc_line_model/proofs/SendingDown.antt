@@ -23,7 +23,7 @@ use Rattle.bsc_control.specs.declared.way.Way.{Way}
 use Rattle.bsc_control.specs.declared.way.Way.TheVariants.{ToTerminal}
 use Rattle.bsc_control.specs.Peer.{PeerValue, outbound_at}
 use Rattle.bsc_control.specs.Control.{ControlValue, peer_at, peer, current}
-use Rattle.bsc_tributary.proofs.InMode.{hear_step-no_call}
+use Rattle.bsc_tributary.proofs.InMode.{hear_step_no_call}
 use Rattle.bsc_line_model.specs.declared.transmission.Speaker.TheVariants as sp
 use Rattle.bsc_line_model.specs.declared.transmission.Transmission.{Transmission}
 use Rattle.bsc_line_model.specs.Transmission.{sent_by}
@@ -174,7 +174,7 @@ receives_down laws p e s w h t u out there b bid fair x after =
     let rooms : Rooms = rooms_after h u in
     let r : ReceiverStep = heard_step t.receiver spool h t.urgent rooms in
     let row : record { tributary = u; sent = out } ≡ receive_step t s r =
-    x.row ∙ hear_step-no_call t h rooms (no_call_heard w h bid fair)
+    x.row ∙ hear_step_no_call t h rooms (no_call_heard w h bid fair)
     ∙ ap (λ (n : Mode). mode_step t n h rooms) b.mode in
     let flying : InBid (outbound_at p s).sender.phase (outbound_at p s).queue t.receiver.alternation
     t.receiver.last spool.records (Outward w) =

@@ -30,7 +30,7 @@ use Rattle.bsc_tributary.specs.Tributary.{call_step, poll_step, act_step, answer
 use Rattle.bsc_tributary.specs.Tributary.{without_line, spool_at}
 use Rattle.bsc_tributary.specs.Kept.{IsNoCall}
 use Rattle.bsc_control.specs.declared.way.Way.TheVariants.{FromTerminal}
-use Rattle.bsc_tributary.proofs.InMode.{hear_step-no_call}
+use Rattle.bsc_tributary.proofs.InMode.{hear_step_no_call}
 use Rattle.bsc_line_model.specs.Rounds.{block_count}
 use Rattle.bsc_line_model.proofs.BlockCounts.{CutLaws, HasFirstBlock, IsEnd, has_first, no_block}
 use Rattle.bsc_line_model.proofs.BlockCounts.{a_block}
@@ -108,7 +108,7 @@ hears_ack laws e x u out n b i is h =
     let w : Heard = Whole (message_of (ack b.alternation)) in
     let row : record { tributary = u; sent = out }
     ≡ act_step x (accepted x.sender (with_known x.queue b.count) b.end b.alternation) =
-    h.row ∙ hear_step-no_call x w (rooms_after w u) (ack_no_call b.alternation)
+    h.row ∙ hear_step_no_call x w (rooms_after w u) (ack_no_call b.alternation)
     ∙ ap (λ (z : Mode). mode_step x z w (rooms_after w u)) i.mode
     ∙ ap (λ (z : SenderStep). act_step x z)
     (ack_step x.sender x.queue b b.alternation refl i.phase) in (

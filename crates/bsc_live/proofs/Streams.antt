@@ -10,7 +10,7 @@ use Rattle.bsc_carrier.specs.Assembler.{Fed}
 use Rattle.bsc_carrier.specs.Front.{BeginsRecord}
 use Rattle.bsc_carrier.specs.Record.{IsCarried, socket_record}
 use Rattle.bsc_carrier.specs.declared.error.CarrierError.{CarrierError}
-use Rattle.bsc_carrier.proofs.Fronts.{not_whole_and_partial, IsPartial-nil}
+use Rattle.bsc_carrier.proofs.Fronts.{not_whole_and_partial, is_partial_nil}
 use Rattle.bsc_live.specs.declared.socket_records.SocketRecords.{SocketRecords}
 use Rattle.bsc_live.specs.declared.limits.TheConstants.{KEPT}
 use Rattle.bsc_live.specs.Framings.{GapsValue, Gathers, EndsAtGap}
@@ -69,7 +69,7 @@ records_whole a b piece fed =
       carried = (fed.1, tt);
       rest =
           λ none whole. not_whole_and_partial [] (subst BeginsRecord none_begun whole)
-          IsPartial-nil;
+          is_partial_nil;
     }
 
 pub records_gap : (a b : SocketRecords) → record_ends a true b

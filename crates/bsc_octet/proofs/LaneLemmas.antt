@@ -17,16 +17,16 @@ use Rattle.std.proofs.lemmas.List.Elements.{All-from_recursion, recursion_from_A
 use Rattle.std.proofs.lemmas.List.Sums.{sum_by-cons, sum_by-append}
 use Rattle.std.proofs.lemmas.Bool.{eqb-true, eq-eqb}
 use Rattle.bsc_octet.specs.Octet.{longitudinal_sum, with_bit, IsOdd}
-use Rattle.bsc_octet.proofs.SumLemmas.{longitudinal_sum-from_xor}
+use Rattle.bsc_octet.proofs.SumLemmas.{longitudinal_sum_from_xor}
 use Rattle.bsc_octet.proofs.Elements.{all_take, all_drop, all_append}
 
-with_bit-cons : (i x : ℕ) (xs : List ℕ) → with_bit i (x ∷ xs) ≡ cond (bit_at x i == 1) 1 0
+with_bit_cons : (i x : ℕ) (xs : List ℕ) → with_bit i (x ∷ xs) ≡ cond (bit_at x i == 1) 1 0
     + with_bit i xs
-with_bit-cons i x xs = sum_by-cons (λ x. cond (bit_at x i == 1) 1 0) x xs
+with_bit_cons i x xs = sum_by-cons (λ x. cond (bit_at x i == 1) 1 0) x xs
 
-pub with_bit-append : (i : ℕ) (xs ys : List ℕ) → with_bit i (xs ++ ys) ≡ with_bit i xs
+pub with_bit_append : (i : ℕ) (xs ys : List ℕ) → with_bit i (xs ++ ys) ≡ with_bit i xs
     + with_bit i ys
-with_bit-append i xs ys = sum_by-append (λ x. cond (bit_at x i == 1) 1 0) xs ys
+with_bit_append i xs ys = sum_by-append (λ x. cond (bit_at x i == 1) 1 0) xs ys
 
 -- a bit is counted where it is 1
 pub test_bit : (x i : ℕ) → cond (bit_at x i == 1) 1 0 ≡ bit_at x i
@@ -42,7 +42,7 @@ pub fold_xor : (i a : ℕ) (xs : List ℕ) → bit_at (fold_l bit_xor a xs) i
     ≡ (bit_at a i + with_bit i xs) % 2
 fold_xor i a [] = omega (arith, bit_at-lt a i)
 fold_xor i a (x ∷ xs) =
-    fold_xor i (bit_xor a x) xs ∙ rw (bit_at_xor a x i, with_bit-cons i x xs, test_bit x i)
+    fold_xor i (bit_xor a x) xs ∙ rw (bit_at_xor a x i, with_bit_cons i x xs, test_bit x i)
     (omega arith)
 
 -- lane by lane
@@ -53,9 +53,9 @@ zip_xor i [] (y ∷ ys) h = absurd (omega arith)
 zip_xor i (x ∷ xs) [] h = absurd (omega arith)
 zip_xor i (x ∷ xs) (y ∷ ys) h =
     rw (
-      with_bit-cons i (bit_xor x y) (zip2 bit_xor xs ys),
-      with_bit-cons i x xs,
-      with_bit-cons i y ys,
+      with_bit_cons i (bit_xor x y) (zip2 bit_xor xs ys),
+      with_bit_cons i x xs,
+      with_bit_cons i y ys,
       test_bit (bit_xor x y) i,
       test_bit x i,
       test_bit y i,
@@ -77,7 +77,7 @@ chunk_more lanes cs k i l w h =
     ∙ rw (
       take_more cs k [] l,
       concat_push (take k cs) (get_or cs k []),
-      with_bit-append i (concat (take k cs)) (get_or cs k []),
+      with_bit_append i (concat (take k cs)) (get_or cs k []),
     ) (omega arith)
 
 -- ---- parity
@@ -175,11 +175,11 @@ pub parts_xor : (n k t u : ℕ) (xs : List ℕ) → k * n ≤ length xs
     → ((i : ℕ) → bit_at t i ≡ with_bit i (concat (first_chunks n k xs)) % 2)
     → ((i : ℕ) → bit_at u i ≡ with_bit i (drop (k * n) xs) % 2)
     → bit_and (bit_xor t u) 127 ≡ longitudinal_sum xs
-parts_xor n k t u xs h c d = longitudinal_sum-from_xor (bit_xor t u) xs (λ i.
+parts_xor n k t u xs h c d = longitudinal_sum_from_xor (bit_xor t u) xs (λ i.
     let whole : with_bit i xs ≡ with_bit i (concat (first_chunks n k xs))
     + with_bit i (drop (k * n) xs) =
     ap (with_bit i) (sym (chunks_whole n k xs h))
-    ∙ with_bit-append i (concat (first_chunks n k xs)) (drop (k * n) xs) in
+    ∙ with_bit_append i (concat (first_chunks n k xs)) (drop (k * n) xs) in
     bit_at_xor t u i ∙ rw (c i, d i, whole) (omega arith))
 
 -- the parts that `as_chunks` gives

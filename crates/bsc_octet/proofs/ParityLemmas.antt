@@ -9,8 +9,8 @@ use Rattle.std.specs.Int.Count.{ones-ones}
 use Rattle.bsc_octet.specs.Octet.{odd_octet, code_of, IsOdd}
 
 -- the eighth bit is one more
-pub ones-high : (c : ℕ) → c < 128 → count_ones (c + 128) ≡ 1 + count_ones c
-ones-high c h =
+pub ones_high : (c : ℕ) → c < 128 → count_ones (c + 128) ≡ 1 + count_ones c
+ones_high c h =
     let e : c + 128 ≡ 1 * 2 ^ 7 + c = omega arith in
     ap count_ones e ∙ ones_cat 7 1 c h ∙ ap (λ n. n + count_ones c) (ones-ones 1)
 
@@ -29,14 +29,14 @@ unfolding odd_octet
 odd_cases c = one_or_none c (count_ones c % 2) (omega arith)
 
 -- the code is the low seven bits of its octet
-pub odd_octet-low : (c : ℕ) → c < 128 → odd_octet c % 128 ≡ c
-odd_octet-low c h = elim (odd_cases c) [ inl e ↦ omega arith | inr e ↦ omega arith ]
+pub odd_octet_low : (c : ℕ) → c < 128 → odd_octet c % 128 ≡ c
+odd_octet_low c h = elim (odd_cases c) [ inl e ↦ omega arith | inr e ↦ omega arith ]
 
-pub IsOdd-odd_octet : (c : ℕ) → c < 128 → IsOdd (odd_octet c)
-IsOdd-odd_octet c h =
+pub is_odd_odd_octet : (c : ℕ) → c < 128 → IsOdd (odd_octet c)
+is_odd_odd_octet c h =
     elim (odd_cases c) [
       | inl e ↦ rw e.0 e.1
-      | inr e ↦ rw (e.0, ones-high c h) (omega arith)
+      | inr e ↦ rw (e.0, ones_high c h) (omega arith)
     ]
 
 -- an octet with odd parity carries its low seven bits
@@ -51,7 +51,7 @@ odd_of_low o h p = by_size (cases_lt o 128)
         let e : o % 128 ≡ o - 128 = omega arith in
         let back : (o - 128) + 128 ≡ o = omega arith in
         let high : count_ones o ≡ 1 + count_ones (o - 128) =
-        ap count_ones (sym back) ∙ ones-high (o - 128) (omega arith) in
+        ap count_ones (sym back) ∙ ones_high (o - 128) (omega arith) in
         elim (odd_cases (o - 128)) [ inl k ↦ absurd (omega arith) | inr k ↦ rw e (k.0 ∙ back) ]
 
 -- from_line finds the code of an octet
@@ -61,7 +61,7 @@ code_of_odd o h p = rw (eq-eqb (odd_octet (o % 128)) o (odd_of_low o h p)) refl
 pub code_of_even : (o : ℕ) → (IsOdd o → ⊥) → None ≡ code_of o
 code_of_even o n =
     let differs : odd_octet (o % 128) ≡ o → ⊥ =
-    λ e. n (ap (λ x. count_ones x % 2) (sym e) ∙ IsOdd-odd_octet (o % 128) (omega arith)) in
+    λ e. n (ap (λ x. count_ones x % 2) (sym e) ∙ is_odd_odd_octet (o % 128) (omega arith)) in
     let fails : (odd_octet (o % 128) == o) ≡ false = grind (arith, nat_tests, differs) in
     rw fails refl
 
@@ -76,5 +76,5 @@ code_of_some o c e = by_test (odd_octet (o % 128) == o) refl e
         (omega arith, ap odd_octet k ∙ eqb-true (odd_octet (o % 128)) o t)
     by_test false t h = cc
 
-pub code_of-odd_octet : (c : ℕ) → c < 128 → code_of (odd_octet c) ≡ Some c
-code_of-odd_octet c h = rw (odd_octet-low c h, eq-eqb (odd_octet c) (odd_octet c) refl) refl
+pub code_of_odd_octet : (c : ℕ) → c < 128 → code_of (odd_octet c) ≡ Some c
+code_of_odd_octet c h = rw (odd_octet_low c h, eq-eqb (odd_octet c) (odd_octet c) refl) refl

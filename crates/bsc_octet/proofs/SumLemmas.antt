@@ -15,10 +15,10 @@ by_bits : (n : ℕ) → n < 128
 by_bits n h = omega arith
 
 -- the number with the sum's bits is the sum
-pub longitudinal_sum-from_bits : (s : List ℕ) (n : ℕ) → n < 128
+pub longitudinal_sum_from_bits : (s : List ℕ) (n : ℕ) → n < 128
     → ((i : ℕ) → i < 7 → bit_at n i ≡ with_bit i s % 2) → longitudinal_sum s ≡ n
 unfolding longitudinal_sum
-longitudinal_sum-from_bits s n lt h =
+longitudinal_sum_from_bits s n lt h =
     rw (
       ← h 0 (lit< tt),
       ← h 1 (lit< tt),
@@ -40,12 +40,12 @@ xor_counts t x i w h = rw (bit_at_xor t x i, h) (counted (bit_at x i) (bit_at-lt
     counted (suc (suc b)) l = absurd (omega arith)
 
 -- the low seven bits of the exclusive or of the members
-pub longitudinal_sum-from_xor : (t : ℕ) (s : List ℕ) → ((i : ℕ) → bit_at t i ≡ with_bit i s % 2)
+pub longitudinal_sum_from_xor : (t : ℕ) (s : List ℕ) → ((i : ℕ) → bit_at t i ≡ with_bit i s % 2)
     → bit_and t 127 ≡ longitudinal_sum s
-longitudinal_sum-from_xor t s h =
+longitudinal_sum_from_xor t s h =
     let small : bit_and t 127 < 128 = omega (arith, and_le_r t 127) in
     let one : (b : ℕ) → b < 2 → min b 1 ≡ b = λ b l. omega arith in
-    sym (longitudinal_sum-from_bits s (bit_and t 127) small
+    sym (longitudinal_sum_from_bits s (bit_and t 127) small
     (λ i l. bit_at_and t 127 i ∙ rw (bit_at_ones 7 i l)
     (one (bit_at t i) (bit_at-lt t i) ∙ h i)))
 
@@ -58,6 +58,6 @@ xor_more t s k l h i =
     (xor_counts t (get_or s k 0) i (with_bit i (take k s)) (h i))
 
 -- the sum is a code
-pub longitudinal_sum-lt : (s : List ℕ) → longitudinal_sum s < 128
+pub longitudinal_sum_lt : (s : List ℕ) → longitudinal_sum s < 128
 unfolding longitudinal_sum
-longitudinal_sum-lt s = omega arith
+longitudinal_sum_lt s = omega arith

@@ -22,14 +22,14 @@ use Rattle.bsc_run.specs.Steps.{MayBe}
 lent : {X : Type 0} → List X → Bor (List X)
 lent xs = record { ref_ptr = (0, 0); now = xs }
 
-lent-now : {X : Type 0} (xs : List X) → (lent xs).now ≡ xs
+lent_now : {X : Type 0} (xs : List X) → (lent xs).now ≡ xs
 unfolding lent
-lent-now xs = refl
+lent_now xs = refl
 
 -- an event of the line that an event of a script may be
 may_be : (asked : Asked) → (e : Event) × MayBe asked e
-may_be (offer_at t codes) = (event.OfferAt t (lent codes), (lent codes, lent-now codes, refl))
-may_be (offer_for t s codes) = (event.OfferFor t s (lent codes), (lent codes, lent-now codes, refl))
+may_be (offer_at t codes) = (event.OfferAt t (lent codes), (lent codes, lent_now codes, refl))
+may_be (offer_for t s codes) = (event.OfferFor t s (lent codes), (lent codes, lent_now codes, refl))
 may_be carry = (event.Carry (Some (lent [])), (lent [], refl))
 may_be lose = (event.Carry None, refl)
 may_be (heard given) = (event.Carry (Some (lent [])), (lent [], refl))
@@ -38,7 +38,7 @@ may_be (heard_each items) =
       event.CarryEach (lent words),
       (
         lent words,
-        ap length (lent-now words)
+        ap length (lent_now words)
             ∙ length-map items (λ item. None),
         refl,
       ),

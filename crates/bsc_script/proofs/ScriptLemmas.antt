@@ -7,10 +7,10 @@ use Rattle.bsc_script.specs.declared.action.Step.{Step}
 use Rattle.bsc_script.specs.Events.{event_of}
 use Rattle.bsc_script.specs.Script.{Reading, after_these, events_from, is_skipped}
 
-pub after_these-more : (done : List NumberedEvent) (next : NumberedEvent) (rest : Reading)
+pub after_these_more : (done : List NumberedEvent) (next : NumberedEvent) (rest : Reading)
     → after_these done (after_these (next ∷ []) rest) ≡ after_these (done ++ next ∷ []) rest
-after_these-more done next (Ok more) = ap Ok (sym (append_assoc done (next ∷ []) more))
-after_these-more done next (Err n) = refl
+after_these_more done next (Ok more) = ap Ok (sym (append_assoc done (next ∷ []) more))
+after_these_more done next (Err n) = refl
 
 -- the next line is skipped
 pub keep_line : {A : Type 0} {all : Reading} (old new : List (Step A)) (n : ℕ) (line : List ℕ)
@@ -33,7 +33,7 @@ take_line old new step n line more h e number event pushed =
     ap (map numbered) pushed ∙ map-append numbered old (step ∷ [])
     ∙ ap (λ k. map numbered old ++ record { line = k; event = event_in step.action } ∷ [])
     number in
-    here ∙ after_these-more (map numbered old) (record { line = n; event = event_in step.action })
+    here ∙ after_these_more (map numbered old) (record { line = n; event = event_in step.action })
     (events_from (n + 1) more) ∙ ap (λ done. after_these done (events_from (n + 1) more))
     (sym taken)
 

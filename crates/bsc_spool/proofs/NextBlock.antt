@@ -43,11 +43,11 @@ after f (r ∷ rs) n t e =
     } ≡ n = cc in
     (λ h. cc, rw (← same) (ends f (r ∷ rs) (nat_eq (taken f (r ∷ rs)) (length (r ∷ rs))) t refl))
 
-pub next_block-IsNext : (q : QueueValue) (n : Next)
+pub next_block_is_next : (q : QueueValue) (n : Next)
     → ((waiting q ≢ []) → 1 ≤ taken q.format (waiting q))
     → IsTaken q.format (waiting q) (taken q.format (waiting q))
     → next_block q ≡ Some n → IsNext q n
-next_block-IsNext q n some t e =
+next_block_is_next q n some t e =
     let a : (waiting q ≢ []) × IsAfter q.format (waiting q) n = after q.format (waiting q) n t e in
     record {
       count = a.1.count;

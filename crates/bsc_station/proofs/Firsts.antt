@@ -13,9 +13,9 @@ more_parts x [] l = absurd (omega arith)
 more_parts x (y ∷ more) l = refl
 
 -- a line before others
-pub lines-more : (text line rest : List ℕ) → parts_of text ≡ line ∷ parts_of rest → lines text
+pub lines_more : (text line rest : List ℕ) → parts_of text ≡ line ∷ parts_of rest → lines text
     ≡ strip_carriage_return line ∷ lines rest
-lines-more text line rest e =
+lines_more text line rest e =
     ap lines_of_parts e ∙ more_parts line (parts_of rest)
     (omega (arith, length-slice_split (λ octet. octet == 10) rest))
 
@@ -30,10 +30,10 @@ has_octet false x (part ∷ parts) line some e = let same : line ≡ x ∷ part 
     rw same (omega arith)
 
 -- the only line of a text that is not empty
-pub lines-one : (text line : List ℕ) → 0 < length text → parts_of text ≡ line ∷ [] → lines text
+pub lines_one : (text line : List ℕ) → 0 < length text → parts_of text ≡ line ∷ [] → lines text
     ≡ line ∷ []
-lines-one [] line some e = absurd (omega arith)
-lines-one (x ∷ xs) line some e =
+lines_one [] line some e = absurd (omega arith)
+lines_one (x ∷ xs) line some e =
     ap lines_of_parts e
     ∙ one_part line (has_octet (x == 10) x (slice_split (λ octet. octet == 10) xs) line
     (omega (arith, length-slice_split (λ octet. octet == 10) xs)) e)

@@ -21,9 +21,9 @@ pub record TakesText (h : Heard) (old new : List (List ℕ)) : Type 0 where
 abbrev pub Grows : Heard → SpoolValue → ReceiverStep → Type 0
 Grows h s step = (step.spool.records ≡ s.records) ⊎ TakesText h s.records step.spool.records
 
-grows-text : (r : ReceiverValue) (s : SpoolValue) (t : TextValue) (urgent : Bool) (rooms : Rooms)
+grows_text : (r : ReceiverValue) (s : SpoolValue) (t : TextValue) (urgent : Bool) (rooms : Rooms)
     → Grows (Whole (m.Text t)) s (text_step r s t urgent rooms)
-grows-text r s t urgent rooms =
+grows_text r s t urgent rooms =
     let P = λ (x : ReceiverStep). Grows (Whole (m.Text t)) s x in
     let plain : P (stored_text r s t rooms) =
     inr (record { text = t; heard = refl; becomes = refl }) in
@@ -33,44 +33,44 @@ grows-text r s t urgent rooms =
     (choose P urgent _ _ (choose P (is_rvi r.last) _ _ plain urgently) plain)
     (inl refl)
 
-grows-enq : (r : ReceiverValue) (s : SpoolValue) (rooms : Rooms)
+grows_enq : (r : ReceiverValue) (s : SpoolValue) (rooms : Rooms)
     → Grows (Whole m.Enq) s (enq_step r s rooms)
-grows-enq r s rooms = choose (Grows (Whole m.Enq) s) (is_wack r.last) _ _ (inl refl) (inl refl)
+grows_enq r s rooms = choose (Grows (Whole m.Enq) s) (is_wack r.last) _ _ (inl refl) (inl refl)
 
-pub grows-heard_step : (r : ReceiverValue) (s : SpoolValue) (h : Heard) (urgent : Bool)
+pub grows_heard_step : (r : ReceiverValue) (s : SpoolValue) (h : Heard) (urgent : Bool)
     (rooms : Rooms) → Grows h s (heard_step r s h urgent rooms)
-grows-heard_step r s (Whole (m.Text t)) urgent rooms = grows-text r s t urgent rooms
-grows-heard_step r s (Whole m.Enq) urgent rooms = grows-enq r s rooms
-grows-heard_step r s Failed urgent rooms = inl refl
-grows-heard_step r s Noise urgent rooms = inl refl
-grows-heard_step r s (Whole m.Eot) urgent rooms = inl refl
-grows-heard_step r s (Whole (m.Call x)) urgent rooms = inl refl
-grows-heard_step r s (Whole m.Ack0) urgent rooms = inl refl
-grows-heard_step r s (Whole m.Ack1) urgent rooms = inl refl
-grows-heard_step r s (Whole m.Nak) urgent rooms = inl refl
-grows-heard_step r s (Whole m.Wack) urgent rooms = inl refl
-grows-heard_step r s (Whole m.Rvi) urgent rooms = inl refl
+grows_heard_step r s (Whole (m.Text t)) urgent rooms = grows_text r s t urgent rooms
+grows_heard_step r s (Whole m.Enq) urgent rooms = grows_enq r s rooms
+grows_heard_step r s Failed urgent rooms = inl refl
+grows_heard_step r s Noise urgent rooms = inl refl
+grows_heard_step r s (Whole m.Eot) urgent rooms = inl refl
+grows_heard_step r s (Whole (m.Call x)) urgent rooms = inl refl
+grows_heard_step r s (Whole m.Ack0) urgent rooms = inl refl
+grows_heard_step r s (Whole m.Ack1) urgent rooms = inl refl
+grows_heard_step r s (Whole m.Nak) urgent rooms = inl refl
+grows_heard_step r s (Whole m.Wack) urgent rooms = inl refl
+grows_heard_step r s (Whole m.Rvi) urgent rooms = inl refl
 
 -- where nothing is replied the receiver stays as it is
 abbrev pub StaysSilent : ReceiverValue → ReceiverStep → Type 0
 StaysSilent r step = step.reply ≡ None → step.receiver ≡ r
 
-pub silent-heard_step : (r : ReceiverValue) (s : SpoolValue) (h : Heard) (urgent : Bool)
+pub silent_heard_step : (r : ReceiverValue) (s : SpoolValue) (h : Heard) (urgent : Bool)
     (rooms : Rooms) → StaysSilent r (heard_step r s h urgent rooms)
-silent-heard_step r s (Whole (m.Text t)) urgent rooms =
+silent_heard_step r s (Whole (m.Text t)) urgent rooms =
     choose (StaysSilent r) rooms.first _ _
     (choose (StaysSilent r) urgent _ _
     (choose (StaysSilent r) (is_rvi r.last) _ _ (λ e. absurd (cc)) (λ e. absurd (cc)))
     (λ e. absurd (cc)))
     (λ e. absurd (cc))
-silent-heard_step r s (Whole m.Enq) urgent rooms =
+silent_heard_step r s (Whole m.Enq) urgent rooms =
     choose (StaysSilent r) (is_wack r.last) _ _ (λ e. absurd (cc)) (λ e. absurd (cc))
-silent-heard_step r s Noise urgent rooms = λ e. refl
-silent-heard_step r s Failed urgent rooms = λ e. absurd (cc)
-silent-heard_step r s (Whole m.Eot) urgent rooms = λ e. refl
-silent-heard_step r s (Whole (m.Call x)) urgent rooms = λ e. refl
-silent-heard_step r s (Whole m.Ack0) urgent rooms = λ e. refl
-silent-heard_step r s (Whole m.Ack1) urgent rooms = λ e. refl
-silent-heard_step r s (Whole m.Nak) urgent rooms = λ e. refl
-silent-heard_step r s (Whole m.Wack) urgent rooms = λ e. refl
-silent-heard_step r s (Whole m.Rvi) urgent rooms = λ e. refl
+silent_heard_step r s Noise urgent rooms = λ e. refl
+silent_heard_step r s Failed urgent rooms = λ e. absurd (cc)
+silent_heard_step r s (Whole m.Eot) urgent rooms = λ e. refl
+silent_heard_step r s (Whole (m.Call x)) urgent rooms = λ e. refl
+silent_heard_step r s (Whole m.Ack0) urgent rooms = λ e. refl
+silent_heard_step r s (Whole m.Ack1) urgent rooms = λ e. refl
+silent_heard_step r s (Whole m.Nak) urgent rooms = λ e. refl
+silent_heard_step r s (Whole m.Wack) urgent rooms = λ e. refl
+silent_heard_step r s (Whole m.Rvi) urgent rooms = λ e. refl

@@ -25,11 +25,11 @@ use Rattle.bsc_tributary.specs.Tributary.{mode_left, mode_after, message_left, m
 use Rattle.bsc_tributary.specs.Kept.{SuitsMode}
 
 -- no bid goes on once it is cut off
-pub IsAtRest-cut_phase : (p : Phase) → IsAtRest (cut_phase p)
-IsAtRest-cut_phase Idle = tt
-IsAtRest-cut_phase (Unanswered b) = tt
-IsAtRest-cut_phase (Held end alternation) = tt
-IsAtRest-cut_phase (InDoubt count) = tt
+pub is_at_rest_cut_phase : (p : Phase) → IsAtRest (cut_phase p)
+is_at_rest_cut_phase Idle = tt
+is_at_rest_cut_phase (Unanswered b) = tt
+is_at_rest_cut_phase (Held end alternation) = tt
+is_at_rest_cut_phase (InDoubt count) = tt
 
 -- what becomes of the mode by what a call of the sender tells is what its act makes of it
 pub mode_told : (mode left : Mode) (s : SenderValue) (q : QueueValue) (outcome : Outcome)
@@ -46,12 +46,12 @@ sent_told last s q outcome sent step h e =
     e ∙ ap (λ (x : SenderAnswer). message_left x.outcome x.sent) h
 
 -- an act of a sending terminal leaves it sending or in control mode
-pub mode_after-Sending : (act : Act) → (mode_after act Sending ≡ Control)
+pub mode_after_sending : (act : Act) → (mode_after act Sending ≡ Control)
     ⊎ (mode_after act Sending ≡ Sending)
-mode_after-Sending (a.Send text) = inr refl
-mode_after-Sending a.Enq = inr refl
-mode_after-Sending a.Over = inl refl
-mode_after-Sending a.Quiet = inr refl
+mode_after_sending (a.Send text) = inr refl
+mode_after_sending a.Enq = inr refl
+mode_after_sending a.Over = inl refl
+mode_after_sending a.Quiet = inr refl
 
 -- and so it does not receive
 pub not_receiving : (mode : Mode) (s : ℕ) → (mode ≡ Control) ⊎ (mode ≡ Sending) → mode ≡ Receiving s
@@ -74,12 +74,12 @@ pub record Follows (mode : Mode) (n : ℕ) (setup : SetupValue) (format : Format
 abbrev pub FollowsFrom : Mode → ℕ → SenderValue → QueueValue → SenderStep → Type 0
 FollowsFrom mode n s q step = Follows mode n s.setup q.format q.offered step
 
-pub follows-sent_next : (mode : Mode) (n : ℕ) (s : SenderValue) (q : QueueValue)
+pub follows_sent_next : (mode : Mode) (n : ℕ) (s : SenderValue) (q : QueueValue)
     (alternation : Alternation)
     (next : Option Next) → FollowsFrom mode n s q (sent_next s q alternation next)
-follows-sent_next mode n s q alternation None =
+follows_sent_next mode n s q alternation None =
     record { suits = tt; setup_is = refl; format_is = refl; offered_is = refl }
-follows-sent_next mode n s q alternation
+follows_sent_next mode n s q alternation
     (Some next) = record { suits = tt; setup_is = refl; format_is = refl; offered_is = refl }
 
 suits_by : (act : Act) (old new : Phase) (n : ℕ) → IsGoing old → FitsAct act old new
@@ -102,14 +102,14 @@ follows n s q step goes fits keeps =
     }
 
 -- a reply, or something else, is heard while a bid goes on
-pub follows-reply_step : (n : ℕ) (s : SenderValue) (q : QueueValue) (r : Option Reply)
+pub follows_reply_step : (n : ℕ) (s : SenderValue) (q : QueueValue) (r : Option Reply)
     → IsGoing s.phase →
     FollowsFrom Sending n s q (reply_step s q r)
-follows-reply_step n s q r goes =
+follows_reply_step n s q r goes =
     follows n s q (reply_step s q r) goes (fits_reply s q r) (keeps_reply s q r)
 
 -- a silence while a bid goes on
-pub follows-silence_step : (n : ℕ) (s : SenderValue) (q : QueueValue) → IsGoing s.phase →
+pub follows_silence_step : (n : ℕ) (s : SenderValue) (q : QueueValue) → IsGoing s.phase →
     FollowsFrom Sending n s q (silence_step s q)
-follows-silence_step n s q goes =
+follows_silence_step n s q goes =
     follows n s q (silence_step s q) goes (fits_silence s q) (keeps_silence s q)

@@ -16,34 +16,34 @@ use Rattle.bsc_tributary.specs.Called.{is_same, selection, called_as}
 pub is_same-≡ : (a b : List ℕ) → is_same a b ≡ true → a ≡ b
 is_same-≡ a b e = same_text a b (sym e)
 
-is_same-told : (a b : List ℕ) (told : Bool) → is_same a b ≡ told →
+is_same_told : (a b : List ℕ) (told : Bool) → is_same a b ≡ told →
     ((a ≡ b) × (told ≡ true)) ⊎ ((a ≢ b) × (told ≡ false))
-is_same-told a b true e = inl (same_text a b (sym e), refl)
-is_same-told a b false e = inr (other_text a b (sym e), refl)
+is_same_told a b true e = inl (same_text a b (sym e), refl)
+is_same_told a b false e = inr (other_text a b (sym e), refl)
 
-pub is_same-refl : (a b : List ℕ) → a ≡ b → is_same a b ≡ true
-is_same-refl a b e =
-    elim (is_same-told a b (is_same a b) refl)
+pub is_same_refl : (a b : List ℕ) → a ≡ b → is_same a b ≡ true
+is_same_refl a b e =
+    elim (is_same_told a b (is_same a b) refl)
     [ inl same ↦ same.1 | inr differ ↦ absurd (differ.0 e) ]
 
 pub is_same-≢ : (a b : List ℕ) → a ≢ b → is_same a b ≡ false
 is_same-≢ a b ne =
-    elim (is_same-told a b (is_same a b) refl)
+    elim (is_same_told a b (is_same a b) refl)
     [ inl same ↦ absurd (ne same.0) | inr differ ↦ differ.1 ]
 
 -- the first place that passes
-pub position-at : (p : List ℕ → Bool) (xs : List (List ℕ)) (i : ℕ) → i < length xs →
+pub position_at : (p : List ℕ → Bool) (xs : List (List ℕ)) (i : ℕ) → i < length xs →
     ((k : ℕ) → k < i → p (get_or xs k []) ≡ false) → p (get_or xs i []) ≡ true → position p xs
     ≡ Some i
-position-at p xs i within before here =
+position_at p xs i within before here =
     let first : position_or_len p xs ≡ i =
     position_or_len_is p xs i [] (omega arith) before (λ _. here) in
     let less : nat_lt i (length xs) ≡ true = grind (arith, nat_tests) in
     rw (first, less) refl
 
-pub position-nowhere : (p : List ℕ → Bool) (xs : List (List ℕ)) →
+pub position_nowhere : (p : List ℕ → Bool) (xs : List (List ℕ)) →
     ((k : ℕ) → k < length xs → p (get_or xs k []) ≡ false) → position p xs ≡ None
-position-nowhere p xs each =
+position_nowhere p xs each =
     let all : position_or_len p xs ≡ length xs =
     position_or_len_is p xs (length xs) [] (omega arith) each
     (λ less. absurd (omega arith)) in
@@ -58,21 +58,21 @@ none_before p xs k true e none within = absurd (cc)
 none_before p xs k false e none within = let far : length xs ≤ position_or_len p xs = grind
     (arith, nat_tests) in fails_before_first p xs k [] (omega arith)
 
-pub position-None : (p : List ℕ → Bool) (xs : List (List ℕ)) (k : ℕ) → position p xs ≡ None → k
+pub position_none : (p : List ℕ → Bool) (xs : List (List ℕ)) (k : ℕ) → position p xs ≡ None → k
     < length xs →
     p (get_or xs k []) ≡ false
-position-None p xs k none within =
+position_none p xs k none within =
     none_before p xs k (nat_lt (position_or_len p xs) (length xs)) refl none within
 
 -- what the answers to both questions say of the address
-pub called_as-Selection : (t : TerminalValue) (address : List ℕ) (s : ℕ) → is_same address t.poll
+pub called_as_selection : (t : TerminalValue) (address : List ℕ) (s : ℕ) → is_same address t.poll
     ≡ false →
     position (is_same address) t.selects ≡ Some s → called_as t address ≡ Selection s
-called_as-Selection t address s poll at = rw poll (ap selection at)
+called_as_selection t address s poll at = rw poll (ap selection at)
 
-pub called_as-Other : (t : TerminalValue) (address : List ℕ) → is_same address t.poll ≡ false →
+pub called_as_other : (t : TerminalValue) (address : List ℕ) → is_same address t.poll ≡ false →
     position (is_same address) t.selects ≡ None → called_as t address ≡ Other
-called_as-Other t address poll nowhere = rw poll (ap selection nowhere)
+called_as_other t address poll nowhere = rw poll (ap selection nowhere)
 
 from_Selection : (poll_step : Bool) (at : Option ℕ) (s : ℕ) →
     (if poll_step then Polling else selection at) ≡ Selection s → (poll_step ≡ false)
@@ -89,58 +89,58 @@ from_Other false None e = (refl, refl)
 from_Other false (Some k) e = absurd (cc)
 
 -- a call that names the selection address of this number is a call of it
-pub selection-is : (t : TerminalValue) (address : List ℕ) (s : ℕ) → called_as t address
+pub selection_is : (t : TerminalValue) (address : List ℕ) (s : ℕ) → called_as t address
     ≡ Selection s →
     slice_get t.selects s ≡ Some address
-selection-is t address s e =
+selection_is t address s e =
     let f = from_Selection (is_same address t.poll) (position (is_same address) t.selects) s e in
     let p = position-Some (is_same address) t.selects s [] f.1 in
     slice_get-get_or t.selects s [] p.0 ∙ ap (λ (a : List ℕ). Some a)
     (sym (is_same-≡ address (get_or t.selects s []) p.1))
 
 -- and the other way round, where the addresses differ
-pub is-selection : (t : TerminalValue) (address : List ℕ) (s : ℕ) → HasDistinctAddresses t →
+pub is_selection : (t : TerminalValue) (address : List ℕ) (s : ℕ) → HasDistinctAddresses t →
     slice_get t.selects s ≡ Some address → called_as t address ≡ Selection s
-is-selection t address s distinct at =
+is_selection t address s distinct at =
     let within : s < length t.selects = slice_get_within t.selects s address at in
     let here : get_or t.selects s [] ≡ address = get_or_from_slice_get t.selects s address [] at in
-    called_as-Selection t address s
+    called_as_selection t address s
     (is_same-≢ address t.poll (λ e. distinct zero (suc s) [] (omega arith) (omega arith)
     (sym (here ∙ e))))
-    (position-at (is_same address) t.selects s within
+    (position_at (is_same address) t.selects s within
     (λ k less. is_same-≢ address (get_or t.selects k [])
     (λ e. distinct (suc k) (suc s) [] (omega arith) (omega arith) (sym e ∙ sym here)))
-    (is_same-refl address (get_or t.selects s []) (sym here)))
+    (is_same_refl address (get_or t.selects s []) (sym here)))
 
 -- a call that names no address of the terminal is a call of none of them
 place_is_none : (t : TerminalValue) (address : List ℕ) (k : ℕ) → is_same address t.poll ≡ false →
     position (is_same address) t.selects ≡ None → k < length (own_addresses t) →
     get_or (own_addresses t) k address ≡ address → ⊥
 place_is_none t address zero poll nowhere within here = let yes : is_same address t.poll ≡
-    true = is_same-refl address t.poll (sym here) in cc
+    true = is_same_refl address t.poll (sym here) in cc
 place_is_none t address (suc k) poll nowhere within here =
     let less : k < length t.selects = omega arith in
     let there : get_or t.selects k [] ≡ address = get_or_from_slice_get t.selects k address []
     (slice_get-get_or t.selects k address less ∙ ap (λ (a : List ℕ). Some a) here) in
     let yes : is_same address (get_or t.selects k []) ≡ true =
-    is_same-refl address (get_or t.selects k [])
+    is_same_refl address (get_or t.selects k [])
     (sym there) in
-    let no : is_same address (get_or t.selects k []) ≡ false = position-None
+    let no : is_same address (get_or t.selects k []) ≡ false = position_none
     (is_same address) t.selects k nowhere less in
     cc
 
-pub other-is : (t : TerminalValue) (address : List ℕ) → called_as t address ≡ Other
+pub other_is : (t : TerminalValue) (address : List ℕ) → called_as t address ≡ Other
     → Contains (own_addresses t) address → ⊥
-other-is t address e there =
+other_is t address e there =
     let f = from_Other (is_same address t.poll) (position (is_same address) t.selects) e in
     place_is_none t address there.0 f.0 f.1 there.1 there.2
 
-pub is-other : (t : TerminalValue) (address : List ℕ) → (Contains (own_addresses t) address → ⊥) →
+pub is_other : (t : TerminalValue) (address : List ℕ) → (Contains (own_addresses t) address → ⊥) →
     called_as t address ≡ Other
-is-other t address none =
-    called_as-Other t address
+is_other t address none =
+    called_as_other t address
     (is_same-≢ address t.poll (λ e. none (zero, omega arith, sym e)))
-    (position-nowhere (is_same address) t.selects
+    (position_nowhere (is_same address) t.selects
     (λ k within. is_same-≢ address (get_or t.selects k [])
     (λ e. none (
       suc k,
@@ -162,7 +162,7 @@ distinct_at t each zero (suc j) d less within e =
     let here : get_or t.selects j d ≡ get_or t.selects j [] = get_or_from_slice_get t.selects j
     (get_or t.selects j []) d (slice_get-get_or t.selects j [] there) in
     let same : is_same (get_or t.selects j []) t.poll ≡ true =
-    is_same-refl (get_or t.selects j []) t.poll
+    is_same_refl (get_or t.selects j []) t.poll
     (sym (e ∙ here)) in
     cc
 distinct_at t each (suc i) (suc j) d less within e =
@@ -177,7 +177,7 @@ distinct_at t each (suc i) (suc j) d less within e =
     let first : get_or t.selects i d ≡ get_or t.selects i [] = get_or_from_slice_get t.selects i
     (get_or t.selects i []) d (slice_get-get_or t.selects i [] also) in
     let same : is_same (get_or t.selects j []) (get_or t.selects i []) ≡ true =
-    is_same-refl (get_or t.selects j [])
+    is_same_refl (get_or t.selects j [])
     (get_or t.selects i []) (sym here ∙ sym e ∙ first) in
     let other : is_same (get_or t.selects j []) (get_or t.selects i []) ≡ false = p.2 i before in
     cc
@@ -187,7 +187,7 @@ pub are_distinct : (t : TerminalValue)
     Selection k) → HasDistinctAddresses t
 are_distinct t each = λ i j d less within. distinct_at t each i j d less within
 
-pub is-selection_at : (t : TerminalValue) (s : ℕ) → HasDistinctAddresses t → s < length t.selects →
+pub is_selection_at : (t : TerminalValue) (s : ℕ) → HasDistinctAddresses t → s < length t.selects →
     called_as t (get_or t.selects s []) ≡ Selection s
-is-selection_at t s distinct within = is-selection t (get_or t.selects s []) s distinct
+is_selection_at t s distinct within = is_selection t (get_or t.selects s []) s distinct
     (slice_get-get_or t.selects s [] within)

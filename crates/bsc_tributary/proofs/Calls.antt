@@ -20,8 +20,8 @@ use Rattle.bsc_tributary.specs.Tributary.{TributaryValue, TributaryStep, spool_a
 use Rattle.bsc_tributary.specs.Tributary.{answer_step, without_line, mode_after, message_of_act}
 use Rattle.bsc_tributary.specs.Tributary.{act_step, poll_step, selection_step}
 use Rattle.bsc_tributary.specs.Kept.{IsTributary}
-use Rattle.bsc_tributary.proofs.Acts.{FollowsFrom, follows-sent_next, IsAtRest-cut_phase}
-use Rattle.bsc_tributary.proofs.Stays.{stays-act_step, stays-flags}
+use Rattle.bsc_tributary.proofs.Acts.{FollowsFrom, follows_sent_next, is_at_rest_cut_phase}
+use Rattle.bsc_tributary.proofs.Stays.{stays_act_step, stays_flags}
 use Rattle.bsc_text.proofs.RestLemmas.{idle_at_rest}
 
 -- the answer to a poll, of a terminal from which the line was taken
@@ -31,9 +31,9 @@ poll_from d =
     else if nat_eq (length (waiting d.queue)) 0 then answer_step d m.Eot
     else act_step d (begin_step d.sender d.queue)
 
-poll_from-poll_step : (t old : TributaryValue) → t ≡ without_line old →
+poll_from_poll_step : (t old : TributaryValue) → t ≡ without_line old →
     poll_from (record t { urgent = false }) ≡ poll_step old
-poll_from-poll_step t old e = ap (λ (v : TributaryValue). poll_from (record v { urgent = false })) e
+poll_from_poll_step t old e = ap (λ (v : TributaryValue). poll_from (record v { urgent = false })) e
 
 is_true : (b : Bool) → not b ≡ false → b ≡ true
 is_true true e = refl
@@ -44,29 +44,29 @@ is_false true e = absurd (cc)
 is_false false e = refl
 
 -- EOT, in doubt
-pub poll_step-in_doubt : (t old : TributaryValue) → t ≡ without_line old
+pub poll_step_in_doubt : (t old : TributaryValue) → t ≡ without_line old
     → is_in_doubt t.sender.phase ≡ true →
     answer_step (record t { urgent = false }) m.Eot ≡ poll_step old
-poll_step-in_doubt t old e doubt =
+poll_step_in_doubt t old e doubt =
     let here : answer_step (record t { urgent = false }) m.Eot ≡ poll_from
     (record t { urgent = false }) = rw doubt refl in
-    here ∙ poll_from-poll_step t old e
+    here ∙ poll_from_poll_step t old e
 
 -- EOT, with nothing to send
-pub poll_step-empty : (t old : TributaryValue) → t ≡ without_line old → is_in_doubt t.sender.phase
+pub poll_step_empty : (t old : TributaryValue) → t ≡ without_line old → is_in_doubt t.sender.phase
     ≡ false →
     not (nat_eq (length (waiting t.queue)) 0) ≡ false →
     answer_step (record t { urgent = false }) m.Eot ≡ poll_step old
-poll_step-empty t old e sure none =
+poll_step_empty t old e sure none =
     let empty : nat_eq (length (waiting t.queue)) 0 ≡ true =
     is_true (nat_eq (length (waiting t.queue)) 0) none in
     let here : answer_step (record t { urgent = false }) m.Eot
     ≡ poll_from (record t { urgent = false }) = rw
     (sure, empty) refl in
-    here ∙ poll_from-poll_step t old e
+    here ∙ poll_from_poll_step t old e
 
 -- the first block
-pub poll_step-begins : (t old : TributaryValue) (step : SenderStep) (mode : Mode)
+pub poll_step_begins : (t old : TributaryValue) (step : SenderStep) (mode : Mode)
     (sent : Option Message) →
     t ≡ without_line old → is_in_doubt t.sender.phase ≡ false
     → not (nat_eq (length (waiting t.queue)) 0) ≡ true →
@@ -78,7 +78,7 @@ pub poll_step-begins : (t old : TributaryValue) (step : SenderStep) (mode : Mode
       sent =
           sent;
     } ≡ poll_step old
-poll_step-begins t old step mode sent e sure some row mode_is sent_is =
+poll_step_begins t old step mode sent e sure some row mode_is sent_is =
     let wait : nat_eq (length (waiting t.queue)) 0 ≡ false =
     is_false (nat_eq (length (waiting t.queue)) 0) some in
     let u : TributaryValue = record t { urgent = false } in
@@ -89,24 +89,24 @@ poll_step-begins t old step mode sent e sure some row mode_is sent_is =
     }
     ≡ act_step u step = rw (mode_is, sent_is) refl in
     let here : act_step u (begin_step t.sender t.queue) ≡ poll_from u = rw (sure, wait) refl in
-    done ∙ ap (act_step u) row ∙ here ∙ poll_from-poll_step t old e
+    done ∙ ap (act_step u) row ∙ here ∙ poll_from_poll_step t old e
 
-pub without_line-idle : (t old : TributaryValue) → t ≡ without_line old → is_in_doubt t.sender.phase
+pub without_line_idle : (t old : TributaryValue) → t ≡ without_line old → is_in_doubt t.sender.phase
     ≡ false →
     t.sender.phase ≡ Idle
-without_line-idle t old e sure =
+without_line_idle t old e sure =
     idle_at_rest t.sender.phase (subst (λ (v : TributaryValue). IsAtRest v.sender.phase) (sym e)
-    (IsAtRest-cut_phase old.sender.phase)) sure
+    (is_at_rest_cut_phase old.sender.phase)) sure
 
-pub stays-begun : (t : TributaryValue) (step : SenderStep) (mode : Mode) → IsTributary t →
+pub stays_begun : (t : TributaryValue) (step : SenderStep) (mode : Mode) → IsTributary t →
     step ≡ begin_step t.sender t.queue → mode ≡ mode_after step.act t.mode
     → IsReady step.sender step.queue →
     IsTributary (record t { urgent = false; mode = mode; sender = step.sender; queue = step.queue })
-stays-begun t step mode is row mode_is ready =
-    stays-act_step (record t { urgent = false }) mode t.mode step
-    (stays-flags t t.ready false t.receiver is) mode_is
+stays_begun t step mode is row mode_is ready =
+    stays_act_step (record t { urgent = false }) mode t.mode step
+    (stays_flags t t.ready false t.receiver is) mode_is
     (subst (FollowsFrom t.mode (length t.spools) t.sender t.queue) (sym row)
-    (follows-sent_next t.mode (length t.spools) t.sender t.queue Odd (next_block t.queue))) ready
+    (follows_sent_next t.mode (length t.spools) t.sender t.queue Odd (next_block t.queue))) ready
 
 -- the answer to a selection, of a terminal from which the line was taken
 abbrev selection_from : TributaryValue → ℕ → Bool → TributaryStep
@@ -121,7 +121,7 @@ selection_from d s room =
     }) (message_of (first_reply room))
     else answer_step d m.Nak
 
-pub selection_step-ready : (t old : TributaryValue) (s : ℕ) (room : Bool) (receiver : ReceiverValue)
+pub selection_step_ready : (t old : TributaryValue) (s : ℕ) (room : Bool) (receiver : ReceiverValue)
     (spools : List SpoolValue) (reply : Reply) (message : Message) → t ≡ without_line old → t.ready
     ≡ true →
     s < length t.spools →
@@ -131,7 +131,7 @@ pub selection_step-ready : (t old : TributaryValue) (s : ℕ) (room : Bool) (rec
     answer_step (record t { mode = Receiving s; receiver = receiver; spools = spools }) message
     ≡ selection_step old s
     (spool_at spools s).room
-selection_step-ready t old s room receiver spools reply message e ready within spools_is receiver_is
+selection_step_ready t old s room receiver spools reply message e ready within spools_is receiver_is
     reply_is message_is =
     let there : spool_at (slice_set t.spools s (room_asked (spool_at t.spools s) room)) s
     ≡ room_asked
@@ -146,13 +146,13 @@ selection_step-ready t old s room receiver spools reply message e ready within s
     here ∙ ap (λ (v : TributaryValue). selection_from v s room) e
     ∙ ap (selection_step old s) (sym same)
 
-pub selection_step-room : (t old : TributaryValue) (s : ℕ) (room : Bool) (spools : List SpoolValue)
+pub selection_step_room : (t old : TributaryValue) (s : ℕ) (room : Bool) (spools : List SpoolValue)
     →
     t ≡ without_line old → s < length t.spools → spools ≡ slice_set t.spools s (room_asked
     (spool_at t.spools s) room) →
     ((spool_at t.spools s).room ≡ true → room ≡ true) → (spool_at old.spools s).room ≡ true →
     (spool_at spools s).room ≡ true
-selection_step-room t old s room spools e within spools_is there had =
+selection_step_room t old s room spools e within spools_is there had =
     let now : spool_at (slice_set t.spools s (room_asked (spool_at t.spools s) room)) s ≡ room_asked
     (spool_at t.spools s) room = get_or-set_same t.spools s
     (room_asked (spool_at t.spools s) room) empty_spool within in
@@ -160,12 +160,12 @@ selection_step-room t old s room spools e within spools_is there had =
     ∙ ap (λ (x : SpoolValue). x.room) now
     ∙ there (ap (λ (v : TributaryValue). (spool_at v.spools s).room) e ∙ had)
 
-pub stays-selection_step : (t old : TributaryValue) (s : ℕ) (receiver : ReceiverValue)
+pub stays_selection_step : (t old : TributaryValue) (s : ℕ) (receiver : ReceiverValue)
     (spools : List SpoolValue)
     (spool : SpoolValue) → IsTributary t → t ≡ without_line old → s < length t.spools →
     spools ≡ slice_set t.spools s spool →
     IsTributary (record t { mode = Receiving s; receiver = receiver; spools = spools })
-stays-selection_step t old s receiver spools spool is e within spools_is =
+stays_selection_step t old s receiver spools spool is e within spools_is =
     let same : length spools ≡ length t.spools = ap (λ (xs : List SpoolValue). length xs) spools_is
     ∙ length-set t.spools s spool in
     record {
@@ -176,15 +176,15 @@ stays-selection_step t old s receiver spools spool is e within spools_is =
       ready = is.ready;
       bid = (
         subst (λ (v : TributaryValue). IsAtRest v.sender.phase) (sym e)
-            (IsAtRest-cut_phase old.sender.phase),
+            (is_at_rest_cut_phase old.sender.phase),
         omega (arith, same),
       );
     }
 
 -- the spools of a terminal are those of its selection addresses
-pub within-spools : (t old : TributaryValue) (s : ℕ) → IsTributary t → t ≡ without_line old →
+pub within_spools : (t old : TributaryValue) (s : ℕ) → IsTributary t → t ≡ without_line old →
     s < length old.terminal.selects → s < length t.spools
-within-spools t old s is e within =
+within_spools t old s is e within =
     let addresses : length t.terminal.selects ≡ length old.terminal.selects = ap
     (λ (v : TributaryValue). length v.terminal.selects) e in
     omega (arith, addresses, is.spools)

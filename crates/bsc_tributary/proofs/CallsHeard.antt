@@ -22,7 +22,7 @@ use Rattle.bsc_tributary.specs.Tributary.{rooms_after, quiet_step, answer_step, 
 use Rattle.bsc_tributary.specs.Tributary.{mode_after, act_step, poll_step, selection_step}
 use Rattle.bsc_tributary.specs.Tributary.{call_step, Hears}
 use Rattle.bsc_tributary.proofs.Acts.{not_receiving}
-use Rattle.bsc_tributary.proofs.Addresses.{selection-is}
+use Rattle.bsc_tributary.proofs.Addresses.{selection_is}
 
 -- after a poll the terminal is in control mode or sends
 pub begun_mode : (s : SenderValue) (q : QueueValue) (alternation : Alternation) (next : Option Next)
@@ -32,10 +32,10 @@ pub begun_mode : (s : SenderValue) (q : QueueValue) (alternation : Alternation) 
 begun_mode s q alternation None = inl refl
 begun_mode s q alternation (Some n) = inr refl
 
-pub mode-poll_step : (t : TributaryValue) → ((poll_step t).tributary.mode ≡ Control)
+pub mode_poll_step : (t : TributaryValue) → ((poll_step t).tributary.mode ≡ Control)
     ⊎ ((poll_step t).tributary.mode ≡
     Sending)
-mode-poll_step t =
+mode_poll_step t =
     let d : TributaryValue = record (without_line t) { urgent = false } in
     let P : TributaryStep → Type 0 = λ o. (o.tributary.mode ≡ Control)
     ⊎ (o.tributary.mode ≡ Sending) in
@@ -44,15 +44,15 @@ mode-poll_step t =
     (act_step d (begin_step d.sender d.queue)) (inl refl)
     (begun_mode d.sender d.queue Odd (next_block d.queue)))
 
-pub hears-polling : (t new : TributaryValue) (address : List ℕ) (sent : Option Message) →
+pub hears_polling : (t new : TributaryValue) (address : List ℕ) (sent : Option Message) →
     Polling ≡ called_as t.terminal address → record { tributary = new; sent = sent } ≡ poll_step t →
     Hears t (Whole (m.Call address)) new sent
-hears-polling t new address sent called row =
+hears_polling t new address sent called row =
     record {
       row =
           row ∙ ap (λ (c : Called). call_step t c (rooms_after (Whole (m.Call address)) new))
           called;
-      room = λ s is had. absurd (not_receiving (poll_step t).tributary.mode s (mode-poll_step t)
+      room = λ s is had. absurd (not_receiving (poll_step t).tributary.mode s (mode_poll_step t)
           (sym (ap (λ (o : TributaryStep). o.tributary.mode) row) ∙ is));
     }
 
@@ -74,13 +74,13 @@ selected_mode : (t new : TributaryValue) (s r : ℕ) (room ready : Bool) →
 selected_mode t new s r room true e is = cc
 selected_mode t new s r room false e is = absurd (cc)
 
-pub hears-selection : (t new : TributaryValue) (address : List ℕ) (s : ℕ) (sent : Option Message) →
+pub hears_selection : (t new : TributaryValue) (address : List ℕ) (s : ℕ) (sent : Option Message) →
     Selection s ≡ called_as t.terminal address → record { tributary = new; sent = sent }
     ≡ selection_step t s
     (spool_at new.spools s).room →
     ((spool_at t.spools s).room ≡ true → (spool_at new.spools s).room ≡ true) →
     Hears t (Whole (m.Call address)) new sent
-hears-selection t new address s sent called row room =
+hears_selection t new address s sent called row room =
     record {
       row = selected_row t new s sent t.ready row ∙ ap (λ (c : Called). call_step t c
           (rooms_after (Whole (m.Call address)) new)) called;
@@ -92,10 +92,10 @@ hears-selection t new address s sent called row room =
           ∙ room (ap (λ n. (spool_at t.spools n).room) (sym same) ∙ had);
     }
 
-pub hears-other : (t new : TributaryValue) (address : List ℕ) → Other ≡ called_as t.terminal address
+pub hears_other : (t new : TributaryValue) (address : List ℕ) → Other ≡ called_as t.terminal address
     →
     new ≡ without_line t → Hears t (Whole (m.Call address)) new None
-hears-other t new address called row =
+hears_other t new address called row =
     record {
       row =
           ap quiet_step row
@@ -107,11 +107,11 @@ hears-other t new address called row =
     }
 
 -- the address of a selection is one of the terminal's
-pub within-selects : (t : TerminalValue) (address : List ℕ) (s : ℕ) → Selection s
+pub within_selects : (t : TerminalValue) (address : List ℕ) (s : ℕ) → Selection s
     ≡ called_as t address →
     s < length t.selects
-within-selects t address s called =
-    slice_get_within t.selects s address (selection-is t address s (sym called))
+within_selects t address s called =
+    slice_get_within t.selects s address (selection_is t address s (sym called))
 
 -- which address the code found, seen from the terminal as it was passed
 pub called_from : (t old : TributaryValue) (address : List ℕ) (found called : Called) → t ≡ old

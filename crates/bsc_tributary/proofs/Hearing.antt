@@ -18,7 +18,7 @@ use Rattle.bsc_text.specs.Ready.{IsReady}
 use Rattle.bsc_text.specs.Sender.{SenderValue, SenderStep, with_phase, cut_phase, begin_step}
 use Rattle.bsc_text.specs.Sender.{reply_step, silence_step, is_in_doubt}
 use Rattle.bsc_text.proofs.Choice.{choose}
-use Rattle.bsc_text.proofs.ReceiverSteps.{Grows, grows-heard_step}
+use Rattle.bsc_text.proofs.ReceiverSteps.{Grows, grows_heard_step}
 use Rattle.bsc_tributary.specs.declared.called.Called.{Called}
 use Rattle.bsc_tributary.specs.declared.called.Called.TheVariants.{Polling, Selection, Other}
 use Rattle.bsc_tributary.specs.declared.mode.Mode.{Mode}
@@ -31,12 +31,12 @@ use Rattle.bsc_tributary.specs.Tributary.{call_step, mode_step, hear_step, Hears
 use Rattle.bsc_tributary.specs.Kept.{IsTributary, SuitsMode, Keeps, GrowsByText, IsModeCalled}
 use Rattle.bsc_tributary.specs.Kept.{IsModeAfter, TakesLine, IsNoCall, AfterHearing}
 use Rattle.bsc_tributary.specs.Kept.{AfterSilence, IsHearing}
-use Rattle.bsc_tributary.proofs.Acts.{FollowsFrom, follows-sent_next, follows-reply_step}
-use Rattle.bsc_tributary.proofs.Acts.{follows-silence_step, mode_after-Sending}
-use Rattle.bsc_tributary.proofs.CallsHeard.{begun_mode, within-selects}
-use Rattle.bsc_tributary.proofs.InMode.{hear_step-no_call}
+use Rattle.bsc_tributary.proofs.Acts.{FollowsFrom, follows_sent_next, follows_reply_step}
+use Rattle.bsc_tributary.proofs.Acts.{follows_silence_step, mode_after_sending}
+use Rattle.bsc_tributary.proofs.CallsHeard.{begun_mode, within_selects}
+use Rattle.bsc_tributary.proofs.InMode.{hear_step_no_call}
 use Rattle.bsc_tributary.proofs.Noise.{quiet_in}
-use Rattle.bsc_tributary.proofs.Stays.{stays-without_line}
+use Rattle.bsc_tributary.proofs.Stays.{stays_without_line}
 use Rattle.bsc_text.specs.Station.{StaysQuiet}
 
 -- what a row changes
@@ -106,7 +106,7 @@ polled_changes : (t : TributaryValue) → CallChanges t Polling (poll_step t)
 polled_changes t =
     let d : TributaryValue = record (without_line t) { urgent = false } in
     let f : FollowsFrom Control (length t.spools) d.sender d.queue
-    (begin_step d.sender d.queue) = follows-sent_next Control (length t.spools) d.sender d.queue Odd
+    (begin_step d.sender d.queue) = follows_sent_next Control (length t.spools) d.sender d.queue Odd
     (next_block d.queue) in
     let eot : CallChanges t Polling
     (answer_step d m.Eot) =
@@ -188,7 +188,7 @@ call_changes : (t : TributaryValue) (address : List ℕ) (called : Called) (room
     → CallChanges t called (call_step t called rooms)
 call_changes t address Polling rooms e is = polled_changes t
 call_changes t address (Selection s) rooms e is =
-    let within : s < length t.terminal.selects = within-selects t.terminal address s e in
+    let within : s < length t.terminal.selects = within_selects t.terminal address s e in
     selected_changes t s rooms.first t.ready (omega (arith, is.spools))
 call_changes t address Other rooms e is = other_changes t
 
@@ -294,7 +294,7 @@ sending_changes t h step is f =
       mode =
           subst (λ (x : Mode). (mode_after step.act x ≡ Control) ⊎ (mode_after step.act x ≡ x))
           (sym is)
-          (mode_after-Sending step.act);
+          (mode_after_sending step.act);
       other_spools = λ s ne. refl;
       grows = λ s. inl refl;
       control = λ e. absurd (cc);
@@ -305,10 +305,10 @@ mode_changes : (t : TributaryValue) (h : Heard) (mode : Mode) (rooms : Rooms) �
 mode_changes t h Control rooms is suits = control_changes t h
 mode_changes t h (Receiving s) rooms is suits = receiving_changes t h s
     (heard_step t.receiver (spool_at t.spools s) h t.urgent rooms) is suits.1
-    (grows-heard_step t.receiver (spool_at t.spools s) h t.urgent rooms)
+    (grows_heard_step t.receiver (spool_at t.spools s) h t.urgent rooms)
 mode_changes t h Sending rooms is suits =
     sending_changes t h (reply_step t.sender t.queue (reply_heard h)) is
-    (follows-reply_step (length t.spools) t.sender t.queue (reply_heard h) suits)
+    (follows_reply_step (length t.spools) t.sender t.queue (reply_heard h) suits)
 
 mode_is_after : (t : TributaryValue) (h : Heard) (mode : Mode) → IsNoCall h → (mode ≡ Control)
     ⊎ (mode ≡ t.mode) →
@@ -351,7 +351,7 @@ from_mode : (t : TributaryValue) (h : Heard) (rooms : Rooms) → IsNoCall h → 
 from_mode t h rooms plain is =
     let c : ModeChanges t h (mode_step t t.mode h rooms) =
     mode_changes t h t.mode rooms refl is.bid in
-    subst (Changes t h) (sym (hear_step-no_call t h rooms plain))
+    subst (Changes t h) (sym (hear_step_no_call t h rooms plain))
     (record {
       keeps = c.keeps;
       mode = mode_is_after t h (mode_step t t.mode h rooms).tributary.mode plain c.mode;
@@ -422,7 +422,7 @@ hears_eot t old sender view is cut ready =
     (record {
       row = hears;
       after =
-          after_hearing t (Whole m.Eot) new None is (stays-without_line t sender is cut ready)
+          after_hearing t (Whole m.Eot) new None is (stays_without_line t sender is cut ready)
           hears;
     })
 
@@ -436,7 +436,7 @@ pub after_silence : (t old : TributaryValue) (mode : Mode) (step : SenderStep)
 after_silence t old mode step sent view was sending row mode_is is =
     let f : FollowsFrom Sending (length t.spools) t.sender t.queue step = subst
     (FollowsFrom Sending (length t.spools) t.sender t.queue) (sym row)
-    (follows-silence_step (length t.spools) t.sender t.queue
+    (follows_silence_step (length t.spools) t.sender t.queue
     (subst (λ (x : Mode). SuitsMode x t.sender.phase (length t.spools)) sending was.bid)) in
     subst (λ (v : TributaryValue). AfterSilence v
     (record t { mode = mode; sender = step.sender; queue = step.queue })
@@ -455,7 +455,7 @@ after_silence t old mode step sent view was sending row mode_is is =
       mode = subst (λ (x : Mode). (x ≡ Control) ⊎ (x ≡ t.mode)) (sym mode_is)
           (subst (λ (x : Mode). (mode_after step.act x ≡ Control) ⊎ (mode_after step.act x ≡ x))
           (sym sending)
-          (mode_after-Sending step.act));
+          (mode_after_sending step.act));
       spools = refl;
       still = λ ne. absurd (ne sending);
     })

@@ -19,32 +19,32 @@ use Rattle.bsc_tributary.specs.Tributary.{TributaryValue, spool_at, spool_in, ro
 use Rattle.bsc_tributary.specs.Tributary.{mode_after, message_of_act, act_step, receive_step}
 use Rattle.bsc_tributary.specs.Tributary.{mode_step, hear_step, silence_in, Hears, ActsOnSilence}
 use Rattle.bsc_tributary.specs.Kept.{IsTributary, SuitsMode, IsNoCall}
-use Rattle.bsc_tributary.proofs.Acts.{FollowsFrom, follows-reply_step, follows-silence_step}
-use Rattle.bsc_tributary.proofs.Acts.{mode_after-Sending, not_receiving}
-use Rattle.bsc_tributary.proofs.Stays.{stays-act_step}
+use Rattle.bsc_tributary.proofs.Acts.{FollowsFrom, follows_reply_step, follows_silence_step}
+use Rattle.bsc_tributary.proofs.Acts.{mode_after_sending, not_receiving}
+use Rattle.bsc_tributary.proofs.Stays.{stays_act_step}
 
 -- what is no call and no EOT is heard by the mode
-pub hear_step-no_call : (t : TributaryValue) (h : Heard) (rooms : Rooms) → IsNoCall h →
+pub hear_step_no_call : (t : TributaryValue) (h : Heard) (rooms : Rooms) → IsNoCall h →
     hear_step t h rooms ≡ mode_step t t.mode h rooms
-hear_step-no_call t (Whole m.Eot) rooms plain = absurd plain
-hear_step-no_call t (Whole (m.Call address)) rooms plain = absurd plain
-hear_step-no_call t Failed rooms plain = refl
-hear_step-no_call t Noise rooms plain = refl
-hear_step-no_call t (Whole (m.Text text)) rooms plain = refl
-hear_step-no_call t (Whole m.Enq) rooms plain = refl
-hear_step-no_call t (Whole m.Ack0) rooms plain = refl
-hear_step-no_call t (Whole m.Ack1) rooms plain = refl
-hear_step-no_call t (Whole m.Nak) rooms plain = refl
-hear_step-no_call t (Whole m.Wack) rooms plain = refl
-hear_step-no_call t (Whole m.Rvi) rooms plain = refl
+hear_step_no_call t (Whole m.Eot) rooms plain = absurd plain
+hear_step_no_call t (Whole (m.Call address)) rooms plain = absurd plain
+hear_step_no_call t Failed rooms plain = refl
+hear_step_no_call t Noise rooms plain = refl
+hear_step_no_call t (Whole (m.Text text)) rooms plain = refl
+hear_step_no_call t (Whole m.Enq) rooms plain = refl
+hear_step_no_call t (Whole m.Ack0) rooms plain = refl
+hear_step_no_call t (Whole m.Ack1) rooms plain = refl
+hear_step_no_call t (Whole m.Nak) rooms plain = refl
+hear_step_no_call t (Whole m.Wack) rooms plain = refl
+hear_step_no_call t (Whole m.Rvi) rooms plain = refl
 
-pub hears-control : (t old : TributaryValue) (h : Heard) → IsNoCall h → t ≡ old → t.mode ≡ Control →
+pub hears_control : (t old : TributaryValue) (h : Heard) → IsNoCall h → t ≡ old → t.mode ≡ Control →
     Hears old h old None
-hears-control t old h plain view control =
+hears_control t old h plain view control =
     let mode : old.mode ≡ Control = ap (λ (v : TributaryValue). v.mode) (sym view) ∙ control in
     record {
       row = ap (λ (mode : Mode). mode_step old mode h (rooms_after h old)) (sym mode)
-          ∙ sym (hear_step-no_call old h (rooms_after h old) plain);
+          ∙ sym (hear_step_no_call old h (rooms_after h old) plain);
       room = λ s is had. absurd (cc);
     }
 
@@ -53,7 +53,7 @@ abbrev pub with_receiver : TributaryValue → Bool → ReceiverValue → List Sp
 with_receiver t urgent receiver spools =
     record t { urgent = urgent; receiver = receiver; spools = spools }
 
-pub hears-receiving : (t old : TributaryValue) (h : Heard) (s : ℕ) (urgent : Bool)
+pub hears_receiving : (t old : TributaryValue) (h : Heard) (s : ℕ) (urgent : Bool)
     (receiver : ReceiverValue)
     (spools : List SpoolValue) (reply : Option Reply) (sent : Option Message) → IsNoCall h → t ≡ old
     →
@@ -63,7 +63,7 @@ pub hears-receiving : (t old : TributaryValue) (h : Heard) (s : ℕ) (urgent : B
     spools ≡ slice_set t.spools s (spool_at spools s) →
     urgent ≡ (if sends_rvi reply then false else t.urgent) → sent ≡ option_map message_of reply →
     Hears old h (with_receiver t urgent receiver spools) sent
-hears-receiving t old h s urgent receiver spools reply sent plain view mode r spools_is urgent_is
+hears_receiving t old h s urgent receiver spools reply sent plain view mode r spools_is urgent_is
     sent_is =
     let out : ReceiverStep =
     record { receiver = receiver; spool = spool_at spools s; reply = reply } in
@@ -86,7 +86,7 @@ hears-receiving t old h s urgent receiver spools reply sent plain view mode r sp
     (rooms_after h (with_receiver t urgent receiver spools)) =
     done ∙ ap (receive_step t s) r.row ∙ ap (λ (mode : Mode). mode_step t mode h
     (rooms_left h receiver.last (spool_in mode spools))) (sym mode)
-    ∙ sym (hear_step-no_call t h (rooms_after h (with_receiver t urgent receiver spools)) plain) in
+    ∙ sym (hear_step_no_call t h (rooms_after h (with_receiver t urgent receiver spools)) plain) in
     let heard : Hears t h (with_receiver t urgent receiver spools) sent =
     record {
       row = row;
@@ -98,10 +98,10 @@ hears-receiving t old h s urgent receiver spools reply sent plain view mode r sp
     subst (λ (v : TributaryValue). Hears v h (with_receiver t urgent receiver spools) sent) view
     heard
 
-pub stays-receive_step : (t : TributaryValue) (s : ℕ) (urgent : Bool) (receiver : ReceiverValue)
+pub stays_receive_step : (t : TributaryValue) (s : ℕ) (urgent : Bool) (receiver : ReceiverValue)
     (spools : List SpoolValue) → IsTributary t → spools ≡ slice_set t.spools s (spool_at spools s) →
     IsTributary (with_receiver t urgent receiver spools)
-stays-receive_step t s urgent receiver spools is spools_is =
+stays_receive_step t s urgent receiver spools is spools_is =
     let same : length spools ≡ length t.spools = ap (λ (xs : List SpoolValue). length xs) spools_is
     ∙ length-set t.spools s (spool_at spools s) in
     record {
@@ -122,61 +122,61 @@ act_step_is : (t : TributaryValue) (mode : Mode) (step : SenderStep) (sent : Opt
     record { tributary = with_sender t mode step; sent = sent } ≡ act_step t step
 act_step_is t mode step sent mode_is sent_is = rw (mode_is, sent_is) refl
 
-pub hears-sending : (t old : TributaryValue) (h : Heard) (mode : Mode) (step : SenderStep)
+pub hears_sending : (t old : TributaryValue) (h : Heard) (mode : Mode) (step : SenderStep)
     (sent : Option Message) →
     IsNoCall h → t ≡ old → t.mode ≡ Sending → step ≡ reply_step t.sender t.queue (reply_heard h) →
     mode ≡ mode_after step.act t.mode → sent ≡ message_of_act step.act
     → Hears old h (with_sender t mode step) sent
-hears-sending t old h mode step sent plain view sending row mode_is sent_is =
+hears_sending t old h mode step sent plain view sending row mode_is sent_is =
     let new : TributaryValue = with_sender t mode step in
     let heard : Hears t h (with_sender t mode step) sent =
     record {
       row = act_step_is t mode step sent mode_is sent_is ∙ ap (act_step t) row
           ∙ ap (λ (mode : Mode). mode_step t mode h (rooms_after h new)) (sym sending)
-          ∙ sym (hear_step-no_call t h (rooms_after h new) plain);
+          ∙ sym (hear_step_no_call t h (rooms_after h new) plain);
       room = λ s is had. absurd (not_receiving mode s
           (subst (λ (x : Mode). (x ≡ Control) ⊎ (x ≡ Sending))
           (ap (mode_after step.act) (sym sending) ∙ sym mode_is)
-          (mode_after-Sending step.act)) is);
+          (mode_after_sending step.act)) is);
     } in
     subst (λ (v : TributaryValue). Hears v h (with_sender t mode step) sent) view heard
 
-pub stays-replied : (t : TributaryValue) (h : Heard) (mode : Mode) (step : SenderStep)
+pub stays_replied : (t : TributaryValue) (h : Heard) (mode : Mode) (step : SenderStep)
     → IsTributary t →
     t.mode ≡ Sending → step ≡ reply_step t.sender t.queue (reply_heard h) → mode
     ≡ mode_after step.act t.mode →
     IsReady step.sender step.queue → IsTributary (with_sender t mode step)
-stays-replied t h mode step is sending row mode_is ready =
-    stays-act_step t mode Sending step is (mode_is ∙ ap (mode_after step.act) sending)
+stays_replied t h mode step is sending row mode_is ready =
+    stays_act_step t mode Sending step is (mode_is ∙ ap (mode_after step.act) sending)
     (subst (FollowsFrom Sending (length t.spools) t.sender t.queue) (sym row)
-    (follows-reply_step (length t.spools) t.sender t.queue (reply_heard h)
+    (follows_reply_step (length t.spools) t.sender t.queue (reply_heard h)
     (subst (λ (x : Mode). SuitsMode x t.sender.phase (length t.spools)) sending is.bid))) ready
 
 -- a silence
-pub silent-sending : (t old : TributaryValue) (mode : Mode) (step : SenderStep)
+pub silent_sending : (t old : TributaryValue) (mode : Mode) (step : SenderStep)
     (sent : Option Message) → t ≡ old →
     t.mode ≡ Sending → step ≡ silence_step t.sender t.queue → mode ≡ mode_after step.act t.mode →
     sent ≡ message_of_act step.act → ActsOnSilence old (with_sender t mode step) sent
-silent-sending t old mode step sent view sending row mode_is sent_is =
+silent_sending t old mode step sent view sending row mode_is sent_is =
     act_step_is t mode step sent mode_is sent_is ∙ ap (act_step t) row
     ∙ ap (silence_in t) (sym sending)
     ∙ ap (λ (v : TributaryValue). silence_in v v.mode) view
 
-pub stays-silent : (t : TributaryValue) (mode : Mode) (step : SenderStep) → IsTributary t → t.mode
+pub stays_silent : (t : TributaryValue) (mode : Mode) (step : SenderStep) → IsTributary t → t.mode
     ≡ Sending →
     step ≡ silence_step t.sender t.queue → mode ≡ mode_after step.act t.mode
     → IsReady step.sender step.queue →
     IsTributary (with_sender t mode step)
-stays-silent t mode step is sending row mode_is ready =
-    stays-act_step t mode Sending step is (mode_is ∙ ap (mode_after step.act) sending)
+stays_silent t mode step is sending row mode_is ready =
+    stays_act_step t mode Sending step is (mode_is ∙ ap (mode_after step.act) sending)
     (subst (FollowsFrom Sending (length t.spools) t.sender t.queue) (sym row)
-    (follows-silence_step (length t.spools) t.sender t.queue
+    (follows_silence_step (length t.spools) t.sender t.queue
     (subst (λ (x : Mode). SuitsMode x t.sender.phase (length t.spools)) sending is.bid))) ready
 
-pub silent-still : (t old : TributaryValue) → t ≡ old → (t.mode ≡ Control)
+pub silent_still : (t old : TributaryValue) → t ≡ old → (t.mode ≡ Control)
     ⊎ ((s : ℕ) × (t.mode ≡ Receiving s)) →
     ActsOnSilence old old None
-silent-still t old view (inl control) = ap (silence_in old)
+silent_still t old view (inl control) = ap (silence_in old)
     (sym (ap (λ (v : TributaryValue). v.mode) (sym view) ∙ control))
-silent-still t old view (inr receiving) = ap (silence_in old)
+silent_still t old view (inr receiving) = ap (silence_in old)
     (sym (ap (λ (v : TributaryValue). v.mode) (sym view) ∙ receiving.1))

@@ -16,10 +16,10 @@ use Rattle.bsc_tributary.specs.declared.mode.Mode.TheVariants.{Control, Receivin
 use Rattle.bsc_tributary.specs.Tributary.{TributaryValue, after_release}
 use Rattle.bsc_tributary.specs.Kept.{IsTributary, KeepsSetupAndMode, SuitsMode}
 
-pub stays-offered : (t : TributaryValue) (r : List ℕ) → IsTributary t → length r
+pub stays_offered : (t : TributaryValue) (r : List ℕ) → IsTributary t → length r
     ≤ t.queue.format.full →
     IsTributary (record t { queue = record t.queue { offered = t.queue.offered ++ r ∷ [] } })
-stays-offered t r is short =
+stays_offered t r is short =
     record {
       distinct = is.distinct;
       terminal = is.terminal;
@@ -41,18 +41,18 @@ idle_suits Control k n suits = tt
 idle_suits (Receiving s) k n suits = (tt, suits.1)
 idle_suits Sending k n suits = absurd suits
 
-releases-in : (mode : Mode) (n : ℕ) (s : SenderValue) (q : QueueValue) (p : Phase) (count : ℕ)
+releases_in : (mode : Mode) (n : ℕ) (s : SenderValue) (q : QueueValue) (p : Phase) (count : ℕ)
     → SuitsMode mode p n →
     Releases mode n s.setup q.format (release_step (with_phase s p) q count)
-releases-in mode n s q (InDoubt k) count suits =
+releases_in mode n s q (InDoubt k) count suits =
     choose (Releases mode n s.setup q.format) ((count == q.known) || (count == (q.known + k))) _ _
     (record { suits = idle_suits mode k n suits; setup_is = refl; format_is = refl })
     (record { suits = suits; setup_is = refl; format_is = refl })
-releases-in mode n s q Idle count suits =
+releases_in mode n s q Idle count suits =
     record { suits = suits; setup_is = refl; format_is = refl }
-releases-in mode n s q (Unanswered b) count suits =
+releases_in mode n s q (Unanswered b) count suits =
     record { suits = suits; setup_is = refl; format_is = refl }
-releases-in mode n s q (Held end alternation) count suits =
+releases_in mode n s q (Held end alternation) count suits =
     record { suits = suits; setup_is = refl; format_is = refl }
 
 releases : (t : TributaryValue) (count : ℕ) (step : ReleaseStep) → IsTributary t →
@@ -60,12 +60,12 @@ releases : (t : TributaryValue) (count : ℕ) (step : ReleaseStep) → IsTributa
     Releases t.mode (length t.spools) t.sender.setup t.queue.format step
 releases t count step is row =
     subst (Releases t.mode (length t.spools) t.sender.setup t.queue.format) (sym row)
-    (releases-in t.mode (length t.spools) t.sender t.queue t.sender.phase count is.bid)
+    (releases_in t.mode (length t.spools) t.sender t.queue t.sender.phase count is.bid)
 
-pub stays-release : (t : TributaryValue) (count : ℕ) (step : ReleaseStep) → IsTributary t →
+pub stays_release : (t : TributaryValue) (count : ℕ) (step : ReleaseStep) → IsTributary t →
     step ≡ release_step t.sender t.queue count → IsReady step.sender step.queue →
     IsTributary (record t { sender = step.sender; queue = step.queue })
-stays-release t count step is row ready =
+stays_release t count step is row ready =
     let r : Releases t.mode (length t.spools) t.sender.setup t.queue.format step =
     releases t count step is row in
     record {
@@ -79,65 +79,65 @@ stays-release t count step is row ready =
     }
 
 -- an offer that was accepted, or came back
-pub offered-either : {E : Type 0} (r : Result (Unit {0}) E) (queue old more : QueueValue)
+pub offered_either : {E : Type 0} (r : Result (Unit {0}) E) (queue old more : QueueValue)
     → OnOk r (queue ≡ more) →
     OnErr r (queue ≡ old) → (queue ≡ more) ⊎ (queue ≡ old)
-offered-either (Ok done) queue old more ok err = inl ok
-offered-either (Err e) queue old more ok err = inr err
+offered_either (Ok done) queue old more ok err = inl ok
+offered_either (Err e) queue old more ok err = inr err
 
 -- the terminal with another queue
 abbrev pub with_queue : TributaryValue → QueueValue → TributaryValue
 with_queue t queue = record t { queue = queue }
 
-pub stays-offer : (t old : TributaryValue) (r : List ℕ) (queue : QueueValue) → IsTributary t → t
+pub stays_offer : (t old : TributaryValue) (r : List ℕ) (queue : QueueValue) → IsTributary t → t
     ≡ old →
     length r ≤ old.queue.format.full →
     (queue ≡ record t.queue { offered = t.queue.offered ++ r ∷ [] }) ⊎ (queue ≡ t.queue) →
     IsTributary (with_queue t queue)
-stays-offer t old r queue is view short (inl more) =
+stays_offer t old r queue is view short (inl more) =
     subst (λ (q : QueueValue). IsTributary (with_queue t q)) (sym more)
-    (stays-offered t r is (subst (λ (v : TributaryValue). length r ≤ v.queue.format.full) (sym view)
+    (stays_offered t r is (subst (λ (v : TributaryValue). length r ≤ v.queue.format.full) (sym view)
     short))
-stays-offer t old r queue is view short (inr same) =
+stays_offer t old r queue is view short (inr same) =
     subst (λ (q : QueueValue). IsTributary (with_queue t q))
     (sym same) is
 
 -- what the terminal is, seen from the one before
-pub offer-ok : {E : Type 0} (res : Result (Unit {0}) E) (t old : TributaryValue) (r : List ℕ)
+pub offer_ok : {E : Type 0} (res : Result (Unit {0}) E) (t old : TributaryValue) (r : List ℕ)
     (queue : QueueValue) →
     t ≡ old → OnOk res (queue ≡ record t.queue { offered = t.queue.offered ++ r ∷ [] }) →
     OnOk res (with_queue t queue ≡ with_queue old
     (record old.queue { offered = old.queue.offered ++ r ∷ [] }))
-offer-ok (Ok done) t old r queue view more = ap (with_queue t) more
+offer_ok (Ok done) t old r queue view more = ap (with_queue t) more
     ∙ ap (λ (v : TributaryValue). with_queue v
     (record v.queue { offered = v.queue.offered ++ r ∷ [] })) view
-offer-ok (Err e) t old r queue view more = tt
+offer_ok (Err e) t old r queue view more = tt
 
-pub offer-err : {E : Type 0} (res : Result (Unit {0}) E) (t old : TributaryValue)
+pub offer_err : {E : Type 0} (res : Result (Unit {0}) E) (t old : TributaryValue)
     (queue : QueueValue) → t ≡ old →
     OnErr res (queue ≡ t.queue) → OnErr res (with_queue t queue ≡ old)
-offer-err (Ok done) t old queue view same = tt
-offer-err (Err e) t old queue view same = ap (with_queue t) same ∙ view
+offer_err (Ok done) t old queue view same = tt
+offer_err (Err e) t old queue view same = ap (with_queue t) same ∙ view
 
-pub release-state : (t old : TributaryValue) (count : ℕ) (step : ReleaseStep) → t ≡ old →
+pub release_state : (t old : TributaryValue) (count : ℕ) (step : ReleaseStep) → t ≡ old →
     step ≡ release_step t.sender t.queue count
     → record t { sender = step.sender; queue = step.queue } ≡
     after_release old count
-release-state t old count step view row = ap (λ
+release_state t old count step view row = ap (λ
     (s : ReleaseStep). record t { sender = s.sender; queue = s.queue }) row
     ∙ ap (λ (v : TributaryValue). after_release v count) view
 
-pub release-answer : (t old : TributaryValue) (count : ℕ) (step : ReleaseStep) → t ≡ old →
+pub release_answer : (t old : TributaryValue) (count : ℕ) (step : ReleaseStep) → t ≡ old →
     step ≡ release_step t.sender t.queue count → step.answer
     ≡ (release_step old.sender old.queue count).answer
-release-answer t old count step view row = ap (λ (s : ReleaseStep). s.answer) row
+release_answer t old count step view row = ap (λ (s : ReleaseStep). s.answer) row
     ∙ ap (λ (v : TributaryValue). (release_step v.sender v.queue count).answer) view
 
 -- the addresses, settings and mode that it had
-pub same-offer : (t old : TributaryValue) (queue : QueueValue) → t ≡ old
+pub same_offer : (t old : TributaryValue) (queue : QueueValue) → t ≡ old
     → IsTributary (with_queue t queue) →
     KeepsSetupAndMode old (with_queue t queue)
-same-offer t old queue view is =
+same_offer t old queue view is =
     record {
       tributary = is;
       addresses = ap (λ (v : TributaryValue). v.terminal) view;
@@ -145,15 +145,15 @@ same-offer t old queue view is =
       mode = ap (λ (v : TributaryValue). v.mode) view;
     }
 
-pub same-release : (t old : TributaryValue) (count : ℕ) (step : ReleaseStep) → t ≡ old
+pub same_release : (t old : TributaryValue) (count : ℕ) (step : ReleaseStep) → t ≡ old
     → IsTributary t →
     step ≡ release_step t.sender t.queue count → IsReady step.sender step.queue →
     KeepsSetupAndMode old (record t { sender = step.sender; queue = step.queue })
-same-release t old count step view is row ready =
+same_release t old count step view is row ready =
     let r : Releases t.mode (length t.spools) t.sender.setup t.queue.format step =
     releases t count step is row in
     record {
-      tributary = stays-release t count step is row ready;
+      tributary = stays_release t count step is row ready;
       addresses = ap (λ (v : TributaryValue). v.terminal) view;
       setup = r.setup_is ∙ ap (λ (v : TributaryValue). v.sender.setup) view;
       mode = ap (λ (v : TributaryValue). v.mode) view;

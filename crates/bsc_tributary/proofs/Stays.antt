@@ -13,13 +13,13 @@ use Rattle.bsc_tributary.specs.declared.mode.Mode.{Mode}
 use Rattle.bsc_tributary.specs.declared.mode.Mode.TheVariants.{Control}
 use Rattle.bsc_tributary.specs.Tributary.{TributaryValue, mode_after}
 use Rattle.bsc_tributary.specs.Kept.{IsTributary, SuitsMode}
-use Rattle.bsc_tributary.proofs.Acts.{FollowsFrom, IsAtRest-cut_phase}
+use Rattle.bsc_tributary.proofs.Acts.{FollowsFrom, is_at_rest_cut_phase}
 
 -- the line is taken from it
-pub stays-without_line : (t : TributaryValue) (sender : SenderValue) → IsTributary t →
+pub stays_without_line : (t : TributaryValue) (sender : SenderValue) → IsTributary t →
     sender ≡ with_phase t.sender (cut_phase t.sender.phase) → IsReady sender t.queue →
     IsTributary (record t { mode = Control; sender = sender })
-stays-without_line t sender is cut ready =
+stays_without_line t sender is cut ready =
     record {
       distinct = is.distinct;
       terminal = is.terminal;
@@ -27,15 +27,15 @@ stays-without_line t sender is cut ready =
       format = is.format ∙ ap (λ (s : SenderValue). s.setup.format) (sym cut);
       ready = ready;
       bid = subst (λ (s : SenderValue). SuitsMode Control s.phase (length t.spools)) (sym cut)
-          (IsAtRest-cut_phase t.sender.phase);
+          (is_at_rest_cut_phase t.sender.phase);
     }
 
 -- its sender acts
-pub stays-act_step : (t : TributaryValue) (mode from : Mode) (step : SenderStep) → IsTributary t →
+pub stays_act_step : (t : TributaryValue) (mode from : Mode) (step : SenderStep) → IsTributary t →
     mode ≡ mode_after step.act from → FollowsFrom from (length t.spools) t.sender t.queue step →
     IsReady step.sender step.queue →
     IsTributary (record t { mode = mode; sender = step.sender; queue = step.queue })
-stays-act_step t mode from step is e follows ready =
+stays_act_step t mode from step is e follows ready =
     record {
       distinct = is.distinct;
       terminal = is.terminal;
@@ -81,10 +81,10 @@ new_is terminal setup sender receiver queue spools distinct is limits s q count 
     })
 
 -- its flags and its receiver change
-pub stays-flags : (t : TributaryValue) (ready urgent : Bool) (receiver : ReceiverValue)
+pub stays_flags : (t : TributaryValue) (ready urgent : Bool) (receiver : ReceiverValue)
     → IsTributary t →
     IsTributary (record t { ready = ready; urgent = urgent; receiver = receiver })
-stays-flags t ready urgent receiver is =
+stays_flags t ready urgent receiver is =
     record {
       distinct = is.distinct;
       terminal = is.terminal;

@@ -2,7 +2,7 @@ use Rattle.std.proofs.Common.{arith, sym, ◌∙◌}
 use Rattle.std.proofs.lemmas.List.{map_push, length_push}
 use Rattle.bsc_frame.specs.Units.{text_unit}
 use Rattle.bsc_octet.proofs.Elements.{all_append}
-use Rattle.bsc_block.proofs.HeldRecords.{records_in-held, records_in-empty, unit-IsRecord}
+use Rattle.bsc_block.proofs.HeldRecords.{records_in_held, records_in_empty, unit_is_record}
 use Rattle.bsc_block.proofs.block.unpack.Goals as goal
 use Rattle.bsc_block.proofs.block.unpack.Goals.{then-is_record, else-is_record}
 
@@ -21,11 +21,11 @@ loop-place-preserved c =
               map_push (λ r. r.now) c.loop-place.records.items c.unit-unit.result.chars,
               c.loop-place.invariant.records,
             )
-            (sym (records_in-held c.args.text.now.units c.loop-place.place
+            (sym (records_in_held c.args.text.now.units c.loop-place.place
             (text_unit c.unit-unit.result) c.unit-unit.ensures
             (sym c.is_record.ensures ∙ w.if-is_record.true)));
         each = all_append _ _ _ c.loop-place.invariant.each (
-          unit-IsRecord c.args.text.now.units c.loop-place.place (text_unit c.unit-unit.result)
+          unit_is_record c.args.text.now.units c.loop-place.place (text_unit c.unit-unit.result)
               c.count-place-end.ensures.text.each c.unit-unit.ensures,
           tt,
         );
@@ -33,7 +33,7 @@ loop-place-preserved c =
       | else-is_record w ↦ rw w.records-is (record {
         few = omega (arith, c.loop-place.invariant.few);
         records = c.loop-place.invariant.records
-            ∙ sym (records_in-empty c.args.text.now.units c.loop-place.place
+            ∙ sym (records_in_empty c.args.text.now.units c.loop-place.place
             (text_unit c.unit-unit.result) c.unit-unit.ensures
             (sym c.is_record.ensures ∙ w.if-is_record.false));
         each = c.loop-place.invariant.each;

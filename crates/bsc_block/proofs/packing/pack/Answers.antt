@@ -1,7 +1,7 @@
 use Rattle.std.proofs.Common.{◌≡◌, inl, inr, ◌+◌, arith, ◌∙◌, refl}
 use Rattle.bsc_block.specs.Blocks.{front_cost, IsTaken}
-use Rattle.bsc_block.proofs.Fronts.{front_cost-more}
-use Rattle.bsc_block.proofs.Taking.{stops_there, IsTaken-taken}
+use Rattle.bsc_block.proofs.Fronts.{front_cost_more}
+use Rattle.bsc_block.proofs.Taking.{stops_there, is_taken_taken}
 use Rattle.bsc_block.proofs.packing.pack.Goals as goal
 use Rattle.bsc_block.proofs.packing.pack.Goals.{then-count-eq-MAX_UNITS-via-then-count-eq-MAX_UNITS}
 use Rattle.bsc_block.proofs.packing.pack.Goals.{then-count-eq-MAX_UNITS-via-else-count-eq-MAX_UNITS+then-total-limit}
@@ -10,7 +10,7 @@ one_more : (c : goal.Joined-then-count-eq-MAX_UNITS)
     → front_cost c.args.format (c.loop-count.count + 1) c.args.records.now ≡ c.loop-count.total
     + c.cost-total.result
 one_more c =
-    front_cost-more c.args.format c.loop-count.count c.args.records.now c.index-records-count.result
+    front_cost_more c.args.format c.loop-count.count c.args.records.now c.index-records-count.result
     c.loop-count-test.true
     ∙ rw (← c.index-records-count.is, ← c.loop-count.invariant.total, ← c.cost-total.ensures.value)
     refl
@@ -25,7 +25,7 @@ is_taken c =
 
 pub returns-then-count-eq-MAX_UNITS-clause-value : goal.returns-then-count-eq-MAX_UNITS-clause-value
 returns-then-count-eq-MAX_UNITS-clause-value c =
-    IsTaken-taken c.args.format c.args.records.now c.loop-count.count (is_taken c)
+    is_taken_taken c.args.format c.args.records.now c.loop-count.count (is_taken c)
 
 pub returns-then-count-eq-MAX_UNITS-clause-greatest :
     goal.returns-then-count-eq-MAX_UNITS-clause-greatest

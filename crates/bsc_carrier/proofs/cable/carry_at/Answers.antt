@@ -6,10 +6,10 @@ use Rattle.bsc_carrier.specs.Cable.{Gives, AnswersFor}
 use Rattle.bsc_carrier.proofs.Places.{stays_after_error}
 use Rattle.bsc_carrier.proofs.cable.carry_at.Goals as goal
 
-OnOk-appends : {T E : Type 0} (r : Result T E) (old new : Option (List ℕ)) (octets : List ℕ)
+on_ok_appends : {T E : Type 0} (r : Result T E) (old new : Option (List ℕ)) (octets : List ℕ)
     → Appends old new octets → OnOk r (Appends old new octets)
-OnOk-appends (Ok x) old new octets appended = appended
-OnOk-appends (Err e) old new octets appended = tt
+on_ok_appends (Ok x) old new octets appended = appended
+on_ok_appends (Err e) old new octets appended = tt
 
 pub returns-in_err-write_record-clause-read : goal.returns-in_err-write_record-clause-read
 returns-in_err-write_record-clause-read g c =
@@ -25,7 +25,7 @@ returns-clause-wrote g c =
       c.write_record.new.writer,
       here,
       refl,
-      OnOk-appends c.expect_record.result _ _ _ c.in_ok-write_record.ensures.ok,
+      on_ok_appends c.expect_record.result _ _ _ c.in_ok-write_record.ensures.ok,
     )
 
 pub returns-clause-read : goal.returns-clause-read

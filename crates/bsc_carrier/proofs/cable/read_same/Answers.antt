@@ -5,7 +5,7 @@ use Rattle.std.specs.Prelude.{IfSome}
 use Rattle.bsc_carrier.specs.Front.{IsPartial, HasWrongLength}
 use Rattle.bsc_carrier.specs.Cable.{Gives, BeginsOther}
 use Rattle.bsc_carrier.proofs.Places.{ends_after, AllZip-first_and_later}
-use Rattle.bsc_carrier.proofs.Explained.{BeginsWith-given, Explains-later}
+use Rattle.bsc_carrier.proofs.Explained.{begins_with_given, explains_later}
 use Rattle.bsc_carrier.proofs.cable.read_same.Goals as goal
 
 pub returns-in_err-expect_same-clause-why : goal.returns-in_err-expect_same-clause-why
@@ -19,8 +19,8 @@ returns-in_err-expect_same-clause-why g c =
     let p =
     err_from_is_err_and c.from_residual-in_err-expect_same.result
     c.from_residual-in_err-expect_same.ensures.1 in
-    rw (p.1, p.2) (Explains-later remaining ends _ _ _ c.requires
-    (BeginsWith-given _ _ _ first.carried first.read)
+    rw (p.1, p.2) (explains_later remaining ends _ _ _ c.requires
+    (begins_with_given _ _ _ first.carried first.read)
     (λ e. subst (Any (λ end. IfSome (remaining end) HasWrongLength)) later (told.wrong e))
     (λ e. subst (Any (λ end. IfSome (remaining end) IsPartial)) later (told.short e))
     (λ e. subst (λ l. BeginsOther remaining l (drop 1 ends)) same

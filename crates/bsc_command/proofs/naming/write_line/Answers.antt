@@ -3,8 +3,8 @@ use Rattle.bsc_input.specs.Hexadecimal.{octets_of}
 use Rattle.bsc_input.specs.Lines.{is_blank}
 use Rattle.bsc_names.specs.Names.{shown}
 use Rattle.bsc_command.specs.Lines.{is_traced}
-use Rattle.bsc_command.proofs.LineLemmas.{PrintsLines-one, PrintsLines-skip, digits-plain}
-use Rattle.bsc_command.proofs.LineLemmas.{given-blank}
+use Rattle.bsc_command.proofs.LineLemmas.{prints_lines_one, prints_lines_skip, digits_plain}
+use Rattle.bsc_command.proofs.LineLemmas.{given_blank}
 use Rattle.bsc_run.proofs.Appending.{on_ok}
 use Rattle.bsc_command.proofs.naming.write_line.Goals as goal
 
@@ -13,8 +13,8 @@ returns-then-is_blank-clause-ok g c =
     let line = c.args.line.now in
     let plain : is_traced line ≡ false = search rules in
     let blank : is_blank line ≡ true = search rules in
-    PrintsLines-skip (shown c.args.detail) line line _ (digits-plain line plain)
-    (given-blank line blank)
+    prints_lines_skip (shown c.args.detail) line line _ (digits_plain line plain)
+    (given_blank line blank)
 
 pub returns-in-Some-clause-ok : goal.returns-in-Some-clause-ok
 returns-in-Some-clause-ok g c =
@@ -24,5 +24,5 @@ returns-in-Some-clause-ok g c =
     ∙ ap (option_map (λ v. v.items)) c.in-Some.is ∙ ap Some (sym c.deref.ensures.value) in
     let plain : is_traced line ≡ false = search rules in
     let blank : is_blank line ≡ false = search rules in
-    on_ok c.write_transmission.result (PrintsLines-one (shown c.args.detail) line line octets _ _
-    (digits-plain line plain) blank read) c.write_transmission.ensures.ok
+    on_ok c.write_transmission.result (prints_lines_one (shown c.args.detail) line line octets _ _
+    (digits_plain line plain) blank read) c.write_transmission.ensures.ok

@@ -1,7 +1,7 @@
 use Rattle.std.proofs.Common.{rules, ◌≡◌, true, false, cond, Some, string_bytes, ap, sym, ◌∙◌}
 use Rattle.std.proofs.lemmas.Map.Iter.{rest_more}
 use Rattle.std.specs.Map.Iter.{deref}
-use Rattle.bsc_config.proofs.KeyLemmas.{first_in, first_in-keys}
+use Rattle.bsc_config.proofs.KeyLemmas.{first_in, first_in_keys}
 use Rattle.bsc_config.specs.Keys.{is_known}
 use Rattle.bsc_config.proofs.known.unknown_name.Goals as goal
 
@@ -9,7 +9,7 @@ pub names-init : goal.names-init
 names-init c = (
   tt,
   tt,
-  first_in-keys c.args.owner c.args.table.now.entries
+  first_in_keys c.args.owner c.args.table.now.entries
       ∙ ap (first_in c.args.owner) (sym (c.into_iter-name-iterator.ensures.into_iter_gives
       ∙ c.keys-name-items.ensures.rest)),
 )

@@ -1,7 +1,7 @@
 use Rattle.std.proofs.Common.{◌==◌, take, drop, not, bit_and, ◌∙◌}
 use Rattle.std.proofs.lemmas.Simd.{zip2_splat, zip2_of_maps, length-chunk}
 use Rattle.bsc_frame.specs.Reading.{is_either}
-use Rattle.bsc_frame.proofs.LaneLemmas.{first_lane_is, top_and, prefix_len-same, not_twice}
+use Rattle.bsc_frame.proofs.LaneLemmas.{first_lane_is, top_and, prefix_len_same, not_twice}
 use Rattle.bsc_frame.proofs.front.either_in.Goals as goal
 
 pub returns : goal.returns
@@ -13,6 +13,6 @@ returns c =
     (zip2_of_maps bit_and _ _ octets (zip2_splat _ octets 32 c.args.one long)
     (zip2_splat _ octets 32 c.args.other long))
     c.first_lane.ensures
-    ∙ prefix_len-same (λ x. not (not (is_either c.args.one c.args.other x)))
+    ∙ prefix_len_same (λ x. not (not (is_either c.args.one c.args.other x)))
     (is_either c.args.one c.args.other) (λ x. not_twice (is_either c.args.one c.args.other x))
     octets

@@ -1,5 +1,5 @@
-use Rattle.bsc_frame.proofs.MessageLemmas.{message-Decides}
+use Rattle.bsc_frame.proofs.MessageLemmas.{message_decides}
 use Rattle.bsc_frame.proofs.laws.same_messages.Goals as goal
 
 pub returns : goal.returns
-returns c = message-Decides
+returns c = message_decides

@@ -1,5 +1,5 @@
 use Rattle.std.proofs.Common.{arith, ap, ◌∙◌, ◌%◌, sym, count_ones}
-use Rattle.bsc_octet.proofs.ParityLemmas.{odd_of_low, IsOdd-odd_octet, code_of_odd}
+use Rattle.bsc_octet.proofs.ParityLemmas.{odd_of_low, is_odd_odd_octet, code_of_odd}
 use Rattle.bsc_octet.proofs.parity.from_line.Goals as goal
 
 pub returns-then-octet-eq1-clause-code : goal.returns-then-octet-eq1-clause-code
@@ -8,7 +8,7 @@ returns-then-octet-eq1-clause-code c =
 
 pub returns-else-octet-eq1-clause-none : goal.returns-else-octet-eq1-clause-none
 returns-else-octet-eq1-clause-none c = λ k h e.
-    c.if-octet-eq1.false (ap (λ o. count_ones o % 2) (sym e) ∙ IsOdd-odd_octet k h)
+    c.if-octet-eq1.false (ap (λ o. count_ones o % 2) (sym e) ∙ is_odd_odd_octet k h)
 
 pub returns-then-octet-eq1-clause-value : goal.returns-then-octet-eq1-clause-value
 returns-then-octet-eq1-clause-value c =

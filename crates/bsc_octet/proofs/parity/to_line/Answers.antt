@@ -1,9 +1,9 @@
 use Rattle.std.proofs.Common.{arith}
-use Rattle.bsc_octet.proofs.ParityLemmas.{ones-high}
+use Rattle.bsc_octet.proofs.ParityLemmas.{ones_high}
 use Rattle.bsc_octet.proofs.parity.to_line.Goals as goal
 
 pub returns-else-code-eq1-clause-odd : goal.returns-else-code-eq1-clause-odd
 returns-else-code-eq1-clause-odd c = (
-  rw (ones-high c.args.code c.if-code-lt128.true) (omega (arith, c.if-code-eq1.false)),
+  rw (ones_high c.args.code c.if-code-lt128.true) (omega (arith, c.if-code-eq1.false)),
   omega (arith, c.if-code-lt128.true),
 )

@@ -1,14 +1,14 @@
 use Rattle.std.proofs.Common.{◌≡◌, ◌∙◌, sym, refl, [], get_or, arith, below_more}
 use Rattle.bsc_tributary.specs.declared.called.Called.TheVariants.{Selection}
 use Rattle.bsc_tributary.specs.Called.{called_as}
-use Rattle.bsc_tributary.proofs.Addresses.{is-selection_at, are_distinct}
+use Rattle.bsc_tributary.proofs.Addresses.{is_selection_at, are_distinct}
 use Rattle.bsc_tributary.proofs.called.addresses_differ.Goals as goal
 
 pub returns-then-not-is_first : goal.returns-then-not-is_first
 returns-then-not-is_first c = (
   λ yes. absurd (cc),
   λ distinct. sym c.if-not-is_first.true
-      ∙ c.is_first.ensures.1 (is-selection_at c.args.terminal.now c.loop-select.select distinct
+      ∙ c.is_first.ensures.1 (is_selection_at c.args.terminal.now c.loop-select.select distinct
       (omega arith)),
 )
 

@@ -1,8 +1,8 @@
 use Rattle.std.proofs.Common.{◌≡◌, ◌∙◌, sym, ap, List, ℕ, [], get_or, false, arith}
 use Rattle.std.proofs.lemmas.Option.{slice_get_within, get_or_from_slice_get}
 use Rattle.bsc_tributary.specs.Called.{is_same}
-use Rattle.bsc_tributary.proofs.Addresses.{called_as-Selection, called_as-Other, position-at}
-use Rattle.bsc_tributary.proofs.Addresses.{position-nowhere}
+use Rattle.bsc_tributary.proofs.Addresses.{called_as_selection, called_as_other, position_at}
+use Rattle.bsc_tributary.proofs.Addresses.{position_nowhere}
 use Rattle.bsc_tributary.proofs.called.called_address.Goals as goal
 
 pub returns-then-eq-2 : goal.returns-then-eq-2
@@ -15,8 +15,8 @@ returns-then-eq-2 c =
     let here : get_or selects c.loop-select.select [] ≡
     c.select.result =
     get_or_from_slice_get selects c.loop-select.select c.select.result [] c.select.ensures in
-    sym (called_as-Selection c.args.terminal.now a c.loop-select.select poll
-    (position-at (is_same a) selects c.loop-select.select
+    sym (called_as_selection c.args.terminal.now a c.loop-select.select poll
+    (position_at (is_same a) selects c.loop-select.select
     (slice_get_within selects c.loop-select.select c.select.result c.select.ensures)
     c.loop-select.invariant
     (ap (is_same a) here ∙ sym c.eq-in-loop-select.ensures ∙ c.if-eq-2.true)))
@@ -28,5 +28,5 @@ returns c =
     let poll : is_same a c.args.terminal.now.poll ≡ false = ap (is_same a) (sym c.poll.ensures)
     ∙ sym c.eq.ensures
     ∙ c.if-eq.false in
-    sym (called_as-Other c.args.terminal.now a poll
-    (position-nowhere (is_same a) selects (λ k within. c.loop-select.invariant k (omega arith))))
+    sym (called_as_other c.args.terminal.now a poll
+    (position_nowhere (is_same a) selects (λ k within. c.loop-select.invariant k (omega arith))))

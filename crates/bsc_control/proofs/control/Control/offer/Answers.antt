@@ -1,9 +1,9 @@
 use Rattle.std.proofs.Common.{◌<◌, length, sym, ◌∙◌, ap}
 use Rattle.bsc_control.specs.Addresses.{numbered}
 use Rattle.bsc_control.specs.Control.{peer_at}
-use Rattle.bsc_control.proofs.Controls.{keeps_outbound-offer}
-use Rattle.bsc_control.proofs.Reached.{peer_reached, outbound_reached, stays-reached}
-use Rattle.bsc_control.proofs.Reached.{unchanged-reached}
+use Rattle.bsc_control.proofs.Controls.{keeps_outbound_offer}
+use Rattle.bsc_control.proofs.Reached.{peer_reached, outbound_reached, stays_reached}
+use Rattle.bsc_control.proofs.Reached.{unchanged_reached}
 use Rattle.bsc_control.proofs.control.Control.offer.Goals as goal
 
 pub invariant_of-self : goal.invariant_of-self
@@ -16,10 +16,10 @@ invariant_of-self g c =
     peer_reached c.procedure.view_is within c.peer.view_is c.index_mut-peer.ensures.value in
     let reached = outbound_reached peer there c.index_mut-outbound.ensures.value in
     let keeps =
-    keeps_outbound-offer c.offer.result c.index_mut-outbound.result.now c.offer.new.self
+    keeps_outbound_offer c.offer.result c.index_mut-outbound.result.now c.offer.new.self
     c.args.record
     c.offer.ensures.ok c.offer.ensures.err in
-    let stays = stays-reached c.self.invariant.0 reached c.offer.ensures.outbound keeps in
+    let stays = stays_reached c.self.invariant.0 reached c.offer.ensures.outbound keeps in
     (stays.control, c.self.invariant.1 ∙ ap (numbered 0) (sym stays.same))
 
 pub returns-clause-err : goal.returns-clause-err
@@ -31,7 +31,7 @@ returns-clause-err g c =
     let peer =
     peer_reached c.procedure.view_is within c.peer.view_is c.index_mut-peer.ensures.value in
     let reached = outbound_reached peer there c.index_mut-outbound.ensures.value in
-    rw (← c.self.view_is) (unchanged-reached c.offer.result c.offer.new.self reached
+    rw (← c.self.view_is) (unchanged_reached c.offer.result c.offer.new.self reached
     c.offer.ensures.err)
 
 pub returns-clause-control : goal.returns-clause-control

@@ -1,17 +1,17 @@
 use Rattle.std.proofs.Common.{◌<◌, length, sym, ◌∙◌, ap}
 use Rattle.bsc_control.specs.Addresses.{numbered}
 use Rattle.bsc_control.specs.Control.{peer_at}
-use Rattle.bsc_control.proofs.Controls.{keeps_outbound-release, selection_there}
-use Rattle.bsc_control.proofs.Entries.{peer-with_outbound, entries-with_peer}
-use Rattle.bsc_control.proofs.Reached.{peer_reached, outbound_reached, stays-reached}
+use Rattle.bsc_control.proofs.Controls.{keeps_outbound_release, selection_there}
+use Rattle.bsc_control.proofs.Entries.{peer_with_outbound, entries_with_peer}
+use Rattle.bsc_control.proofs.Reached.{peer_reached, outbound_reached, stays_reached}
 use Rattle.bsc_control.proofs.control.Control.release.Goals as goal
 
 pub invariant_of-procedure : goal.invariant_of-procedure
 invariant_of-procedure g c =
     let peer =
-    peer-with_outbound _ c.select.result c.release.new.self c.release.ensures.outbound
+    peer_with_outbound _ c.select.result c.release.new.self c.release.ensures.outbound
     c.peer.invariant in
-    entries-with_peer _ c.args.terminal _ peer c.procedure.invariant
+    entries_with_peer _ c.args.terminal _ peer c.procedure.invariant
 
 pub invariant_of-self : goal.invariant_of-self
 invariant_of-self g c =
@@ -24,9 +24,9 @@ invariant_of-self g c =
     peer_reached c.procedure.view_is within c.peer.view_is c.index_mut-peer.ensures.value in
     let reached = outbound_reached peer there c.index_mut-outbound.ensures.value in
     let keeps =
-    keeps_outbound-release c.index_mut-outbound.result.now c.release.new.self c.args.count
+    keeps_outbound_release c.index_mut-outbound.result.now c.release.new.self c.args.count
     c.release.ensures.state in
-    let stays = stays-reached c.self.invariant.0 reached c.release.ensures.outbound keeps in
+    let stays = stays_reached c.self.invariant.0 reached c.release.ensures.outbound keeps in
     (stays.control, c.self.invariant.1 ∙ ap (numbered 0) (sym stays.same))
 
 pub returns-clause-control : goal.returns-clause-control

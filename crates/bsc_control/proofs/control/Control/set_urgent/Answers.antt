@@ -1,6 +1,6 @@
 use Rattle.std.proofs.Common.{◌<◌, length, sym, ◌∙◌, ap}
 use Rattle.bsc_control.specs.Addresses.{numbered}
-use Rattle.bsc_control.proofs.Reached.{peer_reached, stays-flag}
+use Rattle.bsc_control.proofs.Reached.{peer_reached, stays_flag}
 use Rattle.bsc_control.proofs.control.Control.set_urgent.Goals as goal
 
 pub invariant_of-self : goal.invariant_of-self
@@ -9,7 +9,7 @@ invariant_of-self g c =
     rw c.self.view_is c.requires in
     let peer =
     peer_reached c.procedure.view_is within c.peer.view_is c.index_mut-peer.ensures.value in
-    let stays = stays-flag c.self.invariant.0 peer in
+    let stays = stays_flag c.self.invariant.0 peer in
     (stays.control, c.self.invariant.1 ∙ ap (numbered 0) (sym stays.same))
 
 pub returns-clause-control : goal.returns-clause-control

@@ -10,8 +10,8 @@ use Rattle.bsc_text.specs.Terminal.{TerminalValue, own_addresses}
 use Rattle.bsc_control.specs.declared.refusal.SetupError.{SetupError}
 use Rattle.bsc_control.specs.Addresses.{addresses, owned, numbered}
 use Rattle.bsc_control.specs.Refusals.{RefusesAddresses}
-use Rattle.bsc_control.proofs.Owners.{Owner, numbered-push, keys-numbered}
-use Rattle.bsc_control.proofs.Repeats.{refuses-more, refuses-earlier, all_differ}
+use Rattle.bsc_control.proofs.Owners.{Owner, numbered_push, keys_numbered}
+use Rattle.bsc_control.proofs.Repeats.{refuses_more, refuses_earlier, all_differ}
 use Rattle.bsc_control.proofs.directory.Directory.new.Goals as goal
 
 -- the terminals up to one more
@@ -21,45 +21,45 @@ take_more ts n x within is =
     rw (add-one, take-suc ts n x within) (ap (λ y. take n ts ++ y ∷ []) (sym is))
 
 -- one more terminal was entered
-entered-more : (ts : List TerminalValue) (n : ℕ) (x : TerminalValue) → n < length ts → x
+entered_more : (ts : List TerminalValue) (n : ℕ) (x : TerminalValue) → n < length ts → x
     ≡ get_or ts n x → numbered 0 (take n ts) ++ owned n x ≡ numbered 0 (take (n + 1) ts)
-entered-more ts n x within is =
+entered_more ts n x within is =
     let upto : n ≤ length ts = omega arith in
     let place : 0 + length (take n ts) ≡ n = omega (arith, length-take-le n ts upto) in
-    ap (λ k. numbered 0 (take n ts) ++ owned k x) (sym place) ∙ sym (numbered-push 0 (take n ts) x)
+    ap (λ k. numbered 0 (take n ts) ++ owned k x) (sym place) ∙ sym (numbered_push 0 (take n ts) x)
     ∙ ap (numbered 0) (sym (take_more ts n x within is))
 
-addresses-append : (xs ys : List TerminalValue) → addresses (xs ++ ys) ≡ addresses xs
+addresses_append : (xs ys : List TerminalValue) → addresses (xs ++ ys) ≡ addresses xs
     ++ addresses ys
-addresses-append [] ys = refl
-addresses-append (x ∷ xs) ys = ap (λ zs. own_addresses x ++ zs) (addresses-append xs ys)
+addresses_append [] ys = refl
+addresses_append (x ∷ xs) ys = ap (λ zs. own_addresses x ++ zs) (addresses_append xs ys)
     ∙ sym (append_assoc (own_addresses x) (addresses xs) (addresses ys))
 
 -- a clash at a terminal is one of the addresses
-refuses-terminal : (ts : List TerminalValue) (n : ℕ) (x : TerminalValue) (e : SetupError) → n
+refuses_terminal : (ts : List TerminalValue) (n : ℕ) (x : TerminalValue) (e : SetupError) → n
     < length ts → x ≡ get_or ts n x
     → RefusesAddresses (keys_of (numbered 0 (take n ts))) (own_addresses x) e
     → RefusesAddresses [] (addresses ts) e
-refuses-terminal ts n x e within is h =
+refuses_terminal ts n x e within is h =
     let early : RefusesAddresses [] (addresses (take n ts) ++ own_addresses x) e =
-    refuses-earlier [] (addresses (take n ts)) (own_addresses x) e
-    (subst (λ ks. RefusesAddresses ks (own_addresses x) e) (keys-numbered 0 (take n ts)) h) in
+    refuses_earlier [] (addresses (take n ts)) (own_addresses x) e
+    (subst (λ ks. RefusesAddresses ks (own_addresses x) e) (keys_numbered 0 (take n ts)) h) in
     let one : addresses (x ∷ []) ≡ own_addresses x = append-nil (own_addresses x) in
     let upto : addresses (take n ts) ++ own_addresses x ≡ addresses (take (n + 1) ts) =
-    ap (λ zs. addresses (take n ts) ++ zs) (sym one) ∙ sym (addresses-append (take n ts) (x ∷ []))
+    ap (λ zs. addresses (take n ts) ++ zs) (sym one) ∙ sym (addresses_append (take n ts) (x ∷ []))
     ∙ ap addresses (sym (take_more ts n x within is)) in
     let whole : addresses (take (n + 1) ts) ++ addresses (drop (n + 1) ts) ≡ addresses ts =
-    sym (addresses-append (take (n + 1) ts) (drop (n + 1) ts))
+    sym (addresses_append (take (n + 1) ts) (drop (n + 1) ts))
     ∙ ap addresses (take-append-drop (n + 1) ts) in
     subst (λ ys. RefusesAddresses [] ys e) whole
-    (refuses-more [] (addresses (take (n + 1) ts)) (addresses (drop (n + 1) ts)) e
+    (refuses_more [] (addresses (take (n + 1) ts)) (addresses (drop (n + 1) ts)) e
     (subst (λ ys. RefusesAddresses [] ys e) upto early))
 
 pub returns-in_err-enter_all-clause-refused : goal.returns-in_err-enter_all-clause-refused
 returns-in_err-enter_all-clause-refused g c =
     let p = err_from_is_err_and c.from_residual.result c.from_residual.ensures.1 in
     rw (p.1, p.2)
-    (refuses-terminal c.args.terminals.now c.loop-number.number c.index-terminals-number.result
+    (refuses_terminal c.args.terminals.now c.loop-number.number c.index-terminals-number.result
     c.in_err-enter_all.field-0.0 c.loop-number-test.true c.index-terminals-number.is
     (subst (λ (es : List Owner). RefusesAddresses (keys_of es)
     (own_addresses c.index-terminals-number.result) c.in_err-enter_all.field-0.0)
@@ -69,7 +69,7 @@ pub loop-number-preserved : goal.loop-number-preserved
 loop-number-preserved g c =
     c.in_ok-enter_all.ensures.entries ∙ ap (λ (es : List Owner). es
     ++ owned c.loop-number.number c.index-terminals-number.result) c.loop-number.invariant
-    ∙ entered-more c.args.terminals.now c.loop-number.number c.index-terminals-number.result
+    ∙ entered_more c.args.terminals.now c.loop-number.number c.index-terminals-number.result
     c.loop-number-test.true c.index-terminals-number.is
 
 pub returns-clause-distinct : goal.returns-clause-distinct
@@ -78,6 +78,6 @@ returns-clause-distinct g c =
     take_all c.loop-number.number c.args.terminals.now c.loop-number-test.false in
     let keys : keys_of c.directory-2.inside.owners.entries ≡ addresses c.args.terminals.now =
     ap keys_of (c.directory-2.view_is ∙ c.loop-number.invariant ∙ ap (numbered 0) all)
-    ∙ keys-numbered 0 c.args.terminals.now in
+    ∙ keys_numbered 0 c.args.terminals.now in
     subst (AllPairs (λ a b. a ≢ b)) keys
     (all_differ (keys_of c.directory-2.inside.owners.entries) c.directory-2.invariant)

@@ -1,14 +1,14 @@
-use Rattle.bsc_control.proofs.Entries.{peer-with_outbound, entries-with_peer}
+use Rattle.bsc_control.proofs.Entries.{peer_with_outbound, entries_with_peer}
 use Rattle.bsc_control.proofs.procedure.Procedure.hear_sending.Goals as goal
 
 pub invariant_of-peer : goal.invariant_of-peer
 invariant_of-peer g c =
-    peer-with_outbound _ c.args.select c.reply-outcome.new.self c.reply-outcome.ensures.outbound
+    peer_with_outbound _ c.args.select c.reply-outcome.new.self c.reply-outcome.ensures.outbound
     c.peer.invariant
 
 pub invariant_of-self : goal.invariant_of-self
 invariant_of-self g c =
     let peer =
-    peer-with_outbound _ c.args.select c.reply-outcome.new.self c.reply-outcome.ensures.outbound
+    peer_with_outbound _ c.args.select c.reply-outcome.new.self c.reply-outcome.ensures.outbound
     c.peer.invariant in
-    entries-with_peer _ c.current-terminal.result _ peer c.self.invariant
+    entries_with_peer _ c.current-terminal.result _ peer c.self.invariant

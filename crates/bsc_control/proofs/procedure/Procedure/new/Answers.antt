@@ -19,9 +19,9 @@ made_more ts n x ps p within is made same =
     ∙ ap (λ y. take n ts ++ y ∷ []) (same ∙ is) ∙ sym (rw (add-one) (take-suc ts n x within))
 
 -- a new part is one of the terminal that it keeps
-new_peer-own : (setup : SetupValue) (x : TerminalValue) (p : PeerValue) → IsNewPeer setup x p
+new_peer_own : (setup : SetupValue) (x : TerminalValue) (p : PeerValue) → IsNewPeer setup x p
     → IsNewPeer setup p.terminal p
-new_peer-own setup x p h =
+new_peer_own setup x p h =
     record {
       terminal_given = refl;
       calm = h.calm;
@@ -50,7 +50,7 @@ loop-terminal-preserved g c =
           subst (All fresh) (sym items)
           (All-push fresh c.loop-terminal.peers.items c.in_ok-peer.peer
           c.loop-terminal.invariant.fresh
-          (new_peer-own c.args.setup c.terminal-item.result c.in_ok-peer.peer
+          (new_peer_own c.args.setup c.terminal-item.result c.in_ok-peer.peer
           c.in_ok-peer.ensures.value));
       peers =
           subst (All IsPeer) (sym items) (All-push IsPeer c.loop-terminal.peers.items

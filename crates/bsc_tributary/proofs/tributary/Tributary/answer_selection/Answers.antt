@@ -1,40 +1,40 @@
 use Rattle.std.proofs.Common.{◌∙◌}
-use Rattle.bsc_tributary.proofs.Calls.{selection_step-ready, selection_step-room}
-use Rattle.bsc_tributary.proofs.Calls.{stays-selection_step, within-spools}
+use Rattle.bsc_tributary.proofs.Calls.{selection_step_ready, selection_step_room}
+use Rattle.bsc_tributary.proofs.Calls.{stays_selection_step, within_spools}
 use Rattle.bsc_tributary.proofs.tributary.Tributary.answer_selection.Goals as goal
 
 pub invariant_of-self : goal.invariant_of-self
 invariant_of-self g c =
-    stays-selection_step _ c.args.self.now c.args.select c.begin-reply.new.self
+    stays_selection_step _ c.args.self.now c.args.select c.begin-reply.new.self
     c.make_room-room.new.self _ c.self.invariant
     (c.self.view_is ∙ c.drop_line.ensures.state)
-    (within-spools _ c.args.self.now c.args.select c.self.invariant
+    (within_spools _ c.args.self.now c.args.select c.self.invariant
     (c.self.view_is ∙ c.drop_line.ensures.state) c.requires) c.make_room-room.ensures.spool
 
 pub returns-clause-row : goal.returns-clause-row
 returns-clause-row g c =
-    selection_step-ready _ c.args.self.now c.args.select c.make_room-room.result
+    selection_step_ready _ c.args.self.now c.args.select c.make_room-room.result
     c.begin-reply.new.self c.make_room-room.new.self c.begin-reply.result c.message.result
     (c.self.view_is ∙ c.drop_line.ensures.state) c.if-not-self.false
-    (within-spools _ c.args.self.now c.args.select c.self.invariant
+    (within_spools _ c.args.self.now c.args.select c.self.invariant
     (c.self.view_is
     ∙ c.drop_line.ensures.state) c.requires) c.make_room-room.ensures.spool
     c.begin-reply.ensures.state c.begin-reply.ensures.reply c.message.ensures
 
 pub returns-clause-room : goal.returns-clause-room
 returns-clause-room g c =
-    selection_step-room _ c.args.self.now c.args.select c.make_room-room.result
+    selection_step_room _ c.args.self.now c.args.select c.make_room-room.result
     c.make_room-room.new.self
     (c.self.view_is ∙ c.drop_line.ensures.state)
-    (within-spools _ c.args.self.now c.args.select c.self.invariant
+    (within_spools _ c.args.self.now c.args.select c.self.invariant
     (c.self.view_is
     ∙ c.drop_line.ensures.state) c.requires) c.make_room-room.ensures.spool
     c.make_room-room.ensures.there
 
 pub returns-clause-tributary : goal.returns-clause-tributary
 returns-clause-tributary g c =
-    stays-selection_step _ c.args.self.now c.args.select c.begin-reply.new.self
+    stays_selection_step _ c.args.self.now c.args.select c.begin-reply.new.self
     c.make_room-room.new.self _ c.self.invariant
     (c.self.view_is ∙ c.drop_line.ensures.state)
-    (within-spools _ c.args.self.now c.args.select c.self.invariant
+    (within_spools _ c.args.self.now c.args.select c.self.invariant
     (c.self.view_is ∙ c.drop_line.ensures.state) c.requires) c.make_room-room.ensures.spool

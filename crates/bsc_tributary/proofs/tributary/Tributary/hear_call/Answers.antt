@@ -4,20 +4,20 @@ use Rattle.bsc_frame.specs.declared.message.Heard.TheVariants.{Whole}
 use Rattle.bsc_tributary.specs.Tributary.{Hears}
 use Rattle.bsc_tributary.specs.Kept.{IsTributary}
 use Rattle.bsc_tributary.proofs.Hearing.{after_hearing}
-use Rattle.bsc_tributary.proofs.CallsHeard.{called_from, hears-polling, hears-selection}
-use Rattle.bsc_tributary.proofs.CallsHeard.{hears-other, within-selects}
+use Rattle.bsc_tributary.proofs.CallsHeard.{called_from, hears_polling, hears_selection}
+use Rattle.bsc_tributary.proofs.CallsHeard.{hears_other, within_selects}
 use Rattle.bsc_tributary.proofs.tributary.Tributary.hear_call.Goals as goal
 
 pub answer_selection-requires : goal.answer_selection-requires
 answer_selection-requires g c =
-    within-selects c.args.self.now.terminal c.args.address.now c.in-Selection.select
+    within_selects c.args.self.now.terminal c.args.address.now c.in-Selection.select
     (called_from _ c.args.self.now _ _ _ c.self.view_is c.in-Selection.is c.called_address.ensures)
 
 pub returns-in-Polling : goal.returns-in-Polling
 returns-in-Polling g c =
     let hears : Hears c.args.self.now (Whole (Call c.args.address.now)) c.answer_poll.new.self
     c.answer_poll.new.sent =
-    hears-polling c.args.self.now c.answer_poll.new.self c.args.address.now c.answer_poll.new.sent
+    hears_polling c.args.self.now c.answer_poll.new.self c.args.address.now c.answer_poll.new.sent
     (called_from _ c.args.self.now _ _ _ c.self.view_is c.in-Polling.is c.called_address.ensures)
     c.answer_poll.ensures.row in
     record {
@@ -30,7 +30,7 @@ pub returns-in-Selection : goal.returns-in-Selection
 returns-in-Selection g c =
     let hears : Hears c.args.self.now (Whole
     (Call c.args.address.now)) c.answer_selection.new.self c.answer_selection.new.sent =
-    hears-selection c.args.self.now c.answer_selection.new.self c.args.address.now
+    hears_selection c.args.self.now c.answer_selection.new.self c.args.address.now
     c.in-Selection.select c.answer_selection.new.sent
     (called_from _ c.args.self.now _ _ _ c.self.view_is c.in-Selection.is c.called_address.ensures)
     c.answer_selection.ensures.row c.answer_selection.ensures.room in
@@ -44,7 +44,7 @@ returns-in-Selection g c =
 pub returns-in-Other : goal.returns-in-Other
 returns-in-Other g c =
     let hears : Hears c.args.self.now (Whole (Call c.args.address.now)) c.drop_line.new.self None =
-    hears-other c.args.self.now c.drop_line.new.self c.args.address.now
+    hears_other c.args.self.now c.drop_line.new.self c.args.address.now
     (called_from _ c.args.self.now _ _ _ c.self.view_is c.in-Other.is c.called_address.ensures)
     c.drop_line.ensures.state in
     record {

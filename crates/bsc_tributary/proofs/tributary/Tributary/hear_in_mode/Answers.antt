@@ -4,19 +4,19 @@ use Rattle.bsc_tributary.specs.Kept.{IsTributary}
 use Rattle.bsc_text.proofs.Telling.{told_step}
 use Rattle.bsc_tributary.proofs.Acts.{mode_told, sent_told}
 use Rattle.bsc_tributary.proofs.Hearing.{after_hearing}
-use Rattle.bsc_tributary.proofs.InMode.{hears-control, hears-receiving, hears-sending}
-use Rattle.bsc_tributary.proofs.InMode.{stays-receive_step, stays-replied}
+use Rattle.bsc_tributary.proofs.InMode.{hears_control, hears_receiving, hears_sending}
+use Rattle.bsc_tributary.proofs.InMode.{stays_receive_step, stays_replied}
 use Rattle.bsc_tributary.proofs.tributary.Tributary.hear_in_mode.Goals as goal
 
 pub invariant_of-self : goal.invariant_of-self
 invariant_of-self g c =
-    stays-receive_step _ c.in-Receiving.select c.still_urgent-self-inside.result
+    stays_receive_step _ c.in-Receiving.select c.still_urgent-self-inside.result
     c.receive-reply.new.receiver
     c.receive-reply.new.self c.self.invariant c.receive-reply.ensures.spools
 
 pub invariant_of-self-in-Sending : goal.invariant_of-self-in-Sending
 invariant_of-self-in-Sending g c =
-    stays-replied _ c.args.heard.now c.perform.new.mode _ c.self.invariant c.in-Sending.is
+    stays_replied _ c.args.heard.now c.perform.new.mode _ c.self.invariant c.in-Sending.is
     (told_step _ _ _ _ _ c.reply-outcome.ensures.row)
     (mode_told _ _ _ _ _ _ _ c.reply-outcome.ensures.row c.perform.ensures.mode)
     (c.reply-outcome.ensures.ready c.self.invariant.ready)
@@ -25,13 +25,13 @@ pub returns-in-Control : goal.returns-in-Control
 returns-in-Control g c =
     let was : IsTributary c.args.self.now = subst IsTributary c.self.view_is c.self.invariant in
     let hears : Hears c.args.self.now c.args.heard.now c.args.self.now None =
-    hears-control _ c.args.self.now c.args.heard.now c.requires c.self.view_is c.in-Control.is in
+    hears_control _ c.args.self.now c.args.heard.now c.requires c.self.view_is c.in-Control.is in
     record { row = hears; after = after_hearing _ _ _ _ was was hears }
 
 pub returns-in-Receiving : goal.returns-in-Receiving
 returns-in-Receiving g c =
     let hears =
-    hears-receiving _ c.args.self.now c.args.heard.now c.in-Receiving.select
+    hears_receiving _ c.args.self.now c.args.heard.now c.in-Receiving.select
     c.still_urgent-self-inside.result
     c.receive-reply.new.receiver c.receive-reply.new.self c.receive-reply.result
     c.leave_reply.new.sent c.requires c.self.view_is
@@ -41,7 +41,7 @@ returns-in-Receiving g c =
     record {
       row = hears;
       after = after_hearing _ _ _ _ (subst IsTributary c.self.view_is c.self.invariant)
-          (stays-receive_step _ c.in-Receiving.select c.still_urgent-self-inside.result
+          (stays_receive_step _ c.in-Receiving.select c.still_urgent-self-inside.result
           c.receive-reply.new.receiver
           c.receive-reply.new.self c.self.invariant c.receive-reply.ensures.spools) hears;
     }
@@ -49,7 +49,7 @@ returns-in-Receiving g c =
 pub returns-in-Sending : goal.returns-in-Sending
 returns-in-Sending g c =
     let hears =
-    hears-sending _ c.args.self.now c.args.heard.now c.perform.new.mode _ c.perform.new.sent
+    hears_sending _ c.args.self.now c.args.heard.now c.perform.new.mode _ c.perform.new.sent
     c.requires c.self.view_is
     c.in-Sending.is (told_step _ _ _ _ _ c.reply-outcome.ensures.row)
     (mode_told _ _ _ _ _ _ _ c.reply-outcome.ensures.row c.perform.ensures.mode)
@@ -57,7 +57,7 @@ returns-in-Sending g c =
     record {
       row = hears;
       after = after_hearing _ _ _ _ (subst IsTributary c.self.view_is c.self.invariant)
-          (stays-replied _ c.args.heard.now c.perform.new.mode _ c.self.invariant c.in-Sending.is
+          (stays_replied _ c.args.heard.now c.perform.new.mode _ c.self.invariant c.in-Sending.is
           (told_step _ _ _ _ _ c.reply-outcome.ensures.row)
           (mode_told _ _ _ _ _ _ _ c.reply-outcome.ensures.row c.perform.ensures.mode)
           (c.reply-outcome.ensures.ready c.self.invariant.ready)) hears;

@@ -1,22 +1,22 @@
-use Rattle.bsc_tributary.proofs.Offering.{offered-either, stays-offer, offer-ok, offer-err}
-use Rattle.bsc_tributary.proofs.Offering.{same-offer}
+use Rattle.bsc_tributary.proofs.Offering.{offered_either, stays_offer, offer_ok, offer_err}
+use Rattle.bsc_tributary.proofs.Offering.{same_offer}
 use Rattle.bsc_tributary.proofs.tributary.Tributary.offer.Goals as goal
 
 pub invariant_of-self : goal.invariant_of-self
 invariant_of-self g c =
-    stays-offer _ _ c.args.record c.offer.new.self c.self.invariant c.self.view_is c.requires
-    (offered-either c.offer.result _ _ _ c.offer.ensures.ok c.offer.ensures.err)
+    stays_offer _ _ c.args.record c.offer.new.self c.self.invariant c.self.view_is c.requires
+    (offered_either c.offer.result _ _ _ c.offer.ensures.ok c.offer.ensures.err)
 
 pub returns-clause-ok : goal.returns-clause-ok
 returns-clause-ok g c =
-    offer-ok c.offer.result _ _ c.args.record c.offer.new.self c.self.view_is c.offer.ensures.ok
+    offer_ok c.offer.result _ _ c.args.record c.offer.new.self c.self.view_is c.offer.ensures.ok
 
 pub returns-clause-err : goal.returns-clause-err
 returns-clause-err g c =
-    offer-err c.offer.result _ _ c.offer.new.self c.self.view_is c.offer.ensures.err
+    offer_err c.offer.result _ _ c.offer.new.self c.self.view_is c.offer.ensures.err
 
 pub returns-clause-same : goal.returns-clause-same
 returns-clause-same g c =
-    same-offer _ _ c.offer.new.self c.self.view_is
-    (stays-offer _ _ c.args.record c.offer.new.self c.self.invariant c.self.view_is c.requires
-    (offered-either c.offer.result _ _ _ c.offer.ensures.ok c.offer.ensures.err))
+    same_offer _ _ c.offer.new.self c.self.view_is
+    (stays_offer _ _ c.args.record c.offer.new.self c.self.invariant c.self.view_is c.requires
+    (offered_either c.offer.result _ _ _ c.offer.ensures.ok c.offer.ensures.err))

@@ -1,18 +1,18 @@
-use Rattle.bsc_tributary.proofs.Offering.{stays-release, release-state, release-answer}
-use Rattle.bsc_tributary.proofs.Offering.{same-release}
+use Rattle.bsc_tributary.proofs.Offering.{stays_release, release_state, release_answer}
+use Rattle.bsc_tributary.proofs.Offering.{same_release}
 use Rattle.bsc_tributary.proofs.tributary.Tributary.release.Goals as goal
 
 pub invariant_of-self : goal.invariant_of-self
-invariant_of-self g c = stays-release _ c.args.count _ c.self.invariant c.release.ensures.row
+invariant_of-self g c = stays_release _ c.args.count _ c.self.invariant c.release.ensures.row
     (c.release.ensures.ready c.self.invariant.ready)
 
 pub returns-clause-state : goal.returns-clause-state
-returns-clause-state g c = release-state _ _ c.args.count _ c.self.view_is c.release.ensures.row
+returns-clause-state g c = release_state _ _ c.args.count _ c.self.view_is c.release.ensures.row
 
 pub returns-clause-answer : goal.returns-clause-answer
-returns-clause-answer g c = release-answer _ _ c.args.count _ c.self.view_is c.release.ensures.row
+returns-clause-answer g c = release_answer _ _ c.args.count _ c.self.view_is c.release.ensures.row
 
 pub returns-clause-same : goal.returns-clause-same
 returns-clause-same g c =
-    same-release _ _ c.args.count _ c.self.view_is c.self.invariant c.release.ensures.row
+    same_release _ _ c.args.count _ c.self.view_is c.self.invariant c.release.ensures.row
     (c.release.ensures.ready c.self.invariant.ready)
