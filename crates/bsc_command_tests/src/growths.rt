@@ -10,7 +10,7 @@ const INPUT: &[u8] = b"16 16 10 B0 FF\n16 16 10 30 FF\n16 16 04 FF 16 16 C1 85 F
 /// Their names.
 const NAMES: &[u8] = b"ACK0\nNOISE\nCALL A\nEOT\n";
 
-/// The same where it ends before each line in turn, the first of them before all.
+/// The fronts of these names that end before each line in turn, the first of them empty.
 const FRONTS: &[&[u8]] = &[b"", b"ACK0\n", b"ACK0\nNOISE\n", b"ACK0\nNOISE\nCALL A\n"];
 
 /// Whether out of memory is told, after whole lines, where a growth is refused, and else all is

@@ -153,7 +153,7 @@ way_of (Selecting s enquired) = ToTerminal s
 way_of (Sending s) = ToTerminal s
 way_of (Polling replied) = FromTerminal
 
--- the same call again
+-- a call is repeated: the address is that of the task that goes on, with one failure more
 pub record IsRepeated (old new : ControlValue) (address : List ℕ) : Type 0 where
   pub place : new.place ≡ old.place
   pub task : new.task ≡ old.task

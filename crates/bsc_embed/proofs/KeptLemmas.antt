@@ -36,8 +36,8 @@ rest_set ss ts i s e =
     drop-set-lt (i + 1) ss i s (omega arith) ∙ sym (drop-drop 1 i ss) ∙ ap (drop 1) e
     ∙ drop-drop 1 i ts
 
--- the same where the unit keeps what was there before, since those from its place on are the first
--- ones
+-- the characters after each unit stay, where the unit that is put keeps those that were there: the
+-- units from its place on are still the first ones
 pub keep_put : (os ns : List StoredUnit) (i : ℕ) (s d : StoredUnit) → i < length ns
     → KeepCharsAfter os ns
     → drop i ns ≡ drop i os

@@ -52,7 +52,7 @@ KeepsRest Wack old new = new ≡ old
 KeepsRest Rvi old new = new ≡ old
 KeepsRest (Text t) old new = KeepsRestOfText old new
 
--- The same of what was heard: where it was no message, all is as it was.
+-- What stays of a content after what was heard: where it was no message, all of it.
 abbrev pub KeepsRestOfHeard : Heard → Content → Content → Type 0
 KeepsRestOfHeard (Whole m) old new = KeepsRest m old new
 KeepsRestOfHeard Failed old new = new ≡ old

@@ -15,7 +15,7 @@ values_within xs i x l e =
     ∙ ap (option_map (λ (y : Bor (List ℕ)). y.now))
     (slice_get-get_or xs i x l ∙ ap Some (sym e))
 
--- the same, of a list that may stand there
+-- a list that stands at a place of those that references lend is the one that is lent there
 pub values_same : (xs : List (Bor (List ℕ))) (i : ℕ) (x : Bor (List ℕ)) (r : List ℕ) → i < length xs
     → x ≡ get_or xs i x → slice_get (values xs) i ≡ Some r → r ≡ x.now
 values_same xs i x r l e s =

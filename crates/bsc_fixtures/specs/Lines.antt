@@ -18,6 +18,6 @@ terminal_b = terminal_value (one 0x42) (one 0x62 ∷ [])
 abbrev pub two : List TerminalValue
 two = terminal_value (one 0x41) (one 0x61 ∷ []) ∷ terminal_b ∷ []
 
--- the same, but the first is also selected by c
+-- these two terminals, where the first is also selected by c
 abbrev pub two_by_three : List TerminalValue
 two_by_three = terminal_value (one 0x41) (one 0x61 ∷ one 0x63 ∷ []) ∷ terminal_b ∷ []

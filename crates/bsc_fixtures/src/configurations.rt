@@ -14,7 +14,7 @@ poll = \"B\"
 select = \"b\"
 ";
 
-/// The same two, but terminal 0 is also selected by c.
+/// A configuration of these two terminals, where terminal 0 is also selected by c.
 pub const THREE_ADDRESSES: &str = "version = 2
 poll_list = [0, 1]
 

@@ -35,7 +35,7 @@ pub fn two_terminals() -> [Terminal; 2]
     ]
 }
 
-/// The same two terminals, but terminal 0 is also selected by c.
+/// These two terminals, where terminal 0 is also selected by c.
 pub fn two_terminals_by_three() -> [Terminal; 2]
     ensures { result ≡ two_by_three }
 {

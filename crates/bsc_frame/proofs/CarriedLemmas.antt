@@ -22,7 +22,7 @@ carried_by : (s : List ℕ) → AllByRecursion IsOdd s → AllByRecursion (λ x.
 carried_by [] o f = tt
 carried_by (x ∷ s) o f = (code_of_odd x f.0 o.0, carried_by s o.1 f.1)
 
--- the same where each one is known to be an octet by its place
+-- octets of odd parity are carried, also where each is known to be an octet by its place
 pub carried : (s : List ℕ) → All IsOdd s → ((i : ℕ) → Fits w8 (get_or s i 0)) → AreCarried s
 carried s o f =
     carried_by s (recursion_from_All IsOdd s o)

@@ -126,7 +126,7 @@ third_pads [] syns a trail o rest p k h other e = third_syn syns a trail o rest 
 third_pads (x ∷ pads) syns a trail o rest p k h other e =
     absurd (not_same o 0xff other (heads e ∙ p.0))
 
--- the same of whatever message is read
+-- the octet after EOT is SYN whatever message is read
 third : (new : ℕ) (rest : List ℕ) (n : Message) → HaveOtherParity new 0xff
     → AfterFirst 0x04 (new ∷ 0x16 ∷ rest) n → new ≡ 0x16
 third new rest n other b = elim (called_or_end n (new ∷ 0x16 ∷ rest) b) [
@@ -148,7 +148,7 @@ fourth_pads (x ∷ []) syns a trail new rest p k h other e =
     absurd (not_both_odd new 0x16 other (first_odd syns a trail new rest k h (tails e)) syn_odd)
 fourth_pads (x ∷ y ∷ pads) syns a trail new rest p k h other e = heads (tails e) ∙ p.1.0
 
--- the same of whatever message is read
+-- the octet after the pad is a pad whatever message is read
 fourth : (new : ℕ) (rest : List ℕ) (n : Message) → HaveOtherParity new 0x16
     → AfterFirst 0x04 (0xff ∷ new ∷ 0x16 ∷ rest) n → new ≡ 0xff
 fourth new rest n other b = elim (called_or_end n (0xff ∷ new ∷ 0x16 ∷ rest) b) [

@@ -65,7 +65,7 @@ before_some : (c : ℕ) (o : Option (List ℕ × List ℕ)) (g : List ℕ × Lis
 before_some c None g e = cc
 before_some c (Some h) g e = (h, refl, cc, cc)
 
--- the same of equal lists
+-- lists that are equal to those that are gathered are gathered
 same_gathers : (octets codes codes' rest rest' : List ℕ) → codes ≡ codes' → rest ≡ rest'
     → Gathers octets codes' rest' → Gathers octets codes rest
 same_gathers octets codes codes' rest rest' e f g = rw (e, f) g
@@ -136,7 +136,7 @@ odd_other c o =
     test_false (odd_octet c) 0x16 (λ e. elim (odd_cases c)
     [ inl k ↦ absurd (o.other (sym k.0 ∙ e)) | inr k ↦ absurd (omega arith) ])
 
--- the same is read after fill
+-- fill before the octets changes nothing of what is read
 after_fill : (room : ℕ) (fill rest : List ℕ) → AreAll 0x16 fill
     → gathered room (fill ++ rest) ≡ gathered room rest
 unfolding gathered

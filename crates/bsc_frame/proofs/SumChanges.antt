@@ -22,7 +22,7 @@ same_sum : (s t : List ℕ) → ((i : ℕ) → with_bit i s % 2 ≡ with_bit i t
 unfolding longitudinal_sum
 same_sum s t h = rw (h 0, h 1, h 2, h 3, h 4, h 5, h 6) refl
 
--- the same bits turned in two members leave the sum as it was
+-- where the bits of one mask are turned in two members, the sum stays as it was
 pub two_turned : (front middle back : List ℕ) (c d mask : ℕ)
     → longitudinal_sum (front ++ bit_xor c mask ∷ middle ++ bit_xor d mask ∷ back)
     ≡ longitudinal_sum (front ++ c ∷ middle ++ d ∷ back)

@@ -11,7 +11,7 @@ abbrev pub channel_arrivals : Form → (ℕ → ℕ) → (ℕ → ℕ) → (ℕ 
 channel_arrivals form selects numbers ends t way printed =
     arrival_lines form (channel_name (selects t) (numbers t) way) printed (records_at (ends t way))
 
--- the same of the channel of this number
+-- the lines of the records past those printed before of the channel of this number
 abbrev pub arrivals_of : Form → (ℕ → ℕ) → (ℕ → ℕ) → (ℕ → Way → End) → (ℕ → ℕ) → (ℕ → Way) → List ℕ
     → ℕ → List ℕ
 arrivals_of form selects numbers ends terminal_of way_of printed n =

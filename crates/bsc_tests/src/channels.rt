@@ -40,7 +40,7 @@ pub(crate) enum Has<'a> {
     },
 }
 
-/// The same for each: the offered records, how many of them the sending end knows to have arrived,
+/// How a channel stands, of whichever kind: the offered records, how many of them the sending end knows to have arrived,
 /// the records that arrived, and whether the sending end is in doubt.
 #[derive(Clone, Copy)]
 struct Ends<'a> {

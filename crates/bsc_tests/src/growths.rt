@@ -143,7 +143,7 @@ fn offers_rest<A: Allocator>(
     true
 }
 
-/// The same on each channel.
+/// Whether the records that are left are offered rightly on each channel.
 fn offers_all<A: Allocator>(alloc: &Refusing, line: &mut Line<A>, left: Left<'_>) -> bool {
     for (terminal, way, expected) in left {
         if !offers_rest(alloc, line, *terminal, *way, expected.offered()) {

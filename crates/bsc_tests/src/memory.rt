@@ -159,7 +159,7 @@ fn refusals_in(
     Ok(alloc.refused())
 }
 
-/// The same on a new line.
+/// How many growths are refused in an exchange on a new line, or what goes wrong there.
 fn refusals_of_exchange(
     alloc: &Refusing,
     before: &[Part<'_>],

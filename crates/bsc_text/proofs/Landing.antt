@@ -50,7 +50,7 @@ Leaves q alternation last spooled t =
     × MovesAtSender (channel q spooled)
     (channel t.queue spooled)
 
--- the same, at a queue that the step does not change
+-- what a step of the sender leaves that does not change the queue
 abbrev pub LeavesQueue : QueueValue → Alternation → Reply → List (List ℕ) → SenderStep → Type 0
 LeavesQueue q alternation last spooled t =
     Continues t.sender.phase t.queue alternation last spooled (sent_flight t.act) × (t.queue ≡ q)

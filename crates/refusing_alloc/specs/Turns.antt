@@ -52,6 +52,6 @@ pub record IsTurn (old : Turns) (refused : Bool) (next : Option (Result ℕ Turn
   pub number : new.number ≡ number_after old next
   pub left : new.left ≡ left_after old next
 
--- the same, whether the run met a refusal or not
+-- what comes after a run of which it is not said whether it met a refusal
 abbrev pub IsSomeTurn : Turns → Option (Result ℕ TurnError) → Turns → Type 0
 IsSomeTurn old next new = (refused : Bool) × IsTurn old refused next new

@@ -40,7 +40,7 @@ fn texts_and_statuses(rt: HostRuntime) -> Result<(), Fail> {
     Ok(())
 }
 
-/// The same of each fault of a run before its events.
+/// The text and the exit status of each fault of a run before its events.
 #[test]
 fn texts_and_statuses_of_a_run(rt: HostRuntime) -> Result<(), Fail> {
     let alloc = rt.alloc();
@@ -128,7 +128,7 @@ fn texts_and_status_of_refused_events(rt: HostRuntime) -> Result<(), Fail> {
     Ok(())
 }
 
-/// The same of each fault of a station.
+/// The text and the exit status of each fault of a station.
 #[test]
 fn texts_and_statuses_of_a_station(rt: HostRuntime) -> Result<(), Fail> {
     let alloc = rt.alloc();

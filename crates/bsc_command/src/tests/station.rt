@@ -22,7 +22,7 @@ const HEARD: &[&[u8]] = &[
     b"\x16\x16\x04\xFF",
 ];
 
-/// The same as socket records.
+/// These transmissions as socket records.
 const RECORDS: &[&[u8]] = &[
     b"\x00\x09\x16\x16\x04\xFF\x16\x16\xC1\x85\xFF",
     b"\x00\x05\x16\x16\x10\x31\xFF",

@@ -18,7 +18,7 @@ poll = \"B\"
 select = \"b\"
 ";
 
-/// The same line in version 2, its keys in another order.
+/// This line in version 2, with its keys in another order.
 const EXAMPLE_OF_VERSION_2: &str = "terminals = [
   { select = [\"a\"], poll = \"A\" }, # the first
   { poll = \"B\", select = [\"b\"] },

@@ -36,7 +36,7 @@ fn play_on(
     watched.go_on(EVENTS)
 }
 
-/// The same on a new line.
+/// Plays the event at its place of the exchange, and the rest, on a new line.
 fn play(stage: Stage<'_>, sent: &Sent, event: &Event<'_>) -> Result<Result<(), Broken>, Fail> {
     let mut watched = Watched::new(stage.alloc)?;
     Ok(play_on(&mut watched, stage.exchange, sent.place, event))

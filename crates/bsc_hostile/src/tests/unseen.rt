@@ -48,7 +48,7 @@ fn told_on(
     Ok(watched.play(event).err())
 }
 
-/// The same on a new line.
+/// What the watch tells of the event on a new line, after one that it did not see.
 fn told(
     alloc: Global,
     place: usize,

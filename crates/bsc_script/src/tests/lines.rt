@@ -72,7 +72,7 @@ fn as_many_lines_as_fit(rt: HostRuntime) -> Result<(), Fail> {
     Ok(())
 }
 
-/// The same of the words of one line.
+/// As many words of one line as fit are read.
 #[test]
 fn as_many_words_as_fit(rt: HostRuntime) -> Result<(), Fail> {
     let mut text = Vec::new(rt.alloc());

@@ -23,7 +23,7 @@ fn each_growth_at_the_one_that_listens(rt: HostRuntime) -> Result<(), Fail> {
     Ok(())
 }
 
-// The same of the one that connects.
+// Each growth is refused in turn at the one that connects.
 #[test]
 fn each_growth_at_the_one_that_connects(rt: HostRuntime) -> Result<(), Fail> {
     let alloc = Refusing::new(rt.alloc());
