@@ -67,8 +67,8 @@ fn hear_one<A: Allocator>(
     hear_apart(terminal, heard, place, first);
 }
 
-/// A terminal hears its item, and its answer is kept where none came before. It stands apart for
-/// the same reason.
+/// A terminal hears its item, and its answer is kept where none came before. It stands apart so
+/// that a line whose terminals hear alike needs no room for what the item is heard as.
 #[inline(never)]
 fn hear_item<A: Allocator>(
     terminal: &mut Tributary<A>,

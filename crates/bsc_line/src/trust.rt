@@ -169,8 +169,8 @@ fn is_heard_fairly(message: &Message, count: usize, hearings: &Hearings<'_>) -> 
     }
 }
 
-/// Whether the control station's transmission that is on the line is heard so. Condition: there is
-/// a terminal.
+/// Whether the control station's transmission that is on the line is heard fairly. Condition: there
+/// is a terminal.
 pub(crate) fn is_down_fair(
     sent: &Option<Transmission>,
     count: usize,
@@ -186,7 +186,7 @@ pub(crate) fn is_down_fair(
     }
 }
 
-/// Whether the terminal's transmission that is on the line is heard so.
+/// Whether the terminal's transmission that is on the line is heard fairly.
 pub(crate) fn is_up_fair(sent: &Option<Transmission>, heard: &Heard) -> bool
     ensures { IfSome sent.now (λ (s : TransmissionValue).
         IsTrue result ↔ IsFairlyHeard s.message heard.now) }

@@ -130,7 +130,7 @@ module _ {S R W F : Type 0}
   Does TimeOut old new before after happened =
       TimesOut (first_awaiting awaits before) old new before after happened
 
-  -- and what waits answer
+  -- what waits answer
   module _ {T : Type 0} (waits : T → Wait → Result Awaited LiveError → T → Type 0) where
     -- one step: something happened first, and what is due for it was done
     pub record Steps (old : Attended S (ConnectionValue R W F) T) (happened : List Happening)

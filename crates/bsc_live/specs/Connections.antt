@@ -67,7 +67,7 @@ module _ {R F : Type 0} (remaining : R → Option (List ℕ))
   Takes old taken new = TakesOpen taken old new
 
 module _ {R W F : Type 0} where
-  -- what it holds, and the octets of a connection that carry a transmission
+  -- what a writer holds, and the octets of a connection that carry a transmission
   module _ (contents : W → Option (List ℕ)) (framed : List ℕ → List ℕ) where
     -- the octets that carry the transmission were written, or a write failed and it is closed
     pub record Writes (octets : List ℕ) (old new : ConnectionValue R W F) : Type 0 where

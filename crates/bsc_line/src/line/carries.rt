@@ -26,8 +26,8 @@ impl<A: Allocator> Line<A> {
     ghost use Rattle.bsc_line_model.specs.declared.event.Event.TheVariants as event;
 
     /// What is on the line is heard as these octets, by all terminals or by the control station;
-    /// None is lost. `NothingSent`. A station may try to reserve memory; a refusal only changes its
-    /// reply.
+    /// None is lost. `NothingSent` where nothing is pending. A station may try to reserve memory; a
+    /// refusal only changes its reply. (Own.)
     pub fn carry(&mut self, heard: Option<&[u8]>) -> Result<(), LineError>
         ensures does { Does (event.Carry heard.entry) self.old result self.new }
         ensures line { IsLine self.new }
@@ -41,9 +41,10 @@ impl<A: Allocator> Line<A> {
     }
 
     /// The control station's transmission is heard by each terminal as the item of its number; None
-    /// is lost there. `NothingSent`; `NotControl` where a terminal's transmission is pending;
-    /// `WrongCount` where the items are not one for each terminal. A terminal may try to reserve
-    /// memory; a refusal only changes its reply.
+    /// is lost there. Refused, in this order: `NothingSent` where nothing is pending, `NotControl`
+    /// where a terminal's transmission is pending, `WrongCount` where the items are not one for
+    /// each terminal. A terminal may try to reserve memory; a refusal only changes its reply.
+    /// (Own.)
     pub fn carry_each(&mut self, items: &[Option<&[u8]>]) -> Result<(), LineError>
         ensures does { Does (event.CarryEach items.entry) self.old result self.new }
         ensures line { IsLine self.new }
@@ -60,8 +61,9 @@ impl<A: Allocator> Line<A> {
         Ok(())
     }
 
-    /// What is on the line is heard as it was sent: no octet of it is read. `NothingSent`. A
-    /// station may try to reserve memory; a refusal only changes its reply.
+    /// What is on the line is heard as it was sent: no octet of it is read. `NothingSent` where
+    /// nothing is pending. A station may try to reserve memory; a refusal only changes its reply.
+    /// (Own.)
     pub fn carry_sent(&mut self) -> Result<(), LineError>
         ensures does { Does event.CarrySent self.old result self.new }
         ensures line { IsLine self.new }
@@ -74,7 +76,7 @@ impl<A: Allocator> Line<A> {
         Ok(())
     }
 
-    /// What is on the line is heard so, by all who hear it.
+    /// What is on the line is heard as this, by all who hear it.
     fn carry_as(&mut self, heard: &Heard) -> Result<(), LineError>
         ensures does { Carries (λ (sent : TransmissionValue). heard.now) self.old result self.new }
         ensures line { IsLine self.new }

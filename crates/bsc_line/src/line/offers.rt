@@ -13,8 +13,9 @@ use std::alloc::Allocator;
 impl<A: Allocator> Line<A> {
     ghost use Rattle.bsc_line_model.specs.declared.event.Event.TheVariants as event;
 
-    /// Offers the record of these codes at a terminal, for the control station. `NoSuchTerminal`,
-    /// `BadRecord`, `Memory`, in that order.
+    /// Offers the record of these codes at a terminal, for the control station. Refused, in this
+    /// order: `NoSuchTerminal`, `BadRecord` where the codes are no record of the line's full
+    /// length, `Memory`. (Own.)
     pub fn offer_at(&mut self, terminal: usize, codes: &[u8]) -> Result<(), LineError>
         ensures does { Does (event.OfferAt terminal codes.entry) self.old result self.new }
         ensures line { IsLine self.new }
@@ -29,7 +30,8 @@ impl<A: Allocator> Line<A> {
     }
 
     /// Offers the record of these codes at the control station, for a selection address of a
-    /// terminal. `NoSuchTerminal`, `NoSuchAddress`, `BadRecord`, `Memory`, in that order.
+    /// terminal. Refused, in this order: `NoSuchTerminal`, `NoSuchAddress`, `BadRecord` where the
+    /// codes are no record of the line's full length, `Memory`. (Own.)
     pub fn offer_for(
         &mut self,
         terminal: usize,
@@ -54,7 +56,8 @@ impl<A: Allocator> Line<A> {
     }
 
     /// Whether a terminal takes selections: one that is not ready answers them by NAK.
-    /// `NoSuchTerminal`. (GA27-3004, NAK to a selection; the flag is own.)
+    /// `NoSuchTerminal` where there is no such terminal. (GA27-3004, NAK to a selection; the flag
+    /// is own.)
     pub fn set_ready(&mut self, terminal: usize, ready: bool) -> Result<(), LineError>
         ensures does { Does (event.Ready terminal ready) self.old result self.new }
         ensures line { IsLine self.new }
@@ -68,8 +71,9 @@ impl<A: Allocator> Line<A> {
         Ok(())
     }
 
-    /// A terminal asks the control station for the line: it answers the next text by RVI.
-    /// `NoSuchTerminal`. (GA27-3004, RVI; the flag is own.)
+    /// A terminal asks the control station for the line: it answers the next text that it takes by
+    /// RVI, unless its last reply was RVI too, or it is polled before. `NoSuchTerminal` where there
+    /// is no such terminal. (GA27-3004, RVI; the flag is own.)
     pub fn set_urgent_at(&mut self, terminal: usize) -> Result<(), LineError>
         ensures does { Does (event.UrgentAt terminal) self.old result self.new }
         ensures line { IsLine self.new }
@@ -83,8 +87,9 @@ impl<A: Allocator> Line<A> {
         Ok(())
     }
 
-    /// The control station asks a terminal for the line: it answers the terminal's next text by
-    /// RVI. `NoSuchTerminal`. (GA27-3004, RVI; the flag is own.)
+    /// The control station asks a terminal for the line: it answers the next text that it takes of
+    /// the terminal by RVI, unless its last reply was RVI too, or it selects the terminal before.
+    /// `NoSuchTerminal` where there is no such terminal. (GA27-3004, RVI; the flag is own.)
     pub fn set_urgent_for(&mut self, terminal: usize) -> Result<(), LineError>
         ensures does { Does (event.UrgentFor terminal) self.old result self.new }
         ensures line { IsLine self.new }

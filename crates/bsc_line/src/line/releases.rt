@@ -16,8 +16,9 @@ use std::alloc::Allocator;
 impl<A: Allocator> Line<A> {
     ghost use Rattle.bsc_line_model.specs.declared.event.Event.TheVariants as event;
 
-    /// Ends a doubt by the count of the records at the other end. `NoSuchTerminal`,
-    /// `NoSuchAddress`, `NotInDoubt`, `CountMismatch`, in that order. (Own.)
+    /// Ends a doubt by the count of the records at the other end. Refused, in this order:
+    /// `NoSuchTerminal`, `NoSuchAddress`, `NotInDoubt`, `CountMismatch` where that count is neither
+    /// that of the known records nor that with the doubtful block. (Own.)
     pub fn release(&mut self, terminal: usize, way: Way) -> Result<(), LineError>
         ensures does { Does (event.Release terminal way) self.old result self.new }
         ensures line { IsLine self.new }
