@@ -43,7 +43,7 @@ greatest p (suc n) = if p (suc n) then suc n else greatest p n
 abbrev pub taken : FormatValue → List (List ℕ) → ℕ
 taken f rs = greatest (λ k. nat_le (front_cost f k rs) f.block_chars) (min MAX_UNITS (length rs))
 
--- The number k is that one: it is within the limits, and no greater number is.
+-- The next block takes k of the waiting records: k is within the limits, and no greater number is.
 pub record IsTaken (f : FormatValue) (rs : List (List ℕ)) (k : ℕ) : Type 0 where
   pub few : k ≤ MAX_UNITS
   pub there : k ≤ length rs

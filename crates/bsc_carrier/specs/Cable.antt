@@ -25,7 +25,7 @@ abbrev pub Gives : {S : Type 0} → (S → Option (List ℕ)) → List ℕ → S
 Gives remaining octets before after =
     Consumes (remaining before) (remaining after) (socket_record octets)
 
--- the element at this place goes from one state to another so, and all others stay as they were
+-- the element at this place changes as P says, and all others stay as they were
 abbrev pub ChangesAt : {S : Type 0} → ℕ → (S → S → Type 0) → List S → List S → Type 0
 ChangesAt {S} place P old new = (before : S) × (after : S) × (slice_get old place ≡ Some before)
     × (new ≡ slice_set old place after) × P before after

@@ -32,7 +32,8 @@ ReadsRecord old (Err Short) octets new = LosesSome EndsWithin old new × IsAtEnd
 ReadsRecord old (Err Device) octets new = LosesSome IsPartial old new
 ReadsRecord old (Err Unequal) octets new = ⊥
 
--- unless a read or a write failed, a call answers so exactly where what the reader had left is so
+-- unless a read or a write failed, a call gives this answer exactly where P holds of what the
+-- reader had left
 abbrev pub IsExactly : {T : Type 0} → Result T CarrierError → Type 0 → (List ℕ → Type 0)
     → Option (List ℕ) → Type 0
 IsExactly result answer P None = ⊤

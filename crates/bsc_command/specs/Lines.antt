@@ -25,7 +25,7 @@ last_part (part ∷ next ∷ parts) = last_part (next ∷ parts)
 abbrev pub digits : List ℕ → List ℕ
 digits line = if is_traced line then last_part (parts_at 32 line) else line
 
--- No line of a trace, and neither blank nor hexadecimal text.
+-- A wrong line: it is no line of a trace, and neither blank nor hexadecimal text.
 abbrev pub is_wrong : List ℕ → Bool
 is_wrong line = not (is_traced line) && (not (is_blank line) && is_none (octets_of line))
 

@@ -16,7 +16,7 @@ flag id = record (new_rule id) { long = Some id; action = Some SetTrue }
 abbrev pub option : Text → Rule
 option id = record (new_rule id) { long = Some id; value_names = 1; action = Some Set }
 
--- One that may be given more than once.
+-- An option with a long name and a value that may be given more than once.
 abbrev pub value_list : Text → Rule
 value_list id = record (new_rule id) { long = Some id; value_names = 1; action = Some Append }
 

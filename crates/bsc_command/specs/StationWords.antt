@@ -5,25 +5,25 @@ use Rattle.clap.specs.Words.{App, Row, Text, all_of, first_of, new_app, with_rul
 use Rattle.bsc_command.specs.Options.{flag, is_true_text, option, required, value_at, value_list}
 use Rattle.bsc_command.specs.declared.station_words.StationWords.{StationWords}
 
--- `station CONFIG`, with what says which station it is
+-- the command `station CONFIG`, with the options that say which station it is
 abbrev pub party_app : App
 party_app =
     with_rule (with_rule (with_rule (new_app (codes "station")) (required (codes "CONFIG")))
     (flag (codes "control"))) (option (codes "terminal"))
 
--- and with what says where its connections are
+-- the command with the options that also say where its connections are
 abbrev pub place_app : App
 place_app =
     with_rule (with_rule (with_rule (with_rule party_app (option (codes "listen")))
     (option (codes "connect"))) (flag (codes "shared"))) (flag (codes "raw"))
 
--- and with what says how long it waits and when it ends
+-- the command with the options that also say how long it waits and when it ends
 abbrev pub timing_app : App
 timing_app =
     with_rule (with_rule (with_rule (with_rule place_app (option (codes "gap")))
     (option (codes "time-out"))) (option (codes "rounds"))) (option (codes "idle-rounds"))
 
--- and with what is offered and printed
+-- the whole command, with the options that also say what is offered and what is printed
 abbrev pub station_app : App
 station_app =
     with_rule (with_rule (with_rule timing_app (value_list (codes "offer"))) (flag (codes "text")))
@@ -46,7 +46,7 @@ pub record AskedWords : Type 0 where
   pub text : Bool
   pub trace : Bool
 
--- those of the code
+-- the words of the code, by their texts
 abbrev pub asked_words : StationWords → AskedWords
 asked_words w = record {
   config = string_bytes w.config;
@@ -69,7 +69,7 @@ asked_words w = record {
 abbrev pub given : Text → List Row → Bool
 given id rows = is_true_text (value_at id rows)
 
--- those that the matches have
+-- the words that the matches have
 abbrev pub words_in : List Row → AskedWords
 words_in rows = record {
   config = value_at (codes "CONFIG") rows;

@@ -26,7 +26,7 @@ pub enum Fault {
     NotHexadecimal,
 
     /// The line of the input with this number, counted from 1, is the first that is neither
-    /// hexadecimal text nor blank.
+    /// blank, nor a line of a trace, nor hexadecimal text.
     #[error("line {line}: not hexadecimal")]
     NotHexadecimalAt { line: u64 },
 

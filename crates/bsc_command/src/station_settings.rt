@@ -48,9 +48,9 @@ pub(crate) struct StationSettings<'a> {
     pub(crate) place: Place<'a>,
     pub(crate) shared: bool,
     pub(crate) raw: bool,
-    /// In milliseconds.
+    /// The gap in milliseconds.
     pub(crate) gap: u64,
-    /// In milliseconds.
+    /// The time-out in milliseconds.
     pub(crate) time_out: u64,
     pub(crate) limits: Limits,
     pub(crate) printing: Printing,

@@ -29,7 +29,7 @@ first_unknown owner no_members = None
 first_unknown owner (member name value rest) =
     if is_known owner name then first_unknown owner rest else Some name
 
--- There is no such name.
+-- The name of an unknown key is the fault, where one was found.
 abbrev pub refuse_unknown : Owner → Option (List ℕ) → Result (Unit {0}) Fault
 refuse_unknown owner None = Ok tt
 refuse_unknown owner (Some name) = Err (unknown_key owner name)

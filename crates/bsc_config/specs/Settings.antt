@@ -14,7 +14,7 @@ pub record ConfigValue : Type 0 where
   pub terminals : List TerminalValue
   pub poll_list : List ℕ
 
--- It, by its parts.
+-- What a line is made of, by its parts.
 abbrev pub config_of : SetupValue → List TerminalValue → List ℕ → ConfigValue
 config_of setup terminals poll_list =
     record { setup = setup; terminals = terminals; poll_list = poll_list }

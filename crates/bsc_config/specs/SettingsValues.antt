@@ -2,6 +2,6 @@
 use Rattle.bsc_config.specs.declared.settings.Settings.{Settings}
 use Rattle.bsc_config.specs.Settings.{ConfigValue, config_of}
 
--- Their parts, as a configuration has them.
+-- The parts of the code's settings, as a configuration has them.
 abbrev pub settings_value : Settings → ConfigValue
 settings_value s = config_of s.setup s.terminals.items s.poll_list.items

@@ -2,7 +2,7 @@
 use Rattle.std.specs.Prelude.{ℕ, List, [], ◌∷◌}
 use Rattle.bsc_text.specs.Terminal.{TerminalValue}
 
--- polled by the first address, selected by each of the others
+-- a terminal that is polled by the first address and selected by each of the others
 abbrev pub terminal_value : List ℕ → List (List ℕ) → TerminalValue
 terminal_value poll selects = record { poll = poll; selects = selects }
 
@@ -10,11 +10,11 @@ terminal_value poll selects = record { poll = poll; selects = selects }
 abbrev pub one : ℕ → List ℕ
 one code = code ∷ []
 
--- polled by B and selected by b
+-- the terminal that is polled by B and selected by b
 abbrev pub terminal_b : TerminalValue
 terminal_b = terminal_value (one 0x42) (one 0x62 ∷ [])
 
--- polled by A and selected by a, and that one
+-- the terminal that is polled by A and selected by a, and the one that is polled by B
 abbrev pub two : List TerminalValue
 two = terminal_value (one 0x41) (one 0x61 ∷ []) ∷ terminal_b ∷ []
 

@@ -40,8 +40,8 @@ pub(crate) enum Has<'a> {
     },
 }
 
-/// How a channel stands, of whichever kind: the offered records, how many of them the sending end knows to have arrived,
-/// the records that arrived, and whether the sending end is in doubt.
+/// How a channel stands, of whichever kind: the offered records, how many of them the sending end
+/// knows to have arrived, the records that arrived, and whether the sending end is in doubt.
 #[derive(Clone, Copy)]
 struct Ends<'a> {
     offered: &'a [&'a [u8]],

@@ -7,8 +7,7 @@ use Rattle.refusing_alloc.specs.declared.turns.TurnError.{TurnError}
 use Rattle.refusing_alloc.specs.declared.turns.TurnError.TheVariants.{TooFew, NoEnd}
 
 -- no run yet: as many are to meet a refusal as the first number says, though at least one, and
--- fewer
--- than the second
+-- fewer than the second
 abbrev pub new_turns : ℕ → ℕ → Turns
 new_turns least end = record { least = max least 1; number = 0; left = next_count end }
 
