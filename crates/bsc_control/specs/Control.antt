@@ -8,8 +8,8 @@ use Rattle.bsc_control.specs.declared.task.Task.{Task}
 use Rattle.bsc_control.specs.Peer.{PeerValue, no_peer, IsPeer}
 
 -- a control station: its settings, its poll list, the place of the present entry, what it does
--- there, the failures in a row and the WACKs since the last acknowledgement while it calls, and
--- what it keeps for each terminal
+-- there, the failures in a row and the WACKs that answered the present call, and what it keeps for
+-- each terminal
 pub record ControlValue : Type 0 where
   pub setup : SetupValue
   pub poll_list : List ℕ

@@ -97,11 +97,11 @@ act_step c s act after = performed c s (outcome_of act) (message_for act) after
 abbrev pub after_step : ControlValue → ℕ → SenderStep → ControlValue
 after_step c s step = with_current c (with_outbound (peer c) s (outbound_after step))
 
--- what the sender then does
+-- the control station after this step of the sender to this address, and what it sends
 abbrev pub bid_step : ControlValue → ℕ → SenderStep → After → ControlStep
 bid_step c s step after = act_step (after_step c s step) s step.act after
 
--- what a bid that ends now is over by: RVI, or all else
+-- what the next call comes after where this reply, or none, ends the bid to this address
 abbrev pub after_bid : ℕ → Option Reply → After
 after_bid s (Some Rvi) = Interruption
 after_bid s _ = Selection s

@@ -220,7 +220,7 @@ heard_body body =
     if begins (is_octet 0x02) body then whole_or_failed (units_at MAX_UNITS false (drop 1 body))
     else whole_or_noise (control body)
 
--- after the pads
+-- what is heard of what stands after the leading pads
 abbrev pub heard_from_syn : List ℕ → Heard
 heard_from_syn rest =
     if begins (is_octet 0x16) rest then heard_body (trimmed (skip (is_octet 0x16) rest)) else Noise

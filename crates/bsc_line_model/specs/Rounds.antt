@@ -106,7 +106,7 @@ pub record IsAllDelivered (channel : Channel) : Type 0 where
   pub known : channel.known ≡ length channel.offered
   pub spooled : channel.spooled ≡ channel.offered
 
--- it is so on every channel of terminal t
+-- all is delivered on every channel of terminal t
 abbrev pub IsDelivered : LineValue → ℕ → Type 0
 IsDelivered l t = (way : Way) → IsChannel l t way → IsAllDelivered (channel_of l t way)
 
@@ -167,7 +167,7 @@ abbrev pub DeliversRound : LineValue → List Event → Result (Unit {0}) Stoppe
 DeliversRound old events result new =
     IsFairRound old events new → (result ≡ Ok tt) × IsRoundDone old new
 
--- every run does so
+-- every run of events that are the transmissions of a visit is accepted, and the visit is done
 abbrev pub RunsDeliverVisit : Type 0
 RunsDeliverVisit =
     (old new : LineValue) (events : List Event) (result : Result (Unit {0}) Stopped) → IsLine old

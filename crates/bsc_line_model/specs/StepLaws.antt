@@ -99,7 +99,7 @@ AlikeIsFair =
     (message : Message) (n : ℕ) (heard : Heard) → IsFairlyHeard message heard
     → IsHeardFairly message n (all_hear heard)
 
--- and no more
+-- and what it asks of a message that n terminals hear alike, it asks of what one station hears
 abbrev pub FairIsAlike : Type 0
 FairIsAlike =
     (message : Message) (n : ℕ) (heard : Heard) → 0 < n
@@ -109,7 +109,7 @@ FairIsAlike =
 abbrev pub no_records : Channel
 no_records = record { offered = []; known = 0; spooled = [] }
 
--- the channels of a new line are so
+-- nothing is offered, known or spooled on the channels of a new line
 abbrev pub NewChannelsAreEmpty : Type 0
 NewChannelsAreEmpty =
     (setup : SetupValue) (given : List TerminalValue) (poll_list : List ℕ) (l : LineValue) (t : ℕ)

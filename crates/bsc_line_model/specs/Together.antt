@@ -29,7 +29,7 @@ use Rattle.bsc_line_model.specs.Line.{LineValue, terminal_in, IsChannel, channel
 abbrev pub RestsUp : PeerValue → TributaryValue → Type 0
 RestsUp p x = IsResting x.sender.phase x.queue p.spool.records
 
--- none goes on to its selection address s, and the channel is sound
+-- no bid goes on to the terminal's selection address s, and the channel is sound
 abbrev pub RestsDown : PeerValue → TributaryValue → ℕ → Type 0
 RestsDown p x s =
     IsResting (outbound_at p s).sender.phase (outbound_at p s).queue (spool_at x.spools s).records
@@ -40,14 +40,14 @@ pub record IsQuiet (p : PeerValue) (x : TributaryValue) : Type 0 where
   pub up : RestsUp p x
   pub down : (s : ℕ) → s < length p.outbounds → RestsDown p x s
 
--- none goes on with each terminal but this one
+-- no bid goes on with any terminal but this one, and the channels of the others are sound
 abbrev pub OthersQuiet : ControlValue → List TributaryValue → ℕ → Type 0
 OthersQuiet c ts e = (t : ℕ) → t < length ts → t ≢ e → IsQuiet (peer_at c t) (terminal_in ts t)
 
 abbrev pub AllQuiet : ControlValue → List TributaryValue → Type 0
 AllQuiet c ts = (t : ℕ) → t < length ts → IsQuiet (peer_at c t) (terminal_in ts t)
 
--- all are in control mode
+-- all terminals are in control mode
 abbrev pub AllInControlMode : List TributaryValue → Type 0
 AllInControlMode ts = (t : ℕ) → t < length ts → (terminal_in ts t).mode ≡ mode.Control
 

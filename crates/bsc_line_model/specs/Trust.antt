@@ -11,7 +11,7 @@ use Rattle.bsc_text.specs.Terminal.{TerminalValue}
 use Rattle.bsc_control.specs.declared.way.Way.{Way}
 use Rattle.bsc_control.specs.Addresses.{IsAddressOf}
 
--- so it is of each of the first n terminals
+-- P holds of each of the first n terminals
 abbrev pub EachOf : ℕ → (ℕ → Type 0) → Type 0
 EachOf n P = (t : ℕ) → t < n → P t
 

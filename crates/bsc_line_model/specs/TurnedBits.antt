@@ -22,19 +22,19 @@ abbrev pub IsSpoiled : Message → Option (List ℕ) → Type 0
 IsSpoiled sent None = Unit {0}
 IsSpoiled sent (Some octets) = IsTurned sent octets
 
--- the control station hears it fairly
+-- the control station hears fairly a message with one bit turned, or nothing of it
 abbrev pub TurnedIsFair : Type 0
 TurnedIsFair =
     (sent : Message) (item : Option (List ℕ)) → IsMessage sent → IsSpoiled sent item
     → IsFairlyHeard sent (heard_in item)
 
--- so do the n terminals, where they all hear the same
+-- n terminals that all hear the same hear fairly a message with one bit turned, or nothing of it
 abbrev pub TurnedAlikeIsFair : Type 0
 TurnedAlikeIsFair =
     (sent : Message) (n : ℕ) (item : Option (List ℕ)) → IsMessage sent → IsSpoiled sent item
     → IsHeardFairly sent n (all_hear (heard_in item))
 
--- and where each hears an item of its own, with one bit turned or none at all
+-- n terminals of which each hears an item of its own, with one bit turned or none, hear fairly
 abbrev pub TurnedEachIsFair : Type 0
 TurnedEachIsFair =
     (sent : Message) (n : ℕ) (items : ℕ → Option (List ℕ)) → IsMessage sent

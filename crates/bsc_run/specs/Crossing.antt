@@ -24,17 +24,17 @@ module _ {S : Type 0} (contents remaining : S → Option (List ℕ)) where
     pub written : AllZip (Takes contents sent) old.control_ends new.control_ends
     pub read : AllZip (Gives remaining heard) old.terminal_ends new.terminal_ends
 
-  -- only the connection of terminal t did so, the other way
+  -- only the connection of terminal t carried octets, from the terminal to the control station
   pub record CrossesUp (t : ℕ) (sent heard : List ℕ) (old new : CableValue S) : Type 0 where
     pub written : ChangesAt t (Takes contents sent) old.terminal_ends new.terminal_ends
     pub read : ChangesAt t (Gives remaining heard) old.control_ends new.control_ends
 
-  -- only the connection of terminal t did so, down
+  -- only the connection of terminal t carried octets, from the control station to the terminal
   pub record CrossesTo (t : ℕ) (sent heard : List ℕ) (old new : CableValue S) : Type 0 where
     pub written : ChangesAt t (Takes contents sent) old.control_ends new.control_ends
     pub read : ChangesAt t (Gives remaining heard) old.terminal_ends new.terminal_ends
 
-  -- from who speaks to those who hear
+  -- octets cross from the station that speaks to those that hear it
   abbrev pub CrossesFrom : Speaker → List ℕ → List ℕ → CableValue S → CableValue S → Type 0
   CrossesFrom Control sent heard old new = CrossesDown sent heard old new
   CrossesFrom (Terminal t) sent heard old new = CrossesUp t sent heard old new

@@ -41,7 +41,7 @@ MayBe (urgent_at t) e = e ≡ event.UrgentAt t
 MayBe (urgent_for t) e = e ≡ event.UrgentFor t
 MayBe (release t way) e = e ≡ event.Release t way
 
--- it is refused, whatever would have been heard
+-- an event of a script is refused, whatever would have been heard
 abbrev pub Refuses : Asked → LineError → LineValue → LineValue → Type 0
 Refuses asked why old new = (e : Event) → MayBe asked e → Does e old (Err why) new
 
@@ -56,7 +56,7 @@ module _ {S : Type 0} (contents remaining : S → Option (List ℕ)) where
     pub crossed : Crosses contents remaining transmission.speaker (sent transmission.message) read
         old new
 
-  -- octets cross the cable so, and what is pending is heard as those that were read
+  -- octets cross the cable in this way, and what is pending is heard as those that were read
   pub record HearsOctets (sent : Message → List ℕ) (e : Event) (l : LineValue)
       (old new : CableValue S) : Type 0 where
     pub octets : Bor (List ℕ)
@@ -78,15 +78,16 @@ module _ {S : Type 0} (contents remaining : S → Option (List ℕ)) where
   Crossing (heard_each items) e l old new = HearsItems items e old new
   Crossing asked e l old new = MayBe asked e × (new ≡ old)
 
-  -- it is accepted: the event of the line that it is is done
+  -- an event of a script is accepted: what has to cross the cable crosses it, and the line does the
+  -- event of the line that it is
   pub record Accepts (asked : Asked) (old : LineValue) (before : CableValue S) (new : LineValue)
       (after : CableValue S) : Type 0 where
     pub event : Event
     pub crossing : Crossing asked event old before after
     pub done : Does event old (Ok tt) new
 
-  -- how it is answered: it is accepted, or refused with nothing on the cable, or a fault breaks it
-  -- off
+  -- how an event of a script is answered: it is accepted, or refused with nothing on the cable, or
+  -- a fault breaks it off
   pub record Acts (asked : Asked) (old : LineValue) (before : CableValue S)
       (result : Result (Unit {0}) StepError) (new : LineValue) (after : CableValue S) : Type 0 where
     pub accepted : OnOk result (Accepts asked old before new after)

@@ -32,7 +32,7 @@ IsReplyBefore Ack1 Even = Unit {0}
 IsReplyBefore Nak alternation = Unit {0}
 IsReplyBefore _ _ = ⊥
 
--- on its way then: nothing, the block, ENQ, or the last reply
+-- on its way before the block has landed: nothing, the block, ENQ, or the last reply
 abbrev pub IsFlightBefore : QueueValue → SentBlock → Reply → Flight → Type 0
 IsFlightBefore q b last Still = Unit {0}
 IsFlightBefore q b last (Outward (m.Text t)) = t ≡ text_of q b
@@ -40,7 +40,7 @@ IsFlightBefore q b last (Outward m.Enq) = Unit {0}
 IsFlightBefore q b last (Outward _) = ⊥
 IsFlightBefore q b last (Back r) = r ≡ last
 
--- It has landed: the last reply is its acknowledgement, WACK or RVI.
+-- The block has landed: the last reply is its acknowledgement, WACK or RVI.
 abbrev pub IsReplyAfter : Reply → Alternation → Type 0
 IsReplyAfter Ack1 Odd = Unit {0}
 IsReplyAfter Ack0 Even = Unit {0}
@@ -48,7 +48,7 @@ IsReplyAfter Wack alternation = Unit {0}
 IsReplyAfter Rvi alternation = Unit {0}
 IsReplyAfter _ _ = ⊥
 
--- on its way then: nothing, ENQ, or the last reply
+-- on its way after the block has landed: nothing, ENQ, or the last reply
 abbrev pub IsFlightAfter : Reply → Flight → Type 0
 IsFlightAfter last Still = Unit {0}
 IsFlightAfter last (Outward m.Enq) = Unit {0}

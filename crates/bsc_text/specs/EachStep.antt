@@ -162,7 +162,7 @@ pub record KeepsOffered (setup : SetupValue) (format : FormatValue) (offered : L
   pub format_is : t.queue.format ≡ format
   pub offered_is : t.queue.offered ≡ offered
 
--- they are those of the sender and the queue before
+-- a step keeps the settings, the format and the offered records of the sender and the queue
 abbrev pub StepKeeps : SenderValue → QueueValue → SenderStep → Type 0
 StepKeeps s q t = KeepsOffered s.setup q.format q.offered t
 

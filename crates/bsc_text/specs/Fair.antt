@@ -23,7 +23,7 @@ IsFairlyHeard sent (Whole w) = (w ≡ sent) ⊎ IsCallCutShort sent w
 IsFairlyHeard sent Failed = IsTextMessage sent
 IsFairlyHeard sent Noise = Unit {0}
 
--- or nothing is heard
+-- what may become of a transmission: nothing is heard of it, or what may be heard fairly
 abbrev pub IsFair : Message → Option Heard → Type 0
 IsFair sent None = Unit {0}
 IsFair sent (Some h) = IsFairlyHeard sent h

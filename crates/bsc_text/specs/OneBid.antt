@@ -39,7 +39,7 @@ SendsItsBlocks =
     (b : Bid) (es : List BidEvent) (c : Bid) (t : TextValue) → Reaches b es c
     → c.act ≡ a.Send t → CarriesBlock c t
 
--- and each text that is heard whole
+-- each text that is heard whole has exactly the records of its block
 abbrev pub HearsItsBlocks : Type 0
 HearsItsBlocks =
     (b : Bid) (es : List BidEvent) (c : Bid) (turn : Turn) (t : TextValue) → Reaches b es c
@@ -67,7 +67,7 @@ pub record MovesInTurn (b : Bid) (t : Turn) : Type 0 where
   pub receiver : MovesAtReceiver b.sender.phase (channel_of b) (channel_within b t)
   pub sender : MovesAtSender (channel_within b t) (channel_of (after_turn b t))
 
--- Each turn moves the channel so. A block lands at most once, since it lands only where all that
+-- Each turn makes only such moves. A block lands at most once, since it lands only where all that
 -- was spooled is known; it is learnt only after it landed, since what is learnt is what was
 -- spooled.
 abbrev pub OnlyMoves : Type 0
@@ -91,7 +91,7 @@ StaysSound =
     (b : Bid) (es : List BidEvent) (c : Bid) → Reaches b es c
     → IsSound c.sender.phase (channel_of c)
 
--- and within each turn
+-- within each turn, once the receiver has heard, the channel is sound too
 abbrev pub SoundWithinTurns : Type 0
 SoundWithinTurns =
     (b : Bid) (es : List BidEvent) (c : Bid) (t : Turn) → Reaches b es c → IsFairTurn c t

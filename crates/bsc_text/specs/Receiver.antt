@@ -30,7 +30,7 @@ pub record Rooms : Type 0 where
   pub first : Bool
   pub after : Bool
 
--- begin, with room or without
+-- the reply by which a bid begins, with room or without
 abbrev pub first_reply : Bool → Reply
 first_reply room = if room then Ack0 else Wack
 
@@ -42,17 +42,17 @@ new_receiver room = record { alternation = Even; last = first_reply room }
 abbrev pub stored : SpoolValue → List (List ℕ) → Bool → SpoolValue
 stored s rs room = record { records = s.records ++ rs; room = room; delays = s.delays }
 
--- RVI
+-- the reply is RVI
 abbrev pub is_rvi : Reply → Bool
 is_rvi Rvi = true
 is_rvi _ = false
 
--- WACK
+-- the reply is WACK
 abbrev pub is_wack : Reply → Bool
 is_wack Wack = true
 is_wack _ = false
 
--- NAK
+-- the reply is NAK
 abbrev pub is_nak : Reply → Bool
 is_nak Nak = true
 is_nak _ = false

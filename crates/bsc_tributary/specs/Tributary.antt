@@ -180,7 +180,7 @@ pub record Hears (old : TributaryValue) (h : Heard) (new : TributaryValue) (sent
   pub room : (s : ℕ) → new.mode ≡ Receiving s → (spool_at old.spools s).room ≡ true
       → (rooms_after h new).first ≡ true
 
--- at a silence
+-- at a silence the terminal and what it sends are those of the table
 abbrev pub ActsOnSilence : TributaryValue → TributaryValue → Option Message → Type 0
 ActsOnSilence old new sent = record { tributary = new; sent = sent } ≡ silence_in old old.mode
 
@@ -190,7 +190,7 @@ holds Control = false
 holds (Receiving s) = false
 holds Sending = true
 
--- a release of its list
+-- the terminal after its doubt was released with this count, or the release was refused
 abbrev pub after_release : TributaryValue → ℕ → TributaryValue
 after_release t count =
     record t {
