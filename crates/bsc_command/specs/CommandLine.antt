@@ -61,14 +61,14 @@ asked_run rows =
 abbrev pub asked_station : List Row → Asked
 asked_station rows = station (words_in rows)
 
--- By the name of the command and its values.
+-- The work that was asked for, by the name of the command and its values.
 abbrev pub asked_by : Text → List Row → Asked
 asked_by sub rows =
     if bytes_eq sub (codes "name") then name (value_at (codes "HEX") rows)
     else (if bytes_eq sub (codes "run") then asked_run rows
     else (if bytes_eq sub (codes "station") then asked_station rows else show))
 
--- Without a command the names of standard input.
+-- The work that was asked for by a command; without one, the names of standard input.
 abbrev pub asked_sub : Option (Text × List Row) → Asked
 asked_sub None = names
 asked_sub (Some p) = asked_by p.0 p.1

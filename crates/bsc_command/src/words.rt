@@ -208,7 +208,7 @@ pub fn not_text(alloc: Global) -> Error
     }
 }
 
-/// This answer, or out of memory.
+/// The answer of [`not_text`], or out of memory.
 fn not_text_error(alloc: Global) -> Result<Error, AllocError>
     ensures { IfOk result (λ e. kind_of e ≡ ErrorKind.InvalidValue) }
 {
@@ -228,7 +228,7 @@ pub(crate) fn two_standard_inputs(alloc: Global) -> Error
     }
 }
 
-/// This answer, or out of memory.
+/// The answer of [`two_standard_inputs`], or out of memory.
 fn two_standard_inputs_error(alloc: Global) -> Result<Error, AllocError>
     ensures { IfOk result (λ e. kind_of e ≡ ErrorKind.ArgumentConflict) }
 {
@@ -249,7 +249,7 @@ pub(crate) fn wrong_words(alloc: Global, kind: ErrorKind, why: &str) -> Error
     }
 }
 
-/// This answer, or out of memory.
+/// The answer of [`wrong_words`], or out of memory.
 fn wrong_words_error(alloc: Global, kind: ErrorKind, why: &str) -> Result<Error, AllocError>
     ensures { IfOk result (λ e. kind_of e ≡ kind) }
 {

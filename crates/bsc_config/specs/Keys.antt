@@ -34,11 +34,11 @@ abbrev pub keys_of : Owner → List Key
 keys_of Document = Version ∷ Full ∷ BlockChars ∷ Tries ∷ Waits ∷ PollList ∷ Terminals ∷ []
 keys_of (Terminal number) = Poll number ∷ Select number ∷ []
 
--- It is the name of one of these keys.
+-- The name is that of one of these keys.
 abbrev pub names_one_of : List Key → List ℕ → Bool
 names_one_of [] name = false
 names_one_of (key ∷ keys) name = bytes_eq name (name_of key) || names_one_of keys name
 
--- It is the name of a key that such a table may have.
+-- The name is that of a key that such a table may have.
 abbrev pub is_known : Owner → List ℕ → Bool
 is_known owner name = names_one_of (keys_of owner) name

@@ -5,10 +5,10 @@ ghost use Rattle.std.specs.Prelude.{◌≡◌, Some};
 /// the places in this list from 0 on (own).
 #[derive(Clone, Copy, Debug, PartialEq, Eq)]
 pub enum Kind {
-    /// The octets spell nothing.
+    /// The octets are noise: they spell no message, and have not failed as a text.
     Noise,
 
-    /// They begin as a text and spell no message.
+    /// The octets begin as a text and spell no message.
     Failed,
 
     Eot,

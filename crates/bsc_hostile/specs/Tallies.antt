@@ -47,7 +47,7 @@ refused_by t CountMismatch =
     record t { refused = one_more t.refused; mismatches = one_more t.mismatches }
 refused_by t _ = record t { refused = one_more t.refused }
 
--- an event was answered so
+-- an event was given this answer
 abbrev pub answered : Tally → Result (Unit {0}) LineError → Tally
 answered t (Ok done) = record t { accepted = one_more t.accepted }
 answered t (Err why) = refused_by t why

@@ -1,4 +1,4 @@
-//! What a station heard of a transmission, in few words.
+//! What a station heard of a transmission: its kind, and whether it is what was sent.
 
 use bsc_frame::{Heard, Message, Wire, decode, encode};
 

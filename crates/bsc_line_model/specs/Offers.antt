@@ -83,7 +83,7 @@ Sets old t set (Ok done) new = (t < terminal_count old) × (new ≡ set)
 Sets old t set (Err NoSuchTerminal) new = (terminal_count old ≤ t) × (new ≡ old)
 Sets old t set (Err _) new = ⊥
 
--- the ready flag of a terminal is set so
+-- the ready flag of a terminal is set to this
 abbrev pub ready_set : LineValue → ℕ → Bool → LineValue
 ready_set l t ready = with_terminal l t (record (terminal_at l t) { ready = ready })
 

@@ -18,7 +18,7 @@ use Rattle.bsc_script.specs.Words.{first_word, after_word, words_of}
 pub data Event : Type 0 where
   -- the codes of a record are offered at a terminal
   offer_at : ℕ → List ℕ → Event
-  -- they are offered for a selection address of a terminal
+  -- the codes of a record are offered for a selection address of a terminal
   offer_for : ℕ → ℕ → List ℕ → Event
   -- what is pending is carried as it was sent
   carry : Event
@@ -32,9 +32,9 @@ pub data Event : Type 0 where
   silence : Event
   -- a terminal takes selections, or it does not
   ready : ℕ → Bool → Event
-  -- a terminal has something urgent
+  -- a terminal asks the control station for the line
   urgent_at : ℕ → Event
-  -- the control station has something urgent for a terminal
+  -- the control station asks a terminal for the line
   urgent_for : ℕ → Event
   -- a doubt about what went this way is ended
   release : ℕ → Way → Event

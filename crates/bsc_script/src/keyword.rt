@@ -20,7 +20,7 @@ pub(crate) enum Keyword {
     Release,
 }
 
-/// The keyword that is spelled so.
+/// The keyword that the word is; None where it is none.
 pub(crate) fn read_keyword(word: &[u8]) -> Option<Keyword>
     ensures { result ≡ keyword_of word.now }
 {

@@ -212,7 +212,7 @@ fn ready<'a, A: Allocator>(rest: &[u8], ready: bool) -> Option<Action<'a, A>>
     Some(Action::Ready { terminal, ready })
 }
 
-/// `T`, of a terminal that has something urgent.
+/// `T`, the terminal that asks the control station for the line.
 fn urgent_at<'a, A: Allocator>(rest: &[u8]) -> Option<Action<'a, A>>
     ensures { option_map event_in result ≡ option_map events.urgent_at (terminal_of rest.now) }
 {
@@ -220,7 +220,7 @@ fn urgent_at<'a, A: Allocator>(rest: &[u8]) -> Option<Action<'a, A>>
     Some(Action::UrgentAt { terminal })
 }
 
-/// `T`, of a terminal for which the control station has something urgent.
+/// `T`, the terminal that the control station asks for the line.
 fn urgent_for<'a, A: Allocator>(rest: &[u8]) -> Option<Action<'a, A>>
     ensures { option_map event_in result ≡ option_map events.urgent_for (terminal_of rest.now) }
 {

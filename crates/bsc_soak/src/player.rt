@@ -10,7 +10,7 @@ use refusing_alloc::Refusing;
 use std::alloc::{AllocError, Global};
 use std::mem;
 
-/// What was pending, in a few words.
+/// What was pending: nothing, a call, or something else that this station sent.
 #[derive(Clone, Copy, Debug, PartialEq, Eq)]
 enum Pending {
     Nothing,

@@ -10,7 +10,7 @@ use std::net::SocketAddr;
 use std::time::Duration;
 use std::{io, net};
 
-/// Long enough that a test which waits so long has failed.
+/// Long enough that a test which waits this long has failed.
 fn patience() -> Duration {
     Duration::from_secs(5)
 }

@@ -23,7 +23,7 @@ pub enum Polled {
     /// The entry was not polled yet.
     NotYet,
 
-    /// It was polled, and the poll was repeated so often; nothing else was sent after it.
+    /// It was polled, and the poll was repeated this often; nothing else was sent after it.
     Called { repeats: u8 },
 
     /// It was polled, and something was sent that is no call.

@@ -112,7 +112,7 @@ pub record GivesUpUnanswered (b : Bid) (t : Turn) : Type 0 where
   pub silence : (sender_in b t).act ≡ a.Quiet
   pub over : b.sender.setup.tries < b.sender.failures + 1
 
--- no bid that goes on is in doubt; doubt begins exactly where the sender gives up so
+-- no bid that goes on is in doubt; doubt begins exactly where the sender gives up in this way
 abbrev pub DoubtsAtSilence : Type 0
 DoubtsAtSilence =
     (b : Bid) (es : List BidEvent) (c : Bid) (t : Turn) → Reaches b es c → IsFairTurn c t →

@@ -75,7 +75,7 @@ impl Read for Pieces {
 }
 
 /// Has octets to read for each `r` of a text, and lets the time pass for each `t`; after the text
-/// there is something to read for ever.
+/// there is always something to read.
 #[derive(Drop)]
 struct Scripted {
     steps: &'static [u8],

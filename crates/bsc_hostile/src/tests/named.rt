@@ -21,8 +21,8 @@ const AS_FAILED: Event<'static> = Event::Carry {
 /// What is pending is lost.
 const LOST: Event<'static> = Event::Carry { heard: None };
 
-/// Whether something is pending and the line is trusted after the transmission of this number was
-/// heard so.
+/// Whether something is pending, and whether the line is trusted, after the transmission of this
+/// number was heard as these octets.
 fn outcome_on(
     watched: &mut Watched,
     exchange: &Exchange,

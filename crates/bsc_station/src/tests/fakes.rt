@@ -48,7 +48,7 @@ impl Timer for Counting {
 }
 
 /// Has octets to read at the connection at place 0 for each `r` of a text, and lets a time-out pass
-/// for each `t`; after the text there is something to read for ever.
+/// for each `t`; after the text there is always something to read.
 #[derive(Drop)]
 pub(crate) struct Scripted {
     pub(crate) steps: &'static [u8],
