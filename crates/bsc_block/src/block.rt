@@ -29,7 +29,8 @@ impl<'a> Model for Block<'a> {
     ghost invariant = { λ b. AllByRecursion (λ r. IsRecord r.now) b.records.items };
 }
 
-/// The records of a text: the characters of each unit that has characters or is marked by EM.
+/// The records of a text: the characters of each unit that has characters or is marked by EM (own;
+/// in the manner of the IBM 2780).
 pub fn unpack(text: &Text) -> Block<'_>
     ensures { result ≡ records_in text.entry.now.units }
 {

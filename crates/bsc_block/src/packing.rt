@@ -11,7 +11,8 @@ use bsc_frame::limits::MAX_UNITS;
 use bsc_frame::{End, Message, Text, Unit};
 
 /// How many of these records, which wait, go into the next block: as many from the front as fit its
-/// limit, and at most seven. 0 where no record waits. No record is longer than the full length.
+/// limit, and at most seven. 0 where no record waits. Condition: no record is longer than the full
+/// length. (Own.)
 pub fn pack(records: &[Record], format: Format) -> usize
     requires { AreShort format.full records.now }
     ensures value { result ≡ taken format records.now }
@@ -51,8 +52,9 @@ fn unit(record: &Record, format: Format) -> Unit<'_>
     }
 }
 
-/// Leaves the text of 1 to 7 records, with this end, in `message`, whatever that had. No record is
-/// longer than the full length.
+/// Leaves the text of 1 to 7 records, with this end, in `message`, whatever that had. Condition: no
+/// record is longer than the full length. (GA27-3004: text and intermediate text blocks; how
+/// records are marked is own.)
 pub fn build(records: &[Record], format: Format, end: End, message: &mut Option<Message>)
     requires some { 1 ≤ length records.now }
     requires few { length records.now ≤ MAX_UNITS }

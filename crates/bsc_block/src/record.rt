@@ -20,7 +20,7 @@ pub enum RecordError {
     NotText(usize),
 }
 
-/// A record: at most 144 record characters.
+/// A record: at most 144 record characters (own; in the manner of the IBM 2780).
 #[derive(Debug, Drop)]
 pub struct Record {
     chars: ArrayVec<u8, MAX_CHARS>,

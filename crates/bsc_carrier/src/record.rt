@@ -34,7 +34,7 @@ fn write_whole<W: Write>(writer: &mut W, octets: &[u8]) -> Result<(), CarrierErr
 
 /// Writes the record of 1 to 2,048 octets, in at most 2,050 writes. `Device` comes where a write
 /// failed or took nothing, an interrupted one included; then a part of the record was written, from
-/// its beginning on.
+/// its beginning on. (Own.)
 pub fn write_record<W: Write>(writer: &mut W, octets: &[u8]) -> Result<(), CarrierError>
     requires { IsCarried octets.now }
     ensures ok { OnOk result
@@ -80,13 +80,13 @@ fn assemble<R: Read>(reader: &mut R, assembler: &mut Assembler) -> Result<bool, 
 /// Reads one record in at most 2,050 reads, and puts its octets in place of what was there. False
 /// where the input ended before the record's first octet; `Short` where it ended later; `Length` at
 /// a wrong length; `Device` where a read failed, an interrupted one included. Unless it answers
-/// true, `octets` is as before, and what was read is gone.
+/// true, `octets` is as before, and what was read is gone. (Own.)
 pub fn read_record<R: Read>(reader: &mut R, octets: &mut Octets) -> Result<bool, CarrierError>
     ensures read { ReadsRecord (R.remaining reader.old) result octets.new.items
         (R.remaining reader.new) }
     ensures kept { result ≢ Ok true → octets.new.items ≡ octets.old.items }
 
-    // Unless a read failed:
+    // Unless a read failed, each answer comes exactly where it is due.
     ensures whole { IsExactly result (result ≡ Ok true) BeginsRecord
         (R.remaining reader.old) }
     ensures ended { IsExactly result (result ≡ Ok false) (λ stream. stream ≡ [])

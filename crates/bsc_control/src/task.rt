@@ -5,7 +5,7 @@ ghost use Rattle.bsc_control.specs.Table.{replied_after, has_rvi};
 
 use bsc_text::Reply;
 
-/// What was replied in a poll.
+/// What was replied in a poll (own).
 #[derive(Clone, Copy, Debug, PartialEq, Eq)]
 pub enum Replied {
     /// Nothing yet.

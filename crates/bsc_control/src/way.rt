@@ -3,7 +3,7 @@
 ghost use Rattle.std.specs.Prelude.{◌≡◌};
 ghost use Rattle.bsc_control.specs.Ways.{IsToTerminal, select_of};
 
-/// A way between the control station and a terminal: each of its addresses is one.
+/// A way between the control station and a terminal: each of its addresses is one (own).
 #[derive(Clone, Copy, Debug, PartialEq, Eq)]
 pub enum Way {
     /// From the terminal, which is polled by its polling address.

@@ -46,9 +46,9 @@ pub fn streams<S: Station, R: Read + Drop, W: Write + Drop, T: Waiter<R, W>>()
 {}
 
 /// In every session over gaps, what a connection carries is what the history has. Of a connection
-/// that is open at the end of a session, since the time that [`streams`] says: the transmissions that
-/// were heard at its place are the octets that its input gave, as gaps cut them, of each the first
-/// 2,049; and its output took the octets of each transmission that was sent, in order.
+/// that is open at the end of a session, since the time that [`streams`] says: the transmissions
+/// that were heard at its place are the octets that its input gave, as gaps cut them, of each the
+/// first 2,049; and its output took the octets of each transmission that was sent, in order.
 pub fn streams_by_gaps<S: Station, R: Read + Drop, W: Write + Drop, T: Waiter<R, W>>()
     ensures { CarriesHistory GivesByGaps S.hears S.acts R.remaining W.contents
         ⟦<Gaps as Framing>⟧.starts ⟦<Gaps as Framing>⟧.feeds ⟦<Gaps as Framing>⟧.ends

@@ -23,7 +23,7 @@ pub struct Next {
     pub end: End,
 }
 
-/// The records that were offered, and how many of them are known to have been delivered.
+/// The records that were offered, and how many of them are known to have been delivered (own).
 #[derive(Drop)]
 pub struct Queue<A: Allocator> {
     /// How the records become blocks.
@@ -97,7 +97,8 @@ impl<A: Allocator> Queue<A> {
     }
 
     /// The next block of the waiting records, which are those past the known ones: `Etx` where it
-    /// takes all of them, else `Etb`. `None` where no record waits.
+    /// takes all of them, else `Etb`. `None` where no record waits. (GA27-3004: ETB and ETX; how
+    /// blocks are cut is own.)
     pub fn next(&self) -> Option<Next>
         ensures value { result ≡ next_block self.now }
         ensures next { IfSome result (λ n. IsNext self.now n) }

@@ -8,7 +8,7 @@ use bsc_frame::limits::MAX_UNITS;
 use std::alloc::Allocator;
 use std::marker::Model;
 
-/// The records that arrived.
+/// The records that arrived, and the room that was made for more (own).
 #[derive(Drop)]
 pub struct Spool<A: Allocator> {
     /// The records that arrived, in order.

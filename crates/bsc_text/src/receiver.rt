@@ -12,6 +12,7 @@ use std::alloc::Allocator;
 use std::marker::Model;
 
 /// The receiver of one bid: it stores the records of the texts that it takes, and replies.
+/// (GA27-3004, replies to text and to ENQ.)
 #[derive(Drop)]
 pub struct Receiver {
     /// Whether the number of blocks taken in this bid is even or odd.

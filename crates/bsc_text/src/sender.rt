@@ -25,7 +25,8 @@ use std::marker::Model;
 use thiserror::Error;
 
 /// The sender of one bid: it sends the waiting records of a queue, block by block, and marks in the
-/// queue which are known to have arrived.
+/// queue which are known to have arrived. (GA27-3004, acknowledgements and time-outs; the limits
+/// and the doubt are own.)
 #[derive(Drop)]
 pub struct Sender {
     /// The limits of its counters, and how records become blocks.

@@ -8,7 +8,7 @@ use bsc_block::{Format, FormatError};
 use std::marker::Model;
 use thiserror::Error;
 
-/// How records become blocks, and how much a station bears before it gives up.
+/// How records become blocks, and how much a station bears before it gives up (own).
 #[derive(Clone, Copy, Debug, PartialEq, Eq)]
 pub struct Setup {
     /// How records become blocks.

@@ -8,7 +8,8 @@ use bsc_frame::Address;
 use std::marker::Model;
 use thiserror::Error;
 
-/// The address that a terminal is polled by, and the one to four addresses that it is selected by.
+/// The address that a terminal is polled by, and the one to four addresses that it is selected by
+/// (GA27-3004, polling and selection; several selection addresses are own).
 #[derive(Clone, Copy, Debug, PartialEq, Eq)]
 pub struct Terminal {
     /// The address that it is polled by.

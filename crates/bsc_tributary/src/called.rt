@@ -7,7 +7,7 @@ ghost use Rattle.bsc_tributary.specs.Called.{called_as};
 use bsc_frame::Address;
 use bsc_text::Terminal;
 
-/// Which of a terminal's addresses a call names.
+/// Which of a terminal's addresses a call names (GA27-3004, polling and selection).
 #[derive(Clone, Copy, Debug, PartialEq, Eq)]
 pub enum Called {
     /// The polling address.
