@@ -7,7 +7,7 @@ use std::test::Fail;
 /// Four transmissions, of which one is noise.
 const INPUT: &[u8] = b"16 16 10 B0 FF\n16 16 10 30 FF\n16 16 04 FF 16 16 C1 85 FF\n16 04\n";
 
-/// Their names.
+/// The names of these four transmissions.
 const NAMES: &[u8] = b"ACK0\nNOISE\nCALL A\nEOT\n";
 
 /// The fronts of these names that end before each line in turn, the first of them empty.

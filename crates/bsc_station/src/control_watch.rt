@@ -40,7 +40,7 @@ pub struct ControlWatch<'a, A: Allocator, T: Drop, W, D> {
 }
 
 impl<'a, A: Allocator + Copy, T: Timer + Drop, W: Write, D: Write> ControlWatch<'a, A, T, W, D> {
-    /// One for a control station that sent nothing yet. `listens`: other peers may connect.
+    /// The watch of a control station that sent nothing yet. `listens`: other peers may connect.
     pub fn new<B: Allocator>(
         control: &Control<B>,
         watch: Watch<'a, A, T, W, D>,

@@ -30,7 +30,7 @@ pub struct Rounds {
 }
 
 impl Rounds {
-    /// Those of a poll list of this many entries of which none was visited yet.
+    /// The rounds of a poll list of this many entries of which none was visited yet.
     pub fn new(entries: usize) -> Rounds
         ensures { result ≡ rounds_of entries entries false 0 0 }
     {

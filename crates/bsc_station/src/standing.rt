@@ -19,7 +19,7 @@ pub struct Standing {
 impl Standing {
     ghost use Rattle.bsc_station.specs.Ends.{both, standing_at, standing_of};
 
-    /// That of no channel.
+    /// How the channels stand of a station that sends on none.
     pub(crate) fn nothing() -> Standing
         ensures { result ≡ standing_of false false }
     {
@@ -29,7 +29,7 @@ impl Standing {
         }
     }
 
-    /// That of one channel.
+    /// How the channel with this end stands.
     pub(crate) fn of(end: ChannelEnd<'_>) -> Standing
         ensures { result ≡ standing_at (end_of end.entry) }
     {
@@ -46,7 +46,7 @@ impl Standing {
         }
     }
 
-    /// That of these channels and others.
+    /// How these channels and others stand together.
     pub(crate) fn and(self, other: Standing) -> Standing
         ensures { result ≡ both self other }
     {

@@ -21,7 +21,7 @@ pub struct TerminalWatch<'a, A: Allocator, T: Drop, W, D> {
 }
 
 impl<'a, A: Allocator + Copy, T: Timer + Drop, W: Write, D: Write> TerminalWatch<'a, A, T, W, D> {
-    /// One for a terminal at which nothing arrived yet.
+    /// The watch of a terminal at which nothing arrived yet.
     pub fn new(watch: Watch<'a, A, T, W, D>) -> TerminalWatch<'a, A, T, W, D> {
         TerminalWatch {
             watch,

@@ -44,7 +44,7 @@ pub struct Visits {
 }
 
 impl Visits {
-    /// Those of a control station that sent nothing yet and bears this many failures in a row.
+    /// The visits of a control station that sent nothing yet and bears this many failures in a row.
     pub fn new(tries: u8) -> Visits
         ensures { result ≡ visits_of tries false Polled.NotYet }
     {

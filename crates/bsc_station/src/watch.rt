@@ -42,7 +42,7 @@ pub struct Watch<'a, A: Allocator, T: Drop, W, D> {
 }
 
 impl<'a, A: Allocator + Copy, T: Timer + Drop, W: Write, D: Write> Watch<'a, A, T, W, D> {
-    /// One for a station at which nothing arrived yet.
+    /// The watch of a station at which nothing arrived yet.
     pub fn new<P: Party>(
         alloc: A,
         station: &P,

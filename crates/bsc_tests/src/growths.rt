@@ -34,7 +34,7 @@ const CAPITALS: &[&[u8]] = &[
     b"Q", b"R", b"S", b"T",
 ];
 
-/// Others.
+/// Other records, which are told apart from each other and from the capitals.
 const LETTERS: &[&[u8]] = &[
     b"a", b"b", b"c", b"d", b"e", b"f", b"g", b"h", b"i", b"j", b"k", b"l", b"m", b"n", b"o", b"p",
     b"q", b"r", b"s", b"t",

@@ -60,7 +60,8 @@ impl Receiver {
         self.last
     }
 
-    /// Hears a transmission, and gives the reply to it; None where it is neither a text nor ENQ.
+    /// Hears a transmission, and gives the reply to it; None where it is neither a text, also one
+    /// that failed, nor ENQ.
     /// With `urgent` a text that is taken is answered by RVI, but not twice in a row. It may try to
     /// reserve memory; a refusal changes only the reply: NAK where a text then finds no room, WACK
     /// where the next one would not. (GA27-3004, replies to text and to ENQ; the urgent flag is

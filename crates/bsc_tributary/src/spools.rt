@@ -17,16 +17,16 @@ use std::marker::Model;
 /// no array, for an array of them would have callers show that a terminal fits into memory.
 #[derive(Drop)]
 pub(crate) struct Spools<A: Allocator> {
-    /// That of the first selection address.
+    /// The spool of the first selection address.
     first: Spool<A>,
 
-    /// That of the second one; empty where there is none.
+    /// The spool of the second one; empty where there is none.
     second: Spool<A>,
 
-    /// That of the third one; empty where there is none.
+    /// The spool of the third one; empty where there is none.
     third: Spool<A>,
 
-    /// That of the fourth one; empty where there is none.
+    /// The spool of the fourth one; empty where there is none.
     fourth: Spool<A>,
 
     /// How many of them are in use, from the first on: at most 4.

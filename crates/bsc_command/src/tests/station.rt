@@ -31,7 +31,7 @@ const RECORDS: &[&[u8]] = &[
     b"\x00\x04\x16\x16\x04\xFF",
 ];
 
-/// The first one, and a part of the second.
+/// EOT as a socket record, and a part of the next record.
 const CUT: &[&[u8]] = &[b"\x00\x04\x16\x16\x04\xFF", b"\x00\x05\x16\x16"];
 
 /// A length that no record has.
