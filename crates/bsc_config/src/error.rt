@@ -36,9 +36,9 @@ pub enum ConfigError {
     #[error("config: too many terminals")]
     TooManyTerminals,
 
-    /// The second number is the least of an address that came before; the first is of where it
-    /// came. Addresses are numbered: the polling address of terminal 0, its selection addresses in
-    /// order, the polling address of terminal 1, and so on.
+    /// The second number is the least whose address came before; the first is where it came.
+    /// Addresses are numbered: the polling address of terminal 0, its selection addresses in order,
+    /// the polling address of terminal 1, and so on.
     #[error("config: addresses {first} and {second} are the same")]
     SameAddresses { first: usize, second: usize },
 

@@ -54,7 +54,8 @@ pub enum LiveError {
 /// connection.
 pub trait Waiter<R, W> {
     /// What a wait answers: the waiter before, the answer, the waiter after. A waiter over sockets
-    /// claims nothing.
+    /// claims only that octets are told of at a place that there is, and a newcomer only while one
+    /// is kept.
     ghost waits: { Self → WaitValue → Result AwaitedValue LiveErrorValue → Self → Type 0 };
 
     /// Waits until octets arrive, a peer connects, or the time has passed. It may answer `Octets`

@@ -26,8 +26,9 @@ pub struct Begun<'a, N: Net + Clock, A: Allocator> {
 }
 
 /// One connection, to a peer that listens at this address; of a host with several addresses at the
-/// first one that answers. `Address` comes where the text is no address, and `NobodyThere` where
-/// the peer refuses, cannot be reached, or has not answered in this time.
+/// first one that answers. `Address` comes where the text is no address, `NobodyThere` where the
+/// peer refuses, cannot be reached, or has not answered in this time, `Sockets` where the system
+/// refuses what the connection needs, and `Memory` where a growth is refused. (Own.)
 pub fn connect<'a, N: Net + Clock, A: Allocator + Copy>(
     runtime: &'a N,
     alloc: A,
@@ -79,8 +80,10 @@ fn connect_to<N: Net + Clock, A: Allocator>(
 }
 
 /// A connection for each of this many peers, in the order in which they connect. `NobodyConnected`
-/// comes where one has not done so in this time, counted from the one before it. Where it keeps
-/// listening, a further peer is a newcomer; else the system refuses it.
+/// comes where one has not done so in this time, counted from the one before it, `Sockets` where
+/// the system refuses what a connection needs, and `Memory` where a growth is refused. Where it
+/// keeps listening, a further peer is a newcomer; else the system refuses it. Condition: there are
+/// fewer than 65,536 peers. (Own.)
 pub fn listen<'a, N: Net + Clock, A: Allocator + Copy>(
     runtime: &'a N,
     alloc: A,

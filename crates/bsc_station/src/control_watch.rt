@@ -58,7 +58,7 @@ impl<'a, A: Allocator + Copy, T: Timer + Drop, W: Write, D: Write> ControlWatch<
         }
     }
 
-    /// Whether it ended because no connection is left.
+    /// Whether it ended because a connection was closed, where no other peer can connect.
     pub fn is_closed(&self) -> bool {
         self.closed
     }
