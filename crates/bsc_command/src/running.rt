@@ -15,7 +15,7 @@ use std::io::{Read, Write};
 /// Runs the events of the script on a line of the configuration, over a cable of the host, and
 /// prints what is on the line after each event that is heard, and a report at the end. Both are
 /// named by their paths; one of them may be `-`, which is standard input. Both are read before what
-/// they say is checked, the configuration first. With `check` nothing is run or printed. (own)
+/// they say is checked, the configuration first. With `check` nothing is run or printed. (Own.)
 pub(crate) fn run<R: Read, H: Host, W: Write>(
     alloc: Global,
     config: &str,

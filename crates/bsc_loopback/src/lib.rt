@@ -17,7 +17,7 @@ mod tests;
 
 /// How many seconds an end waits for octets, and for room for octets, before its read or write
 /// fails. What one end has written the other can read at once, so an end that waits this long waits
-/// for nothing. (own)
+/// for nothing. (Own.)
 pub const TIME_OUT_SECONDS: u64 = 5;
 
 /// Why there are no connections.
@@ -54,10 +54,10 @@ impl<T: Drop> From<AllocFailed<T>> for LoopbackError {
     }
 }
 
-/// A cable of this many new connections over the loopback address. Each end sends its octets at
-/// once, and waits for `TIME_OUT_SECONDS` at most. `Sockets` comes where the system refuses a
-/// socket, as where too many files are open, or where the peer of an accepted connection is not our
-/// own end.
+/// A cable of this many new connections, 1 to 64, over the loopback address. Each end sends its
+/// octets at once, and waits for `TIME_OUT_SECONDS` at most. `Sockets` comes where the system
+/// refuses a socket, as where too many files are open, or where the peer of an accepted connection
+/// is not our own end; `Memory` where a growth is refused. (Own.)
 pub fn connect<R: Net, A: Allocator + Copy>(
     rt: &R,
     alloc: A,

@@ -30,7 +30,7 @@ impl Listening {
         Err(why)
     }
 
-    /// The address and the port at which it listens. `Sockets` comes where the system does not tell.
+    /// The address and port at which it listens. `Sockets` comes where the system does not tell.
     pub fn address(&self) -> Result<SocketAddr, SocketsError> {
         Ok(self.listener.local_addr()?)
     }

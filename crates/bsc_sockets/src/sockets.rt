@@ -18,7 +18,7 @@ use std::net::Net;
 use std::time::{Clock, Duration, Instant};
 
 /// How many answers are given in turn before the system is asked what else has arrived, so that a
-/// peer that never stops does not hide another one. (own)
+/// peer that never stops does not hide another one. (Own.)
 const MAX_ANSWERS_UNASKED: usize = 16;
 
 /// For how long is waited (GA27-3004, time-outs).
