@@ -168,7 +168,7 @@ impl Watch {
     }
 
     /// Plays an event on the line that is watched, and compares what the line shows with what the
-    /// event may do. The answer is that of the line.
+    /// event may do. The answer is that of the line; an error says what does not hold of the line.
     pub fn play<A: Allocator>(
         &mut self,
         line: &mut Line<A>,

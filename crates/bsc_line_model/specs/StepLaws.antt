@@ -99,7 +99,7 @@ AlikeIsFair =
     (message : Message) (n : ℕ) (heard : Heard) → IsFairlyHeard message heard
     → IsHeardFairly message n (all_hear heard)
 
--- and what it asks of a message that n terminals hear alike, it asks of what one station hears
+-- what trust asks of a message that n terminals hear alike, it asks of what one station hears
 abbrev pub FairIsAlike : Type 0
 FairIsAlike =
     (message : Message) (n : ℕ) (heard : Heard) → 0 < n

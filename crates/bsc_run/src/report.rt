@@ -18,7 +18,8 @@ use std::alloc::Allocator;
 use std::io::Write;
 
 /// Writes the report of a line: for each terminal what its channels have and the records that
-/// arrived on them, and whether the line is trusted.
+/// arrived on them, and whether the line is trusted. After an error a part of it may have been
+/// written. (Own.)
 pub fn write_report<A: Allocator + Copy, B: Allocator, W: Write>(
     alloc: A,
     line: &Line<B>,

@@ -22,7 +22,7 @@ use std::io::Write;
 /// Writes the report of a station: for each channel on which it sends how many records were
 /// offered, how many of them are known to have arrived and whether it is in doubt; and for each on
 /// which it receives how many records arrived, and these. The channels stand in the order of the
-/// report of a run. (Own.)
+/// report of a run. After an error a part may have been written. (Own.)
 pub fn write_report<A: Allocator + Copy, P: Party, W: Write>(
     alloc: A,
     station: &P,
