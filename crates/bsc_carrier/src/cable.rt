@@ -190,7 +190,8 @@ impl<S: Read + Write + Drop, A: Allocator> Cable<S, A> {
     /// This terminal's end writes the record, and the control station's end of its connection reads
     /// it. The other ends are not used. `Device` comes where a read or a write failed, `Length`
     /// and `Short` as at `read_record`, and `Short` also where the input ended before the record.
-    /// `heard` has the octets that came, and after an error it is as before.
+    /// `heard` has the octets that came, and after an error it is as before. Condition: there is
+    /// such a terminal, and there are 1 to 2,048 octets. (Own.)
     pub fn up(
         &mut self,
         terminal: usize,
@@ -224,8 +225,8 @@ impl<S: Read + Write + Drop, A: Allocator> Cable<S, A> {
         result
     }
 
-    /// As `up`, the other way: the control station's end of this terminal's connection writes the
-    /// record, and the terminal's end reads it.
+    /// The control station's end of this terminal's connection writes the record, and the
+    /// terminal's end reads it. Answers, errors and conditions are those of `up`. (Own.)
     pub fn down_to(
         &mut self,
         terminal: usize,
@@ -262,7 +263,7 @@ impl<S: Read + Write + Drop, A: Allocator> Cable<S, A> {
     /// The control station writes the record to every connection, and every terminal's end reads
     /// it. `heard` has the octets that came, and after an error it is as before. `Device`, `Length`
     /// and `Short` are those of `up` at one of the ends, and `Unequal` comes where two ends gave
-    /// different octets.
+    /// different octets. Condition: there are 1 to 2,048 octets. (Own.)
     pub fn down(&mut self, octets: &[u8], heard: &mut Octets) -> Result<(), CarrierError>
         requires { IsCarried octets.now }
         ensures wrote { OnOk result (AllZip (Takes S.contents octets.now)
