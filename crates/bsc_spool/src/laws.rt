@@ -8,8 +8,9 @@ ghost use Rattle.bsc_spool.specs.declared.queue.Next.{Next};
 use bsc_block::laws::cut_into_blocks;
 
 /// The next block of a queue is none exactly where no record waits, else it takes 1 to 7 waiting
-/// records and ends with `Etx` exactly where these are all. Short offers and deliveries keep a
-/// queue.
+/// records and ends with `Etx` exactly where these are all. What holds of a queue holds of it after
+/// an offer of a record that is not longer than the full length, and after waiting records are
+/// known.
 pub fn next_blocks()
     ensures none { (q : QueueValue) → (next_block q ≡ None) ↔ (waiting q ≡ []) }
     ensures some { (q : QueueValue) (n : Next) → IsQueue q → next_block q ≡ Some n → IsNext q n }
