@@ -151,8 +151,8 @@ impl<A: Allocator> Control<A> {
     }
 
     /// Asks a terminal for the line: the next text of it that is taken is answered by RVI, unless
-    /// it is selected before. Condition: there is such a terminal. (GA27-3004, RVI; the flag is
-    /// own.)
+    /// the last reply was RVI too, or the terminal is selected before. Condition: there is such a
+    /// terminal. (GA27-3004, RVI; the flag is own.)
     pub fn set_urgent(&mut self, terminal: usize)
         requires { terminal < length self.old.peers }
         ensures state { self.new
