@@ -15,10 +15,7 @@ mod texts;
 mod whole_command;
 mod words;
 
-pub use bsc_config::{Config, read_config};
 pub use bsc_input::{InputError, MAX_INPUT, read_input};
-pub use bsc_run::run_line;
-pub use bsc_script::{Script, read_script};
 pub use fault::{Fault, status};
 pub use host::{Asked, Host, Opened};
 pub use naming::{name, names, show};
@@ -26,7 +23,7 @@ pub use program::perform;
 pub use station_settings::Place;
 pub use station_words::StationWords;
 pub use whole_command::{command, fail};
-pub use words::{Work, help_or_fault, not_text, read_words};
+pub use words::{Work, not_text, read_words};
 
 #[cfg(test)]
 mod tests;

@@ -6,7 +6,8 @@ ghost use Rattle.bsc_command.specs.declared.fault.Fault.{Fault as FaultValue};
 ghost use Rattle.bsc_command.specs.Faults.{IsPrintFault, status_of};
 ghost use Rattle.bsc_command.specs.Program.{IsFaultAt, IsObeyed};
 
-use crate::{Fault, Host, help_or_fault, perform, read_words, status};
+use crate::words::help_or_fault;
+use crate::{Fault, Host, perform, read_words, status};
 use std::alloc::{AllocError, Global};
 use std::io::{BufWriter, Read, Write};
 

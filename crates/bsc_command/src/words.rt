@@ -259,7 +259,7 @@ fn wrong_words_error(alloc: Global, kind: ErrorKind, why: &str) -> Result<Error,
 
 /// Prints the help or the version, where the words asked for one. Every other answer of `clap` is a
 /// fault, and nothing is printed.
-pub fn help_or_fault<W: Write>(error: Error, out: &mut W) -> Result<(), Fault>
+pub(crate) fn help_or_fault<W: Write>(error: Error, out: &mut W) -> Result<(), Fault>
     ensures help { IsHelp (kind_of error) → (result ≡ Ok tt) ⊎ (result ≡ Err Fault.Output) }
     ensures memory { kind_of error ≡ ErrorKind.OutOfMemory → result ≡ Err Fault.OutOfMemory }
     ensures usage { (IsHelp (kind_of error) → ⊥) → kind_of error ≢ ErrorKind.OutOfMemory

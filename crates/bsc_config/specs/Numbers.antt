@@ -36,7 +36,7 @@ setup_of_numbers full block_chars tries waits = record {
 abbrev pub setup_in : Members → Result SetupValue Fault
 setup_in document = do
   full ← number_at Full 1 MAX_FULL 80 document
-  block_chars ← number_at BlockChars MIN_BLOCK_CHARS MAX_BLOCK_CHARS 400 document
+  block_chars ← number_at BlockChars MIN_BLOCK_CHARS MAX_BLOCK_CHARS MAX_BLOCK_CHARS document
   tries ← number_at Tries 1 MAX_TRIES 3 document
   waits ← number_at Waits 1 MAX_WAITS 10 document
   Ok (setup_of_numbers full block_chars tries waits)

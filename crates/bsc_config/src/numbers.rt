@@ -52,7 +52,7 @@ fn number_at(
     }
 }
 
-/// The settings.
+/// The settings. Where the key of a block is absent, a block is as long as it may be.
 pub(crate) fn setup_in(document: &Table) -> Result<Setup, ConfigError>
     ensures { Gives (λ s. s) result (setup_of_document (table_view document.now)) }
 {
@@ -62,7 +62,7 @@ pub(crate) fn setup_in(document: &Table) -> Result<Setup, ConfigError>
         Key::BlockChars,
         MIN_BLOCK_CHARS,
         MAX_BLOCK_CHARS,
-        400,
+        MAX_BLOCK_CHARS,
     )?;
     let tries = number_at(document, Key::Tries, 1, u16::from(MAX_TRIES), 3)?;
     let waits = number_at(document, Key::Waits, 1, u16::from(MAX_WAITS), 10)?;

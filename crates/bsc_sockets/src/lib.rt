@@ -6,7 +6,6 @@
 //! - `connect` makes one connection to a peer that listens.
 //! - `Sockets` waits for octets, for a further peer, or until a time has passed.
 //! - `Reading` and `Writing` are the two directions of a connection. Neither waits without end.
-//! - `Ready` is the order in which the places are served whose octets have arrived.
 #![tactic(auto)]
 
 mod begin;
@@ -23,5 +22,4 @@ pub use begin::{Begun, connect, listen};
 pub use directions::{Reading, Writing};
 pub use error::SocketsError;
 pub use listening::Listening;
-pub use ready::Ready;
 pub use sockets::{Settings, Sockets};

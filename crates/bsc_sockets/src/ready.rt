@@ -11,7 +11,7 @@ use std::marker::Model;
 /// The places that something has arrived at, in the order in which they are served: a place that
 /// was served goes to the end, so that none has to wait while another is served twice. (Own.)
 #[derive(Drop)]
-pub struct Ready<A: Allocator> {
+pub(crate) struct Ready<A: Allocator> {
     places: VecDeque<usize, A>,
 }
 

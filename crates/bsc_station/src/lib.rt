@@ -38,13 +38,11 @@ pub use offering::{offer_at_terminal, offer_for_terminal};
 pub use offers::{OfferError, read_records};
 pub use party::{Party, Received};
 pub use report::write_report;
-pub use rounds::{Limits, Rounds};
+pub use rounds::Limits;
 pub use standing::Standing;
 pub use standings::station_standing;
 pub use terminal_watch::TerminalWatch;
 pub use timer::Timer;
-pub use trace::{Deed, Who, write_closed, write_joined, write_silence, write_transmission};
-pub use visits::{Polled, Sent, Visits};
 pub use watch::{Printing, Watch};
 
 #[cfg(test)]

@@ -16,7 +16,7 @@ pub struct Limits {
 /// The rounds of a poll list. A round is one visit of each of its entries. It is idle where no
 /// record arrived in it and nothing more is to be sent at its end. (Own.)
 #[derive(Clone, Copy, Debug, PartialEq, Eq)]
-pub struct Rounds {
+pub(crate) struct Rounds {
     /// The entries of the poll list.
     entries: usize,
     /// How many of them are not visited yet in this round.

@@ -1,7 +1,8 @@
 //! Who watches a terminal, and says when it ends.
 
 use crate::watch::Watch;
-use crate::{LineTerminal, Timer, Who};
+use crate::trace::Who;
+use crate::{LineTerminal, Timer};
 use bsc_carrier::CarrierError;
 use bsc_live::{LiveError, Monitor, Note};
 use std::alloc::Allocator;

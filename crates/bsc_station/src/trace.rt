@@ -18,7 +18,7 @@ use std::io::Write;
 
 /// Who sent a transmission, as far as the station knows.
 #[derive(Clone, Copy, Debug, PartialEq, Eq)]
-pub enum Who {
+pub(crate) enum Who {
     /// The control station.
     Control,
 
@@ -31,7 +31,7 @@ pub enum Who {
 
 /// What a station did with a transmission.
 #[derive(Clone, Copy, Debug, PartialEq, Eq)]
-pub enum Deed {
+pub(crate) enum Deed {
     /// It sent it.
     Sent,
 
@@ -89,7 +89,7 @@ fn write_heard<W: Write>(heard: &Heard, out: &mut W) -> Result<(), PrintError>
 
 /// Writes the line of a transmission: the time in milliseconds, who sent it, what the station did
 /// with it, its name, and its octets in hexadecimal text. (Own.)
-pub fn write_transmission<A: Allocator, W: Write>(
+pub(crate) fn write_transmission<A: Allocator, W: Write>(
     alloc: A,
     time: u64,
     who: Who,
@@ -124,7 +124,7 @@ fn write_octets<A: Allocator, W: Write>(
 }
 
 /// Writes the line of a time-out.
-pub fn write_silence<W: Write>(time: u64, out: &mut W) -> Result<(), PrintError>
+pub(crate) fn write_silence<W: Write>(time: u64, out: &mut W) -> Result<(), PrintError>
     ensures { OnOk result (Appends (W.contents out.old) (W.contents out.new)
         (codes "+" ++ decimal time ++ codes " silence\n")) }
 {
@@ -135,7 +135,7 @@ pub fn write_silence<W: Write>(time: u64, out: &mut W) -> Result<(), PrintError>
 }
 
 /// Writes the line of a peer that took the connection at a place.
-pub fn write_joined<W: Write>(time: u64, connection: usize, out: &mut W) -> Result<(), PrintError>
+pub(crate) fn write_joined<W: Write>(time: u64, connection: usize, out: &mut W) -> Result<(), PrintError>
     ensures { OnOk result (Appends (W.contents out.old) (W.contents out.new)
         (codes "+" ++ decimal time ++ codes " connection " ++ decimal connection
         ++ codes " joined\n")) }
@@ -148,7 +148,7 @@ pub fn write_joined<W: Write>(time: u64, connection: usize, out: &mut W) -> Resu
 
 /// Writes that the connection at a place is closed, and why; its peer closed it between
 /// transmissions where no reason is given. Without a time the line is none of a trace.
-pub fn write_closed<W: Write>(
+pub(crate) fn write_closed<W: Write>(
     time: Option<u64>,
     connection: usize,
     why: Option<CarrierError>,

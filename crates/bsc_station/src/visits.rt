@@ -6,7 +6,7 @@ ghost use Rattle.bsc_station.specs.Visits.{visits_of, after_sent, ends_visit};
 /// What a control station sends, as far as visits are told by it (GA27-3004, polling and
 /// selection).
 #[derive(Clone, Copy, Debug, PartialEq, Eq)]
-pub enum Sent {
+pub(crate) enum Sent {
     /// The call of a polling address.
     Poll,
 
@@ -19,7 +19,7 @@ pub enum Sent {
 
 /// What was sent of the poll that ends a visit.
 #[derive(Clone, Copy, Debug, PartialEq, Eq)]
-pub enum Polled {
+pub(crate) enum Polled {
     /// The entry was not polled yet.
     NotYet,
 
@@ -34,7 +34,7 @@ pub enum Polled {
 /// It ends where a call is sent after the poll that does not repeat it. A poll is repeated after a
 /// silence, as often as failures in a row are borne, while nothing else is sent. (Own.)
 #[derive(Clone, Copy, Debug, PartialEq, Eq)]
-pub struct Visits {
+pub(crate) struct Visits {
     /// How many failures in a row are borne.
     tries: u8,
     /// Whether a time-out is what happened last.

@@ -1,4 +1,5 @@
-use crate::{Fault, help_or_fault, read_words};
+use crate::words::help_or_fault;
+use crate::{Fault, read_words};
 use bsc_fixtures::Full;
 use std::alloc::Global;
 use std::io::Write;

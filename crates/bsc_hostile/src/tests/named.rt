@@ -35,7 +35,7 @@ fn outcome_on(
     Ok((watched.line.pending().is_some(), watched.line.trusted()))
 }
 
-/// What these octets leave on a new line: whether something is pending, and trust.
+/// What is left on a new line after these octets: whether something is pending, and trust.
 fn outcome(
     alloc: Global,
     exchange: &Exchange,

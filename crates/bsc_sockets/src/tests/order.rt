@@ -1,4 +1,4 @@
-use crate::Ready;
+use crate::ready::Ready;
 use std::test::Fail;
 
 // Three places are served in turn, one that was cleared no more, and one that is set again last.

@@ -1,6 +1,8 @@
 //! Visits and rounds, counted by hand from the call order.
 
-use crate::{Limits, Rounds, Sent, Visits};
+use crate::Limits;
+use crate::rounds::Rounds;
+use crate::visits::{Sent, Visits};
 use std::process::Abort;
 use std::test::Fail;
 

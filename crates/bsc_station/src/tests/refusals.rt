@@ -1,9 +1,7 @@
 //! Growths that are refused and writes that fail.
 
-use crate::{
-    Deed, OfferError, Who, new_control, read_records, write_closed, write_joined, write_report,
-    write_silence, write_transmission,
-};
+use crate::trace::{Deed, Who, write_closed, write_joined, write_silence, write_transmission};
+use crate::{OfferError, new_control, read_records, write_report};
 use bsc_carrier::CarrierError;
 use bsc_config::read_config;
 use bsc_fixtures::Full;
