@@ -46,7 +46,7 @@ enum bsc_end {
     BSC_ETB = 0x17          /* more blocks follow */
 };
 
-/* A unit of a text: a record, or the front of one. */
+/* A unit of a text: its characters, and whether EM follows them. */
 struct bsc_unit {
     uint8_t chars[BSC_MAX_CHARS];       /* the codes, of which the first len count */
     uint8_t len;                        /* 0 to 144 */
