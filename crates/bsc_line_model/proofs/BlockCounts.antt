@@ -92,19 +92,18 @@ has_first laws q n is count =
     (laws.rest q.format.full q.known q.offered is.short) count
 
 -- where some records wait there is a block
-none_waits : (laws : CutLaws) (q : QueueValue) → IsQueue q → block_count q ≡ 0 → (b : Bool)
-    → nat_eq (length (waiting q)) 0 ≡ b → b ≡ true
-none_waits laws q is none true e = refl
-none_waits laws q is none false e =
-    let some : 0 < length (waiting q) = grind (arith, nat_tests) in
-    let count : (k : ℕ) × (block_count q ≡ suc k) =
-    some_blocks laws q.format (waiting q) is.format
-    (laws.rest q.format.full q.known q.offered is.short) some in
-    absurd (omega (arith, none, count.1))
-
 pub no_block : (laws : CutLaws) (q : QueueValue) → IsQueue q → block_count q ≡ 0
     → nat_eq (length (waiting q)) 0 ≡ true
-no_block laws q is none = none_waits laws q is none (nat_eq (length (waiting q)) 0) refl
+no_block laws q is none = by_test (nat_eq (length (waiting q)) 0) refl
+  where
+    by_test : (b : Bool) → nat_eq (length (waiting q)) 0 ≡ b → b ≡ true
+    by_test true e = refl
+    by_test false e =
+        let some : 0 < length (waiting q) = grind (arith, nat_tests) in
+        let count : (k : ℕ) × (block_count q ≡ suc k) =
+        some_blocks laws q.format (waiting q) is.format
+        (laws.rest q.format.full q.known q.offered is.short) some in
+        absurd (omega (arith, none, count.1))
 
 some_wait : (laws : CutLaws) (q : QueueValue) (n : ℕ) → block_count q ≡ suc n → (rs : List (List ℕ))
     → waiting q ≡ rs → nat_eq (length rs) 0 ≡ false

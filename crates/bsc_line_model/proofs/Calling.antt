@@ -20,9 +20,9 @@ use Rattle.bsc_line_model.specs.Together.{InTask}
 use Rattle.bsc_line_model.proofs.Stations.{same_or_not}
 
 -- a peer that was written, and another one
-peer_same : (c : ControlValue) (e : ℕ) (p : PeerValue) → e < length c.peers
+replaced_peer : (c : ControlValue) (e : ℕ) (p : PeerValue) → e < length c.peers
     → peer_at (with_peer c e p) e ≡ p
-peer_same c e p there = get_or-set_same c.peers e p no_peer there
+replaced_peer c e p there = get_or-set_same c.peers e p no_peer there
 
 peer_other : (c : ControlValue) (e t : ℕ) (p : PeerValue) → t ≢ e → peer_at (with_peer c e p) t
     ≡ peer_at c t
@@ -35,25 +35,26 @@ others_quiet c ts e p quiet t less differ =
     subst (λ (q : PeerValue). IsQuiet q (terminal_in ts t)) (sym (peer_other c e t p differ))
     (quiet t less)
 
-all_quiet : (c : ControlValue) (ts : List TributaryValue) (e : ℕ) (p : PeerValue) → e
+all_quiet_with_peer : (c : ControlValue) (ts : List TributaryValue) (e : ℕ) (p : PeerValue) → e
     < length c.peers → AllQuiet c ts → (e < length ts → IsQuiet p (terminal_in ts e))
     → AllQuiet (with_peer c e p) ts
-all_quiet c ts e p there quiet here t less =
+all_quiet_with_peer c ts e p there quiet here t less =
     elim (same_or_not t e) [
       | inl same ↦
           subst (λ (n : ℕ). IsQuiet (peer_at (with_peer c e p) n) (terminal_in ts n)) (sym same)
-          (subst (λ (q : PeerValue). IsQuiet q (terminal_in ts e)) (sym (peer_same c e p there))
+          (subst (λ (q : PeerValue). IsQuiet q (terminal_in ts e)) (sym (replaced_peer c e p there))
           (here (subst (λ (n : ℕ). n < length ts) same less)))
       | inr differ ↦ others_quiet c ts e p quiet t less differ
     ]
 
 -- the receiver begins, and the urgent flag falls: neither is seen by the channels
-begins : (p : PeerValue) (x : TributaryValue) → IsQuiet p x
+quiet_with_new_receiver : (p : PeerValue) (x : TributaryValue) → IsQuiet p x
     → IsQuiet (record p { receiver = new_receiver true }) x
-begins p x q = record { mode = q.mode; up = q.up; down = q.down }
+quiet_with_new_receiver p x q = record { mode = q.mode; up = q.up; down = q.down }
 
-calms : (p : PeerValue) (x : TributaryValue) → IsQuiet p x → IsQuiet (record p { urgent = false }) x
-calms p x q = record { mode = q.mode; up = q.up; down = q.down }
+quiet_without_urgent : (p : PeerValue) (x : TributaryValue) → IsQuiet p x
+    → IsQuiet (record p { urgent = false }) x
+quiet_without_urgent p x q = record { mode = q.mode; up = q.up; down = q.down }
 
 -- the polling address of an entry is called
 pub polled_next : (c : ControlValue) (ts : List TributaryValue) (place failures : ℕ)
@@ -68,9 +69,9 @@ polled_next c ts place failures there count quiet =
     record {
       others = others_quiet c ts e d quiet;
       present = inl (
-        subst (λ (q : PeerValue). IsQuiet q (terminal_in ts e)) (sym (peer_same c e d there))
-            (begins p (terminal_in ts e) (quiet e here)),
-        (ap (λ (q : PeerValue). m.Call q.terminal.poll) (sym (peer_same c e d there)), refl),
+        subst (λ (q : PeerValue). IsQuiet q (terminal_in ts e)) (sym (replaced_peer c e d there))
+            (quiet_with_new_receiver p (terminal_in ts e) (quiet e here)),
+        (ap (λ (q : PeerValue). m.Call q.terminal.poll) (sym (replaced_peer c e d there)), refl),
       );
     }
 
@@ -84,10 +85,11 @@ selected_next c ts place s there count quiet =
     let p : PeerValue = peer_at c e in
     let d : PeerValue = record p { urgent = false } in
     record {
-      quiet = all_quiet c ts e d there quiet (λ less. calms p (terminal_in ts e) (quiet e less));
+      quiet = all_quiet_with_peer c ts e d there quiet
+          (λ less. quiet_without_urgent p (terminal_in ts e) (quiet e less));
       with_pending =
           ap (λ (q : PeerValue). m.Call (select_address q.terminal s))
-          (sym (peer_same c e d there));
+          (sym (replaced_peer c e d there));
       fresh = tt;
     }
 

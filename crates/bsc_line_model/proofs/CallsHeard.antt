@@ -55,7 +55,7 @@ use Rattle.bsc_line_model.specs.BidLaws.{BidLaws}
 use Rattle.bsc_line_model.proofs.Entries.{places, current_there}
 use Rattle.bsc_line_model.proofs.Stations.{same_or_not, terminal_there, at_rest_in}
 use Rattle.bsc_line_model.proofs.Tuning.{NamesOwn, IsCalledBy}
-use Rattle.bsc_line_model.proofs.SendingDown.{one_answers, same_terminal}
+use Rattle.bsc_line_model.proofs.SendingDown.{first_answer_is, same_terminal}
 use Rattle.bsc_line_model.proofs.ActingUp.{HasActedUp, acts_up, present_after}
 use Rattle.bsc_line_model.proofs.CallsMissed.{without_quiet, GivesUp}
 use Rattle.bsc_line_model.proofs.CallsMissed.{back_quiet}
@@ -153,7 +153,7 @@ one_called laws c old hears new addressed e way address stations call each =
     record {
       others = ups;
       first =
-          one_answers old hears new e (length old) call.there
+          first_answer_is old hears new e (length old) call.there
           (λ t less differ. (ups t less differ).silent);
       modes = λ here t less.
           let before : t < length old = omega (arith, each.count) in
@@ -326,12 +326,12 @@ rests_quiet act old new fits is rest =
     subst IsAtRest (sym (subst (λ (z : Act). FitsAct z old new) is fits)) rest
 
 -- the polled terminal begins a bid
-begins_bid : (laws : BidLaws) (p : PeerValue) (e : ℕ) (d : TributaryValue) → p.receiver
+begins_bid_up : (laws : BidLaws) (p : PeerValue) (e : ℕ) (d : TributaryValue) → p.receiver
     ≡ new_receiver true → IsQuiet p d → d.mode ≡ Control → d.sender.phase ≡ Idle → 1
     ≤ length (waiting d.queue) →
     let step : SenderStep = begin_step d.sender d.queue in
     HasActedUp p e (act_step d step).tributary (act_step d step).sent
-begins_bid laws p e d new q mode idle some =
+begins_bid_up laws p e d new q mode idle some =
     let step : SenderStep = begin_step d.sender d.queue in
     let rest : IsResting Idle d.queue p.spool.records =
     subst (λ (k : Phase). IsResting k d.queue p.spool.records) idle q.up in
@@ -368,7 +368,7 @@ polled_terminal laws p e x false false new is q d n =
     at_rest_in x.mode x.sender.phase (length x.spools) q.mode is.bid in
     let cut_rest : IsAtRest (cut_phase x.sender.phase) =
     subst IsAtRest (sym (cut_at_rest x.sender.phase rest)) rest in
-    begins_bid laws p e (record (without_line x) { urgent = false }) new
+    begins_bid_up laws p e (record (without_line x) { urgent = false }) new
     (record { mode = w.mode; up = w.up; down = w.down }) refl
     (idle_at_rest (cut_phase x.sender.phase) cut_rest d) (omega arith)
 

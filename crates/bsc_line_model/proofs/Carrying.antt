@@ -1,13 +1,13 @@
 -- A line stays a line when a transmission is heard, or a silence passes.
-use Rattle.std.proofs.Common.{◌≡◌, ℕ, ◌<◌, ◌≤◌, Bool, true, false, IsTrue, List, length, Option}
+use Rattle.std.proofs.Common.{◌≡◌, ℕ, ◌<◌, Bool, true, false, IsTrue, List, length, Option}
 use Rattle.std.proofs.Common.{None, Some, get_or, slice_set, refl, sym, ◌∙◌, ap, subst, arith, inl}
-use Rattle.std.proofs.Common.{inr, ◌≢◌, position, nat_lt, get_or-set_other, get_or-set_same}
-use Rattle.std.proofs.Common.{if◌then◌else◌}
+use Rattle.std.proofs.Common.{inr, ◌≢◌, get_or-set_other, get_or-set_same}
 use Rattle.std.proofs.lemmas.List.{get_or_default}
 use Rattle.bsc_frame.specs.declared.message.Message.{Message}
 use Rattle.bsc_frame.specs.declared.message.Heard.{Heard}
 use Rattle.bsc_tributary.specs.Tributary.{TributaryValue}
 use Rattle.bsc_tributary.specs.Kept.{AfterSilence, KeepsSetupAndMode}
+use Rattle.bsc_tributary.proofs.Addresses.{none_passes}
 use Rattle.bsc_control.specs.declared.way.Way.{Way}
 use Rattle.bsc_control.specs.Control.{ControlValue, terminals as addresses_of}
 use Rattle.bsc_control.specs.Kept.{IsControl, Keeps as ControlKeeps}
@@ -36,9 +36,6 @@ use Rattle.bsc_control.specs.Table.{Hears as ControlHears, ActsOnSilence as Cont
 use Rattle.bsc_control.specs.Control.{peer_at, current, with_peer}
 use Rattle.bsc_control.specs.Peer.{PeerValue, no_peer, outbound_at}
 use Rattle.std.proofs.lemmas.List.{length-set}
-use Rattle.std.proofs.lemmas.Bool.Decides.{nat_tests}
-use Rattle.std.proofs.lemmas.List.Sums.{fails_before_first}
-use Rattle.std.specs.List.{position_or_len}
 use Rattle.std.proofs.lemmas.List.Quantifiers.{position-Some}
 use Rattle.bsc_line_model.proofs.Entries.{places, current_there}
 use Rattle.bsc_line_model.proofs.Stations.{same_or_not}
@@ -116,26 +113,12 @@ owner_sends Sending h = refl
 owner_sends ControlMode h = absurd (cc)
 owner_sends (Receiving s) h = absurd (cc)
 
--- none of the places holds it
-before_none : {X : Type 0} → (p : X → Bool) (xs : List X) (i : ℕ) (d : X) (less : Bool)
-    → nat_lt (position_or_len p xs) (length xs) ≡ less
-    → (if less then Some (position_or_len p xs) else None) ≡ None → i < length xs
-    → p (get_or xs i d) ≡ false
-before_none p xs i d true e none within = absurd (cc)
-before_none p xs i d false e none within = let far : length xs ≤ position_or_len p xs =
-    grind (arith, nat_tests) in fails_before_first p xs i d (omega arith)
-
-position_none : {X : Type 0} → (p : X → Bool) (xs : List X) (i : ℕ) (d : X) → position p xs ≡ None
-    → i < length xs → p (get_or xs i d) ≡ false
-position_none p xs i d none less =
-    before_none p xs i d (nat_lt (position_or_len p xs) (length xs)) refl none less
-
 -- the control station acted on a silence
 nobody_sends : (ts : List TributaryValue) → line_owner ts ≡ None → (t : ℕ) → t < length ts
     → (terminal_in ts t).mode ≢ Sending
 nobody_sends ts none t less sends =
     let no : holds (terminal_in ts t).mode ≡ false =
-    position_none (λ (x : TributaryValue). holds x.mode) ts t no_terminal none less in
+    none_passes (λ (x : TributaryValue). holds x.mode) ts t no_terminal none less in
     let yes : holds (terminal_in ts t).mode ≡ true = ap holds sends in
     let both : true ≡ false = sym yes ∙ no in cc
 

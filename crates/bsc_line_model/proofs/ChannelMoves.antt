@@ -35,22 +35,23 @@ abbrev channel_between : PeerValue → TributaryValue → Way → Channel
 channel_between p x FromTerminal = channel x.queue p.spool.records
 channel_between p x (ToTerminal s) = channel (outbound_at p s).queue (spool_at x.spools s).records
 
-between : (l : LineValue) (t : ℕ) (way : Way) → channel_of l t way
+channel_of_is : (l : LineValue) (t : ℕ) (way : Way) → channel_of l t way
     ≡ channel_between (peer_at l.control t) (terminal_at l t) way
-between l t FromTerminal = refl
-between l t (ToTerminal s) = refl
+channel_of_is l t FromTerminal = refl
+channel_of_is l t (ToTerminal s) = refl
 
 -- one terminal changed: its own channels, and all others
 terminal_elsewhere : (l : LineValue) (t : ℕ) (u : TributaryValue) (n : ℕ) (way : Way) → n ≢ t
     → channel_of (with_terminal l t u) n way ≡ channel_of l n way
 terminal_elsewhere l t u n way differ =
-    between (with_terminal l t u) n way
+    channel_of_is (with_terminal l t u) n way
     ∙ ap (λ (y : TributaryValue). channel_between (peer_at l.control n) y way)
-    (other_terminal l t n u differ) ∙ sym (between l n way)
+    (other_terminal l t n u differ) ∙ sym (channel_of_is l n way)
 
-terminal_here : (l : LineValue) (t : ℕ) (u : TributaryValue) (way : Way) → t < terminal_count l
+channel_with_terminal : (l : LineValue) (t : ℕ) (u : TributaryValue) (way : Way)
+    → t < terminal_count l
     → channel_of (with_terminal l t u) t way ≡ channel_between (peer_at l.control t) u way
-terminal_here l t u way there = between (with_terminal l t u) t way
+channel_with_terminal l t u way there = channel_of_is (with_terminal l t u) t way
     ∙ ap (λ (y : TributaryValue). channel_between (peer_at l.control t) y way)
     (this_terminal l t u there)
 
@@ -63,7 +64,7 @@ terminal_moves l t u move there spools makes =
     record {
       this =
           subst (λ (k : Channel). Makes move (channel_of l t FromTerminal) k)
-          (sym (terminal_here l t u FromTerminal there)) makes;
+          (sym (channel_with_terminal l t u FromTerminal there)) makes;
       others = λ n way is apart.
           elim (same_or_not n t) [
             | inl same ↦ by_way n way same (apart same)
@@ -77,7 +78,7 @@ terminal_moves l t u move there spools makes =
     by_way n (ToTerminal s) same apart =
         subst (λ (j : ℕ). channel_of (with_terminal l t u) j (ToTerminal s)
         ≡ channel_of l j (ToTerminal s)) (sym same)
-        (terminal_here l t u (ToTerminal s) there
+        (channel_with_terminal l t u (ToTerminal s) there
         ∙ ap (λ (zs : List SpoolValue). channel (outbound_at (peer_at l.control t) s).queue
         (spool_at zs s).records) spools)
 
@@ -93,9 +94,9 @@ terminal_still l t u there queue spools n way is =
     ]
   where
     by_way : (way : Way) → channel_of (with_terminal l t u) t way ≡ channel_of l t way
-    by_way FromTerminal = terminal_here l t u FromTerminal there
+    by_way FromTerminal = channel_with_terminal l t u FromTerminal there
         ∙ ap (λ (q : QueueValue). channel q (peer_at l.control t).spool.records) queue
-    by_way (ToTerminal s) = terminal_here l t u (ToTerminal s) there
+    by_way (ToTerminal s) = channel_with_terminal l t u (ToTerminal s) there
         ∙ ap (λ (zs : List SpoolValue). channel (outbound_at (peer_at l.control t) s).queue
         (spool_at zs s).records) spools
 
@@ -106,13 +107,13 @@ with_kept l t q = with_control l (with_peer l.control t q)
 peer_elsewhere : (l : LineValue) (t : ℕ) (q : PeerValue) (n : ℕ) (way : Way) → n ≢ t
     → channel_of (with_kept l t q) n way ≡ channel_of l n way
 peer_elsewhere l t q n way differ =
-    between (with_kept l t q) n way
+    channel_of_is (with_kept l t q) n way
     ∙ ap (λ (z : PeerValue). channel_between z (terminal_at l n) way)
-    (get_or-set_other l.control.peers t n q no_peer differ) ∙ sym (between l n way)
+    (get_or-set_other l.control.peers t n q no_peer differ) ∙ sym (channel_of_is l n way)
 
-peer_here : (l : LineValue) (t : ℕ) (q : PeerValue) (way : Way) → t < length l.control.peers
+channel_with_kept : (l : LineValue) (t : ℕ) (q : PeerValue) (way : Way) → t < length l.control.peers
     → channel_of (with_kept l t q) t way ≡ channel_between q (terminal_at l t) way
-peer_here l t q way there = between (with_kept l t q) t way
+channel_with_kept l t q way there = channel_of_is (with_kept l t q) t way
     ∙ ap (λ (z : PeerValue). channel_between z (terminal_at l t) way)
     (get_or-set_same l.control.peers t q no_peer there)
 
@@ -127,9 +128,9 @@ peer_still l t q there spool outbounds n way is =
     ]
   where
     by_way : (way : Way) → channel_of (with_kept l t q) t way ≡ channel_of l t way
-    by_way FromTerminal = peer_here l t q FromTerminal there
+    by_way FromTerminal = channel_with_kept l t q FromTerminal there
         ∙ ap (λ (z : SpoolValue). channel (terminal_at l t).queue z.records) spool
-    by_way (ToTerminal s) = peer_here l t q (ToTerminal s) there
+    by_way (ToTerminal s) = channel_with_kept l t q (ToTerminal s) there
         ∙ ap (λ (os : List OutboundValue). channel
         (outbound_at (record q { outbounds = os }) s).queue
         (spool_at (terminal_at l t).spools s).records) outbounds
@@ -143,7 +144,7 @@ pub outbound_moves : (l : LineValue) (t s : ℕ) (o : OutboundValue) (move : Mov
 outbound_moves l t s o move there select makes =
     record {
       this = subst (λ (k : Channel). Makes move (channel_of l t (ToTerminal s)) k)
-          (sym (peer_here l t (with_outbound (peer_at l.control t) s o) (ToTerminal s) there
+          (sym (channel_with_kept l t (with_outbound (peer_at l.control t) s o) (ToTerminal s) there
           ∙ ap (λ (z : OutboundValue). channel z.queue
           (spool_at (terminal_at l t).spools s).records)
           (get_or-set_same (peer_at l.control t).outbounds s o no_outbound select)))
@@ -161,12 +162,12 @@ outbound_moves l t s o move there select makes =
     by_way n FromTerminal same apart =
         subst (λ (j : ℕ). channel_of (with_kept l t (with_outbound (peer_at l.control t) s o)) j
         FromTerminal ≡ channel_of l j FromTerminal) (sym same)
-        (peer_here l t (with_outbound (peer_at l.control t) s o) FromTerminal there)
+        (channel_with_kept l t (with_outbound (peer_at l.control t) s o) FromTerminal there)
     by_way n (ToTerminal k) same apart =
         let differ : k ≢ s = λ e. apart (ap (λ (j : ℕ). ToTerminal j) e) in
         subst (λ (j : ℕ). channel_of (with_kept l t (with_outbound (peer_at l.control t) s o)) j
         (ToTerminal k) ≡ channel_of l j (ToTerminal k)) (sym same)
-        (peer_here l t (with_outbound (peer_at l.control t) s o) (ToTerminal k) there
+        (channel_with_kept l t (with_outbound (peer_at l.control t) s o) (ToTerminal k) there
         ∙ ap (λ (z : OutboundValue). channel z.queue (spool_at (terminal_at l t).spools k).records)
         (get_or-set_other (peer_at l.control t).outbounds s k o no_outbound differ))
 

@@ -60,12 +60,12 @@ grows_then a b c x y within =
     let high : b ≤ c = second.0 in
     (omega (arith, low, high), second.1)
 
-one_more : (d : ℕ) → Grows d (with_delay d)
-one_more d within = (omega (arith, within), omega (arith, within))
+grows_with_delay : (d : ℕ) → Grows d (with_delay d)
+grows_with_delay d within = (omega (arith, within), omega (arith, within))
 
 asked_grows : (s : SpoolValue) (b : Bool) → Grows s.delays (room_asked s b).delays
 asked_grows s true = grows_same s.delays
-asked_grows s false = one_more s.delays
+asked_grows s false = grows_with_delay s.delays
 
 -- a receiver hears
 abbrev ReceiverGrows : ℕ → ReceiverStep → Type 0

@@ -103,9 +103,9 @@ pub record SendsDown (c : ControlValue) (sent : Option Message) (place s n : ℕ
   pub in_block : IsInBlock c s n block
   pub text : sent ≡ Some (m.Text (text_of (outbound_at (peer c) s).queue block))
 
-outbound_is : (c : ControlValue) (s : ℕ) (step : SenderStep) → current c < length c.peers → s
+stepped_outbound : (c : ControlValue) (s : ℕ) (step : SenderStep) → current c < length c.peers → s
     < length (peer c).outbounds → outbound_at (peer (after_step c s step)) s ≡ outbound_after step
-outbound_is c s step there select =
+stepped_outbound c s step there select =
     ap (λ (q : PeerValue). outbound_at q s)
     (get_or-set_same c.peers (current c) (with_outbound (peer c) s (outbound_after step))
     no_peer there)
@@ -126,7 +126,7 @@ sends_block laws c d sent s n x q alternation after there select is count row =
     let exact : record { control = d; sent = sent } ≡ bid_step c s step after = row
     ∙ ap (λ (o : Option Next). bid_step c s (sent_next x q alternation o) after) h.is in
     let o : outbound_at (peer (after_step c s step)) s ≡ outbound_after step =
-    outbound_is c s step there select in
+    stepped_outbound c s step there select in
     subst (λ (k : ControlStep). SendsDown k.control k.sent c.place s n
     × ControlStays (current c) (ToTerminal s) c k.control) (sym exact) (
       record {
@@ -145,13 +145,13 @@ sends_block laws c d sent s n x q alternation after there select is count row =
     )
 
 -- ACK0 begins the bid
-pub begins_bid : (laws : CutLaws) (c d : ControlValue) (sent : Option Message) (s n : ℕ)
+pub begins_bid_down : (laws : CutLaws) (c d : ControlValue) (sent : Option Message) (s n : ℕ)
     (enquired : Bool) → current c < length c.peers → s < length (peer c).outbounds → c.task
     ≡ Selecting s enquired →
     IsQueue (outbound_at (peer c) s).queue → block_count (outbound_at (peer c) s).queue ≡ suc n
     → Hears c (Whole m.Ack0) d sent → SendsDown d sent c.place s n
     × ControlStays (current c) (ToTerminal s) c d
-begins_bid laws c d sent s n enquired there select task is count h =
+begins_bid_down laws c d sent s n enquired there select task is count h =
     let o : OutboundValue = outbound_at (peer c) s in
     let row : record { control = d; sent = sent }
     ≡ bid_step c s (begin_step o.sender o.queue) (Selection s) = h.row
@@ -190,7 +190,7 @@ ends_bid : (c d : ControlValue) (sent : Option Message) (s : ℕ) (x : SenderVal
 ends_bid c d sent s x q there select none row =
     let step : SenderStep = over x q Idle in
     let k : ControlValue = after_step c s step in
-    let o : outbound_at (peer k) s ≡ outbound_after step = outbound_is c s step there select in
+    let o : outbound_at (peer k) s ≡ outbound_after step = stepped_outbound c s step there select in
     let way : Way = way_from (peer k) (s + 1) in
     let named : terminal_of_entry k c.place < length k.peers =
     subst (λ (z : ℕ). current c < z)

@@ -167,26 +167,26 @@ pub record HearsControl (old new : LineValue) (w : Message) (hears : ℕ → Hea
   pub carried : IsCarriedDown w hears old new
   pub trusted : IsTrue new.trusted
 
-pub was_trusted : (old new : LineValue) (w : Message) (hears : ℕ → Heard)
+pub was_trusted_down : (old new : LineValue) (w : Message) (hears : ℕ → Heard)
     → HearsControl old new w hears → IsTrue old.trusted × IsHeardFairly w (terminal_count old) hears
-was_trusted old new w hears k = k.carried.trusted.0 k.trusted
+was_trusted_down old new w hears k = k.carried.trusted.0 k.trusted
 
 -- how the stations went together
-together_with : (old new : LineValue) (w : Message) (hears : ℕ → Heard)
+together_down : (old new : LineValue) (w : Message) (hears : ℕ → Heard)
     → HearsControl old new w hears
     → InTask old.control.task (Some (record { speaker = sp.Control; message = w })) old.control
     old.terminals
-together_with old new w hears k =
+together_down old new w hears k =
     subst (λ (o : Option Transmission). InTask old.control.task o old.control old.terminals)
-    k.pending (k.line.together (was_trusted old new w hears k).0)
+    k.pending (k.line.together (was_trusted_down old new w hears k).0)
 
 -- the channel from a terminal
-moves_from : (laws : BidLaws) (old new : LineValue) (w : Message) (hears : ℕ → Heard) (t : ℕ)
+down_moves_from : (laws : BidLaws) (old new : LineValue) (w : Message) (hears : ℕ → Heard) (t : ℕ)
     → HearsControl old new w hears → t < terminal_count old →
     MovesIfAddressed old.addressed t FromTerminal
     (channel (terminal_at old t).queue (peer_at old.control t).spool.records)
     (channel (terminal_at new t).queue (peer_at old.control t).spool.records)
-moves_from laws old new w hears t k less =
+down_moves_from laws old new w hears t k less =
     elim (terminal_queue (terminal_at old t) (terminal_at new t) (hears t)
     (answer_of old.terminals hears new.terminals t) (k.carried.terminals.each t less)) [
       | inl same ↦ inl (ap (λ (q : QueueValue). channel q (peer_at old.control t).spool.records)
@@ -203,11 +203,11 @@ moves_from laws old new w hears t k less =
         let y : TributaryValue = terminal_at old (current c) in
         let q : PeerValue = peer c in
         let was : IsTrue old.trusted × IsHeardFairly w (terminal_count old) hears =
-        was_trusted old new w hears k in
+        was_trusted_down old new w hears k in
         let of : IsBidOf c.task (Some (record { speaker = sp.Control; message = w })) c
         old.terminals t =
         bid_of c.task (Some (record { speaker = sp.Control; message = w })) c old.terminals t less
-        l.mode (together_with old new w hears k) in
+        l.mode (together_down old new w hears k) in
         let r : Reply = of.bid.flies.0 in
         let never : is_call w ≡ false = ap is_call of.bid.flies.1 ∙ reply_is_no_call r in
         let fair : IsFairlyHeard (message_of r) (hears t) =
@@ -241,14 +241,14 @@ moves_from laws old new w hears t k less =
         (channel z (peer_at c t).spool.records)) (sym l.queue) here)
 
 -- the channel to a selection address
-moves_to : (laws : BidLaws) (old new : LineValue) (w : Message) (hears : ℕ → Heard) (t s : ℕ)
+down_moves_to : (laws : BidLaws) (old new : LineValue) (w : Message) (hears : ℕ → Heard) (t s : ℕ)
     → HearsControl old new w hears → t < terminal_count old →
     MovesIfAddressed old.addressed t (ToTerminal s)
     (channel (outbound_of old.control t s).queue
     (spool_at (terminal_at old t).spools s).records)
     (channel (outbound_of old.control t s).queue
     (spool_at (terminal_at new t).spools s).records)
-moves_to laws old new w hears t s k less =
+down_moves_to laws old new w hears t s k less =
     elim ((k.carried.kept t less).grows s) [
       | inl same ↦ inl (ap (λ (rs : List (List ℕ)). channel (outbound_of old.control t s).queue rs)
           same)
@@ -267,7 +267,7 @@ moves_to laws old new w hears t s k less =
         let c : ControlValue = old.control in
         let e : ℕ = current c in
         let was : IsTrue old.trusted × IsHeardFairly w (terminal_count old) hears =
-        was_trusted old new w hears k in
+        was_trusted_down old new w hears k in
         let text : w ≡ m.Text l.text =
         text_sent_down w (terminal_count old) hears t l.text less l.heard was.1 in
         let to : IsBidTo (Some (record { speaker = sp.Control; message = m.Text l.text })) c
@@ -275,7 +275,7 @@ moves_to laws old new w hears t s k less =
         bid_to c.task l.text c old.terminals
         (subst (λ (v : Message). InTask c.task
         (Some (record { speaker = sp.Control; message = v })) c old.terminals) text
-        (together_with old new w hears k)) in
+        (together_down old new w hears k)) in
         let there : e < terminal_count old =
         subst (λ (n : ℕ). e < n) k.line.stations.count
         (current_there c (places c k.line.stations.control.entries)) in
@@ -318,10 +318,10 @@ down_moves laws old new w hears k t FromTerminal is =
     subst (λ (c : ControlValue). MovesIfAddressed old.addressed t FromTerminal
     (channel_of old t FromTerminal) (channel (terminal_at new t).queue
     (peer_at c t).spool.records)) (sym k.carried.control)
-    (moves_from laws old new w hears t k is.there)
+    (down_moves_from laws old new w hears t k is.there)
 down_moves laws old new w hears k t (ToTerminal s) is =
     subst (λ (c : ControlValue). MovesIfAddressed old.addressed t (ToTerminal s)
     (channel_of old t (ToTerminal s))
     (channel (outbound_of c t s).queue (spool_at (terminal_at new t).spools s).records))
     (sym k.carried.control)
-    (moves_to laws old new w hears t s k is.there)
+    (down_moves_to laws old new w hears t s k is.there)

@@ -43,13 +43,14 @@ use Rattle.bsc_line_model.specs.Kept.{IsTuned, AreTuned}
 use Rattle.bsc_line_model.specs.Terminals.{answer_of}
 use Rattle.bsc_line_model.specs.Together.{InTask, IsSelecting, IsSending, IsInBidDown, FliesDown}
 use Rattle.bsc_line_model.specs.Rounds.{SameDelays}
+use Rattle.bsc_line_model.proofs.Entries.{current_there}
 use Rattle.bsc_line_model.proofs.Stations.{same_or_not, terminal_there, at_rest_in, receiving_into}
 use Rattle.bsc_line_model.proofs.Tuning.{NamesOwn}
-use Rattle.bsc_line_model.proofs.SendingDown.{others_in_control, one_answers, place_of}
+use Rattle.bsc_line_model.proofs.SendingDown.{others_in_control, first_answer_is, place_of}
 use Rattle.bsc_line_model.proofs.Staying.{TerminalStays, TerminalsStay, terminal_same}
 use Rattle.bsc_line_model.proofs.DownControl.{IsInBlock}
 use Rattle.bsc_line_model.proofs.DownTerminals.{takes_block, hears_other, hears_selection}
-use Rattle.bsc_line_model.proofs.Walking.{IsGood}
+use Rattle.bsc_line_model.proofs.Walking.{IsGood, good_places}
 
 -- what a terminal answers, and that nothing else moves
 pub record Answers (e : ℕ) (way : Way) (t : ℕ) (old new : TributaryValue)
@@ -75,7 +76,7 @@ answered_by_one e way v w old new there h others this =
     record {
       control = h.control;
       pending =
-          h.pending ∙ one_answers old.terminals (λ z. Whole v) new.terminals e
+          h.pending ∙ first_answer_is old.terminals (λ z. Whole v) new.terminals e
           (length old.terminals) there (λ t less differ. (others t less differ).says)
           ∙ ap (λ (o : Option Message). sent_by (sp.Terminal e) o) this.says;
       terminals = record {
@@ -89,20 +90,16 @@ answered_by_one e way v w old new there h others this =
       };
     }
 
--- the terminal of the present entry is there
-pub current_there : (l : LineValue) → IsGood l → current l.control < length l.control.peers
-current_there l g =
-    All-get_or (λ (t : ℕ). t < length l.control.peers) l.control.poll_list l.control.place 0
-    g.line.stations.control.entries.place g.line.stations.control.entries.entries
-
-pub terminal_here : (l : LineValue) → IsGood l → current l.control < length l.terminals
-terminal_here l g =
-    subst (λ (n : ℕ). current l.control < n) g.line.stations.count (current_there l g)
+-- the terminal of the present entry is one of the line
+pub current_terminal_there : (l : LineValue) → IsGood l → current l.control < length l.terminals
+current_terminal_there l g =
+    subst (λ (n : ℕ). current l.control < n) g.line.stations.count
+    (current_there l.control (good_places l g))
 
 -- a terminal in control mode does nothing with what is no call and no EOT
-pub stays_quiet : (e : ℕ) (way : Way) (t : ℕ) (x u : TributaryValue) (out : Option Message)
+pub answers_nothing : (e : ℕ) (way : Way) (t : ℕ) (x u : TributaryValue) (out : Option Message)
     (h : Heard) → x.mode ≡ Control → IsNoCall h → Hears x h u out → Answers e way t x u out None
-stays_quiet e way t x u out h mode never heard =
+answers_nothing e way t x u out h mode never heard =
     let row : record { tributary = u; sent = out } ≡ quiet_step x = heard.row
     ∙ hear_step_no_call x h (rooms_after h u) never
     ∙ ap (λ (n : Mode). mode_step x n h (rooms_after h u)) mode in
@@ -144,7 +141,7 @@ text_down l new s n b g i calm delays is h =
     let e : ℕ = current c in
     let x : TributaryValue = terminal_at l e in
     let t : TextValue = text_of (outbound_at (peer c) s).queue b in
-    let there : e < length l.terminals = terminal_here l g in
+    let there : e < length l.terminals = current_terminal_there l g in
     let sending : IsSending l.pending c l.terminals s =
     subst (λ (z : Task). InTask z l.pending c l.terminals) i.task g.together in
     let bid : IsInBidDown l.pending (peer c) e s x = sending.bid in
@@ -169,7 +166,7 @@ text_down l new s n b g i calm delays is h =
     into calm counted same.0 same.1 (h.terminals.each e there) in
     answered_by_one e (ToTerminal s) (m.Text t) (message_of (ack b.alternation)) l new there h
     (λ z less differ.
-    stays_quiet e (ToTerminal s) z (terminal_at l z) (terminal_at new z)
+    answers_nothing e (ToTerminal s) z (terminal_at l z) (terminal_at new z)
     (answer_of l.terminals (λ y. Whole (m.Text t)) new.terminals z) (Whole (m.Text t))
     (others_in_control l.addressed e z (ToTerminal s) (terminal_at l z).mode addressed differ
     (tuned z less)) tt (h.terminals.each z less))
@@ -223,11 +220,11 @@ call_down laws l new s g task select ready delays h =
     let e : ℕ = current c in
     let x : TributaryValue = terminal_at l e in
     let a : List ℕ = select_address (peer c).terminal s in
-    let there : e < length l.terminals = terminal_here l g in
+    let there : e < length l.terminals = current_terminal_there l g in
     let selecting : IsSelecting l.pending c l.terminals s false =
     subst (λ (z : Task). InTask z l.pending c l.terminals) task g.together in
     let peer_is : IsPeer (peer c) =
-    All-get_or IsPeer c.peers e no_peer (current_there l g)
+    All-get_or IsPeer c.peers e no_peer (current_there c (good_places l g))
     g.line.stations.control.entries.peers in
     let addresses : x.terminal ≡ (peer c).terminal = (g.line.stations.members e there).addresses in
     let within : s < length (peer c).terminal.selects =

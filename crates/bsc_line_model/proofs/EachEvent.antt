@@ -122,15 +122,15 @@ pub peer_there : (l : LineValue) (t : ℕ) → IsLine l → t < terminal_count l
     → t < length l.control.peers
 peer_there l t line there = subst (λ (n : ℕ). t < n) (sym line.stations.count) there
 
-select_there : (l : LineValue) (t s : ℕ) → IsLine l → t < terminal_count l → s < select_count l t
+outbound_there : (l : LineValue) (t s : ℕ) → IsLine l → t < terminal_count l → s < select_count l t
     → s < length (peer_at l.control t).outbounds
-select_there l t s line there select =
+outbound_there l t s line there select =
     way_there l.control l.terminals t (ToTerminal s) line.stations there select
 
 pub offer_for_stays : BidLaws → OfferForStays
 offer_for_stays bids l t s r c line there select short is e =
     let within : s < length (peer_at l.control t).outbounds =
-    select_there l t s line there select in
+    outbound_there l t s line there select in
     line_peer l.control c l.terminals l.pending l.trusted l.addressed t _ line
     (peer_there l t line there) e is
     (offer_for_like bids (peer_at l.control t) (terminal_at l t) s r within
@@ -148,4 +148,4 @@ release_to_stays bids l t s c line there select is e =
     line_peer l.control c l.terminals l.pending l.trusted l.addressed t _ line
     (peer_there l t line there) e is
     (release_to_like bids (peer_at l.control t) (terminal_at l t) s
-    (select_there l t s line there select))
+    (outbound_there l t s line there select))

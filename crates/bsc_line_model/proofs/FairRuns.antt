@@ -145,8 +145,8 @@ run_grows at (suc n) old new (Err stopped) line (inr go) =
 abbrev Between : ℕ → ℕ → ℕ → Type 0
 Between a b c = ((b ≡ a) × (a < 2 ^ 64 - 1)) × ((c ≡ b) × (b < 2 ^ 64 - 1))
 
-between : (a b c : ℕ) → Grows a b → Grows b c → (c ≡ a) × (a < 2 ^ 64 - 1) → Between a b c
-between a b c x y same =
+counts_between : (a b c : ℕ) → Grows a b → Grows b c → (c ≡ a) × (a < 2 ^ 64 - 1) → Between a b c
+counts_between a b c x y same =
     let equal : c ≡ a = same.0 in
     let less : a < 2 ^ 64 - 1 = same.1 in
     let first : (a ≤ b) × (b ≤ 2 ^ 64 - 1) = x (omega (arith, less)) in
@@ -162,11 +162,11 @@ first_same old mid new x y h d =
     record {
       control = λ t less.
           let on : t < terminal_count mid = omega (arith, less, x.count) in
-          (between (peer_at old.control t).spool.delays (peer_at mid.control t).spool.delays
+          (counts_between (peer_at old.control t).spool.delays (peer_at mid.control t).spool.delays
           (peer_at new.control t).spool.delays (x.control t less) (y.control t on)
           (d.control t less)).0;
       terminals = λ t s is.
-          (between (spool_at (terminal_at old t).spools s).delays
+          (counts_between (spool_at (terminal_at old t).spools s).delays
           (spool_at (terminal_at mid t).spools s).delays
           (spool_at (terminal_at new t).spools s).delays (x.terminals t s is)
           (y.terminals t s (channel_stays CarrySent old mid t (ToTerminal s) h is))
@@ -179,13 +179,13 @@ rest_same old mid new x y h d =
     record {
       control = λ t less.
           let before : t < terminal_count old = omega (arith, less, x.count) in
-          (between (peer_at old.control t).spool.delays (peer_at mid.control t).spool.delays
+          (counts_between (peer_at old.control t).spool.delays (peer_at mid.control t).spool.delays
           (peer_at new.control t).spool.delays (x.control t before) (y.control t less)
           (d.control t before)).1;
       terminals = λ t s is.
           let was : IsChannel old t (ToTerminal s) =
           channel_was CarrySent old mid t (ToTerminal s) h is in
-          (between (spool_at (terminal_at old t).spools s).delays
+          (counts_between (spool_at (terminal_at old t).spools s).delays
           (spool_at (terminal_at mid t).spools s).delays
           (spool_at (terminal_at new t).spools s).delays (x.terminals t s was)
           (y.terminals t s is) (d.terminals t s was)).1;

@@ -43,6 +43,7 @@ pub mod Selections
 pub mod UpTerminals
 pub mod UpControl
 pub mod Polls
+pub mod Positions
 pub mod VisitWays
 pub mod Visits
 pub mod VisitCounts

@@ -1,7 +1,7 @@
 -- Only the addressed channel moves: from what each channel does to what all do.
-use Rattle.std.proofs.Common.{◌≡◌, ◌⊎◌, inl, inr, ℕ, ◌<◌, ◌≤◌, Bool, true, false, nat_lt, length}
-use Rattle.std.proofs.Common.{Option, None, Some, refl, sym, ap, subst, arith}
-use Rattle.std.proofs.lemmas.Bool.Decides.{nat_tests}
+use Rattle.std.proofs.Common.{◌≡◌, ◌⊎◌, inl, inr, ℕ, ◌<◌, length, Option, None, Some, sym, ap}
+use Rattle.std.proofs.Common.{subst, arith}
+use Rattle.std.proofs.lemmas.Bool.{cases_lt}
 use Rattle.bsc_text.specs.Channel.{Channel, Land, Learn, Makes}
 use Rattle.bsc_control.specs.declared.way.Way.{Way}
 use Rattle.bsc_control.specs.declared.way.Way.TheVariants.{FromTerminal, ToTerminal}
@@ -24,11 +24,8 @@ EachMoves addressed old new = (t : ℕ) (way : Way) → IsChannel old t way
 
 -- there is such a channel or not
 pub less_or_not : (a b : ℕ) → (a < b) ⊎ (a < b → ⊥)
-less_or_not a b = by_test (nat_lt a b) refl
-  where
-    by_test : (less : Bool) → nat_lt a b ≡ less → (a < b) ⊎ (a < b → ⊥)
-    by_test true is = inl (grind (arith, nat_tests))
-    by_test false is = inr (λ less. let far : b ≤ a = grind (arith, nat_tests) in omega arith)
+less_or_not a b =
+    elim (cases_lt a b) [ inl less ↦ inl less | inr far ↦ inr (λ less. omega (arith, less, far)) ]
 
 way_or_not : (l : LineValue) (t : ℕ) (way : Way) → IsWay (terminal_at l t) way
     ⊎ (IsWay (terminal_at l t) way → ⊥)

@@ -1,7 +1,8 @@
 -- Delivery by a number: a visit and a round of exactly as many transmissions as their lengths.
-use Rattle.std.proofs.Common.{◌≡◌, ◌≢◌, ◌⊎◌, inl, inr, ℕ, ◌+◌, ◌<◌, ◌≤◌, true, false, Bool, nat_eq}
-use Rattle.std.proofs.Common.{nat_lt, List, [], length, get_or, slice_get, Option, Some, Result, Ok}
+use Rattle.std.proofs.Common.{◌≡◌, ◌≢◌, inl, inr, ℕ, ◌+◌, ◌<◌, ◌≤◌, true, false, Bool, nat_eq}
+use Rattle.std.proofs.Common.{List, [], length, get_or, slice_get, Option, Some, Result, Ok}
 use Rattle.std.proofs.Common.{Err, refl, sym, ◌∙◌, ap, subst, arith, if◌then◌else◌}
+use Rattle.std.proofs.lemmas.Bool.{cases_lt}
 use Rattle.std.proofs.lemmas.Bool.Decides.{nat_tests}
 use Rattle.std.proofs.lemmas.List.{get_or_past}
 use Rattle.std.proofs.lemmas.List.Elements.{All-get_or}
@@ -28,7 +29,7 @@ use Rattle.bsc_control.specs.Addresses.{IsAddressOf, address_for}
 use Rattle.bsc_control.specs.Peer.{OutboundValue, IsPeer, no_peer, no_outbound}
 use Rattle.bsc_control.specs.Control.{peer_at, peer, current, terminals, terminal_of_entry}
 use Rattle.bsc_control.specs.CallOrder.{way_from, first_call}
-use Rattle.bsc_control.specs.Kept.{IsTaskOf, SuitsTask, IsSelected, outbound_of}
+use Rattle.bsc_control.specs.Kept.{IsTaskOf, outbound_of}
 use Rattle.bsc_line_model.specs.declared.transmission.Speaker.TheVariants as sp
 use Rattle.bsc_line_model.specs.Transmission.{sent_by}
 use Rattle.bsc_line_model.specs.declared.error.Stopped.{Stopped}
@@ -41,18 +42,20 @@ use Rattle.bsc_line_model.specs.Rounds.{entry_at, place_after, sent_times, IsCal
 use Rattle.bsc_line_model.specs.Rounds.{IsDelivered, SameDelays, IsVisited, IsRoundDone}
 use Rattle.bsc_line_model.specs.Rounds.{RunsDeliverVisit, RunsDeliverRound}
 use Rattle.bsc_line_model.specs.Together.{IsQuiet, AllQuiet, IsSelecting, InTask}
+use Rattle.bsc_line_model.proofs.Entries.{current_there}
+use Rattle.bsc_line_model.proofs.OutboundSteps.{selected_there}
 use Rattle.bsc_line_model.proofs.Soundness.{way_there}
 use Rattle.bsc_line_model.proofs.Stations.{same_or_not, terminal_there}
 use Rattle.bsc_line_model.proofs.DownControl.{address_at}
-use Rattle.bsc_line_model.proofs.DownSteps.{current_there, terminal_here}
-use Rattle.bsc_line_model.proofs.Walking.{IsGood, Walks}
+use Rattle.bsc_line_model.proofs.DownSteps.{current_terminal_there}
+use Rattle.bsc_line_model.proofs.Walking.{IsGood, Walks, good_places}
 use Rattle.bsc_line_model.proofs.Selections.{VisitLaws, Comes, Calls}
-use Rattle.bsc_line_model.proofs.Polls.{all_quiet}
+use Rattle.bsc_line_model.proofs.Polls.{all_quiet_at_poll}
 use Rattle.bsc_line_model.proofs.Visits.{IsCalmAt, IsVisited as Visiting, IsVisitDone, StaysBut}
 use Rattle.bsc_line_model.proofs.Visits.{but_same, selections_length, visit_from}
-use Rattle.bsc_line_model.proofs.VisitCounts.{begins, visit_is}
+use Rattle.bsc_line_model.proofs.VisitCounts.{calls_where_made, visit_is}
 use Rattle.bsc_line_model.proofs.RoundSteps.{IsEmptied, IsRoundAt, round_from, still_calm, wrapped}
-use Rattle.bsc_line_model.proofs.RoundSteps.{not_last}
+use Rattle.bsc_line_model.proofs.RoundSteps.{not_last, entry_there}
 use Rattle.bsc_line_model.proofs.Delivered.{all_delivered}
 use Rattle.bsc_line_model.proofs.FairRuns.{walks, good_line}
 
@@ -61,17 +64,16 @@ selects_count : (l : LineValue) → IsGood l → length (peer l.control).outboun
     ≡ length (peer l.control).terminal.selects
 selects_count l g =
     let is : IsPeer (peer l.control) =
-    All-get_or IsPeer l.control.peers (current l.control) no_peer (current_there l g)
+    All-get_or IsPeer l.control.peers (current l.control) no_peer
+    (current_there l.control (good_places l g))
     g.line.stations.control.entries.peers in
     is.outbounds
 
 called_there : (l : LineValue) (s : ℕ) → IsGood l → l.control.task ≡ k.Selecting s false → s
     < length (peer l.control).terminal.selects
 called_there l s g task =
-    let selected : IsSelected (peer l.control) s =
-    subst (λ (t : Task). SuitsTask t (peer l.control)) task
-    g.line.stations.control.orderly.suits in
-    subst (λ (n : ℕ). s < n) (selects_count l g) selected.there
+    subst (λ (n : ℕ). s < n) (selects_count l g)
+    (selected_there l.control s false g.line.stations.control task)
 
 called_within : (l : LineValue) (way : Way) (s : ℕ) → IsGood l → IsTaskOf way l.control.task → way
     ≡ ToTerminal s → s < length (peer l.control).terminal.selects
@@ -84,15 +86,6 @@ own_address : (x : TerminalValue) (way : Way)
     ≡ Some (address_at x way)
 own_address x FromTerminal within = refl
 own_address x (ToTerminal s) within = slice_get-get_or x.selects s x.poll (within s refl)
-
--- an entry names a terminal
-entry_there : (l : LineValue) (j : ℕ) → IsGood l → j < length l.control.poll_list → entry_at l j
-    < terminal_count l
-entry_there l j g less =
-    let peer_there : entry_at l j < length l.control.peers =
-    All-get_or (λ (t : ℕ). t < length l.control.peers) l.control.poll_list j 0 less
-    g.line.stations.control.entries.entries in
-    subst (λ (n : ℕ). entry_at l j < n) g.line.stations.count peer_there
 
 -- a visit begins where the first call of an entry is pending
 first_calm : (l : LineValue) (t : ℕ) → IsGood l → t < terminal_count l → IsCalmAt l t → IsCalm l t
@@ -119,9 +112,10 @@ begins_next l place g h calm =
     ap (λ (t : ℕ). way_from (peer_at l.control t) 0) same in
     let there : slice_get (terminals l.control) (current l.control)
     ≡ Some (peer l.control).terminal =
-    terminal_there l.control l.terminals (current l.control) g.line.stations (terminal_here l g)
+    terminal_there l.control l.terminals (current l.control) g.line.stations
+    (current_terminal_there l g)
     ∙ ap (λ (x : TerminalValue). Some x)
-    (g.line.stations.members (current l.control) (terminal_here l g)).addresses in
+    (g.line.stations.members (current l.control) (current_terminal_there l g)).addresses in
     let own : IsAddressOf (terminals l.control) (current l.control) way address =
     record {
       terminal = (peer l.control).terminal;
@@ -155,16 +149,9 @@ first_calls l place g b =
     let same : current l.control ≡ entry_at l place = terminal_of l place b in
     let way : Way = (first_call l.control place).way in
     let calls : Calls l place way =
-    begins l place b.address way g b.called b.pending
+    calls_where_made l place b.address way g b.called b.pending
     (λ s is. called_within l way s g b.called.task is) in
     subst (λ (t : ℕ). Calls l place (way_from (peer_at l.control t) 0)) (sym same) calls
-
-less_or_not : (a b : ℕ) → (a < b) ⊎ (b ≤ a)
-less_or_not a b = by_test (nat_lt a b) refl
-  where
-    by_test : (c : Bool) → nat_lt a b ≡ c → (a < b) ⊎ (b ≤ a)
-    by_test true is = inl (grind (arith, nat_tests))
-    by_test false is = inr (grind (arith, nat_tests))
 
 calm_at : (l : LineValue) (t : ℕ) → IsGood l → t < terminal_count l → IsCalm l t → IsCalmAt l t
 calm_at l t g there c =
@@ -174,7 +161,7 @@ calm_at l t g there c =
       urgent_for = c.not_urgent_for;
       sure_up = c.no_doubt FromTerminal (record { there = there; its_way = tt });
       sure_down = λ s.
-          elim (less_or_not s (length (terminal_at l t).terminal.selects)) [
+          elim (cases_lt s (length (terminal_at l t).terminal.selects)) [
             | inl less ↦ c.no_doubt (ToTerminal s) (record { there = there; its_way = less })
             | inr past ↦ ap (λ (o : OutboundValue). is_in_doubt o.sender.phase)
                 (get_or_past (peer_at l.control t).outbounds s no_outbound (beyond s past))
@@ -198,7 +185,7 @@ calm_at l t g there c =
 quiet_by : (l : LineValue) (way : Way) (a : List ℕ) → IsGood l → IsTaskOf way l.control.task
     → l.pending ≡ Some (record { speaker = sp.Control; message = m.Call a })
     → AllQuiet l.control l.terminals
-quiet_by l FromTerminal a g task is = all_quiet l a Nothing g task is
+quiet_by l FromTerminal a g task is = all_quiet_at_poll l a Nothing g task is
 quiet_by l (ToTerminal s) a g task is =
     let selecting : IsSelecting l.pending l.control l.terminals s false =
     subst (λ (z : Task). InTask z l.pending l.control l.terminals) task g.together in

@@ -153,9 +153,9 @@ same_of : (addressed : Option (ℕ × Way)) (t u : ℕ) → IsAddressed addresse
     → IsAddressed addressed u → t ≡ u
 same_of addressed t u a b = same_terminal addressed t u a.way b.way a.is b.is
 
-pub one_answers : (laws : NamesOwn) (w : Message) (hears : ℕ → Heard) (old new : LineValue)
+pub same_answerer : (laws : NamesOwn) (w : Message) (hears : ℕ → Heard) (old new : LineValue)
     (t u : ℕ) → Carried w hears old new → Answers hears old new t → Answers hears old new u → t ≡ u
-one_answers laws w hears old new t u k a b = by_message w refl
+same_answerer laws w hears old new t u k a b = by_message w refl
   where
     other : is_call w ≡ false → t ≡ u
     other never =

@@ -245,7 +245,7 @@ polling_queues c replied h rooms t k places = by_heard h
         rooms) t k places
 
 -- what the task needs of the selection address is there
-selected_there : (c : ControlValue) (s : ℕ) (enquired : Bool) → IsControl c → c.task
+pub selected_there : (c : ControlValue) (s : ℕ) (enquired : Bool) → IsControl c → c.task
     ≡ Selecting s enquired → s < length (peer c).outbounds
 selected_there c s enquired is task =
     let suits : IsSelected (peer c) s =
@@ -291,18 +291,18 @@ outbound_queue c d h out t k is row =
         inl (same ∙ polling_queues c replied h (rooms_after c h d) t k listed)
 
 -- a silence leaves all queues as they were
-selects_again : (c : ControlValue) (s : ℕ) (enquired over : Bool) (t k : ℕ) → HasPlaces c →
+selects_again_queues : (c : ControlValue) (s : ℕ) (enquired over : Bool) (t k : ℕ) → HasPlaces c →
     (outbound_of (if over then next_call_step c (Selection s) else answer_step
     (record c { failures = c.failures + 1 }) (repeated c s enquired)).control t k).queue
     ≡ (outbound_of c t k).queue
-selects_again c s enquired true t k listed = next_queues c (Selection s) t k listed
-selects_again c s enquired false t k listed = refl
+selects_again_queues c s enquired true t k listed = next_queues c (Selection s) t k listed
+selects_again_queues c s enquired false t k listed = refl
 
-polls_again : (c : ControlValue) (over : Bool) (t k : ℕ) → HasPlaces c
+polls_again_queues : (c : ControlValue) (over : Bool) (t k : ℕ) → HasPlaces c
     → (outbound_of (if over then next_call_step c (Poll false) else poll_call_step c c.place
     (c.failures + 1)).control t k).queue ≡ (outbound_of c t k).queue
-polls_again c true t k listed = next_queues c (Poll false) t k listed
-polls_again c false t k listed =
+polls_again_queues c true t k listed = next_queues c (Poll false) t k listed
+polls_again_queues c false t k listed =
     polls_queues c c.place (c.failures + 1) t k (current_there c listed)
 
 pub outbound_silent_queue : (c d : ControlValue) (out : Option Message) (t k : ℕ) → IsControl c
@@ -317,11 +317,12 @@ outbound_silent_queue c d out t k is row =
         ≡ (outbound_of c t k).queue
     in_task AtRest e = next_queues c Start t k listed
     in_task (Selecting s enquired) e =
-        selects_again c s enquired (nat_lt c.setup.tries (c.failures + 1)) t k listed
+        selects_again_queues c s enquired (nat_lt c.setup.tries (c.failures + 1)) t k listed
     in_task (Sending s) e =
         acted_still c s (silence_step (outbound_at (peer c) s).sender
         (outbound_at (peer c) s).queue) (Selection s) t k listed (sending_there c s is e)
         (silence_queue (outbound_at (peer c) s).sender (outbound_at (peer c) s).queue)
-    in_task (Polling Nothing) e = polls_again c (nat_lt c.setup.tries (c.failures + 1)) t k listed
+    in_task (Polling Nothing) e =
+        polls_again_queues c (nat_lt c.setup.tries (c.failures + 1)) t k listed
     in_task (Polling WithoutRvi) e = next_queues c (Poll false) t k listed
     in_task (Polling WithRvi) e = next_queues c (Poll true) t k listed

@@ -1,11 +1,9 @@
 -- A poll where all is heard: after the call, two transmissions a block, and EOT, everything that
 -- waited is delivered
 -- and known, and the first call of the next entry is pending.
-use Rattle.std.proofs.Common.{◌≡◌, ◌≢◌, ◌⊎◌, inl, inr, ℕ, zero, suc, ◌+◌, ◌*◌, ◌^◌, ◌-◌, ◌<◌, true}
-use Rattle.std.proofs.Common.{false, Bool, nat_eq, List, length, Option, None, Some, Result, refl}
+use Rattle.std.proofs.Common.{◌≡◌, ◌≢◌, ◌⊎◌, inl, inr, ℕ, zero, suc, ◌+◌, ◌*◌, ◌^◌, ◌-◌, ◌<◌}
+use Rattle.std.proofs.Common.{false, nat_eq, List, length, Option, None, Some, Result, refl}
 use Rattle.std.proofs.Common.{sym, ◌∙◌, ap, subst, arith, if◌then◌else◌}
-use Rattle.std.proofs.lemmas.Bool.Decides.{nat_tests}
-use Rattle.std.proofs.lemmas.List.Elements.{All-get_or}
 use Rattle.bsc_frame.specs.declared.message.Message.{Message}
 use Rattle.bsc_frame.specs.declared.message.Message.TheVariants as msg
 use Rattle.bsc_frame.specs.declared.message.Heard.TheVariants.{Whole}
@@ -31,8 +29,7 @@ use Rattle.bsc_control.specs.declared.way.Way.TheVariants.{FromTerminal}
 use Rattle.bsc_control.specs.Addresses.{IsAddressOf}
 use Rattle.bsc_control.specs.Peer.{PeerValue}
 use Rattle.bsc_control.specs.Control.{ControlValue, peer_at, peer, current, terminals}
-use Rattle.bsc_control.specs.Control.{terminal_of_entry}
-use Rattle.bsc_control.specs.CallOrder.{way_from, next_place}
+use Rattle.bsc_control.specs.CallOrder.{Poll, way_from, next_place}
 use Rattle.bsc_line_model.specs.declared.transmission.Speaker.TheVariants as sp
 use Rattle.bsc_line_model.specs.declared.transmission.Transmission.{Transmission}
 use Rattle.bsc_line_model.specs.declared.error.Stopped.{Stopped}
@@ -44,18 +41,19 @@ use Rattle.bsc_line_model.specs.Terminals.{answer_of}
 use Rattle.bsc_line_model.specs.Together.{IsQuiet, InTask, IsPolling, IsPolledWith, IsInBidUp}
 use Rattle.bsc_line_model.specs.Together.{FliesUp}
 use Rattle.bsc_line_model.specs.Rounds.{block_count, SameDelays}
+use Rattle.bsc_line_model.proofs.Entries.{current_there, next_there}
 use Rattle.bsc_line_model.proofs.Stations.{same_or_not, terminal_there, at_rest_in}
-use Rattle.bsc_line_model.proofs.SendingDown.{others_in_control, one_answers}
+use Rattle.bsc_line_model.proofs.SendingDown.{others_in_control, first_answer_is}
 use Rattle.bsc_line_model.proofs.Staying.{Stays, ControlStays, TerminalStays, control_same}
 use Rattle.bsc_line_model.proofs.Staying.{terminals_same, stays_then}
 use Rattle.bsc_line_model.proofs.DownControl.{HasCalled}
 use Rattle.bsc_line_model.proofs.DownTerminals.{hears_other}
-use Rattle.bsc_line_model.proofs.DownSteps.{Answers, current_there, terminal_here, stays_quiet}
+use Rattle.bsc_line_model.proofs.DownSteps.{Answers, current_terminal_there, answers_nothing}
 use Rattle.bsc_line_model.proofs.DownSteps.{names_other}
 use Rattle.bsc_line_model.proofs.UpTerminals.{IsInBlockUp, SendsUp, EndsUp, GoesOnUp, ack_no_call}
 use Rattle.bsc_line_model.proofs.UpTerminals.{hears_ack, hears_poll}
 use Rattle.bsc_line_model.proofs.UpControl.{IsPolled, CallsNext, takes_up, polled_out}
-use Rattle.bsc_line_model.proofs.Walking.{IsGood, Walks, Stepped, one_step}
+use Rattle.bsc_line_model.proofs.Walking.{IsGood, good_places, Walks, Stepped, one_step}
 use Rattle.bsc_line_model.proofs.Selections.{VisitLaws, Comes, Calls, known_queue, current_same}
 use Rattle.bsc_text.proofs.Answering.{no_reply}
 
@@ -79,7 +77,8 @@ one_acts e v old new place n there h polled others this = (
   record {
     out = answer_of old.terminals (λ z. Whole v) new.terminals e;
     pending =
-        h.pending ∙ one_answers old.terminals (λ z. Whole v) new.terminals e (length old.terminals)
+        h.pending ∙ first_answer_is old.terminals (λ z. Whole v) new.terminals e
+        (length old.terminals)
         there (λ t less differ. (others t less differ).says);
     goes_on = this.0;
     polled = subst (λ (c : ControlValue). IsPolled c place) (sym h.control) polled;
@@ -99,10 +98,10 @@ one_acts e v old new place n there h polled others this = (
 )
 
 -- while a polling address is called no terminal sends
-pub all_quiet : (l : LineValue) (a : List ℕ) (replied : Replied) → IsGood l → l.control.task
+pub all_quiet_at_poll : (l : LineValue) (a : List ℕ) (replied : Replied) → IsGood l → l.control.task
     ≡ k.Polling replied → l.pending ≡ Some (record { speaker = sp.Control; message = msg.Call a })
     → (t : ℕ) → t < length l.terminals → IsQuiet (peer_at l.control t) (terminal_at l t)
-all_quiet l a replied g task is t less =
+all_quiet_at_poll l a replied g task is t less =
     elim (same_or_not t (current l.control)) [
       | inl same ↦ subst (λ (n : ℕ). IsQuiet (peer_at l.control n) (terminal_at l n)) (sym same)
           (here polling.present)
@@ -139,7 +138,7 @@ call_up laws l new n g task sure count is h =
     let e : ℕ = current c in
     let x : TributaryValue = terminal_at l e in
     let a : List ℕ = (peer c).terminal.poll in
-    let there : e < length l.terminals = terminal_here l g in
+    let there : e < length l.terminals = current_terminal_there l g in
     let own : a ≡ x.terminal.poll =
     ap (λ (z : TerminalValue). z.poll) (sym (g.line.stations.members e there).addresses) in
     let its : IsAddressOf (terminals c) e FromTerminal a =
@@ -152,7 +151,7 @@ call_up laws l new n g task sure count is h =
     } in
     let rests : (t : ℕ) → t < length l.terminals → IsAtRest (terminal_at l t).sender.phase =
     λ t less. at_rest_in (terminal_at l t).mode (terminal_at l t).sender.phase
-    (length (terminal_at l t).spools) (all_quiet l a Nothing g task is t less).mode
+    (length (terminal_at l t).spools) (all_quiet_at_poll l a Nothing g task is t less).mode
     (g.line.stations.members t less).tributary.bid in
     let named : called_as x.terminal a ≡ Polling = (laws.names.polling x.terminal a).1 own in
     one_acts e (msg.Call a) l new c.place n there h
@@ -216,10 +215,11 @@ text_up l new place n b g polled i calm delays is h =
       | inr d ↦ not_landed_up l.pending (peer c) e x b t is i.phase d
     ] in
     let room : ((peer_at new.control e).spool.delays ≡ (peer c).spool.delays)
-    × ((peer c).spool.delays < 2 ^ 64 - 1) = delays.control e (terminal_here l g) in
+    × ((peer c).spool.delays < 2 ^ 64 - 1) = delays.control e (current_terminal_there l g) in
     let y : (h.sent ≡ Some (message_of (ack b.alternation))) × IsPolled new.control place
     × ControlStays e FromTerminal c new.control =
-    takes_up c new.control h.sent t b.alternation place (current_there l g) polled calm counted
+    takes_up c new.control h.sent t b.alternation place (current_there c (good_places l g))
+    polled calm counted
     room.0 room.1 h.control in
     record {
       pending = h.pending ∙ ap (λ (o : Option Message). sent_by sp.Control o) y.0;
@@ -240,14 +240,14 @@ ack_up laws l new place n b g polled i h =
     let e : ℕ = current c in
     let x : TributaryValue = terminal_at l e in
     let w : Message = message_of (ack b.alternation) in
-    let there : e < length l.terminals = terminal_here l g in
+    let there : e < length l.terminals = current_terminal_there l g in
     let tuned : AreTuned l.addressed l.terminals = g.line.tuned g.trusted in
     let addressed : l.addressed ≡ Some (e, FromTerminal) =
     subst (λ (z : Mode). IsTuned l.addressed e z) i.mode (tuned e there) in
     let ready : IsReady x.sender x.queue = (g.line.stations.members e there).tributary.ready in
     one_acts e w l new place n there h polled
     (λ z less differ.
-    stays_quiet e FromTerminal z (terminal_at l z) (terminal_at new z)
+    answers_nothing e FromTerminal z (terminal_at l z) (terminal_at new z)
     (answer_of l.terminals (λ y. Whole w) new.terminals z) (Whole w)
     (others_in_control l.addressed e z FromTerminal (terminal_at l z).mode addressed differ
     (tuned z less)) (ack_no_call b.alternation) (h.terminals.each z less))
@@ -270,20 +270,6 @@ pub record IsPollDone (e place : ℕ) (old new : LineValue) : Type 0 where
   pub delivered : block_count (terminal_at new e).queue ≡ 0
   pub stays : Stays e FromTerminal old new
 
-within : (place n : ℕ) → place < n → (b : Bool) → nat_eq (place + 1) n ≡ b
-    → (if b then 0 else place + 1) < n
-within place n less true e = omega (arith, less)
-within place n less false e = let differ : place + 1 ≢ n = grind (arith, nat_tests) in
-    omega (arith, less, differ)
-
-next_there : (l : LineValue) → IsGood l → terminal_of_entry l.control (next_place l.control)
-    < length l.control.peers
-next_there l g =
-    All-get_or (λ (t : ℕ). t < length l.control.peers) l.control.poll_list (next_place l.control) 0
-    (within l.control.place (length l.control.poll_list) g.line.stations.control.entries.place
-    (nat_eq (l.control.place + 1) (length l.control.poll_list)) refl)
-    g.line.stations.control.entries.entries
-
 -- EOT: the next entry
 eot_up : (l new : LineValue) (place : ℕ) (out : Option Message) → IsGood l → IsGood new
     → IsPolled l.control place → EndsUp (terminal_at l (current l.control)) out
@@ -293,7 +279,8 @@ eot_up l new place out g good polled ends h =
     let e : ℕ = current c in
     let y : CallsNext new.control h.sent (next_place c)
     × ControlStays e FromTerminal c new.control =
-    polled_out c new.control h.sent place (next_there l g) polled h.control in
+    polled_out c new.control h.sent place (next_there c (Poll false) (good_places l g)) polled
+    h.control in
     let after : EndsUp (terminal_at new e) out =
     subst (λ (ts : List TributaryValue). EndsUp (terminal_in ts e) out) (sym h.terminals)
     ends in

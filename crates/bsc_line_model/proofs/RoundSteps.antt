@@ -1,14 +1,12 @@
 -- A round of the poll list where all is heard: a visit of each entry, in which nothing waits any
 -- more for a terminal
 -- that was visited before.
-use Rattle.std.proofs.Common.{◌≡◌, ◌≢◌, inl, inr, ℕ, zero, suc, ◌+◌, ◌<◌, true, false, Bool, not}
-use Rattle.std.proofs.Common.{nat_eq, nat_lt, is_some, List, ◌∷◌, length, drop, get_or, None, Some}
-use Rattle.std.proofs.Common.{Result, refl, sym, ◌∙◌, ap, subst, arith, if◌then◌else◌}
+use Rattle.std.proofs.Common.{◌≡◌, ◌≢◌, inl, inr, ℕ, zero, suc, ◌+◌, ◌<◌, true, false, Bool}
+use Rattle.std.proofs.Common.{nat_eq, is_some, position, List, ◌∷◌, length, drop, get_or, Option}
+use Rattle.std.proofs.Common.{option_map, None, Some, Result, refl, sym, ◌∙◌, ap, subst, arith, if◌then◌else◌}
 use Rattle.std.proofs.Math.Seq.{drop-cons}
 use Rattle.std.proofs.lemmas.Bool.Decides.{nat_tests}
 use Rattle.std.proofs.lemmas.List.{drop_all}
-use Rattle.std.proofs.lemmas.List.Elements.{All-get_or}
-use Rattle.std.specs.List.{position_or_len}
 use Rattle.bsc_spool.specs.Queue.{QueueValue}
 use Rattle.bsc_text.specs.Sender.{is_in_doubt}
 use Rattle.bsc_control.specs.Peer.{PeerValue, OutboundValue}
@@ -16,52 +14,32 @@ use Rattle.bsc_control.specs.Control.{peer_at, peer, current}
 use Rattle.bsc_control.specs.CallOrder.{way_from}
 use Rattle.bsc_control.specs.Kept.{outbound_of}
 use Rattle.bsc_line_model.specs.declared.error.Stopped.{Stopped}
-use Rattle.bsc_line_model.specs.Line.{LineValue, terminal_at}
+use Rattle.bsc_line_model.specs.Line.{LineValue, terminal_at, terminal_count}
 use Rattle.bsc_line_model.specs.Rounds.{block_count, poll_length, visit_length, entries_length}
-use Rattle.bsc_line_model.specs.Rounds.{is_seen}
+use Rattle.bsc_line_model.specs.Rounds.{is_seen, entry_at}
+use Rattle.bsc_line_model.proofs.Positions.{position_first, position_later}
 use Rattle.bsc_line_model.proofs.Stations.{same_or_not}
-use Rattle.bsc_line_model.proofs.Walking.{IsGood, Walks}
+use Rattle.bsc_line_model.proofs.Walking.{IsGood, Walks, good_places}
 use Rattle.bsc_line_model.proofs.Selections.{VisitLaws, Comes, Calls}
 use Rattle.bsc_line_model.proofs.Visits.{StaysBut, but_same, IsCalmAt, IsVisited, IsVisitDone}
 use Rattle.bsc_line_model.proofs.Visits.{selections_length, same_lengths, visit_from}
 use Rattle.bsc_line_model.proofs.VisitCounts.{visit_is, no_selections}
 
 -- one more was visited
-same_test : (n e : ℕ) (xs : List ℕ) (a b : Bool) → nat_lt (1 + n) (length (e ∷ xs)) ≡ a
-    → nat_lt n (length xs) ≡ b → a ≡ b
-same_test n e xs true true x y = refl
-same_test n e xs false false x y = refl
-same_test n e xs true false x y =
-    absurd (let more : length (e ∷ xs) ≡ length xs + 1 = omega arith in grind (arith, nat_tests))
-same_test n e xs false true x y =
-    absurd (let more : length (e ∷ xs) ≡ length xs + 1 = omega arith in grind (arith, nat_tests))
-
 pub seen_more : (t e : ℕ) (seen : List ℕ) → t ≢ e → is_seen t (e ∷ seen) ≡ is_seen t seen
 seen_more t e seen differ =
     let no : nat_eq t e ≡ false = grind (arith, nat_tests) in
-    let n : position_or_len (nat_eq t) (e ∷ seen) ≡ 1 + position_or_len (nat_eq t) seen =
-    ap (λ (b : Bool). if not b then 1 + position_or_len (nat_eq t) seen else 0) no in
-    ap (λ (k : ℕ). is_some (if nat_lt k (length (e ∷ seen)) then Some k else None)) n
-    ∙ by_test (position_or_len (nat_eq t) seen)
-    (nat_lt (1 + position_or_len (nat_eq t) seen) (length (e ∷ seen)))
-    (nat_lt (position_or_len (nat_eq t) seen) (length seen))
-    (same_test (position_or_len (nat_eq t) seen) e seen _ _ refl refl)
+    ap (is_some {T = ℕ}) (position_later (nat_eq t) e seen no)
+    ∙ still_some (position (nat_eq t) seen)
   where
-    by_test : (n : ℕ) (a b : Bool) → a ≡ b → is_some (if a then Some (1 + n) else None)
-        ≡ is_some (if b then Some n else None)
-    by_test n true true z = refl
-    by_test n false false z = refl
-    by_test n true false z = absurd (cc)
-    by_test n false true z = absurd (cc)
+    still_some : (o : Option ℕ) → is_some (option_map (λ (k : ℕ). 1 + k) o) ≡ is_some o
+    still_some None = refl
+    still_some (Some k) = refl
 
 pub seen_now : (t e : ℕ) (seen : List ℕ) → t ≡ e → is_seen t (e ∷ seen) ≡ true
 seen_now t e seen same =
     let yes : nat_eq t e ≡ true = grind (arith, nat_tests) in
-    let n : position_or_len (nat_eq t) (e ∷ seen) ≡ 0 =
-    ap (λ (b : Bool). if not b then 1 + position_or_len (nat_eq t) seen else 0) yes in
-    let some : nat_lt 0 (length (e ∷ seen)) ≡ true = grind (arith, nat_tests) in
-    ap (λ (k : ℕ). is_some (if nat_lt k (length (e ∷ seen)) then Some k else None)) n
-    ∙ ap (λ (b : Bool). is_some {T = ℕ} (if b then Some 0 else None)) some
+    ap (is_some {T = ℕ}) (position_first (nat_eq t) e seen yes)
 
 -- after the last entry the first
 abbrev pub wrapped : ℕ → ℕ → ℕ
@@ -173,17 +151,11 @@ visit_entry laws at more count k seen start l new r h less there is w =
     (omega (arith, is, number)) w
 
 -- an entry names a terminal
-entry_there : (start l : LineValue) (j : ℕ) → IsGood l → l.control.poll_list
-    ≡ start.control.poll_list → j < length start.control.poll_list
-    → get_or start.control.poll_list j 0 < length l.terminals
-entry_there start l j g list inside =
-    let within : j < length l.control.poll_list =
-    subst (λ (ts : List ℕ). j < length ts) (sym list) inside in
-    let peer_there : get_or l.control.poll_list j 0 < length l.control.peers =
-    All-get_or (λ (t : ℕ). t < length l.control.peers) l.control.poll_list j 0 within
-    g.line.stations.control.entries.entries in
-    subst (λ (ts : List ℕ). get_or ts j 0 < length l.terminals) list
-    (subst (λ (n : ℕ). get_or l.control.poll_list j 0 < n) g.line.stations.count peer_there)
+pub entry_there : (l : LineValue) (j : ℕ) → IsGood l → j < length l.control.poll_list → entry_at l j
+    < terminal_count l
+entry_there l j g less =
+    subst (λ (n : ℕ). entry_at l j < n) g.line.stations.count
+    ((good_places l g).entries j 0 less)
 
 entry_length : (e : ℕ) (seen : List ℕ) (start l : LineValue)
     → (is_seen e seen ≡ true → IsEmptied l e)
@@ -219,7 +191,8 @@ round_from laws (suc m) at more count k seen start l new r h number is w =
     let e : ℕ = get_or list k 0 in
     let less : k < length list = omega (arith, number) in
     let there : (j : ℕ) → j < length list → get_or list j 0 < length l.terminals =
-    λ j inside. entry_there start l j h.good h.list inside in
+    λ j inside. subst (λ (ts : List ℕ). get_or ts j 0 < length l.terminals) h.list
+    (entry_there l j h.good (subst (λ (ts : List ℕ). j < length ts) (sym h.list) inside)) in
     let here : e < length l.terminals = there k less in
     let here_first : e < length start.terminals = subst (λ (n : ℕ). e < n) h.count here in
     let next : suc k ≡ k + 1 = omega arith in

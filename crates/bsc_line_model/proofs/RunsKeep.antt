@@ -94,11 +94,12 @@ nothing_more : (old new : LineValue) (t : ℕ) (way : Way) → new ≡ old → o
 nothing_more old new t way same = ap (λ (l : LineValue). offered_on l t way) same
     ∙ sym (append-nil (offered_on old t way))
 
-one_more : (x : Event) (old mid new : LineValue) (t : ℕ) (way : Way) (rest : List (List ℕ))
+offered_before : (x : Event) (old mid new : LineValue) (t : ℕ) (way : Way) (rest : List (List ℕ))
     → offered_on mid t way ≡ offered_on old t way ++ offered_by x t way → offered_on new t way
     ≡ offered_on mid t way ++ rest →
     offered_on new t way ≡ offered_on old t way ++ (offered_by x t way ++ rest)
-one_more x old mid new t way rest here later = later ∙ ap (λ (rs : List (List ℕ)). rs ++ rest) here
+offered_before x old mid new t way rest here later =
+    later ∙ ap (λ (rs : List (List ℕ)). rs ++ rest) here
     ∙ append_assoc (offered_on old t way) (offered_by x t way) rest
 
 run_offers : (at : ℕ) (old new : LineValue) (xs : List Event) (r : Answer) → IsLine old
@@ -107,7 +108,7 @@ run_offers : (at : ℕ) (old new : LineValue) (xs : List Event) (r : Answer) →
 run_offers at old new [] (Ok done) line k t way is = nothing_more old new t way k
 run_offers at old new [] (Err s) line k t way is = absurd k
 run_offers at old new (x ∷ xs) (Ok done) line go t way is =
-    one_more x old go.mid new t way (offered_in xs t way)
+    offered_before x old go.mid new t way (offered_in xs t way)
     (grows_by_offers x old go.mid line go.done t way is)
     (run_offers (at + 1) go.mid new xs (Ok done) go.line go.rest t way
     (channel_stays x old go.mid t way go.done is))
@@ -118,7 +119,7 @@ run_offers at old new (x ∷ xs) (Err s) line (inl stop) t way is =
 run_offers at old new (x ∷ xs) (Err s) line (inr go) t way is =
     subst (λ (es : List Event). offered_on new t way ≡ offered_on old t way ++ offered_in es t way)
     (sym (one_accepted at x xs s (stops_past (at + 1) go.mid new xs s go.rest)))
-    (one_more x old go.mid new t way (offered_in (accepted_from (at + 1) xs (Err s)) t way)
+    (offered_before x old go.mid new t way (offered_in (accepted_from (at + 1) xs (Err s)) t way)
     (grows_by_offers x old go.mid line go.done t way is)
     (run_offers (at + 1) go.mid new xs (Err s) go.line go.rest t way
     (channel_stays x old go.mid t way go.done is)))

@@ -18,15 +18,12 @@ use Rattle.bsc_text.specs.declared.phase.Phase.TheVariants.{Idle, Unanswered}
 use Rattle.bsc_text.specs.Ready.{AreWaiting, CountsOn}
 use Rattle.bsc_text.specs.Reply.{message_of, ack}
 use Rattle.bsc_text.specs.Sender.{text_of}
-use Rattle.bsc_control.specs.declared.task.Task.{Task}
-use Rattle.bsc_control.specs.declared.task.Task.TheVariants as k
 use Rattle.bsc_control.specs.declared.way.Way.{Way}
 use Rattle.bsc_control.specs.declared.way.Way.TheVariants.{ToTerminal}
 use Rattle.bsc_control.specs.Peer.{OutboundValue, IsPeer, IsOutbound, no_peer, no_outbound}
 use Rattle.bsc_control.specs.Peer.{outbound_at}
 use Rattle.bsc_control.specs.Control.{ControlValue, peer, current}
 use Rattle.bsc_control.specs.CallOrder.{way_from}
-use Rattle.bsc_control.specs.Kept.{SuitsTask, IsInBid, IsSelected}
 use Rattle.bsc_control.specs.Table.{Hears, select_address}
 use Rattle.bsc_line_model.specs.declared.transmission.Speaker.TheVariants as sp
 use Rattle.bsc_line_model.specs.declared.error.Stopped.{Stopped}
@@ -34,15 +31,17 @@ use Rattle.bsc_line_model.specs.Transmission.{sent_by}
 use Rattle.bsc_line_model.specs.Line.{LineValue, terminal_at}
 use Rattle.bsc_line_model.specs.Carries.{IsCarriedUp}
 use Rattle.bsc_line_model.specs.Rounds.{block_count}
+use Rattle.bsc_line_model.proofs.Entries.{current_there}
 use Rattle.bsc_line_model.proofs.Tuning.{NamesOwn}
 use Rattle.bsc_line_model.proofs.BlockCounts.{CutLaws}
 use Rattle.bsc_line_model.proofs.Staying.{Stays, ControlStays, terminals_same, terminals_then}
 use Rattle.bsc_line_model.proofs.Staying.{stays_then}
 use Rattle.bsc_line_model.proofs.DownControl.{HasCalled, SendsDown, EndsDown, GoesOnDown}
-use Rattle.bsc_line_model.proofs.DownControl.{begins_bid, learns}
-use Rattle.bsc_line_model.proofs.DownSteps.{OneAnswers, current_there, terminal_here, text_down}
+use Rattle.bsc_line_model.proofs.DownControl.{begins_bid_down, learns}
+use Rattle.bsc_line_model.proofs.DownSteps.{OneAnswers, current_terminal_there, text_down}
 use Rattle.bsc_line_model.proofs.DownSteps.{call_down}
-use Rattle.bsc_line_model.proofs.Walking.{IsGood, Walks, Stepped, one_step}
+use Rattle.bsc_line_model.proofs.OutboundSteps.{selected_there, sending_there}
+use Rattle.bsc_line_model.proofs.Walking.{IsGood, good_places, Walks, Stepped, one_step}
 
 -- the laws that a visit rests on
 pub record VisitLaws : Type 0 where
@@ -96,17 +95,10 @@ outbound_ready : (l : LineValue) (s : ℕ) → IsGood l → s < length (peer l.c
     → IsOutbound (outbound_at (peer l.control) s)
 outbound_ready l s g select =
     let is : IsPeer (peer l.control) =
-    All-get_or IsPeer l.control.peers (current l.control) no_peer (current_there l g)
+    All-get_or IsPeer l.control.peers (current l.control) no_peer
+    (current_there l.control (good_places l g))
     g.line.stations.control.entries.peers in
     All-get_or IsOutbound (peer l.control).outbounds s no_outbound select is.ready
-
--- the address that is sent to is there
-sent_to : (l : LineValue) (s : ℕ) → IsGood l → l.control.task ≡ k.Sending s → s
-    < length (peer l.control).outbounds
-sent_to l s g task =
-    (let h : IsInBid (peer l.control) s =
-    subst (λ (t : Task). SuitsTask t (peer l.control)) task
-    g.line.stations.control.orderly.suits in h.there)
 
 pub current_same : (c d : ControlValue) → d.poll_list ≡ c.poll_list → d.place ≡ c.place → current d
     ≡ current c
@@ -157,11 +149,13 @@ exchange laws at m l new r s n g h calm w =
     let heard : Hears c (Whole (message_of (ack b.alternation))) two.mid.control up.sent =
     subst (λ (d : ControlValue). Hears d (Whole (message_of (ack b.alternation)))
     two.mid.control up.sent) answered.control up.control in
-    let select : s < length (peer c).outbounds = sent_to l s g h.sends.in_block.task in
+    let select : s < length (peer c).outbounds =
+    sending_there c s g.line.stations.control h.sends.in_block.task in
     let ready : IsOutbound o = outbound_ready l s g select in
     let learnt : GoesOnDown two.mid.control up.sent c.place s n
     × ControlStays e (ToTerminal s) c two.mid.control =
-    learns laws.cuts c two.mid.control up.sent s n b (current_there l g) select h.sends.in_block
+    learns laws.cuts c two.mid.control up.sent s n b (current_there c (good_places l g))
+    select h.sends.in_block
     (known_queue o.queue o.sender.phase b ready.queue h.sends.in_block.phase ready.counts)
     heard in
     record {
@@ -241,7 +235,7 @@ blocks_down laws (suc n) at m count e place l new r s g is here h calm number w 
     let y : Exchanged e place s (suc n) l x.line = x.holds in
     let sends : SendsDown x.line.control y.sent place s n = y.goes_on in
     let there : e < length l.terminals =
-    subst (λ (z : ℕ). z < length l.terminals) is (terminal_here l g) in
+    subst (λ (z : ℕ). z < length l.terminals) is (current_terminal_there l g) in
     let z : Comes (IsSelectionDone e place s x.line) m r new =
     blocks_down laws n x.at m (2 * (n + 1) + m) e place x.line new r s y.good
     (current_same l.control x.line.control y.stays.control.poll_list (sends.place_is ∙ sym here)
@@ -254,14 +248,6 @@ blocks_down laws (suc n) at m count e place l new r s g is here h calm number w 
       holds = done_since e place s l x.line z.line y.stays z.holds;
       rest = z.rest;
     }
-
--- the selection address that was called is there
-selected_there : (l : LineValue) (s : ℕ) → IsGood l → l.control.task ≡ k.Selecting s false → s
-    < length (peer l.control).outbounds
-selected_there l s g task =
-    (let h : IsSelected (peer l.control) s =
-    subst (λ (t : Task). SuitsTask t (peer l.control)) task
-    g.line.stations.control.orderly.suits in h.there)
 
 -- a selection with n + 1 blocks
 pub selection : (laws : VisitLaws) (n at m count : ℕ) (l new : LineValue)
@@ -279,7 +265,8 @@ selection laws n at m count l new r s g h ready calm number is w =
     let left : count ≡ suc (suc (2 * (n + 1) + m)) = omega (arith, is) in
     let calls : l.pending ≡ Some (record { speaker = sp.Control; message = msg.Call a }) = h.pending
     ∙ ap (λ (z : Option Message). sent_by sp.Control z) h.called.call in
-    let select : s < length (peer c).outbounds = selected_there l s g h.called.task in
+    let select : s < length (peer c).outbounds =
+    selected_there c s false g.line.stations.control h.called.task in
     let one : Stepped (record { speaker = sp.Control; message = msg.Call a }) l
     (λ mid. Walks (at + 1) (suc (2 * (n + 1) + m)) mid r new) =
     one_step at (suc (2 * (n + 1) + m)) count
@@ -297,7 +284,8 @@ selection laws n at m count l new r s g h ready calm number is w =
     answered.control up.control in
     let begun : SendsDown two.mid.control up.sent c.place s n
     × ControlStays e (ToTerminal s) c two.mid.control =
-    begins_bid laws.cuts c two.mid.control up.sent s n false (current_there l g) select
+    begins_bid_down laws.cuts c two.mid.control up.sent s n false
+    (current_there c (good_places l g)) select
     h.called.task (outbound_ready l s g select).queue number heard in
     let stays : Stays e (ToTerminal s) l two.mid =
     record {
@@ -311,7 +299,7 @@ selection laws n at m count l new r s g h ready calm number is w =
     blocks_down laws n (at + 1 + 1) m (2 * (n + 1) + m) e c.place two.mid new r s two.good
     (current_same c two.mid.control begun.1.poll_list begun.0.place_is) begun.0.place_is
     (record { sent = up.sent; pending = up.pending; sends = begun.0 })
-    ((stays.terminals.terminals e (terminal_here l g)).urgent calm) refl two.rest in
+    ((stays.terminals.terminals e (current_terminal_there l g)).urgent calm) refl two.rest in
     record {
       at = z.at;
       line = z.line;

@@ -110,11 +110,11 @@ pub first_stays : (e n : ℕ) (out : Option Message) → or_first (sent_by (sp.T
 first_stays e n None = refl
 first_stays e n (Some w) = refl
 
-pub one_answers : (old : List TributaryValue) (hears : ℕ → Heard) (new : List TributaryValue)
+pub first_answer_is : (old : List TributaryValue) (hears : ℕ → Heard) (new : List TributaryValue)
     (e n : ℕ) → e < n → ((k : ℕ) → k < n → k ≢ e → answer_of old hears new k ≡ None)
     → first_answer old hears new n ≡ sent_by (sp.Terminal e) (answer_of old hears new e)
-one_answers old hears new e zero less f = absurd (omega arith)
-one_answers old hears new e (suc n) less f =
+first_answer_is old hears new e zero less f = absurd (omega arith)
+first_answer_is old hears new e (suc n) less f =
     elim (same_or_before e n (omega arith)) [
       | inl same ↦
           rw (none_before old hears new e n (omega arith) (λ k l ne. f k (omega arith) ne), ← same)
@@ -122,15 +122,16 @@ one_answers old hears new e (suc n) less f =
       | inr before ↦
           (let differ : n ≢ e = omega arith in
           rw (
-            one_answers old hears new e n before (λ k l ne. f k (omega arith) ne),
+            first_answer_is old hears new e n before (λ k l ne. f k (omega arith) ne),
             f n (omega arith) differ,
           ) (first_stays e n (answer_of old hears new e)))
     ]
 
 -- a terminal in control mode does nothing with it
-pub stays_quiet : (t : TributaryValue) (h : Heard) (u : TributaryValue) (out : Option Message)
+pub control_mode_stays : (t : TributaryValue) (h : Heard) (u : TributaryValue)
+    (out : Option Message)
     → AfterHearing t h u out → t.mode ≡ Control → IsNoCall h → (u ≡ t) × (out ≡ None)
-stays_quiet t h u out after mode never = after.control mode never
+control_mode_stays t h u out after mode never = after.control mode never
 
 -- what happens to the terminals while only terminal e is out of control mode
 pub record OneHears (old : List TributaryValue) (hears : ℕ → Heard) (new : List TributaryValue)
@@ -147,14 +148,15 @@ pub one_hears : (old : List TributaryValue) (hears : ℕ → Heard) (new : List 
 one_hears old hears new addressed e way there is tuned never keeps =
     let quiet : (t : ℕ) → t < length old → t ≢ e → (terminal_in new t ≡ terminal_in old t)
     × (answer_of old hears new t ≡ None) =
-    λ t less differ. stays_quiet (terminal_in old t) (hears t) (terminal_in new t)
+    λ t less differ. control_mode_stays (terminal_in old t) (hears t) (terminal_in new t)
     (answer_of old hears new t) (keeps t less)
     (others_in_control addressed e t way (terminal_in old t).mode is differ (tuned t less))
     (never t less) in
     record {
       others = λ t less differ. (quiet t less differ).0;
       first =
-          one_answers old hears new e (length old) there (λ t less differ. (quiet t less differ).1);
+          first_answer_is old hears new e (length old) there
+          (λ t less differ. (quiet t less differ).1);
     }
 
 -- the reply is on the line

@@ -82,9 +82,9 @@ peer_is c s step there =
     get_or-set_same c.peers (current c) (with_outbound (peer c) s (outbound_after step)) no_peer
     there
 
-outbound_is : (p : PeerValue) (s : ℕ) (o : OutboundValue) → s < length p.outbounds
+replaced_outbound : (p : PeerValue) (s : ℕ) (o : OutboundValue) → s < length p.outbounds
     → outbound_at (with_outbound p s o) s ≡ o
-outbound_is p s o there = get_or-set_same p.outbounds s o no_outbound there
+replaced_outbound p s o there = get_or-set_same p.outbounds s o no_outbound there
 
 outbound_other : (p : PeerValue) (s k : ℕ) (o : OutboundValue) → k ≢ s
     → outbound_at (with_outbound p s o) k ≡ outbound_at p k
@@ -127,7 +127,7 @@ bid_after c ts s step pending f h flies bid =
       bid =
           subst (λ (z : OutboundValue). InBid z.sender.phase z.queue x.receiver.alternation
           x.receiver.last (spool_at x.spools s).records f)
-          (sym (outbound_is (peer c) s o h.select)) bid;
+          (sym (replaced_outbound (peer c) s o h.select)) bid;
     } in
     record {
       others = others_after c ts s step h.others;
@@ -155,7 +155,7 @@ quiet_after c ts s step h at_rest t less =
                       (terminal_in ts (current c)) n) (sym this)
                       (subst (λ (z : OutboundValue). IsResting z.sender.phase z.queue
                       (spool_at (terminal_in ts (current c)).spools s).records)
-                      (sym (outbound_is (peer c) s (outbound_after step) h.select))
+                      (sym (replaced_outbound (peer c) s (outbound_after step) h.select))
                       (rests step.sender.phase step.queue _ _ _ _ at_rest h.continues))
                   | inr other ↦ down_after (peer c) s (outbound_after step)
                       (terminal_in ts (current c)) h.down k within other

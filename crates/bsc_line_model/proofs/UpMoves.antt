@@ -49,17 +49,17 @@ pub record HearsTerminal (old new : LineValue) (from : ℕ) (w : Message) (h : H
   pub carried : IsCarriedUp w h old new
   pub trusted : IsTrue new.trusted
 
-was_trusted : (old new : LineValue) (from : ℕ) (w : Message) (h : Heard)
+was_trusted_up : (old new : LineValue) (from : ℕ) (w : Message) (h : Heard)
     → HearsTerminal old new from w h → IsTrue old.trusted × IsFairlyHeard w h
-was_trusted old new from w h k = k.carried.trusted.0 k.trusted
+was_trusted_up old new from w h k = k.carried.trusted.0 k.trusted
 
-together_with : (old new : LineValue) (from : ℕ) (w : Message) (h : Heard)
+together_up : (old new : LineValue) (from : ℕ) (w : Message) (h : Heard)
     → HearsTerminal old new from w h
     → InTask old.control.task (Some (record { speaker = sp.Terminal from; message = w }))
     old.control old.terminals
-together_with old new from w h k =
+together_up old new from w h k =
     subst (λ (o : Option Transmission). InTask old.control.task o old.control old.terminals)
-    k.pending (k.line.together (was_trusted old new from w h k).0)
+    k.pending (k.line.together (was_trusted_up old new from w h k).0)
 
 present_there : (l : LineValue) → IsLine l → current l.control < terminal_count l
 present_there l is =
@@ -100,12 +100,12 @@ spool_after c d t out replied row task there =
     }) no_peer there)
 
 -- the channel from a terminal
-moves_from : (laws : BidLaws) (old new : LineValue) (from : ℕ) (w : Message) (h : Heard) (t : ℕ)
+up_moves_from : (laws : BidLaws) (old new : LineValue) (from : ℕ) (w : Message) (h : Heard) (t : ℕ)
     → HearsTerminal old new from w h →
     MovesIfAddressed old.addressed t FromTerminal
     (channel (terminal_at old t).queue (peer_at old.control t).spool.records)
     (channel (terminal_at old t).queue (peer_at new.control t).spool.records)
-moves_from laws old new from w h t k =
+up_moves_from laws old new from w h t k =
     elim (k.carried.kept.spools t) [
       | inl same ↦ inl (ap (λ (rs : List (List ℕ)). channel (terminal_at old t).queue rs) same)
       | inr stores ↦ landed stores
@@ -122,7 +122,7 @@ moves_from laws old new from w h t k =
         let e : ℕ = current c in
         let p : PeerValue = peer c in
         let x : TributaryValue = terminal_at old e in
-        let was : IsTrue old.trusted × IsFairlyHeard w h = was_trusted old new from w h k in
+        let was : IsTrue old.trusted × IsFairlyHeard w h = was_trusted_up old new from w h k in
         let text : w ≡ m.Text l.text = text_sent w h l.text l.heard was.1 in
         let polling : IsPolling
         (Some (record { speaker = sp.Terminal from; message = m.Text l.text })) c old.terminals
@@ -131,7 +131,7 @@ moves_from laws old new from w h t k =
         (Some (record { speaker = sp.Terminal from; message = v })) c old.terminals l.replied)
         text
         (subst (λ (z : Task). InTask z (Some (record { speaker = sp.Terminal from; message = w })) c
-        old.terminals) l.polling (together_with old new from w h k)) in
+        old.terminals) l.polling (together_up old new from w h k)) in
         let b : IsInBidUp (Some (record { speaker = sp.Terminal from; message = m.Text l.text })) p
         e x = bid_from c old.terminals from l.text l.replied polling in
         let bid : InBid x.sender.phase x.queue p.receiver.alternation p.receiver.last
@@ -164,14 +164,14 @@ moves_from laws old new from w h t k =
         (channel x.queue (peer_at d e).spool.records) is moves)
 
 -- the channel to a selection address
-moves_to : (laws : BidLaws) (old new : LineValue) (from : ℕ) (w : Message) (h : Heard) (t s : ℕ)
+up_moves_to : (laws : BidLaws) (old new : LineValue) (from : ℕ) (w : Message) (h : Heard) (t s : ℕ)
     → HearsTerminal old new from w h →
     MovesIfAddressed old.addressed t (ToTerminal s)
     (channel (outbound_of old.control t s).queue
     (spool_at (terminal_at old t).spools s).records)
     (channel (outbound_of new.control t s).queue
     (spool_at (terminal_at old t).spools s).records)
-moves_to laws old new from w h t s k =
+up_moves_to laws old new from w h t s k =
     elim (outbound_queue old.control new.control h k.carried.sent t s k.line.stations.control
     k.carried.control) [
       | inl same ↦ inl
@@ -192,11 +192,11 @@ moves_to laws old new from w h t s k =
         let x : TributaryValue = terminal_at old e in
         let o : OutboundValue = outbound_at (peer c) s in
         let spooled : List (List ℕ) = (spool_at x.spools s).records in
-        let was : IsTrue old.trusted × IsFairlyHeard w h = was_trusted old new from w h k in
+        let was : IsTrue old.trusted × IsFairlyHeard w h = was_trusted_up old new from w h k in
         let sending : IsSending (Some (record { speaker = sp.Terminal from; message = w })) c
         old.terminals s =
         subst (λ (z : Task). InTask z (Some (record { speaker = sp.Terminal from; message = w })) c
-        old.terminals) l.task (together_with old new from w h k) in
+        old.terminals) l.task (together_up old new from w h k) in
         let b : IsInBidDown (Some (record { speaker = sp.Terminal from; message = w })) (peer c) e s
         x = sending.bid in
         let r : Reply = b.flies.1.0 in
@@ -233,10 +233,10 @@ up_moves laws old new from w h k t FromTerminal is =
     subst (λ (ts : List TributaryValue). MovesIfAddressed old.addressed t FromTerminal
     (channel_of old t FromTerminal) (channel (terminal_in ts t).queue
     (peer_at new.control t).spool.records)) (sym k.carried.terminals)
-    (moves_from laws old new from w h t k)
+    (up_moves_from laws old new from w h t k)
 up_moves laws old new from w h k t (ToTerminal s) is =
     subst (λ (ts : List TributaryValue). MovesIfAddressed old.addressed t (ToTerminal s)
     (channel_of old t (ToTerminal s))
     (channel (outbound_of new.control t s).queue
     (spool_at (terminal_in ts t).spools s).records)) (sym k.carried.terminals)
-    (moves_to laws old new from w h t s k)
+    (up_moves_to laws old new from w h t s k)

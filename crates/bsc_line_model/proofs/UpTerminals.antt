@@ -62,10 +62,10 @@ GoesOnUp x out zero = EndsUp x out
 GoesOnUp x out (suc n) = SendsUp x out n
 
 -- only its own channel moves
-up_stays : (e : ℕ) (x u : TributaryValue) → u.ready ≡ x.ready
+terminal_stays_up : (e : ℕ) (x u : TributaryValue) → u.ready ≡ x.ready
     → (x.urgent ≡ false → u.urgent ≡ false) → u.spools ≡ x.spools
     → TerminalStays e FromTerminal e x u
-up_stays e x u ready urgent spools =
+terminal_stays_up e x u ready urgent spools =
     record {
       ready = ready;
       urgent = urgent;
@@ -113,7 +113,7 @@ hears_ack laws e x u out n b i is h =
     ∙ ap (λ (z : SenderStep). act_step x z)
     (ack_step x.sender x.queue b b.alternation refl i.phase) in (
       by_end b.end row n i.rest i.end,
-      up_stays e x u
+      terminal_stays_up e x u
           (ap (λ (o : TributaryStep). o.tributary.ready) row)
           (λ k. ap (λ (o : TributaryStep). o.tributary.urgent) row ∙ k)
           (ap (λ (o : TributaryStep). o.tributary.spools) row),
@@ -157,14 +157,14 @@ poll_exact laws e x u out zero is sure count row =
     subst (λ (o : TributaryStep). EndsUp o.tributary o.sent
     × TerminalStays e FromTerminal e x o.tributary) (sym exact) (
       record { eot = refl; idle = sure; rest = count },
-      up_stays e x (called_up x) refl (λ k. refl) refl,
+      terminal_stays_up e x (called_up x) refl (λ k. refl) refl,
     )
 poll_exact laws e x u out (suc n) is sure count row =
     let exact : record { tributary = u; sent = out }
     ≡ act_step (called_up x) (begin_step (called_up x).sender x.queue) = row
     ∙ by_tests x false false sure (a_block laws x.queue n count) in (
       sends_up laws (called_up x) u out n (called_up x).sender x.queue Odd is count exact,
-      up_stays e x u (ap (λ (o : TributaryStep). o.tributary.ready) exact)
+      terminal_stays_up e x u (ap (λ (o : TributaryStep). o.tributary.ready) exact)
           (λ k. ap (λ (o : TributaryStep). o.tributary.urgent) exact)
           (ap (λ (o : TributaryStep). o.tributary.spools) exact),
     )

@@ -19,7 +19,7 @@ use Rattle.bsc_line_model.specs.Rounds.{block_count, poll_length, visit_length}
 use Rattle.bsc_line_model.specs.Rounds.{HasMadeCall, outbound_length}
 use Rattle.bsc_line_model.proofs.Stations.{terminal_there}
 use Rattle.bsc_line_model.proofs.DownControl.{address_at}
-use Rattle.bsc_line_model.proofs.DownSteps.{terminal_here}
+use Rattle.bsc_line_model.proofs.DownSteps.{current_terminal_there}
 use Rattle.bsc_line_model.proofs.Walking.{IsGood}
 use Rattle.bsc_line_model.proofs.Selections.{Calls}
 use Rattle.bsc_line_model.proofs.Visits.{selections_length}
@@ -68,19 +68,19 @@ address_is x FromTerminal a e within = some_is a x.poll (sym e)
 address_is x (ToTerminal s) a e within =
     some_is a (select_address x s) (sym e ∙ slice_get-get_or x.selects s x.poll (within s refl))
 
--- a visit of an entry begins: its first call is pending
-pub begins : (l : LineValue) (place : ℕ) (address : List ℕ) (way : Way) → IsGood l
+-- a call that was made and is pending is the call of the entry
+pub calls_where_made : (l : LineValue) (place : ℕ) (address : List ℕ) (way : Way) → IsGood l
     → HasMadeCall l.control (record { place = place; way = way }) address → l.pending
     ≡ Some (record { speaker = sp.Control; message = m.Call address }) →
     ((s : ℕ) → way ≡ ToTerminal s → s < length (peer l.control).terminal.selects)
     → Calls l place way
-begins l place address way g h is within =
+calls_where_made l place address way g h is within =
     let e : ℕ = current l.control in
     let there : slice_get (terminals l.control) e ≡ Some (terminal_at l e).terminal =
-    terminal_there l.control l.terminals e g.line.stations (terminal_here l g) in
+    terminal_there l.control l.terminals e g.line.stations (current_terminal_there l g) in
     let both : Some h.called.terminal ≡ Some (peer l.control).terminal = sym h.called.there ∙ there
     ∙ ap (λ (x : TerminalValue). Some x)
-    (g.line.stations.members e (terminal_here l g)).addresses in
+    (g.line.stations.members e (current_terminal_there l g)).addresses in
     let same : h.called.terminal ≡ (peer l.control).terminal = cc in
     let own : address_for (peer l.control).terminal way ≡ Some address =
     subst (λ (x : TerminalValue). address_for x way ≡ Some address) same h.called.its_own in

@@ -24,8 +24,8 @@ use Rattle.bsc_line_model.specs.Rounds.{block_count, selection_length, poll_leng
 use Rattle.bsc_line_model.proofs.Stations.{same_or_not}
 use Rattle.bsc_line_model.proofs.BlockCounts.{CutLaws, some_blocks}
 use Rattle.bsc_line_model.proofs.Staying.{Stays, IsElsewhere}
-use Rattle.bsc_line_model.proofs.DownSteps.{current_there}
-use Rattle.bsc_line_model.proofs.Walking.{IsGood, Walks}
+use Rattle.bsc_line_model.proofs.Entries.{current_there}
+use Rattle.bsc_line_model.proofs.Walking.{IsGood, good_places, Walks}
 use Rattle.bsc_line_model.proofs.Selections.{VisitLaws, Comes, Calls, IsSelectionDone, selection}
 use Rattle.bsc_line_model.proofs.Selections.{current_same}
 use Rattle.bsc_line_model.proofs.Polls.{IsPollDone, poll, place_after}
@@ -344,7 +344,8 @@ some_to_send : (laws : VisitLaws) (e from : ℕ) (l : LineValue) → IsGood l �
 some_to_send laws e from l g present there some =
     let o : OutboundValue = outbound_of l.control e from in
     let inside : e < length l.control.peers =
-    subst (λ (z : ℕ). z < length l.control.peers) present (current_there l g) in
+    subst (λ (z : ℕ). z < length l.control.peers) present
+    (current_there l.control (good_places l g)) in
     let is : IsPeer (peer_at l.control e) =
     All-get_or IsPeer l.control.peers e no_peer inside g.line.stations.control.entries.peers in
     let ready : IsOutbound o =

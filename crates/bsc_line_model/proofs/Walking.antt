@@ -12,12 +12,16 @@ use Rattle.bsc_line_model.specs.Runs.{Carries, CarriesAs}
 use Rattle.bsc_line_model.specs.Kept.{IsLine}
 use Rattle.bsc_line_model.specs.Together.{AreTogether}
 use Rattle.bsc_line_model.specs.Rounds.{SameDelays}
+use Rattle.bsc_line_model.proofs.Entries.{HasPlaces, places}
 
 -- a trusted line, together
 pub record IsGood (l : LineValue) : Type 0 where
   pub line : IsLine l
   pub trusted : IsTrue l.trusted
   pub together : AreTogether l
+
+pub good_places : (l : LineValue) → IsGood l → HasPlaces l.control
+good_places l g = places l.control g.line.stations.control.entries
 
 -- a transmission is carried as it was sent, and the rest follows
 pub record Goes (old : LineValue) (Rest : LineValue → Type 0) : Type 0 where

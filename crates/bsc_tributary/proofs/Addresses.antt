@@ -41,28 +41,26 @@ position_at p xs i within before here =
     let less : nat_lt i (length xs) ≡ true = grind (arith, nat_tests) in
     rw (first, less) refl
 
-pub position_nowhere : (p : List ℕ → Bool) (xs : List (List ℕ)) →
+pub position_none : (p : List ℕ → Bool) (xs : List (List ℕ)) →
     ((k : ℕ) → k < length xs → p (get_or xs k []) ≡ false) → position p xs ≡ None
-position_nowhere p xs each =
+position_none p xs each =
     let all : position_or_len p xs ≡ length xs =
     position_or_len_is p xs (length xs) [] (omega arith) each
     (λ less. absurd (omega arith)) in
     let none : nat_lt (length xs) (length xs) ≡ false = grind (arith, nat_tests) in
     rw (all, none) refl
 
-none_before : (p : List ℕ → Bool) (xs : List (List ℕ)) (k : ℕ) (less : Bool) →
-    nat_lt (position_or_len p xs) (length xs) ≡ less
-    → (if less then Some (position_or_len p xs) else None) ≡ None →
-    k < length xs → p (get_or xs k []) ≡ false
-none_before p xs k true e none within = absurd (cc)
-none_before p xs k false e none within = let far : length xs ≤ position_or_len p xs = grind
-    (arith, nat_tests) in fails_before_first p xs k [] (omega arith)
-
-pub position_none : (p : List ℕ → Bool) (xs : List (List ℕ)) (k : ℕ) → position p xs ≡ None → k
-    < length xs →
-    p (get_or xs k []) ≡ false
-position_none p xs k none within =
-    none_before p xs k (nat_lt (position_or_len p xs) (length xs)) refl none within
+-- where a search finds none, no element passes
+pub none_passes : {X : Type 0} → (p : X → Bool) (xs : List X) (k : ℕ) (d : X) → position p xs ≡ None
+    → k < length xs → p (get_or xs k d) ≡ false
+none_passes p xs k d none within =
+    by_test (nat_lt (position_or_len p xs) (length xs)) refl none
+  where
+    by_test : (less : Bool) → nat_lt (position_or_len p xs) (length xs) ≡ less
+        → (if less then Some (position_or_len p xs) else None) ≡ None → p (get_or xs k d) ≡ false
+    by_test true e found = absurd (cc)
+    by_test false e found = let far : length xs ≤ position_or_len p xs = grind (arith, nat_tests) in
+        fails_before_first p xs k d (omega (arith, within, far))
 
 -- what the answers to both questions say of the address
 pub called_as_selection : (t : TerminalValue) (address : List ℕ) (s : ℕ) → is_same address t.poll
@@ -125,8 +123,8 @@ place_is_none t address (suc k) poll nowhere within here =
     let yes : is_same address (get_or t.selects k []) ≡ true =
     is_same_refl address (get_or t.selects k [])
     (sym there) in
-    let no : is_same address (get_or t.selects k []) ≡ false = position_none
-    (is_same address) t.selects k nowhere less in
+    let no : is_same address (get_or t.selects k []) ≡ false =
+    none_passes (is_same address) t.selects k [] nowhere less in
     cc
 
 pub other_is : (t : TerminalValue) (address : List ℕ) → called_as t address ≡ Other
@@ -140,7 +138,7 @@ pub is_other : (t : TerminalValue) (address : List ℕ) → (Contains (own_addre
 is_other t address none =
     called_as_other t address
     (is_same-≢ address t.poll (λ e. none (zero, omega arith, sym e)))
-    (position_nowhere (is_same address) t.selects
+    (position_none (is_same address) t.selects
     (λ k within. is_same-≢ address (get_or t.selects k [])
     (λ e. none (
       suc k,

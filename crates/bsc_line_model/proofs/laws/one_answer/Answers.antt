@@ -1,9 +1,9 @@
-use Rattle.bsc_line_model.proofs.OneAnswer.{one_answers}
+use Rattle.bsc_line_model.proofs.OneAnswer.{same_answerer}
 use Rattle.bsc_line_model.proofs.laws.one_answer.Goals as goal
 
 pub returns : goal.returns
 returns c = λ message hears old new line carried trusted t u there also sends answers.
-    one_answers (record {
+    same_answerer (record {
       polling = c.own_addresses.ensures.polling;
       selection =
           c.own_addresses.ensures.selection;

@@ -2,7 +2,7 @@ use Rattle.std.proofs.Common.{◌≡◌, ◌∙◌, sym, ap, List, ℕ, [], get_
 use Rattle.std.proofs.lemmas.Option.{slice_get_within, get_or_from_slice_get}
 use Rattle.bsc_tributary.specs.Called.{is_same}
 use Rattle.bsc_tributary.proofs.Addresses.{called_as_selection, called_as_other, position_at}
-use Rattle.bsc_tributary.proofs.Addresses.{position_nowhere}
+use Rattle.bsc_tributary.proofs.Addresses.{position_none}
 use Rattle.bsc_tributary.proofs.called.called_address.Goals as goal
 
 pub returns-then-eq-2 : goal.returns-then-eq-2
@@ -29,4 +29,4 @@ returns c =
     ∙ sym c.eq.ensures
     ∙ c.if-eq.false in
     sym (called_as_other c.args.terminal.now a poll
-    (position_nowhere (is_same a) selects (λ k within. c.loop-select.invariant k (omega arith))))
+    (position_none (is_same a) selects (λ k within. c.loop-select.invariant k (omega arith))))
