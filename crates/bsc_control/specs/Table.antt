@@ -172,9 +172,6 @@ silence_in c (Polling Nothing) =
 silence_in c (Polling WithoutRvi) = next_call_step c (Poll false)
 silence_in c (Polling WithRvi) = next_call_step c (Poll true)
 
-abbrev pub silent_step : ControlValue → ControlStep
-silent_step c = silence_in c c.task
-
 -- what the tries for room found, read from what they left at the terminal that was polled
 abbrev pub rooms_after : ControlValue → Heard → ControlValue → Rooms
 rooms_after old h new =
@@ -196,4 +193,4 @@ pub record Hears (old : ControlValue) (h : Heard) (new : ControlValue) (sent : O
 
 -- at a silence the control station and what it sends are those of the table
 abbrev pub ActsOnSilence : ControlValue → ControlValue → Option Message → Type 0
-ActsOnSilence old new sent = record { control = new; sent = sent } ≡ silent_step old
+ActsOnSilence old new sent = record { control = new; sent = sent } ≡ silence_in old old.task

@@ -16,7 +16,7 @@ use Rattle.bsc_text.specs.declared.phase.Phase.TheVariants.{Idle, Unanswered, He
 use Rattle.bsc_text.specs.Reply.{message_of, reply_heard}
 use Rattle.bsc_text.specs.Receiver.{Rooms, new_receiver, first_reply}
 use Rattle.bsc_text.specs.Sender.{SenderValue, with_counts, over, sent_next, begin_step, reply_step}
-use Rattle.bsc_text.specs.Sender.{failed, silent_in, silence_step, is_in_doubt}
+use Rattle.bsc_text.specs.Sender.{failed, silence_in as sender_silence, silence_step, is_in_doubt}
 use Rattle.bsc_tributary.specs.declared.called.Called.{Called}
 use Rattle.bsc_tributary.specs.declared.called.Called.TheVariants as called
 use Rattle.bsc_tributary.specs.declared.mode.Mode.{Mode}
@@ -53,7 +53,7 @@ failed_queue s q left act = by_test (nat_lt s.setup.tries (s.failures + 1))
 pub silence_queue : (s : SenderValue) (q : QueueValue) → (silence_step s q).queue ≡ q
 silence_queue s q = by_phase s.phase
   where
-    by_phase : (phase : Phase) → (silent_in s q phase).queue ≡ q
+    by_phase : (phase : Phase) → (sender_silence s q phase).queue ≡ q
     by_phase Idle = refl
     by_phase (InDoubt k) = refl
     by_phase (Unanswered b) = failed_queue s q (InDoubt b.count) a.Enq

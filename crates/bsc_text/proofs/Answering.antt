@@ -20,7 +20,7 @@ use Rattle.bsc_text.specs.declared.phase.Phase.TheVariants.{Idle, Unanswered, He
 use Rattle.bsc_text.specs.Reply.{answer_of, message_of, reply_in, reply_heard}
 use Rattle.bsc_text.specs.Sender.{SenderValue, SenderStep, unmoved, text_of, begin_step, accepted}
 use Rattle.bsc_text.specs.Sender.{failed, delayed, unanswered_step, held_step, answered_step}
-use Rattle.bsc_text.specs.Sender.{reply_step, silent_in}
+use Rattle.bsc_text.specs.Sender.{reply_step, silence_in}
 use Rattle.bsc_text.specs.Channel.{channel, IsSound}
 use Rattle.bsc_text.specs.Fair.{IsTextMessage, IsCallCutShort, IsFairlyHeard}
 use Rattle.bsc_text.specs.Bid.{IsFairTo, reply_message, answered, unless_quiet}
@@ -168,7 +168,7 @@ enq_sent b q alternation last spooled (inr h) =
 silent_keeps : (s : SenderValue) (phase : Phase) (q : QueueValue) (alternation : Alternation)
     (last : Reply) (spooled : List (List ℕ)) → s.phase ≡ phase
     → InBid phase q alternation last spooled Still →
-    LeavesQueue q alternation last spooled (silent_in s q phase)
+    LeavesQueue q alternation last spooled (silence_in s q phase)
 silent_keeps s Idle q alternation last spooled e i = absurd i.agree
 silent_keeps s (InDoubt k) q alternation last spooled e i = absurd i.agree
 silent_keeps s (Held end x) q alternation last spooled e i =
@@ -302,7 +302,7 @@ busy (Unanswered b) q alternation last spooled w h = h
 pub silence_keeps : (s : SenderValue) (phase : Phase) (q : QueueValue) (alternation : Alternation)
     (last : Reply) (spooled : List (List ℕ)) → s.phase ≡ phase
     → Continues phase q alternation last spooled Still →
-    LeavesQueue q alternation last spooled (silent_in s q phase)
+    LeavesQueue q alternation last spooled (silence_in s q phase)
 silence_keeps s Idle q alternation last spooled e h = (rw e h, refl)
 silence_keeps s (InDoubt k) q alternation last spooled e h = (rw e h, refl)
 silence_keeps s (Held end x) q alternation last spooled e h =
@@ -323,7 +323,7 @@ settled_keeps q alternation last spooled t a.Quiet e h =
     subst (λ (x : Act). Continues t.sender.phase t.queue alternation last spooled (sent_flight x)) e
     h.0 in
     let k : LeavesQueue t.queue alternation last spooled
-    (silent_in t.sender t.queue t.sender.phase) =
+    (silence_in t.sender t.queue t.sender.phase) =
     silence_keeps t.sender t.sender.phase t.queue alternation last spooled refl on in (
       k.0,
       subst (λ (u : QueueValue). MovesAtSender (channel q spooled) (channel u spooled))

@@ -74,7 +74,7 @@ hears_its_blocks law b es c turn t h fair e =
     (Outward fair.sent) =
     going c fair.sent fair.goes_on (reached_holds law b es c h) in
     let f : IsFairlyHeard fair.sent (Whole (m.Text t)) =
-    subst (λ (o : Option Heard). IsFair fair.sent o) e fair.there in
+    subst (λ (o : Option Heard). IsFair fair.sent o) e fair.fair_heard in
     elim f [
       | inl same ↦ carries law c t
           (subst (λ (w : Message). InBid c.sender.phase c.queue c.receiver.alternation

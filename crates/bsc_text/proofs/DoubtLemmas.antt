@@ -19,7 +19,7 @@ use Rattle.bsc_text.specs.declared.phase.Phase.{Phase}
 use Rattle.bsc_text.specs.declared.phase.Phase.TheVariants.{Idle, Unanswered, Held, InDoubt}
 use Rattle.bsc_text.specs.Reply.{other, answer_of, reply_heard}
 use Rattle.bsc_text.specs.Sender.{SenderValue, SenderStep, sent_next, accepted, delayed}
-use Rattle.bsc_text.specs.Sender.{unanswered_step, held_step, answered_step, reply_step, silent_in}
+use Rattle.bsc_text.specs.Sender.{unanswered_step, held_step, answered_step, reply_step, silence_in}
 use Rattle.bsc_text.specs.Sender.{is_in_doubt}
 use Rattle.bsc_text.specs.Bid.{answered, unless_quiet, receiver_in, sender_in}
 use Rattle.bsc_text.specs.OneBid.{GivesUpUnanswered, DoubtsAtSilence}
@@ -117,7 +117,7 @@ test_by : (n k : ℕ) → n < k → nat_lt n k ≡ true
 test_by n k h = grind (arith, nat_tests)
 
 silent_doubt : (s : SenderValue) (q : QueueValue) (p : Phase) → is_in_doubt s.phase ≡ false
-    → is_in_doubt p ≡ false → is_in_doubt (silent_in s q p).sender.phase ≡ true → GivesUp s p
+    → is_in_doubt p ≡ false → is_in_doubt (silence_in s q p).sender.phase ≡ true → GivesUp s p
 silent_doubt s q Idle d c k = absurd (cc (d, k))
 silent_doubt s q (InDoubt n) d c k = absurd (cc (d, k))
 silent_doubt s q (Held e x) d c k =
@@ -140,7 +140,7 @@ doubt_by s t a.Over e c d k = absurd (cc (c, k))
 doubt_by s t a.Quiet e c d k = (
   refl,
   silent_doubt s t.queue s.phase d d
-      (subst (λ (u : SenderValue). is_in_doubt (silent_in u t.queue u.phase).sender.phase ≡ true) c
+      (subst (λ (u : SenderValue). is_in_doubt (silence_in u t.queue u.phase).sender.phase ≡ true) c
       k),
 )
 
@@ -152,12 +152,12 @@ gives_up s t (a.Send u) b e c p over = absurd (cc e)
 gives_up s t a.Enq b e c p over = absurd (cc e)
 gives_up s t a.Over b e c p over = absurd (cc e)
 gives_up s t a.Quiet b e c p over =
-    let there : is_in_doubt (silent_in s t.queue (Unanswered b)).sender.phase ≡ true =
+    let there : is_in_doubt (silence_in s t.queue (Unanswered b)).sender.phase ≡ true =
     second_out (nat_lt s.setup.tries (s.failures + 1)) _ _
     (test_by s.setup.tries (s.failures + 1) over) refl in
-    let here : is_in_doubt (silent_in s t.queue s.phase).sender.phase ≡ true =
-    subst (λ (y : Phase). is_in_doubt (silent_in s t.queue y).sender.phase ≡ true) (sym p) there in
-    subst (λ (u : SenderValue). is_in_doubt (silent_in u t.queue u.phase).sender.phase ≡ true)
+    let here : is_in_doubt (silence_in s t.queue s.phase).sender.phase ≡ true =
+    subst (λ (y : Phase). is_in_doubt (silence_in s t.queue y).sender.phase ≡ true) (sym p) there in
+    subst (λ (u : SenderValue). is_in_doubt (silence_in u t.queue u.phase).sender.phase ≡ true)
     (sym c) here
 
 pub doubts_at_silence : LawsBelow → DoubtsAtSilence

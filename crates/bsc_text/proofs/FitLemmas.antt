@@ -18,7 +18,7 @@ use Rattle.bsc_text.specs.declared.phase.Phase.TheVariants.{Idle, Unanswered, He
 use Rattle.bsc_text.specs.Reply.{other, answer_of, reply_heard}
 use Rattle.bsc_text.specs.Sender.{SenderValue, SenderStep, text_of, sent_next, accepted, failed}
 use Rattle.bsc_text.specs.Sender.{delayed, unanswered_step, held_step, answered_step, reply_step}
-use Rattle.bsc_text.specs.Sender.{silent_in, silence_step, begin_step}
+use Rattle.bsc_text.specs.Sender.{silence_in, silence_step, begin_step}
 use Rattle.bsc_text.specs.Ready.{IsGoing, IsAtRest, FitsAct}
 use Rattle.bsc_text.specs.Bid.{answered, unless_quiet}
 use Rattle.bsc_text.proofs.Choice.{choose}
@@ -83,7 +83,7 @@ fits_reply s q None = refl
 fits_reply s q (Some r) = fits_answered s q s.phase r refl
 
 fits_silent : (s : SenderValue) (q : QueueValue) (p : Phase) → s.phase ≡ p
-    → Fits s (silent_in s q p)
+    → Fits s (silence_in s q p)
 fits_silent s q Idle e = refl
 fits_silent s q (InDoubt k) e = refl
 fits_silent s q (Unanswered b) e =

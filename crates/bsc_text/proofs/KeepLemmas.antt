@@ -17,7 +17,7 @@ use Rattle.bsc_text.specs.declared.phase.Phase.TheVariants.{Idle, Unanswered, He
 use Rattle.bsc_text.specs.Reply.{other, answer_of}
 use Rattle.bsc_text.specs.Sender.{SenderValue, text_of, sent_next, begin_step, accepted}
 use Rattle.bsc_text.specs.Sender.{failed, delayed, unanswered_step, held_step, answered_step}
-use Rattle.bsc_text.specs.Sender.{reply_step, silent_in, silence_step}
+use Rattle.bsc_text.specs.Sender.{reply_step, silence_in, silence_step}
 use Rattle.bsc_text.specs.EachStep.{StepKeeps}
 use Rattle.bsc_text.proofs.Choice.{choose}
 
@@ -75,7 +75,7 @@ pub keeps_reply : (s : SenderValue) (q : QueueValue) (r : Option Reply)
 keeps_reply s q None = record { setup_is = refl; format_is = refl; offered_is = refl }
 keeps_reply s q (Some r) = keeps_answered s q s.phase r
 
-keeps_silent : (s : SenderValue) (q : QueueValue) (p : Phase) → StepKeeps s q (silent_in s q p)
+keeps_silent : (s : SenderValue) (q : QueueValue) (p : Phase) → StepKeeps s q (silence_in s q p)
 keeps_silent s q Idle = record { setup_is = refl; format_is = refl; offered_is = refl }
 keeps_silent s q (InDoubt k) = record { setup_is = refl; format_is = refl; offered_is = refl }
 keeps_silent s q (Unanswered b) = keeps_failed s q (InDoubt b.count) a.Enq

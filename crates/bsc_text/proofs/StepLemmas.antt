@@ -10,7 +10,7 @@ use Rattle.bsc_text.specs.declared.reply.Reply.{Reply}
 use Rattle.bsc_text.specs.declared.reply.Reply.TheVariants.{Ack0}
 use Rattle.bsc_text.specs.declared.phase.Phase.{Phase}
 use Rattle.bsc_text.specs.declared.phase.Phase.TheVariants.{Idle, InDoubt}
-use Rattle.bsc_text.specs.Sender.{SenderValue, SenderStep, ReleaseStep, begin_step, silent_in}
+use Rattle.bsc_text.specs.Sender.{SenderValue, SenderStep, ReleaseStep, begin_step, silence_in}
 use Rattle.bsc_text.specs.Sender.{released, release_in}
 use Rattle.bsc_text.specs.Fair.{IsTextMessage}
 use Rattle.bsc_text.specs.Bid.{answered}
@@ -50,8 +50,8 @@ answering_agrees law s q alternation last spooled reply heard i fair =
 
 pub silence_agrees : SilenceAgrees
 silence_agrees s q alternation last spooled h =
-    agrees s q alternation last spooled (silent_in s q s.phase)
-    (at_same q alternation last spooled (silent_in s q s.phase)
+    agrees s q alternation last spooled (silence_in s q s.phase)
+    (at_same q alternation last spooled (silence_in s q s.phase)
     (silence_keeps s s.phase q alternation last spooled refl h))
     (fits_silence s q)
 

@@ -24,7 +24,7 @@ use Rattle.bsc_text.specs.Setup.{SetupValue}
 use Rattle.bsc_text.specs.Reply.{other, answer_of, reply_heard}
 use Rattle.bsc_text.specs.Sender.{SenderValue, SenderStep, text_of, sent_next, begin_step, accepted}
 use Rattle.bsc_text.specs.Sender.{failed, delayed, unanswered_step, held_step, answered_step}
-use Rattle.bsc_text.specs.Sender.{reply_step, silent_in}
+use Rattle.bsc_text.specs.Sender.{reply_step, silence_in}
 use Rattle.bsc_text.specs.Act.{message_for}
 use Rattle.bsc_text.specs.Bid.{Bid, Turn, BidEvent, Exchange, Offering, answered, unless_quiet}
 use Rattle.bsc_text.specs.Bid.{receiver_in, sender_in, after_turn, after_event, IsFairTurn}
@@ -136,7 +136,7 @@ reply_comes s q None h = (refl, refl)
 reply_comes s q (Some r) h = answered_comes s q s.phase r h
 
 silent_comes : (s : SenderValue) (q : QueueValue) (p : Phase) → IsWithin s
-    → Comes s (silent_in s q p)
+    → Comes s (silence_in s q p)
 silent_comes s q Idle h = (refl, refl)
 silent_comes s q (InDoubt k) h = (refl, refl)
 silent_comes s q (Unanswered b) h = failed_comes s q (InDoubt b.count) a.Enq h (λ u n. n)
@@ -156,7 +156,7 @@ settled_comes s t a.Enq e h k = k
 settled_comes s t a.Over e h k = k
 settled_comes s t a.Quiet e h k =
     let same : t.sender ≡ s = subst (λ (x : Act). ComesBy x s t.sender) e k.1 in
-    subst (λ (u : SenderValue). Comes u (silent_in t.sender t.queue t.sender.phase)) same
+    subst (λ (u : SenderValue). Comes u (silence_in t.sender t.queue t.sender.phase)) same
     (silent_comes t.sender t.queue t.sender.phase (subst IsWithin (sym same) h))
 
 turn_comes : (b : Bid) (t : Turn) → IsWithin b.sender
@@ -255,8 +255,8 @@ pub ends_soon : LawsBelow → EndsSoon
 ends_soon law b es c h =
     let first : SenderStep = record { sender = b.sender; queue = b.queue; act = b.act } in
     let within : IsWithin b.sender =
-    subst (λ (t : SenderStep). IsWithin t.sender) (sym h.begun.first)
-    (begin_within law h.begun.sender b.queue h.begun.queue h.begun.waits) in
+    subst (λ (t : SenderStep). IsWithin t.sender) (sym h.new_bid.first)
+    (begin_within law h.new_bid.sender b.queue h.new_bid.queue h.new_bid.waits) in
     let n : turn_count es + rank b.sender ≤ begun_in b es * most_turns b.sender.setup
     + most_turns b.sender.setup =
     count b.sender.setup b es c refl within h.events in

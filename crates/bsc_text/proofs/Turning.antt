@@ -116,13 +116,13 @@ turn_keeps law b t h fair =
     let r : ReceiverStep = receiver_in b t in
     let k : Keeps b.sender.phase b.queue b.spool.records r =
     receiver_keeps law.records b.sender.phase b.queue b.receiver b.spool fair.sent t.heard t.urgent
-    t.rooms i fair.there in
+    t.rooms i fair.fair_heard in
     let j : InBid b.sender.phase b.queue r.receiver.alternation r.receiver.last r.spool.records
     (reply_flight r.reply) =
     record { queue = i.queue; block = i.block; counts = i.counts; agree = k.0 } in
     let l : Leaves b.queue r.receiver.alternation r.receiver.last r.spool.records (sender_in b t) =
     sender_keeps law.next b.sender b.queue r.receiver.alternation r.receiver.last r.spool.records
-    r.reply t.answer j fair.back in
+    r.reply t.answer j fair.fair_answer in
     let s : SenderStep = sender_in b t in
     let u : Leaves b.queue r.receiver.alternation r.receiver.last r.spool.records
     (unless_quiet s s.act) =
@@ -176,7 +176,7 @@ begun_holds law b h =
     }
 
 pub reached_holds : LawsBelow → (b : Bid) (es : List BidEvent) (c : Bid) → Reaches b es c → Holds c
-reached_holds law b es c h = events_keep law b es c (begun_holds law b h.begun) h.events
+reached_holds law b es c h = events_keep law b es c (begun_holds law b h.new_bid) h.events
 
 ready_by : (s : SenderValue) (phase : Phase) (q : QueueValue) (alternation : Alternation)
     (last : Reply)

@@ -89,8 +89,8 @@ reply_message (Some r) = Some (message_of r)
 pub record IsFairTurn (b : Bid) (t : Turn) : Type 0 where
   pub sent : Message
   pub goes_on : message_for b.act ≡ Some sent
-  pub there : IsFair sent t.heard
-  pub back : IsFairTo (reply_message (receiver_in b t).reply) t.answer
+  pub fair_heard : IsFair sent t.heard
+  pub fair_answer : IsFairTo (reply_message (receiver_in b t).reply) t.answer
 
 -- between turns records may be offered
 pub data BidEvent : Type 0 where
@@ -125,5 +125,5 @@ pub record IsNewBid (b : Bid) : Type 0 where
 
 -- a bid as it stands after some events
 pub record Reaches (b : Bid) (es : List BidEvent) (c : Bid) : Type 0 where
-  pub begun : IsNewBid b
+  pub new_bid : IsNewBid b
   pub events : AreEvents b es c

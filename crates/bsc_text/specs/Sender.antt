@@ -143,16 +143,16 @@ abbrev pub reply_step : SenderValue → QueueValue → Option Reply → SenderSt
 reply_step s q None = unmoved s q
 reply_step s q (Some r) = answered_step s q s.phase r
 
--- a silence in this phase
-abbrev pub silent_in : SenderValue → QueueValue → Phase → SenderStep
-silent_in s q (Unanswered b) = failed s q (InDoubt b.count) a.Enq
-silent_in s q (Held end alternation) = failed s q Idle a.Enq
-silent_in s q Idle = unmoved s q
-silent_in s q (InDoubt count) = unmoved s q
+-- the table: a silence in this phase
+abbrev pub silence_in : SenderValue → QueueValue → Phase → SenderStep
+silence_in s q (Unanswered b) = failed s q (InDoubt b.count) a.Enq
+silence_in s q (Held end alternation) = failed s q Idle a.Enq
+silence_in s q Idle = unmoved s q
+silence_in s q (InDoubt count) = unmoved s q
 
 -- a silence
 abbrev pub silence_step : SenderValue → QueueValue → SenderStep
-silence_step s q = silent_in s q s.phase
+silence_step s q = silence_in s q s.phase
 
 -- the phase once the bid is cut off
 abbrev pub cut_phase : Phase → Phase
