@@ -13,12 +13,11 @@ use Rattle.bsc_control.specs.declared.task.Task.{Task}
 use Rattle.bsc_control.specs.declared.task.Task.TheVariants.{Sending}
 use Rattle.bsc_control.specs.CallOrder.{Call, After, Selection, Interruption, way_at, next_call}
 use Rattle.bsc_control.specs.Control.{ControlValue, HasEntries, peer_at, peer, current}
-use Rattle.bsc_control.specs.Control.{terminal_of_entry}
 use Rattle.bsc_control.specs.Kept.{outbound_of, phase_of, HasSettings, Keeps, IsCalled}
 use Rattle.bsc_control.specs.Peer.{OutboundValue, PeerValue, no_outbound, no_peer, outbound_at}
 use Rattle.bsc_control.specs.Peer.{with_outbound, outbound_after, is_selectable}
 use Rattle.bsc_control.specs.Table.{act_step, bid_step, next_call_step}
-use Rattle.bsc_control.proofs.Calls.{IsCalm, KeepsSpools, HasShape, shape, entry_within}
+use Rattle.bsc_control.proofs.Calls.{IsCalm, KeepsSpools, HasShape, shape, places, same_places, current_there}
 use Rattle.bsc_control.proofs.Calls.{keeps_spools_next_call_step, next_is_called}
 use Rattle.bsc_control.proofs.PeerLists.{same_at, same_map, holds_at}
 use Rattle.bsc_control.proofs.Replacing.{replaced, same_of, same_lengths, settings_replaced}
@@ -94,9 +93,6 @@ pub record OthersRest (c : ControlValue) (s : ℕ) : Type 0 where
   pub rests : (t k : ℕ) → ((t ≡ current c) × (k ≡ s) → ⊥) → IsAtRest (phase_of c t k)
   pub settings : (t k : ℕ) → k < length (peer_at c t).outbounds → HasSettings c (outbound_of c t k)
 
-current_within : (c : ControlValue) → HasEntries c → current c < length c.peers
-current_within c h = entry_within c c.place h h.place
-
 -- the sender has ended its bid
 pub calm_stepped : (c : ControlValue) (s : ℕ) (o : OutboundValue) → OthersRest c s
     → OutboundKeeps (outbound_of c (current c) s) o → IsAtRest o.sender.phase
@@ -105,7 +101,7 @@ calm_stepped c s o h keeps rests =
     record {
       rests =
           phases_stepped (λ (t k : ℕ) (phase : Phase). IsAtRest phase) c s o
-          (current_within c h.entries) h.there rests h.rests;
+          (current_there c (places c h.entries)) h.there rests h.rests;
       settings = settings_stepped c s o keeps h.settings;
     }
 
@@ -114,7 +110,7 @@ pub keeps_spools_goes_on : (c : ControlValue) (s : ℕ) (o : OutboundValue) → 
     → OutboundKeeps (outbound_of c (current c) s) o → IsGoing o.sender.phase
     → KeepsSpools c (record (stepped c s o) { task = Sending s })
 keeps_spools_goes_on c s o h keeps goes =
-    let within = current_within c h.entries in
+    let within = current_there c (places c h.entries) in
     let kept : Keeps c (stepped c s o) = keeps_stepped c s o keeps in
     record {
       keeps =
@@ -207,10 +203,7 @@ shape_stepped c s o h =
     let lengths : length (stepped c s o).peers ≡ length c.peers =
     length-set c.peers (current c) (with_outbound (peer c) s o) in
     record {
-      place = h.place;
-      within =
-          λ place within. subst (λ (n : ℕ). terminal_of_entry c place < n) (sym lengths)
-          (h.within place within);
+      places = same_places c (stepped c s o) refl refl lengths h.places;
       lengths =
           λ t within.
           same_lengths c (current c) s o t ∙ h.lengths t (subst (λ (n : ℕ). t < n) lengths within)

@@ -6,7 +6,7 @@ use Rattle.std.proofs.lemmas.List.{length-set, get_or-drop}
 use Rattle.std.proofs.lemmas.List.Quantifiers.{position-Some}
 use Rattle.std.proofs.lemmas.Bool.{eqb-false}
 use Rattle.std.proofs.lemmas.Option.{slice_get-get_or, slice_get-map}
-use Rattle.std.specs.List.{slice_get, position}
+use Rattle.std.specs.List.{All, slice_get, position}
 use Rattle.bsc_frame.specs.declared.message.Message.TheVariants as m
 use Rattle.bsc_spool.specs.Queue.{waiting}
 use Rattle.bsc_text.specs.declared.phase.Phase.{Phase}
@@ -221,16 +221,16 @@ keeps_spools_next_call_step c after calm =
     keeps_spools_way_call_step c (next_call c after).place (next_call c after).way calm
     (next_selected c after calm)
 
-within_if : (b : Bool) (place n : ℕ) → place < n → nat_eq (place + 1) n ≡ b
-    → (if b then 0 else place + 1) < n
-within_if true place n within e = omega arith
-within_if false place n within e = let ne : place + 1 ≢ n = eqb-false (place + 1) n e in omega arith
-
 -- the entry after the present one is an entry
 pub next_place_within : (c : ControlValue) → c.place < length c.poll_list → next_place c
     < length c.poll_list
-next_place_within c within =
-    within_if (nat_eq (c.place + 1) (length c.poll_list)) c.place (length c.poll_list) within refl
+next_place_within c within = by_test (nat_eq (c.place + 1) (length c.poll_list)) refl
+  where
+    by_test : (b : Bool) → nat_eq (c.place + 1) (length c.poll_list) ≡ b
+        → (if b then 0 else c.place + 1) < length c.poll_list
+    by_test true e = omega (arith, within)
+    by_test false e = let differ : c.place + 1 ≢ length c.poll_list =
+        eqb-false (c.place + 1) (length c.poll_list) e in omega (arith, within, differ)
 
 -- the place of the next call is an entry
 pub next_call_within : (c : ControlValue) (after : After) → c.place < length c.poll_list
@@ -241,10 +241,33 @@ next_call_within c Interruption within = within
 next_call_within c (Poll true) within = within
 next_call_within c (Poll false) within = next_place_within c within
 
--- an entry names a terminal
-pub entry_within : (c : ControlValue) (place : ℕ) → HasEntries c → place < length c.poll_list
-    → terminal_of_entry c place < length c.peers
-entry_within c place h within = h.entries place 0 within
+-- the present entry is one of the poll list, and each entry names a terminal
+pub record HasPlaces (c : ControlValue) : Type 0 where
+  pub place : c.place < length c.poll_list
+  pub entries : All (λ t. t < length c.peers) c.poll_list
+
+pub places : (c : ControlValue) → HasEntries c → HasPlaces c
+places c h = record { place = h.place; entries = h.entries }
+
+-- the poll list, the place and the number of terminals are all that is read
+pub same_places : (c d : ControlValue) → d.poll_list ≡ c.poll_list → d.place ≡ c.place
+    → length d.peers ≡ length c.peers → HasPlaces c → HasPlaces d
+same_places c d list place count h =
+    record {
+      place = rw (list, place) h.place;
+      entries =
+          rw (list) (λ k z less. subst (λ (n : ℕ). get_or c.poll_list k z < n) (sym count)
+          (h.entries k z less));
+    }
+
+-- the terminal of the present entry is there
+pub current_there : (c : ControlValue) → HasPlaces c → current c < length c.peers
+current_there c h = h.entries c.place 0 h.place
+
+-- the terminal of the next call is there
+pub next_there : (c : ControlValue) (after : After) → HasPlaces c
+    → terminal_of_entry c (next_call c after).place < length c.peers
+next_there c after h = h.entries (next_call c after).place 0 (next_call_within c after h.place)
 
 pub terminal_there : (c : ControlValue) (t : ℕ) → t < length c.peers → slice_get (terminals c) t
     ≡ Some (peer_at c t).terminal
@@ -257,16 +280,14 @@ selects_there t s within = slice_get-get_or t.selects s t.poll within
 
 -- each entry names a terminal, and each selection address of a terminal has its outbound
 pub record HasShape (c : ControlValue) : Type 0 where
-  pub place : c.place < length c.poll_list
-  pub within : (place : ℕ) → place < length c.poll_list → terminal_of_entry c place < length c.peers
+  pub places : HasPlaces c
   pub lengths : (t : ℕ) → t < length c.peers → length (peer_at c t).outbounds
       ≡ length (peer_at c t).terminal.selects
 
 pub shape : (c : ControlValue) → HasEntries c → HasShape c
 shape c h =
     record {
-      place = h.place;
-      within = λ place within. entry_within c place h within;
+      places = places c h;
       lengths =
           λ t within. (h.peers t no_peer within).outbounds;
     }
@@ -287,7 +308,7 @@ calls_it c place FromTerminal address shaped within selected sent =
             terminal = (peer_at c t).terminal;
             there =
                 rw (same_map (λ (x : PeerValue). x.terminal) c.peers t p no_peer refl)
-                (terminal_there c t (shaped.within place within));
+                (terminal_there c t (shaped.places.entries place 0 within));
             its_own = cc;
           };
       task = refl;
@@ -299,7 +320,7 @@ calls_it c place (ToTerminal s) address shaped within selected sent =
     let p : PeerValue = record (peer_at c t) { urgent = false } in
     let outbound : s < length (peer_at c t).outbounds = (selected s refl).there in
     let select : s < length (peer_at c t).terminal.selects =
-    subst (λ (n : ℕ). s < n) (shaped.lengths t (shaped.within place within)) outbound in
+    subst (λ (n : ℕ). s < n) (shaped.lengths t (shaped.places.entries place 0 within)) outbound in
     let own : slice_get (peer_at c t).terminal.selects s
     ≡ Some (select_address (peer_at c t).terminal s) =
     selects_there (peer_at c t).terminal s select in
@@ -310,7 +331,7 @@ calls_it c place (ToTerminal s) address shaped within selected sent =
             terminal = (peer_at c t).terminal;
             there =
                 rw (same_map (λ (x : PeerValue). x.terminal) c.peers t p no_peer refl)
-                (terminal_there c t (shaped.within place within));
+                (terminal_there c t (shaped.places.entries place 0 within));
             its_own = cc;
           };
       task = refl;
@@ -324,4 +345,4 @@ pub next_is_called : (c : ControlValue) (after : After) (address : List ℕ) →
     → IsCalled (next_call_step c after).control (next_call c after) address
 next_is_called c after address shaped calm sent =
     calls_it c (next_call c after).place (next_call c after).way address shaped
-    (next_call_within c after shaped.place) (next_selected c after calm) sent
+    (next_call_within c after shaped.places.place) (next_selected c after calm) sent

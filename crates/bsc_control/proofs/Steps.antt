@@ -31,7 +31,7 @@ use Rattle.bsc_control.specs.Table.{selecting_step, receive_step, replied_after,
 use Rattle.bsc_control.specs.Table.{polling_step, task_step, repeated, silence_in, rooms_after}
 use Rattle.bsc_control.specs.Table.{Hears, ActsOnSilence, select_address}
 use Rattle.bsc_control.proofs.Bids.{OthersRest, keeps_spools_bid_step, calls_bid_step}
-use Rattle.bsc_control.proofs.Calls.{IsCalm, KeepsSpools, IsSamePeer, shape, entry_within}
+use Rattle.bsc_control.proofs.Calls.{IsCalm, KeepsSpools, IsSamePeer, shape, places, current_there}
 use Rattle.bsc_control.proofs.Calls.{keeps_moved, rests_moved, settings_moved}
 use Rattle.bsc_control.proofs.Calls.{keeps_spools_poll_call_step, keeps_spools_next_call_step}
 use Rattle.bsc_control.proofs.Calls.{next_is_called, terminal_there, selects_there}
@@ -289,7 +289,7 @@ hears_receiving_step c h replied step entries o calm e suits grows silent =
           holds_at (λ (j : ℕ) (x : PeerValue). GrowsByText c h j (peer_at c j).spool.records
           x.spool.records) c.peers t p no_peer
           (stores c h replied (peer c).spool.records step.spool.records e grows)
-          (λ le. absurd (omega (arith, le, entry_within c c.place entries entries.place)))
+          (λ le. absurd (omega (arith, le, current_there c (places c entries))))
           (λ j ne. inl refl);
       calls = λ address sent. absurd (no_call step.reply address sent);
     }
@@ -365,7 +365,7 @@ repeats : (c : ControlValue) (s : ℕ) (enquired : Bool) (address : List ℕ) �
     → IsRepeated c (record c { failures = c.failures + 1 }) address
 repeats c s true address entries e selected sent = absurd (cc)
 repeats c s false address entries e selected sent =
-    let within = entry_within c c.place entries entries.place in
+    let within = current_there c (places c entries) in
     let select : s < length (peer c).terminal.selects =
     subst (λ (n : ℕ). s < n) (entries.peers (current c) no_peer within).outbounds
     selected.there in
@@ -401,7 +401,7 @@ repeats_poll c address entries e sent =
             terminal = (peer c).terminal;
             there =
                 rw (same_map (λ (x : PeerValue). x.terminal) c.peers t p no_peer refl)
-                (terminal_there c t (entry_within c c.place entries entries.place));
+                (terminal_there c t (current_there c (places c entries)));
             its_own = cc;
           };
       failures = refl;

@@ -1,6 +1,6 @@
 -- The call order (GA27-3004: polling and selection by a poll list; the order of selections and
 -- polls, and that an entry comes again after RVI, are own).
-use Rattle.std.specs.Prelude.{ℕ, ◌+◌, Bool, true, false, nat_eq, length, drop, position, Option}
+use Rattle.std.specs.Prelude.{ℕ, ◌+◌, Bool, true, false, nat_eq, List, length, drop, position, Option}
 use Rattle.std.specs.Prelude.{None, Some, if◌then◌else◌}
 use Rattle.bsc_control.specs.declared.way.Way.{Way}
 use Rattle.bsc_control.specs.declared.way.Way.TheVariants.{FromTerminal, ToTerminal}
@@ -35,9 +35,17 @@ abbrev pub first_call : ControlValue → ℕ → Call
 first_call c place =
     record { place = place; way = way_from (peer_at c (terminal_of_entry c place)) 0 }
 
--- the entry after the present one: after the last the first
+-- a place in a list of this length that is read round: its end is the first place again
+abbrev pub wrapped : ℕ → ℕ → ℕ
+wrapped count place = if nat_eq place count then 0 else place
+
+-- the place of the entry after this one of the poll list: after the last the first
+abbrev pub place_after : List ℕ → ℕ → ℕ
+place_after list place = wrapped (length list) (place + 1)
+
+-- the entry after the present one
 abbrev pub next_place : ControlValue → ℕ
-next_place c = if nat_eq (c.place + 1) (length c.poll_list) then 0 else c.place + 1
+next_place c = place_after c.poll_list c.place
 
 -- the next call
 abbrev pub next_call : ControlValue → After → Call

@@ -24,7 +24,7 @@ use Rattle.bsc_line_model.specs.Trust.{IsHeardFairly, IsAddressedAfter, is_call}
 use Rattle.bsc_line_model.specs.Kept.{AreTuned, AreStations}
 use Rattle.bsc_line_model.specs.Together.{IsPolling, IsInBidDown, InTask}
 use Rattle.bsc_line_model.specs.BidLaws.{BidLaws}
-use Rattle.bsc_line_model.proofs.Entries.{places, current_there}
+use Rattle.bsc_control.proofs.Calls.{places, current_there}
 use Rattle.bsc_line_model.proofs.Tuning.{NamesOwn, each_fairly}
 use Rattle.bsc_line_model.proofs.SendingDown.{IsBidMessage, sends_down}
 use Rattle.bsc_line_model.proofs.CallsHeard.{selecting_heard}

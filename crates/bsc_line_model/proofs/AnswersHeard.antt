@@ -39,7 +39,7 @@ use Rattle.bsc_line_model.specs.Together.{IsQuiet, AllQuiet, OthersQuiet, IsFres
 use Rattle.bsc_line_model.specs.Together.{IsSelecting, IsSending, IsPolling, IsInBidDown, IsInBidUp}
 use Rattle.bsc_line_model.specs.Together.{FliesUp, InTask}
 use Rattle.bsc_line_model.specs.BidLaws.{BidLaws}
-use Rattle.bsc_line_model.proofs.Entries.{places, current_there, next_there}
+use Rattle.bsc_control.proofs.Calls.{places, current_there, next_there}
 use Rattle.bsc_line_model.proofs.Calling.{called_next}
 use Rattle.bsc_line_model.proofs.SendingDown.{IsBidMessage, no_call_heard}
 use Rattle.bsc_line_model.proofs.SendingUp.{HasActed, performed, places_after, answers_down}

@@ -52,7 +52,7 @@ use Rattle.bsc_line_model.specs.Kept.{AreStations}
 use Rattle.bsc_line_model.specs.Together.{IsQuiet, AllQuiet, OthersQuiet, AllInControlMode}
 use Rattle.bsc_line_model.specs.Together.{IsSelectedWith, IsSelecting, IsPolling}
 use Rattle.bsc_line_model.specs.BidLaws.{BidLaws}
-use Rattle.bsc_line_model.proofs.Entries.{places, current_there}
+use Rattle.bsc_control.proofs.Calls.{places, current_there}
 use Rattle.bsc_line_model.proofs.Stations.{same_or_not, terminal_there, at_rest_in}
 use Rattle.bsc_line_model.proofs.Tuning.{NamesOwn, IsCalledBy}
 use Rattle.bsc_line_model.proofs.SendingDown.{first_answer_is, same_terminal}

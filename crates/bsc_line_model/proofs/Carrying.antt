@@ -37,7 +37,7 @@ use Rattle.bsc_control.specs.Control.{peer_at, current, with_peer}
 use Rattle.bsc_control.specs.Peer.{PeerValue, no_peer, outbound_at}
 use Rattle.std.proofs.lemmas.List.{length-set}
 use Rattle.std.proofs.lemmas.List.Quantifiers.{position-Some}
-use Rattle.bsc_line_model.proofs.Entries.{places, current_there}
+use Rattle.bsc_control.proofs.Calls.{places, current_there}
 use Rattle.bsc_line_model.proofs.Stations.{same_or_not}
 use Rattle.bsc_line_model.proofs.AllHear.{hears_down}
 use Rattle.bsc_line_model.proofs.AnswersHeard.{hears_up}

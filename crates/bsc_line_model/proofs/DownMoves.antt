@@ -43,7 +43,7 @@ use Rattle.bsc_line_model.specs.Carries.{IsCarriedDown}
 use Rattle.bsc_line_model.specs.Kept.{IsTuned, IsLine}
 use Rattle.bsc_line_model.specs.Together.{IsInBidDown, InTask}
 use Rattle.bsc_line_model.specs.BidLaws.{BidLaws}
-use Rattle.bsc_line_model.proofs.Entries.{places, current_there}
+use Rattle.bsc_control.proofs.Calls.{places, current_there}
 use Rattle.bsc_line_model.proofs.Tuning.{each_fairly}
 use Rattle.bsc_line_model.proofs.SendingDown.{same_terminal}
 use Rattle.bsc_line_model.proofs.AllHear.{reply_is_no_call}

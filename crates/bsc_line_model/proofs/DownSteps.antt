@@ -43,7 +43,7 @@ use Rattle.bsc_line_model.specs.Kept.{IsTuned, AreTuned}
 use Rattle.bsc_line_model.specs.Terminals.{answer_of}
 use Rattle.bsc_line_model.specs.Together.{InTask, IsSelecting, IsSending, IsInBidDown, FliesDown}
 use Rattle.bsc_line_model.specs.Rounds.{SameDelays}
-use Rattle.bsc_line_model.proofs.Entries.{current_there}
+use Rattle.bsc_control.proofs.Calls.{current_there}
 use Rattle.bsc_line_model.proofs.Stations.{same_or_not, terminal_there, at_rest_in, receiving_into}
 use Rattle.bsc_line_model.proofs.Tuning.{NamesOwn}
 use Rattle.bsc_line_model.proofs.SendingDown.{others_in_control, first_answer_is, place_of}

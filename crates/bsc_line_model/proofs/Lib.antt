@@ -1,4 +1,3 @@
-pub mod Entries
 pub mod Tuning
 pub mod Stations
 pub mod Carrying

@@ -28,7 +28,7 @@ use Rattle.bsc_control.specs.declared.way.Way.TheVariants.{FromTerminal, ToTermi
 use Rattle.bsc_control.specs.Addresses.{IsAddressOf, address_for}
 use Rattle.bsc_control.specs.Peer.{OutboundValue, IsPeer, no_peer, no_outbound}
 use Rattle.bsc_control.specs.Control.{peer_at, peer, current, terminals, terminal_of_entry}
-use Rattle.bsc_control.specs.CallOrder.{way_from, first_call}
+use Rattle.bsc_control.specs.CallOrder.{way_from, first_call, wrapped, place_after}
 use Rattle.bsc_control.specs.Kept.{IsTaskOf, outbound_of}
 use Rattle.bsc_line_model.specs.declared.transmission.Speaker.TheVariants as sp
 use Rattle.bsc_line_model.specs.Transmission.{sent_by}
@@ -38,11 +38,11 @@ use Rattle.bsc_line_model.specs.Line.{LineValue, terminal_at, terminal_count, ch
 use Rattle.bsc_line_model.specs.Kept.{IsLine}
 use Rattle.bsc_line_model.specs.Runs.{Runs}
 use Rattle.bsc_line_model.specs.Rounds.{block_count, poll_length, visit_length, round_length}
-use Rattle.bsc_line_model.specs.Rounds.{entry_at, place_after, sent_times, IsCalm, BeginsVisit}
+use Rattle.bsc_line_model.specs.Rounds.{entry_at, sent_times, IsCalm, BeginsVisit}
 use Rattle.bsc_line_model.specs.Rounds.{IsDelivered, SameDelays, IsVisited, IsRoundDone}
 use Rattle.bsc_line_model.specs.Rounds.{RunsDeliverVisit, RunsDeliverRound}
 use Rattle.bsc_line_model.specs.Together.{IsQuiet, AllQuiet, IsSelecting, InTask}
-use Rattle.bsc_line_model.proofs.Entries.{current_there}
+use Rattle.bsc_control.proofs.Calls.{current_there}
 use Rattle.bsc_line_model.proofs.OutboundSteps.{selected_there}
 use Rattle.bsc_line_model.proofs.Soundness.{way_there}
 use Rattle.bsc_line_model.proofs.Stations.{same_or_not, terminal_there}
@@ -54,7 +54,7 @@ use Rattle.bsc_line_model.proofs.Polls.{all_quiet_at_poll}
 use Rattle.bsc_line_model.proofs.Visits.{IsCalmAt, IsVisited as Visiting, IsVisitDone, StaysBut}
 use Rattle.bsc_line_model.proofs.Visits.{but_same, selections_length, visit_from}
 use Rattle.bsc_line_model.proofs.VisitCounts.{calls_where_made, visit_is}
-use Rattle.bsc_line_model.proofs.RoundSteps.{IsEmptied, IsRoundAt, round_from, still_calm, wrapped}
+use Rattle.bsc_line_model.proofs.RoundSteps.{IsEmptied, IsRoundAt, round_from, still_calm}
 use Rattle.bsc_line_model.proofs.RoundSteps.{not_last, entry_there}
 use Rattle.bsc_line_model.proofs.Delivered.{all_delivered}
 use Rattle.bsc_line_model.proofs.FairRuns.{walks, good_line}
@@ -362,10 +362,11 @@ visit_done laws old new place result line b runs delays =
       done.0,
       record {
         delivered =
-            delivered_at laws new (place_after old place) e (way_from (peer new.control) 0) h.good
-            h.calls now h.calm (record { down = h.down; up = h.up });
+            delivered_at laws new (place_after old.control.poll_list place) e
+            (way_from (peer new.control) 0) h.good h.calls now h.calm
+            (record { down = h.down; up = h.up });
         others = λ t way is differ. channel_same e t way old new is.there differ h.stays;
-        next = begins_next new (place_after old place) h.good h.calls (λ j less.
+        next = begins_next new (place_after old.control.poll_list place) h.good h.calls (λ j less.
             let within : j < length old.control.poll_list =
             subst (λ (list : List ℕ). j < length list) h.stays.poll_list less in
             let inside : entry_at old j < terminal_count old = entry_there old j g within in

@@ -31,7 +31,7 @@ use Rattle.bsc_control.specs.Table.{Hears, ActsOnSilence, poll_call_step, way_ca
 use Rattle.bsc_control.specs.Table.{next_call_step, act_step, bid_step, after_bid}
 use Rattle.bsc_control.specs.Table.{selecting_step, receive_step, polling_step, task_step}
 use Rattle.bsc_control.specs.Table.{rooms_after, repeated, silence_in, has_rvi, after_step}
-use Rattle.bsc_line_model.proofs.Entries.{HasPlaces, places, same_places, current_there, next_there}
+use Rattle.bsc_control.proofs.Calls.{HasPlaces, places, same_places, current_there, next_there}
 use Rattle.bsc_line_model.proofs.Stations.{same_or_not}
 use Rattle.bsc_line_model.proofs.QueueSteps.{begin_queue, silence_queue}
 

@@ -2,8 +2,8 @@
 -- waited is delivered
 -- and known, and the first call of the next entry is pending.
 use Rattle.std.proofs.Common.{◌≡◌, ◌≢◌, ◌⊎◌, inl, inr, ℕ, zero, suc, ◌+◌, ◌*◌, ◌^◌, ◌-◌, ◌<◌}
-use Rattle.std.proofs.Common.{false, nat_eq, List, length, Option, None, Some, Result, refl}
-use Rattle.std.proofs.Common.{sym, ◌∙◌, ap, subst, arith, if◌then◌else◌}
+use Rattle.std.proofs.Common.{false, List, length, Option, None, Some, Result, refl}
+use Rattle.std.proofs.Common.{sym, ◌∙◌, ap, subst, arith}
 use Rattle.bsc_frame.specs.declared.message.Message.{Message}
 use Rattle.bsc_frame.specs.declared.message.Message.TheVariants as msg
 use Rattle.bsc_frame.specs.declared.message.Heard.TheVariants.{Whole}
@@ -29,7 +29,7 @@ use Rattle.bsc_control.specs.declared.way.Way.TheVariants.{FromTerminal}
 use Rattle.bsc_control.specs.Addresses.{IsAddressOf}
 use Rattle.bsc_control.specs.Peer.{PeerValue}
 use Rattle.bsc_control.specs.Control.{ControlValue, peer_at, peer, current, terminals}
-use Rattle.bsc_control.specs.CallOrder.{Poll, way_from, next_place}
+use Rattle.bsc_control.specs.CallOrder.{Poll, way_from, next_place, place_after}
 use Rattle.bsc_line_model.specs.declared.transmission.Speaker.TheVariants as sp
 use Rattle.bsc_line_model.specs.declared.transmission.Transmission.{Transmission}
 use Rattle.bsc_line_model.specs.declared.error.Stopped.{Stopped}
@@ -41,7 +41,7 @@ use Rattle.bsc_line_model.specs.Terminals.{answer_of}
 use Rattle.bsc_line_model.specs.Together.{IsQuiet, InTask, IsPolling, IsPolledWith, IsInBidUp}
 use Rattle.bsc_line_model.specs.Together.{FliesUp}
 use Rattle.bsc_line_model.specs.Rounds.{block_count, SameDelays}
-use Rattle.bsc_line_model.proofs.Entries.{current_there, next_there}
+use Rattle.bsc_control.proofs.Calls.{current_there, next_there}
 use Rattle.bsc_line_model.proofs.Stations.{same_or_not, terminal_there, at_rest_in}
 use Rattle.bsc_line_model.proofs.SendingDown.{others_in_control, first_answer_is}
 use Rattle.bsc_line_model.proofs.Staying.{Stays, ControlStays, TerminalStays, control_same}
@@ -255,10 +255,6 @@ ack_up laws l new place n b g polled i h =
     (answer_of l.terminals (λ z. Whole w) new.terminals e) n b i
     (known_queue x.queue x.sender.phase b ready.queue i.phase ready.counts)
     (h.terminals.each e there))
-
--- the place after a place
-abbrev pub place_after : List ℕ → ℕ → ℕ
-place_after list place = if nat_eq (place + 1) (length list) then 0 else place + 1
 
 -- the channel from terminal e is delivered, all others are as they were, and the first call of the
 -- next entry is

@@ -11,7 +11,7 @@ use Rattle.bsc_spool.specs.Queue.{QueueValue}
 use Rattle.bsc_text.specs.Sender.{is_in_doubt}
 use Rattle.bsc_control.specs.Peer.{PeerValue, OutboundValue}
 use Rattle.bsc_control.specs.Control.{peer_at, peer, current}
-use Rattle.bsc_control.specs.CallOrder.{way_from}
+use Rattle.bsc_control.specs.CallOrder.{way_from, wrapped}
 use Rattle.bsc_control.specs.Kept.{outbound_of}
 use Rattle.bsc_line_model.specs.declared.error.Stopped.{Stopped}
 use Rattle.bsc_line_model.specs.Line.{LineValue, terminal_at, terminal_count}
@@ -40,10 +40,6 @@ pub seen_now : (t e : ℕ) (seen : List ℕ) → t ≡ e → is_seen t (e ∷ se
 seen_now t e seen same =
     let yes : nat_eq t e ≡ true = grind (arith, nat_tests) in
     ap (is_some {T = ℕ}) (position_first (nat_eq t) e seen yes)
-
--- after the last entry the first
-abbrev pub wrapped : ℕ → ℕ → ℕ
-wrapped n k = if nat_eq k n then 0 else k
 
 -- nothing waits on the channels of terminal t
 pub record IsEmptied (l : LineValue) (t : ℕ) : Type 0 where

@@ -31,7 +31,7 @@ use Rattle.bsc_line_model.specs.Transmission.{sent_by}
 use Rattle.bsc_line_model.specs.Line.{LineValue, terminal_at}
 use Rattle.bsc_line_model.specs.Carries.{IsCarriedUp}
 use Rattle.bsc_line_model.specs.Rounds.{block_count}
-use Rattle.bsc_line_model.proofs.Entries.{current_there}
+use Rattle.bsc_control.proofs.Calls.{current_there}
 use Rattle.bsc_line_model.proofs.Tuning.{NamesOwn}
 use Rattle.bsc_line_model.proofs.BlockCounts.{CutLaws}
 use Rattle.bsc_line_model.proofs.Staying.{Stays, ControlStays, terminals_same, terminals_then}

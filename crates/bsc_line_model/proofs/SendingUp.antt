@@ -38,7 +38,7 @@ use Rattle.bsc_line_model.specs.Together.{IsInBidDown, FliesDown, IsSending, InT
 use Rattle.bsc_line_model.proofs.Stations.{same_or_not}
 use Rattle.bsc_line_model.proofs.Calling.{called_next}
 use Rattle.bsc_line_model.specs.BidLaws.{BidLaws}
-use Rattle.bsc_line_model.proofs.Entries.{HasPlaces, places, same_places, current_there, next_there}
+use Rattle.bsc_control.proofs.Calls.{HasPlaces, places, same_places, current_there, next_there}
 use Rattle.bsc_line_model.specs.Kept.{AreStations}
 use Rattle.bsc_control.specs.Kept.{SuitsTask, IsInBid}
 

@@ -31,7 +31,7 @@ use Rattle.bsc_line_model.specs.Kept.{IsTuned, AreTuned, AreStations}
 use Rattle.bsc_line_model.specs.Together.{IsQuiet, AllQuiet, OthersQuiet, AllInControlMode}
 use Rattle.bsc_line_model.specs.Together.{IsSelecting, IsPolling, IsInBidUp, IsPolledWith, InTask}
 use Rattle.bsc_line_model.specs.BidLaws.{BidLaws}
-use Rattle.bsc_line_model.proofs.Entries.{places, current_there}
+use Rattle.bsc_control.proofs.Calls.{places, current_there}
 use Rattle.bsc_line_model.proofs.Stations.{same_or_not}
 use Rattle.bsc_line_model.proofs.Calling.{polled_next}
 use Rattle.bsc_line_model.proofs.SendingDown.{others_in_control}

@@ -37,7 +37,7 @@ use Rattle.bsc_line_model.specs.Carries.{IsCarriedUp}
 use Rattle.bsc_line_model.specs.Kept.{IsTuned, IsLine}
 use Rattle.bsc_line_model.specs.Together.{IsInBidDown, IsInBidUp, IsPolling, IsSending, InTask}
 use Rattle.bsc_line_model.specs.BidLaws.{BidLaws}
-use Rattle.bsc_line_model.proofs.Entries.{places, current_there}
+use Rattle.bsc_control.proofs.Calls.{places, current_there}
 use Rattle.bsc_line_model.proofs.OutboundSteps.{LearnsDown, outbound_queue}
 use Rattle.bsc_line_model.proofs.DownMoves.{text_sent, if_lands, if_learns}
 use Rattle.bsc_line_model.proofs.Moving.{MovesIfAddressed, EachMoves}

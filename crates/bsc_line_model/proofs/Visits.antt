@@ -16,7 +16,7 @@ use Rattle.bsc_control.specs.declared.way.Way.TheVariants.{FromTerminal, ToTermi
 use Rattle.bsc_control.specs.Peer.{PeerValue, OutboundValue, IsPeer, IsOutbound, no_peer}
 use Rattle.bsc_control.specs.Peer.{no_outbound, outbound_at, is_selectable}
 use Rattle.bsc_control.specs.Control.{peer_at, peer, current}
-use Rattle.bsc_control.specs.CallOrder.{way_from}
+use Rattle.bsc_control.specs.CallOrder.{way_from, place_after}
 use Rattle.bsc_control.specs.Kept.{outbound_of}
 use Rattle.bsc_line_model.specs.declared.error.Stopped.{Stopped}
 use Rattle.bsc_line_model.specs.Line.{LineValue, terminal_at}
@@ -24,11 +24,11 @@ use Rattle.bsc_line_model.specs.Rounds.{block_count, selection_length, poll_leng
 use Rattle.bsc_line_model.proofs.Stations.{same_or_not}
 use Rattle.bsc_line_model.proofs.BlockCounts.{CutLaws, some_blocks}
 use Rattle.bsc_line_model.proofs.Staying.{Stays, IsElsewhere}
-use Rattle.bsc_line_model.proofs.Entries.{current_there}
+use Rattle.bsc_control.proofs.Calls.{current_there}
 use Rattle.bsc_line_model.proofs.Walking.{IsGood, good_places, Walks}
 use Rattle.bsc_line_model.proofs.Selections.{VisitLaws, Comes, Calls, IsSelectionDone, selection}
 use Rattle.bsc_line_model.proofs.Selections.{current_same}
-use Rattle.bsc_line_model.proofs.Polls.{IsPollDone, poll, place_after}
+use Rattle.bsc_line_model.proofs.Polls.{IsPollDone, poll}
 use Rattle.bsc_line_model.proofs.VisitWays.{way_in, first_way, later_way}
 
 -- all but the channels of terminal e is as it was

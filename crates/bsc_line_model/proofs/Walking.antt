@@ -12,7 +12,7 @@ use Rattle.bsc_line_model.specs.Runs.{Carries, CarriesAs}
 use Rattle.bsc_line_model.specs.Kept.{IsLine}
 use Rattle.bsc_line_model.specs.Together.{AreTogether}
 use Rattle.bsc_line_model.specs.Rounds.{SameDelays}
-use Rattle.bsc_line_model.proofs.Entries.{HasPlaces, places}
+use Rattle.bsc_control.proofs.Calls.{HasPlaces, places}
 
 -- a trusted line, together
 pub record IsGood (l : LineValue) : Type 0 where

@@ -15,7 +15,7 @@ use Rattle.bsc_control.specs.declared.way.Way.TheVariants.{ToTerminal}
 use Rattle.bsc_control.specs.Addresses.{IsAddressOf}
 use Rattle.bsc_control.specs.Peer.{OutboundValue}
 use Rattle.bsc_control.specs.Control.{ControlValue, peer_at, terminals, current}
-use Rattle.bsc_control.specs.CallOrder.{Call, first_call}
+use Rattle.bsc_control.specs.CallOrder.{Call, first_call, place_after}
 use Rattle.bsc_control.specs.Kept.{IsTaskOf}
 use Rattle.bsc_line_model.specs.declared.transmission.Speaker.TheVariants.{Control}
 use Rattle.bsc_line_model.specs.declared.event.Event.{Event}
@@ -70,11 +70,6 @@ round_length l = entries_length l [] l.control.poll_list
 -- the terminal that an entry of the poll list names
 abbrev pub entry_at : LineValue → ℕ → ℕ
 entry_at l place = slice_index l.control.poll_list place
-
--- the place of the entry after this one: after the last the first
-abbrev pub place_after : LineValue → ℕ → ℕ
-place_after l place =
-    if nat_eq (place + 1) (length l.control.poll_list) then 0 else place + 1
 
 -- terminal t is ready for a visit: it takes selections, no end asks for the line, and nothing is in
 -- doubt
@@ -134,7 +129,7 @@ pub record IsVisited (old new : LineValue) (place : ℕ) : Type 0 where
   pub delivered : IsDelivered new (entry_at old place)
   pub others : (t : ℕ) (way : Way) → IsChannel old t way → t ≢ entry_at old place →
       channel_of new t way ≡ channel_of old t way
-  pub next : BeginsVisit new (place_after old place)
+  pub next : BeginsVisit new (place_after old.control.poll_list place)
 
 -- these events are the transmissions of a visit that begins, as many as its length, each heard as
 -- it was sent, and no spool is refused room

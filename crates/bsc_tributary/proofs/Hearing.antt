@@ -75,9 +75,9 @@ place spools s r spool false e within =
     let other : r ≢ s = grind (arith, nat_tests) in
     inr (record { other = other; is = get_or-set_other spools s r spool empty_spool other })
 
-written : (spools : List SpoolValue) (s r : ℕ) (spool : SpoolValue) → s < length spools →
+at_or_beside : (spools : List SpoolValue) (s r : ℕ) (spool : SpoolValue) → s < length spools →
     At spools s r spool ⊎ Beside spools s r spool
-written spools s r spool within = place spools s r spool (nat_eq r s) refl within
+at_or_beside spools s r spool within = place spools s r spool (nat_eq r s) refl within
 
 -- a row of a call
 record CallChanges (old : TributaryValue) (called : Called) (step : TributaryStep) : Type 0 where
@@ -155,7 +155,7 @@ selected_changes t s room true within =
           λ r ne. get_or-set_other t.spools s r (room_asked (spool_at t.spools s) room) empty_spool
           (λ same. ne (ap (λ n. Receiving n) (sym same)));
       same_records =
-          λ r. elim (written t.spools s r (room_asked (spool_at t.spools s) room) within) [
+          λ r. elim (at_or_beside t.spools s r (room_asked (spool_at t.spools s) room) within) [
             | inl at ↦ ap (λ (x : SpoolValue). x.records) at.is
                 ∙ ap (λ n. (spool_at t.spools n).records) (sym at.same)
             | inr beside ↦ ap (λ (x : SpoolValue). x.records) beside.is
@@ -240,7 +240,7 @@ grows_at : (mode : Mode) (h : Heard) (s r : ℕ) (spools : List SpoolValue) (ste
     GrowsByText mode h r (spool_at spools r).records
     (spool_at (slice_set spools s step.spool) r).records
 grows_at mode h s r spools step is within grows =
-    elim (written spools s r step.spool within) [
+    elim (at_or_beside spools s r step.spool within) [
       | inr beside ↦ inl (ap (λ (x : SpoolValue). x.records) beside.is)
       | inl at ↦ elim grows [
         | inl same ↦ inl (ap (λ (x : SpoolValue). x.records) at.is ∙ same

@@ -1,9 +1,8 @@
 use Rattle.std.proofs.Common.{◌≡◌, ◌++◌, ◌∷◌, List, [], ℕ, ◌+◌, ◌<◌, ◌≤◌, length, take, drop}
-use Rattle.std.proofs.Common.{get_or, Some, sym, ◌∙◌, ap, subst, arith, append_assoc, add-one}
+use Rattle.std.proofs.Common.{Some, sym, ◌∙◌, ap, subst, arith, append_assoc}
 use Rattle.std.proofs.lemmas.List.{map-append, length-take-le, take-append-drop}
-use Rattle.std.proofs.Math.Seq.{take-suc}
 use Rattle.std.proofs.lemmas.Result.{err_from_is_err_and}
-use Rattle.std.proofs.lemmas.Option.{slice_get-get_or, slice_get_within}
+use Rattle.std.proofs.lemmas.Option.{slice_get_within}
 use Rattle.std.specs.List.{slice_get}
 use Rattle.std.specs.Map.{keys_of}
 use Rattle.bsc_text.specs.Terminal.{TerminalValue, own_addresses}
@@ -12,25 +11,17 @@ use Rattle.bsc_control.specs.declared.way.Way.TheVariants.{FromTerminal, ToTermi
 use Rattle.bsc_control.specs.Addresses.{numbered_selects}
 use Rattle.bsc_control.specs.Refusals.{RefusesAddresses}
 use Rattle.bsc_control.proofs.Owners.{Owner, selects_push, keys_selection_call_step}
+use Rattle.bsc_control.proofs.PeerLists.{take_with}
 use Rattle.bsc_control.proofs.Repeats.{refuses_more, refuses_earlier}
 use Rattle.bsc_control.proofs.directory.Directory.enter_all.Goals as goal
 
--- the selection addresses up to one more
-take_more : (xs : List (List ℕ)) (s : ℕ) (x : List ℕ) → slice_get xs s ≡ Some x → take (s + 1) xs
-    ≡ take s xs ++ x ∷ []
-take_more xs s x h =
-    let within : s < length xs = slice_get_within xs s x h in
-    let e : Some x ≡ Some (get_or xs s x) = sym h ∙ slice_get-get_or xs s x within in
-    let same : get_or xs s x ≡ x = cc in
-    rw (add-one, take-suc xs s x within) (ap (λ y. take s xs ++ y ∷ []) same)
-
 -- one more selection address was entered
-entered_more : (t : ℕ) (poll : List ℕ) (xs : List (List ℕ)) (s : ℕ) (x : List ℕ) (old : List Owner)
-    → slice_get xs s ≡ Some x
+entered_address : (t : ℕ) (poll : List ℕ) (xs : List (List ℕ)) (s : ℕ) (x : List ℕ)
+    (old : List Owner) → slice_get xs s ≡ Some x
     → (old ++ (poll, (t, FromTerminal)) ∷ numbered_selects t 0 (take s xs))
     ++ (x, (t, ToTerminal s)) ∷ [] ≡ old ++ (poll, (t, FromTerminal))
     ∷ numbered_selects t 0 (take (s + 1) xs)
-entered_more t poll xs s x old h =
+entered_address t poll xs s x old h =
     let within : s < length xs = slice_get_within xs s x h in
     let upto : s ≤ length xs = omega arith in
     let place : 0 + length (take s xs) ≡ s = omega (arith, length-take-le s xs upto) in
@@ -40,7 +31,7 @@ entered_more t poll xs s x old h =
     ap (λ zs. (poll, (t, FromTerminal)) ∷ zs)
     (ap (λ n. numbered_selects t 0 (take s xs) ++ (x, (t, ToTerminal n)) ∷ []) (sym place)
     ∙ sym (selects_push t 0 (take s xs) x)
-    ∙ ap (numbered_selects t 0) (sym (take_more xs s x h))) in
+    ∙ ap (numbered_selects t 0) (sym (take_with xs s x h))) in
     append_assoc old front ((x, (t, ToTerminal s)) ∷ []) ∙ ap (λ zs. old ++ zs) entries
 
 -- a clash at a selection address is one of the terminal's addresses
@@ -59,7 +50,7 @@ refuses_select t terminal s x old now e there is h =
     refuses_earlier (keys_of old) (terminal.poll ∷ take s xs) (x ∷ []) e
     (subst (λ ks. RefusesAddresses ks (x ∷ []) e) keys h) in
     let upto : terminal.poll ∷ (take s xs ++ x ∷ []) ≡ terminal.poll ∷ take (s + 1) xs =
-    ap (λ ys. terminal.poll ∷ ys) (sym (take_more xs s x there)) in
+    ap (λ ys. terminal.poll ∷ ys) (sym (take_with xs s x there)) in
     let whole : (terminal.poll ∷ take (s + 1) xs) ++ drop (s + 1) xs ≡ own_addresses terminal =
     ap (λ ys. terminal.poll ∷ ys) (take-append-drop (s + 1) xs) in
     subst (λ ys. RefusesAddresses (keys_of old) ys e) whole
@@ -91,5 +82,5 @@ loop-select-preserved g c =
     c.in_ok-enter-2.ensures.entries ∙ ap (λ (es : List Owner). es
     ++ (c.select.result, (c.args.number, ToTerminal c.loop-select.select)) ∷ [])
     c.loop-select.invariant
-    ∙ entered_more c.args.number c.args.terminal.now.poll c.args.terminal.now.selects
+    ∙ entered_address c.args.number c.args.terminal.now.poll c.args.terminal.now.selects
     c.loop-select.select c.select.result c.args.self.now c.select.ensures

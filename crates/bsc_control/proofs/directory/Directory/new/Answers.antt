@@ -1,8 +1,8 @@
 use Rattle.std.proofs.Common.{◌≡◌, ◌≢◌, ◌++◌, ◌∷◌, List, [], ℕ, ◌+◌, ◌<◌, ◌≤◌, length, take, drop}
-use Rattle.std.proofs.Common.{get_or, refl, sym, ◌∙◌, ap, subst, arith, append_assoc, add-one}
+use Rattle.std.proofs.Common.{get_or, refl, sym, ◌∙◌, ap, subst, arith, append_assoc}
 use Rattle.std.proofs.Common.{take_all}
 use Rattle.std.proofs.lemmas.List.{length-take-le, take-append-drop, append-nil}
-use Rattle.std.proofs.Math.Seq.{take-suc}
+use Rattle.std.proofs.lemmas.Option.{slice_get_read}
 use Rattle.std.proofs.lemmas.Result.{err_from_is_err_and}
 use Rattle.std.specs.List.{AllPairs}
 use Rattle.std.specs.Map.{keys_of}
@@ -11,23 +11,20 @@ use Rattle.bsc_control.specs.declared.refusal.SetupError.{SetupError}
 use Rattle.bsc_control.specs.Addresses.{addresses, owned, numbered}
 use Rattle.bsc_control.specs.Refusals.{RefusesAddresses}
 use Rattle.bsc_control.proofs.Owners.{Owner, numbered_push, keys_numbered}
+use Rattle.bsc_control.proofs.PeerLists.{take_with}
 use Rattle.bsc_control.proofs.Repeats.{refuses_more, refuses_earlier, all_differ}
 use Rattle.bsc_control.proofs.directory.Directory.new.Goals as goal
 
--- the terminals up to one more
-take_more : (ts : List TerminalValue) (n : ℕ) (x : TerminalValue) → n < length ts → x
-    ≡ get_or ts n x → take (n + 1) ts ≡ take n ts ++ x ∷ []
-take_more ts n x within is =
-    rw (add-one, take-suc ts n x within) (ap (λ y. take n ts ++ y ∷ []) (sym is))
-
 -- one more terminal was entered
-entered_more : (ts : List TerminalValue) (n : ℕ) (x : TerminalValue) → n < length ts → x
+entered_terminal : (ts : List TerminalValue) (n : ℕ) (x : TerminalValue) → n < length ts → x
     ≡ get_or ts n x → numbered 0 (take n ts) ++ owned n x ≡ numbered 0 (take (n + 1) ts)
-entered_more ts n x within is =
+entered_terminal ts n x within is =
     let upto : n ≤ length ts = omega arith in
     let place : 0 + length (take n ts) ≡ n = omega (arith, length-take-le n ts upto) in
+    let more : take (n + 1) ts ≡ take n ts ++ x ∷ [] =
+    take_with ts n x (slice_get_read ts (length ts) n x refl within is) in
     ap (λ k. numbered 0 (take n ts) ++ owned k x) (sym place) ∙ sym (numbered_push 0 (take n ts) x)
-    ∙ ap (numbered 0) (sym (take_more ts n x within is))
+    ∙ ap (numbered 0) (sym more)
 
 addresses_append : (xs ys : List TerminalValue) → addresses (xs ++ ys) ≡ addresses xs
     ++ addresses ys
@@ -44,10 +41,12 @@ refuses_terminal ts n x e within is h =
     let early : RefusesAddresses [] (addresses (take n ts) ++ own_addresses x) e =
     refuses_earlier [] (addresses (take n ts)) (own_addresses x) e
     (subst (λ ks. RefusesAddresses ks (own_addresses x) e) (keys_numbered 0 (take n ts)) h) in
+    let more : take (n + 1) ts ≡ take n ts ++ x ∷ [] =
+    take_with ts n x (slice_get_read ts (length ts) n x refl within is) in
     let one : addresses (x ∷ []) ≡ own_addresses x = append-nil (own_addresses x) in
     let upto : addresses (take n ts) ++ own_addresses x ≡ addresses (take (n + 1) ts) =
     ap (λ zs. addresses (take n ts) ++ zs) (sym one) ∙ sym (addresses_append (take n ts) (x ∷ []))
-    ∙ ap addresses (sym (take_more ts n x within is)) in
+    ∙ ap addresses (sym more) in
     let whole : addresses (take (n + 1) ts) ++ addresses (drop (n + 1) ts) ≡ addresses ts =
     sym (addresses_append (take (n + 1) ts) (drop (n + 1) ts))
     ∙ ap addresses (take-append-drop (n + 1) ts) in
@@ -69,7 +68,7 @@ pub loop-number-preserved : goal.loop-number-preserved
 loop-number-preserved g c =
     c.in_ok-enter_all.ensures.entries ∙ ap (λ (es : List Owner). es
     ++ owned c.loop-number.number c.index-terminals-number.result) c.loop-number.invariant
-    ∙ entered_more c.args.terminals.now c.loop-number.number c.index-terminals-number.result
+    ∙ entered_terminal c.args.terminals.now c.loop-number.number c.index-terminals-number.result
     c.loop-number-test.true c.index-terminals-number.is
 
 pub returns-clause-distinct : goal.returns-clause-distinct
