@@ -17,7 +17,7 @@ use Rattle.bsc_control.specs.declared.task.Replied.{Replied}
 use Rattle.bsc_control.specs.Peer.{PeerValue}
 use Rattle.bsc_line_model.specs.declared.transmission.Speaker.TheVariants as sp
 use Rattle.bsc_line_model.specs.Transmission.{sent_by}
-use Rattle.bsc_line_model.specs.Together.{IsQuiet, RestsDown, IsInBidUp, AllInControlMode}
+use Rattle.bsc_line_model.specs.Together.{HasNoBid, RestsDown, IsInBidUp, AllInControlMode}
 use Rattle.bsc_line_model.specs.Together.{IsPolledWith}
 use Rattle.bsc_line_model.specs.BidLaws.{BidLaws}
 use Rattle.bsc_line_model.proofs.SendingUp.{rests, stays}
@@ -28,7 +28,7 @@ IsEndedUp out mode = (out ≡ None) ⊎ ((out ≡ Some m.Eot) × (mode ≡ Contr
 
 -- no bid of it goes on, or one does
 abbrev pub HasActedUp : PeerValue → ℕ → TributaryValue → Option Message → Type 0
-HasActedUp p e u out = (IsQuiet p u × IsEndedUp out u.mode)
+HasActedUp p e u out = (HasNoBid p u × IsEndedUp out u.mode)
     ⊎ IsInBidUp (sent_by (sp.Terminal e) out) p e u
 
 -- what a step of its sender leaves
@@ -126,7 +126,7 @@ ended_with p e mode out replied ts (inr eot) all =
 pub present_after : (p : PeerValue) (e : ℕ) (u : TributaryValue) (out : Option Message)
     (replied : Replied) (ts : List TributaryValue) → HasActedUp p e u out
     → (u.mode ≡ Control → AllInControlMode ts) →
-    (IsQuiet p u × IsPolledWith (sent_by (sp.Terminal e) out) replied p e ts)
+    (HasNoBid p u × IsPolledWith (sent_by (sp.Terminal e) out) replied p e ts)
     ⊎ IsInBidUp (sent_by (sp.Terminal e) out) p e u
 present_after p e u out replied ts (inl h) all =
     inl (h.0, ended_with p e u.mode out replied ts h.1 all)

@@ -24,7 +24,7 @@ use Rattle.bsc_line_model.specs.Trust.{IsHeardFairly, IsAddressedAfter, is_call}
 use Rattle.bsc_line_model.specs.Kept.{AreTuned, AreStations}
 use Rattle.bsc_line_model.specs.Together.{IsPolling, IsInBidDown, InTask}
 use Rattle.bsc_line_model.specs.BidLaws.{BidLaws}
-use Rattle.bsc_control.proofs.Calls.{places, current_there}
+use Rattle.bsc_line_model.proofs.Stations.{current_terminal_there}
 use Rattle.bsc_line_model.proofs.Tuning.{NamesOwn, each_fairly}
 use Rattle.bsc_line_model.proofs.SendingDown.{IsBidMessage, sends_down}
 use Rattle.bsc_line_model.proofs.CallsHeard.{selecting_heard}
@@ -64,9 +64,7 @@ hears_down names laws c old before after w hears new stations tuned together fai
     keeps = by_task c.task refl together
   where
     there : current c < length old
-    there =
-        subst (λ (n : ℕ). current c < n) stations.count
-        (current_there c (places c stations.control.entries))
+    there = current_terminal_there c old stations
 
     by_task : (task : Task) → c.task ≡ task
         → InTask task (Some (record { speaker = sp.Control; message = w })) c old
@@ -74,13 +72,14 @@ hears_down names laws c old before after w hears new stations tuned together fai
     by_task AtRest is k = let no : Some (record { speaker = sp.Control; message = w }) ≡ None =
         k.nothing in absurd (cc)
     by_task (Selecting s true) is k =
-        selecting_enquired c old before hears new s there stations tuned k.quiet k.fresh
+        selecting_enquired c old before hears new s there stations tuned k.no_bids k.fresh
         (subst (λ (v : Message). IsHeardFairly v (length old) hears) k.with_pending fair) each keeps
     by_task (Selecting s false) is k =
         elim (subst (λ (v : Message). IsHeardFairly v (length old) hears) k.with_pending fair) [
-          | inl all ↦ selecting_heard names c old hears new after s false there stations is k.quiet
+          | inl all ↦
+              selecting_heard names c old hears new after s false there stations is k.no_bids
               all (addressed.called (select_address (peer c).terminal s) all) each
-          | inr missed ↦ selecting_missed c old hears new s stations k.quiet missed each keeps
+          | inr missed ↦ selecting_missed c old hears new s stations k.no_bids missed each keeps
         ]
     by_task (Sending s) is k =
         let b : IsInBidDown (Some (record { speaker = sp.Control; message = w })) (peer c)
@@ -98,15 +97,15 @@ hears_down names laws c old before after w hears new stations tuned together fai
         elim k.present [
           | inl q ↦
               (let nothing : replied ≡ Nothing = q.1.1 in
-              let all_quiet = with_others c old (current c) k.others q.0 in
+              let no_bids = with_others c old (current c) k.others q.0 in
               elim (subst (λ (v : Message). IsHeardFairly v (length old) hears) q.1.0 fair) [
                 | inl all ↦
                     subst (λ (r : Replied). IsPolling (first_answer old hears new (length old)) c
                     new r) (sym nothing)
                     (polling_heard names laws c old hears new after there stations
-                    (is ∙ ap (λ (r : Replied). Polling r) nothing) all_quiet all
+                    (is ∙ ap (λ (r : Replied). Polling r) nothing) no_bids all
                     (addressed.called (peer c).terminal.poll all) each)
-                | inr missed ↦ polling_missed c old hears new replied there stations all_quiet
+                | inr missed ↦ polling_missed c old hears new replied there stations no_bids
                     missed each keeps
               ])
           | inr b ↦

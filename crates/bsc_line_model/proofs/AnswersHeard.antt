@@ -35,11 +35,12 @@ use Rattle.bsc_line_model.specs.declared.transmission.Transmission.{Transmission
 use Rattle.bsc_line_model.specs.Transmission.{sent_by}
 use Rattle.bsc_line_model.specs.Line.{terminal_in}
 use Rattle.bsc_line_model.specs.Kept.{AreStations}
-use Rattle.bsc_line_model.specs.Together.{IsQuiet, AllQuiet, OthersQuiet, IsFresh, IsAnswer}
+use Rattle.bsc_line_model.specs.Together.{HasNoBid, NoBids, NoOtherBids, IsFresh, IsAnswer}
 use Rattle.bsc_line_model.specs.Together.{IsSelecting, IsSending, IsPolling, IsInBidDown, IsInBidUp}
 use Rattle.bsc_line_model.specs.Together.{FliesUp, InTask}
 use Rattle.bsc_line_model.specs.BidLaws.{BidLaws}
 use Rattle.bsc_control.proofs.Calls.{places, current_there, next_there}
+use Rattle.bsc_line_model.proofs.Stations.{current_terminal_there}
 use Rattle.bsc_line_model.proofs.Calling.{called_next}
 use Rattle.bsc_line_model.proofs.SendingDown.{IsBidMessage, no_call_heard}
 use Rattle.bsc_line_model.proofs.SendingUp.{HasActed, performed, places_after, answers_down}
@@ -51,7 +52,7 @@ lost_selecting : (c : ControlValue) (ts : List TributaryValue) (pending : Option
     (s : ℕ) (enquired : Bool) → IsSelecting pending c ts s enquired
     → IsSelecting None c ts s enquired
 lost_selecting c ts pending s enquired h =
-    record { quiet = h.quiet; with_pending = tt; fresh = h.fresh }
+    record { no_bids = h.no_bids; with_pending = tt; fresh = h.fresh }
 
 lost_sending : (laws : BidLaws) (c : ControlValue) (ts : List TributaryValue)
     (pending : Option Transmission) (s : ℕ) → IsSending pending c ts s → IsSending None c ts s
@@ -97,14 +98,14 @@ lost_polling laws c ts pending replied h =
 
 pub lost : (laws : BidLaws) (task : Task) (c : ControlValue) (ts : List TributaryValue)
     (pending : Option Transmission) → InTask task pending c ts → InTask task None c ts
-lost laws AtRest c ts pending h = record { nothing = refl; quiet = h.quiet; modes = h.modes }
+lost laws AtRest c ts pending h = record { nothing = refl; no_bids = h.no_bids; modes = h.modes }
 lost laws (Selecting s enquired) c ts pending h = lost_selecting c ts pending s enquired h
 lost laws (Sending s) c ts pending h = lost_sending laws c ts pending s h
 lost laws (Polling replied) c ts pending h = lost_polling laws c ts pending replied h
 
--- the next call is made where all are quiet
+-- the next call is made where no bid goes on
 pub next_made : (c : ControlValue) (ts : List TributaryValue) (after : After) → AreStations c ts
-    → AllQuiet c ts
+    → NoBids c ts
     → InTask (next_call_step c after).control.task
     (sent_by sp.Control (next_call_step c after).sent) (next_call_step c after).control ts
 next_made c ts after stations all =
@@ -113,7 +114,7 @@ next_made c ts after stations all =
 
 -- the selected terminal is ready: a bid begins
 pub begins_down : (laws : BidLaws) (c : ControlValue) (ts : List TributaryValue) (s : ℕ)
-    (enquired : Bool) → AreStations c ts → c.task ≡ Selecting s enquired → AllQuiet c ts
+    (enquired : Bool) → AreStations c ts → c.task ≡ Selecting s enquired → NoBids c ts
     → IsFresh (terminal_in ts (current c)) s → (terminal_in ts (current c)).receiver.last ≡ Ack0 →
     let new : ControlStep =
     bid_step c s (begin_step (outbound_at (peer c) s).sender (outbound_at (peer c) s).queue)
@@ -127,8 +128,8 @@ begins_down laws c ts s enquired stations task all fresh last =
     let suits : IsSelected (peer c) s =
     subst (λ (t : Task). SuitsTask t (peer c)) task stations.control.orderly.suits in
     let there : current c < length c.peers = current_there c (places c stations.control.entries) in
-    let within : current c < length ts = subst (λ (n : ℕ). current c < n) stations.count there in
-    let this : IsQuiet (peer c) x = all e within in
+    let within : current c < length ts = current_terminal_there c ts stations in
+    let this : HasNoBid (peer c) x = all e within in
     let spooled : List (List ℕ) = (spool_at x.spools s).records in
     let rest : IsResting Idle o.queue spooled =
     subst (λ (k : Phase). IsResting k o.queue spooled) suits.idle (this.down s suits.there) in
@@ -154,7 +155,7 @@ begins_down laws c ts s enquired stations task all fresh last =
 
 -- it is asked to wait: ENQ, or after too many the next call
 asks_again : (c : ControlValue) (ts : List TributaryValue) (s : ℕ) (over : Bool) → AreStations c ts
-    → AllQuiet c ts → IsFresh (terminal_in ts (current c)) s →
+    → NoBids c ts → IsFresh (terminal_in ts (current c)) s →
     let new : ControlStep =
     if over then next_call_step c (Selection s)
     else record {
@@ -166,7 +167,7 @@ asks_again : (c : ControlValue) (ts : List TributaryValue) (s : ℕ) (over : Boo
     InTask new.control.task (sent_by sp.Control new.sent) new.control ts
 asks_again c ts s true stations all fresh = next_made c ts (Selection s) stations all
 asks_again c ts s false stations all fresh =
-    record { quiet = all; with_pending = refl; fresh = fresh }
+    record { no_bids = all; with_pending = refl; fresh = fresh }
 
 -- a selection is answered
 pub selecting_answered : (laws : BidLaws) (c : ControlValue) (ts : List TributaryValue) (s t : ℕ)
@@ -176,11 +177,11 @@ pub selecting_answered : (laws : BidLaws) (c : ControlValue) (ts : List Tributar
     (sent_by sp.Control (selecting_step c s (reply_in w)).sent)
     (selecting_step c s (reply_in w)).control ts
 selecting_answered laws c ts s t m.Ack0 enquired stations task h =
-    begins_down laws c ts s enquired stations task h.quiet h.with_pending.1.0 h.with_pending.1.1
+    begins_down laws c ts s enquired stations task h.no_bids h.with_pending.1.0 h.with_pending.1.1
 selecting_answered laws c ts s t m.Nak enquired stations task h =
-    next_made c ts (Selection s) stations h.quiet
+    next_made c ts (Selection s) stations h.no_bids
 selecting_answered laws c ts s t m.Wack enquired stations task h =
-    asks_again c ts s (nat_lt c.setup.waits (c.wacks + 1)) stations h.quiet h.with_pending.1.0
+    asks_again c ts s (nat_lt c.setup.waits (c.wacks + 1)) stations h.no_bids h.with_pending.1.0
 selecting_answered laws c ts s t m.Eot enquired stations task h = absurd h.with_pending.1
 selecting_answered laws c ts s t m.Enq enquired stations task h = absurd h.with_pending.1
 selecting_answered laws c ts s t m.Ack1 enquired stations task h = absurd h.with_pending.1
@@ -212,7 +213,7 @@ reply_flies_up e (Some r) = (r, refl, refl)
 -- the polled terminal's text or ENQ is received
 pub polling_received : (laws : BidLaws) (c : ControlValue) (ts : List TributaryValue) (t : ℕ)
     (w : Message) (h : Heard) (rooms : Rooms) (replied : Replied) → AreStations c ts
-    → OthersQuiet c ts (current c) →
+    → NoOtherBids c ts (current c) →
     IsInBidUp (Some (record { speaker = sp.Terminal t; message = w })) (peer c) (current c)
     (terminal_in ts (current c)) → IsFairlyHeard w h →
     InTask (polling_step c replied h rooms).control.task
@@ -254,7 +255,7 @@ polling_received laws c ts t w h rooms replied stations others b fair =
     let polls : IsPolling (sent_by sp.Control (receive_step c replied step).sent)
     (receive_step c replied step).control ts (replied_after replied step.reply) = record {
       others =
-          λ k less differ. subst (λ (z : PeerValue). IsQuiet z (terminal_in ts k))
+          λ k less differ. subst (λ (z : PeerValue). HasNoBid z (terminal_in ts k))
           (sym (get_or-set_other c.peers e k q no_peer differ)) (others k less differ);
       present =
           inr (subst (λ (z : PeerValue). IsInBidUp
@@ -265,7 +266,7 @@ polling_received laws c ts t w h rooms replied stations others b fair =
 
 -- a whole EOT ends the poll
 pub polling_ended : (c : ControlValue) (ts : List TributaryValue) (rooms : Rooms)
-    (replied : Replied) → AreStations c ts → AllQuiet c ts →
+    (replied : Replied) → AreStations c ts → NoBids c ts →
     InTask (polling_step c replied (Whole m.Eot) rooms).control.task
     (sent_by sp.Control (polling_step c replied (Whole m.Eot) rooms).sent)
     (polling_step c replied (Whole m.Eot) rooms).control ts

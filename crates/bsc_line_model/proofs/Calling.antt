@@ -15,7 +15,7 @@ use Rattle.bsc_control.specs.Table.{select_address}
 use Rattle.bsc_line_model.specs.declared.transmission.Speaker.TheVariants as sp
 use Rattle.bsc_line_model.specs.Transmission.{sent_by}
 use Rattle.bsc_line_model.specs.Line.{terminal_in}
-use Rattle.bsc_line_model.specs.Together.{IsQuiet, AllQuiet, OthersQuiet, IsSelecting, IsPolling}
+use Rattle.bsc_line_model.specs.Together.{HasNoBid, NoBids, NoOtherBids, IsSelecting, IsPolling}
 use Rattle.bsc_line_model.specs.Together.{InTask}
 use Rattle.bsc_line_model.proofs.Stations.{same_or_not}
 
@@ -28,65 +28,66 @@ peer_other : (c : ControlValue) (e t : ℕ) (p : PeerValue) → t ≢ e → peer
     ≡ peer_at c t
 peer_other c e t p differ = get_or-set_other c.peers e t p no_peer differ
 
--- one peer changed so that its terminal stays quiet
-others_quiet : (c : ControlValue) (ts : List TributaryValue) (e : ℕ) (p : PeerValue) → AllQuiet c ts
-    → OthersQuiet (with_peer c e p) ts e
-others_quiet c ts e p quiet t less differ =
-    subst (λ (q : PeerValue). IsQuiet q (terminal_in ts t)) (sym (peer_other c e t p differ))
-    (quiet t less)
+-- one peer changed so that no bid goes on with its terminal
+no_other_bids : (c : ControlValue) (ts : List TributaryValue) (e : ℕ) (p : PeerValue) → NoBids c ts
+    → NoOtherBids (with_peer c e p) ts e
+no_other_bids c ts e p no_bids t less differ =
+    subst (λ (q : PeerValue). HasNoBid q (terminal_in ts t)) (sym (peer_other c e t p differ))
+    (no_bids t less)
 
-all_quiet_with_peer : (c : ControlValue) (ts : List TributaryValue) (e : ℕ) (p : PeerValue) → e
-    < length c.peers → AllQuiet c ts → (e < length ts → IsQuiet p (terminal_in ts e))
-    → AllQuiet (with_peer c e p) ts
-all_quiet_with_peer c ts e p there quiet here t less =
+no_bids_with_peer : (c : ControlValue) (ts : List TributaryValue) (e : ℕ) (p : PeerValue) → e
+    < length c.peers → NoBids c ts → (e < length ts → HasNoBid p (terminal_in ts e))
+    → NoBids (with_peer c e p) ts
+no_bids_with_peer c ts e p there no_bids here t less =
     elim (same_or_not t e) [
       | inl same ↦
-          subst (λ (n : ℕ). IsQuiet (peer_at (with_peer c e p) n) (terminal_in ts n)) (sym same)
-          (subst (λ (q : PeerValue). IsQuiet q (terminal_in ts e)) (sym (replaced_peer c e p there))
+          subst (λ (n : ℕ). HasNoBid (peer_at (with_peer c e p) n) (terminal_in ts n)) (sym same)
+          (subst (λ (q : PeerValue). HasNoBid q (terminal_in ts e))
+          (sym (replaced_peer c e p there))
           (here (subst (λ (n : ℕ). n < length ts) same less)))
-      | inr differ ↦ others_quiet c ts e p quiet t less differ
+      | inr differ ↦ no_other_bids c ts e p no_bids t less differ
     ]
 
 -- the receiver begins, and the urgent flag falls: neither is seen by the channels
-quiet_with_new_receiver : (p : PeerValue) (x : TributaryValue) → IsQuiet p x
-    → IsQuiet (record p { receiver = new_receiver true }) x
-quiet_with_new_receiver p x q = record { mode = q.mode; up = q.up; down = q.down }
+no_bid_with_new_receiver : (p : PeerValue) (x : TributaryValue) → HasNoBid p x
+    → HasNoBid (record p { receiver = new_receiver true }) x
+no_bid_with_new_receiver p x q = record { mode = q.mode; up = q.up; down = q.down }
 
-quiet_without_urgent : (p : PeerValue) (x : TributaryValue) → IsQuiet p x
-    → IsQuiet (record p { urgent = false }) x
-quiet_without_urgent p x q = record { mode = q.mode; up = q.up; down = q.down }
+no_bid_without_urgent : (p : PeerValue) (x : TributaryValue) → HasNoBid p x
+    → HasNoBid (record p { urgent = false }) x
+no_bid_without_urgent p x q = record { mode = q.mode; up = q.up; down = q.down }
 
 -- the polling address of an entry is called
 pub polled_next : (c : ControlValue) (ts : List TributaryValue) (place failures : ℕ)
-    → terminal_of_entry c place < length c.peers → length c.peers ≡ length ts → AllQuiet c ts →
+    → terminal_of_entry c place < length c.peers → length c.peers ≡ length ts → NoBids c ts →
     IsPolling (sent_by sp.Control (poll_call_step c place failures).sent)
     (poll_call_step c place failures).control ts Nothing
-polled_next c ts place failures there count quiet =
+polled_next c ts place failures there count no_bids =
     let e : ℕ = terminal_of_entry c place in
     let p : PeerValue = peer_at c e in
     let d : PeerValue = record p { receiver = new_receiver true } in
     let here : e < length ts = subst (λ (n : ℕ). e < n) count there in
     record {
-      others = others_quiet c ts e d quiet;
+      others = no_other_bids c ts e d no_bids;
       present = inl (
-        subst (λ (q : PeerValue). IsQuiet q (terminal_in ts e)) (sym (replaced_peer c e d there))
-            (quiet_with_new_receiver p (terminal_in ts e) (quiet e here)),
+        subst (λ (q : PeerValue). HasNoBid q (terminal_in ts e)) (sym (replaced_peer c e d there))
+            (no_bid_with_new_receiver p (terminal_in ts e) (no_bids e here)),
         (ap (λ (q : PeerValue). m.Call q.terminal.poll) (sym (replaced_peer c e d there)), refl),
       );
     }
 
 -- a selection address of an entry is called
 pub selected_next : (c : ControlValue) (ts : List TributaryValue) (place s : ℕ)
-    → terminal_of_entry c place < length c.peers → length c.peers ≡ length ts → AllQuiet c ts →
+    → terminal_of_entry c place < length c.peers → length c.peers ≡ length ts → NoBids c ts →
     IsSelecting (sent_by sp.Control (selection_call_step c place s).sent)
     (selection_call_step c place s).control ts s false
-selected_next c ts place s there count quiet =
+selected_next c ts place s there count no_bids =
     let e : ℕ = terminal_of_entry c place in
     let p : PeerValue = peer_at c e in
     let d : PeerValue = record p { urgent = false } in
     record {
-      quiet = all_quiet_with_peer c ts e d there quiet
-          (λ less. quiet_without_urgent p (terminal_in ts e) (quiet e less));
+      no_bids = no_bids_with_peer c ts e d there no_bids
+          (λ less. no_bid_without_urgent p (terminal_in ts e) (no_bids e less));
       with_pending =
           ap (λ (q : PeerValue). m.Call (select_address q.terminal s))
           (sym (replaced_peer c e d there));
@@ -95,10 +96,11 @@ selected_next c ts place s there count quiet =
 
 -- any call
 pub called_next : (c : ControlValue) (ts : List TributaryValue) (place : ℕ) (way : Way)
-    → terminal_of_entry c place < length c.peers → length c.peers ≡ length ts → AllQuiet c ts →
+    → terminal_of_entry c place < length c.peers → length c.peers ≡ length ts → NoBids c ts →
     let call : Call = record { place = place; way = way } in
     InTask (make_call_step c call).control.task (sent_by sp.Control (make_call_step c call).sent)
     (make_call_step c call).control ts
-called_next c ts place FromTerminal there count quiet = polled_next c ts place 0 there count quiet
-called_next c ts place (ToTerminal s) there count quiet =
-    selected_next c ts place s there count quiet
+called_next c ts place FromTerminal there count no_bids =
+    polled_next c ts place 0 there count no_bids
+called_next c ts place (ToTerminal s) there count no_bids =
+    selected_next c ts place s there count no_bids

@@ -49,7 +49,7 @@ use Rattle.bsc_line_model.specs.Line.{terminal_in}
 use Rattle.bsc_line_model.specs.Terminals.{answer_of, EachHears, first_answer}
 use Rattle.bsc_line_model.specs.Trust.{AllHear}
 use Rattle.bsc_line_model.specs.Kept.{AreStations}
-use Rattle.bsc_line_model.specs.Together.{IsQuiet, AllQuiet, OthersQuiet, AllInControlMode}
+use Rattle.bsc_line_model.specs.Together.{HasNoBid, NoBids, NoOtherBids, AllInControlMode}
 use Rattle.bsc_line_model.specs.Together.{IsSelectedWith, IsSelecting, IsPolling}
 use Rattle.bsc_line_model.specs.BidLaws.{BidLaws}
 use Rattle.bsc_control.proofs.Calls.{places, current_there}
@@ -57,8 +57,8 @@ use Rattle.bsc_line_model.proofs.Stations.{same_or_not, terminal_there, at_rest_
 use Rattle.bsc_line_model.proofs.Tuning.{NamesOwn, IsCalledBy}
 use Rattle.bsc_line_model.proofs.SendingDown.{first_answer_is, same_terminal}
 use Rattle.bsc_line_model.proofs.ActingUp.{HasActedUp, acts_up, present_after}
-use Rattle.bsc_line_model.proofs.CallsMissed.{without_quiet, GivesUp}
-use Rattle.bsc_line_model.proofs.CallsMissed.{back_quiet}
+use Rattle.bsc_line_model.proofs.CallsMissed.{no_bid_without_line, GivesUp}
+use Rattle.bsc_line_model.proofs.CallsMissed.{no_bid_back}
 use Rattle.bsc_text.proofs.RestLemmas.{idle_at_rest, cut_at_rest}
 use Rattle.bsc_line_model.proofs.UpTerminals.{poll_by}
 
@@ -163,24 +163,24 @@ one_called laws c old hears new addressed e way address stations call each =
           ];
     }
 
--- the others stay quiet
+-- no bid goes on with the others
 pub others_give_up : (c : ControlValue) (old : List TributaryValue) (hears : ℕ → Heard)
-    (new : List TributaryValue) (e : ℕ) → AreStations c old → AllQuiet c old → length new
-    ≡ length old → OneCalled c old hears new e → OthersQuiet c new e
-others_give_up c old hears new e stations quiet count one t less differ =
+    (new : List TributaryValue) (e : ℕ) → AreStations c old → NoBids c old → length new
+    ≡ length old → OneCalled c old hears new e → NoOtherBids c new e
+others_give_up c old hears new e stations no_bids count one t less differ =
     let before : t < length old = omega (arith, count) in
     let up : GivesUp (terminal_in old t) (terminal_in new t) (answer_of old hears new t) =
     one.others t before differ in
-    back_quiet (peer_at c t) (terminal_in old t) (terminal_in new t) (answer_of old hears new t)
-    (stations.members t before).tributary (quiet t before)
+    no_bid_back (peer_at c t) (terminal_in old t) (terminal_in new t) (answer_of old hears new t)
+    (stations.members t before).tributary (no_bids t before)
     (record { becomes = inr up.becomes; silent = up.silent })
 
--- all are quiet where the others and this one are
-pub with_others : (c : ControlValue) (ts : List TributaryValue) (e : ℕ) → OthersQuiet c ts e
-    → IsQuiet (peer_at c e) (terminal_in ts e) → AllQuiet c ts
+-- no bid goes on where none does with the others and none with this one
+pub with_others : (c : ControlValue) (ts : List TributaryValue) (e : ℕ) → NoOtherBids c ts e
+    → HasNoBid (peer_at c e) (terminal_in ts e) → NoBids c ts
 with_others c ts e others this t less =
     elim (same_or_not t e) [
-      | inl same ↦ subst (λ (n : ℕ). IsQuiet (peer_at c n) (terminal_in ts n)) (sym same) this
+      | inl same ↦ subst (λ (n : ℕ). HasNoBid (peer_at c n) (terminal_in ts n)) (sym same) this
       | inr differ ↦ others t less differ
     ]
 
@@ -216,8 +216,8 @@ selection_answer x s room ready =
 
 -- a terminal that receives now, and rests
 receives_now : (p : PeerValue) (x : TributaryValue) (s : ℕ) (room : Bool) → IsTributary x
-    → IsQuiet p x → s < length x.spools →
-    IsQuiet p (record (without_line x) {
+    → HasNoBid p x → s < length x.spools →
+    HasNoBid p (record (without_line x) {
       mode = Receiving s;
       receiver = new_receiver room;
       spools =
@@ -226,21 +226,21 @@ receives_now : (p : PeerValue) (x : TributaryValue) (s : ℕ) (room : Bool) → 
 receives_now p x s room is q there =
     record {
       mode = λ sends. cc;
-      up = (without_quiet p x is q).up;
+      up = (no_bid_without_line p x is q).up;
       down =
           λ k less. subst (λ (z : List (List ℕ)). IsResting (outbound_at p k).sender.phase
           (outbound_at p k).queue z) (sym (records_kept x.spools s k room there))
           (q.down k less);
     }
 
--- the selected terminal is quiet, and its answer is one
+-- no bid goes on with the selected terminal, and its answer is one
 abbrev AnswersSelection : PeerValue → ℕ → ℕ → TributaryStep → List TributaryValue → Type 0
 AnswersSelection p e s step ts = (step.tributary.mode ≡ Control → AllInControlMode ts)
-    → IsQuiet p step.tributary × IsSelectedWith (sent_by (sp.Terminal e) step.sent) false p e s
+    → HasNoBid p step.tributary × IsSelectedWith (sent_by (sp.Terminal e) step.sent) false p e s
     step.tributary ts
 
 selected_terminal : (p : PeerValue) (e s : ℕ) (x : TributaryValue) (ts : List TributaryValue)
-    (room ready : Bool) → IsTributary x → IsQuiet p x → s < length x.spools
+    (room ready : Bool) → IsTributary x → HasNoBid p x → s < length x.spools
     → AnswersSelection p e s (selection_answer x s room ready) ts
 selected_terminal p e s x ts true true is q there modes = (
   receives_now p x s true is q there,
@@ -251,9 +251,9 @@ selected_terminal p e s x ts false true is q there modes = (
   (refl, (record { mode = refl; even = refl; last = inr refl }, refl)),
 )
 selected_terminal p e s x ts true false is q there modes =
-    (without_quiet p x is q, (refl, modes refl))
+    (no_bid_without_line p x is q, (refl, modes refl))
 selected_terminal p e s x ts false false is q there modes =
-    (without_quiet p x is q, (refl, modes refl))
+    (no_bid_without_line p x is q, (refl, modes refl))
 
 -- a selection address of the present terminal
 pub select_there : (c : ControlValue) (s : ℕ) → IsControl c → s < length (peer c).outbounds → s
@@ -267,13 +267,14 @@ select_there c s is less =
 pub selecting_heard : (laws : NamesOwn) (c : ControlValue) (old : List TributaryValue)
     (hears : ℕ → Heard) (new : List TributaryValue) (addressed : Option (ℕ × Way)) (s : ℕ)
     (enquired : Bool) → current c < length old → AreStations c old → c.task ≡ Selecting s enquired
-    → AllQuiet c old →
+    → NoBids c old →
     AllHear (length old) hears (m.Call (select_address (peer c).terminal s))
     → ((u : ℕ) (w : Way)
     → (addressed ≡ Some (u, w)) ↔ IsAddressOf (terminals c) u w
     (select_address (peer c).terminal s)) → EachHears old hears new →
     IsSelecting (first_answer old hears new (length old)) c new s false
-selecting_heard laws c old hears new addressed s enquired there stations task quiet all exact each =
+selecting_heard laws c old hears new addressed s enquired there stations task no_bids all exact
+    each =
     let e : ℕ = current c in
     let p : PeerValue = peer c in
     let x : TributaryValue = terminal_in old e in
@@ -307,14 +308,15 @@ selecting_heard laws c old hears new addressed s enquired there stations task qu
     let into : s < length x.spools =
     subst (λ (n : ℕ). s < n) (sym is.spools)
     (subst (λ (y : TerminalValue). s < length y.selects) (sym same) select) in
-    let answers : IsQuiet p u × IsSelectedWith (sent_by (sp.Terminal e) (answer_of old hears new e))
+    let answers : HasNoBid p u
+    × IsSelectedWith (sent_by (sp.Terminal e) (answer_of old hears new e))
     false p e s u new =
     subst (λ (o : TributaryStep). AnswersSelection p e s o new) (sym row)
-    (selected_terminal p e s x new (rooms_after (hears e) u).first x.ready is (quiet e there)
+    (selected_terminal p e s x new (rooms_after (hears e) u).first x.ready is (no_bids e there)
     into) one.modes in
     record {
-      quiet =
-          with_others c new e (others_give_up c old hears new e stations quiet each.count one)
+      no_bids =
+          with_others c new e (others_give_up c old hears new e stations no_bids each.count one)
           answers.0;
       with_pending = rw (one.first) answers.1;
       fresh = tt;
@@ -327,7 +329,7 @@ rests_quiet act old new fits is rest =
 
 -- the polled terminal begins a bid
 begins_bid_up : (laws : BidLaws) (p : PeerValue) (e : ℕ) (d : TributaryValue) → p.receiver
-    ≡ new_receiver true → IsQuiet p d → d.mode ≡ Control → d.sender.phase ≡ Idle → 1
+    ≡ new_receiver true → HasNoBid p d → d.mode ≡ Control → d.sender.phase ≡ Idle → 1
     ≤ length (waiting d.queue) →
     let step : SenderStep = begin_step d.sender d.queue in
     HasActedUp p e (act_step d step).tributary (act_step d step).sent
@@ -352,17 +354,17 @@ begins_bid_up laws p e d new q mode idle some =
     ))
 
 polled_terminal : (laws : BidLaws) (p : PeerValue) (e : ℕ) (x : TributaryValue) (doubt empty : Bool)
-    → p.receiver ≡ new_receiver true → IsTributary x → IsQuiet p x
+    → p.receiver ≡ new_receiver true → IsTributary x → HasNoBid p x
     → is_in_doubt (cut_phase x.sender.phase) ≡ doubt → nat_eq (length (waiting x.queue)) 0 ≡ empty →
     HasActedUp p e (poll_by x doubt empty).tributary (poll_by x doubt empty).sent
-polled_terminal laws p e x true empty new is q d n = let w : IsQuiet p (without_line x) =
-    without_quiet p x is q in
+polled_terminal laws p e x true empty new is q d n = let w : HasNoBid p (without_line x) =
+    no_bid_without_line p x is q in
     inl (record { mode = w.mode; up = w.up; down = w.down }, inr (refl, refl))
-polled_terminal laws p e x false true new is q d n = let w : IsQuiet p (without_line x) =
-    without_quiet p x is q in
+polled_terminal laws p e x false true new is q d n = let w : HasNoBid p (without_line x) =
+    no_bid_without_line p x is q in
     inl (record { mode = w.mode; up = w.up; down = w.down }, inr (refl, refl))
 polled_terminal laws p e x false false new is q d n =
-    let w : IsQuiet p (without_line x) = without_quiet p x is q in
+    let w : HasNoBid p (without_line x) = no_bid_without_line p x is q in
     let differ : length (waiting x.queue) ≢ 0 = eqb-false (length (waiting x.queue)) 0 n in
     let rest : IsAtRest x.sender.phase =
     at_rest_in x.mode x.sender.phase (length x.spools) q.mode is.bid in
@@ -376,13 +378,13 @@ polled_terminal laws p e x false false new is q d n =
 pub polling_heard : (names : NamesOwn) (laws : BidLaws) (c : ControlValue)
     (old : List TributaryValue) (hears : ℕ → Heard) (new : List TributaryValue)
     (addressed : Option (ℕ × Way)) → current c < length old → AreStations c old → c.task
-    ≡ Polling Nothing → AllQuiet c old →
+    ≡ Polling Nothing → NoBids c old →
     AllHear (length old) hears (m.Call (peer c).terminal.poll)
     → ((u : ℕ) (w : Way)
     → (addressed ≡ Some (u, w)) ↔ IsAddressOf (terminals c) u w (peer c).terminal.poll)
     → EachHears old hears new →
     IsPolling (first_answer old hears new (length old)) c new Nothing
-polling_heard names laws c old hears new addressed there stations task quiet all exact each =
+polling_heard names laws c old hears new addressed there stations task no_bids all exact each =
     let e : ℕ = current c in
     let p : PeerValue = peer c in
     let x : TributaryValue = terminal_in old e in
@@ -411,8 +413,8 @@ polling_heard names laws c old hears new addressed there stations task quiet all
     let acted : HasActedUp p e u out =
     subst (λ (o : TributaryStep). HasActedUp p e o.tributary o.sent) (sym row)
     (polled_terminal laws p e x (is_in_doubt (cut_phase x.sender.phase))
-    (nat_eq (length (waiting x.queue)) 0) fresh is (quiet e there) refl refl) in
+    (nat_eq (length (waiting x.queue)) 0) fresh is (no_bids e there) refl refl) in
     record {
-      others = others_give_up c old hears new e stations quiet each.count one;
+      others = others_give_up c old hears new e stations no_bids each.count one;
       present = rw (one.first) (present_after p e u out Nothing new acted one.modes);
     }

@@ -16,16 +16,16 @@ use Rattle.bsc_line_model.specs.Line.{terminal_in}
 use Rattle.bsc_line_model.specs.Terminals.{answer_of, EachHears, EachKeeps, first_answer}
 use Rattle.bsc_line_model.specs.Trust.{EachOf, IsMissed}
 use Rattle.bsc_line_model.specs.Kept.{AreStations}
-use Rattle.bsc_line_model.specs.Together.{IsQuiet, AllQuiet, IsSelecting, IsPolling}
+use Rattle.bsc_line_model.specs.Together.{HasNoBid, NoBids, IsSelecting, IsPolling}
 use Rattle.bsc_line_model.proofs.SendingDown.{none_before}
 use Rattle.bsc_text.proofs.RestLemmas.{cut_at_rest}
 use Rattle.bsc_line_model.proofs.Stations.{at_rest_in}
 use Rattle.bsc_text.specs.Station.{StaysQuiet}
 
 -- the line is taken from it
-pub without_quiet : (p : PeerValue) (x : TributaryValue) → IsTributary x → IsQuiet p x
-    → IsQuiet p (without_line x)
-without_quiet p x is q =
+pub no_bid_without_line : (p : PeerValue) (x : TributaryValue) → IsTributary x → HasNoBid p x
+    → HasNoBid p (without_line x)
+no_bid_without_line p x is q =
     record {
       mode = λ sends. cc;
       up = subst (λ (k : Phase). IsResting k x.queue p.spool.records)
@@ -44,12 +44,12 @@ pub record GivesUp (x u : TributaryValue) (out : Option Message) : Type 0 where
   pub becomes : u ≡ without_line x
   pub silent : out ≡ None
 
-pub back_quiet : (p : PeerValue) (x u : TributaryValue) (out : Option Message) → IsTributary x
-    → IsQuiet p x → StepsBack x u out → IsQuiet p u
-back_quiet p x u out is q b =
+pub no_bid_back : (p : PeerValue) (x u : TributaryValue) (out : Option Message) → IsTributary x
+    → HasNoBid p x → StepsBack x u out → HasNoBid p u
+no_bid_back p x u out is q b =
     elim b.becomes [
-      | inl e ↦ subst (λ (y : TributaryValue). IsQuiet p y) (sym e) q
-      | inr e ↦ subst (λ (y : TributaryValue). IsQuiet p y) (sym e) (without_quiet p x is q)
+      | inl e ↦ subst (λ (y : TributaryValue). HasNoBid p y) (sym e) q
+      | inr e ↦ subst (λ (y : TributaryValue). HasNoBid p y) (sym e) (no_bid_without_line p x is q)
     ]
 
 -- it missed the call
@@ -82,45 +82,45 @@ nobody_answers old hears new n f =
 -- all missed it: no bid goes on, and nothing is on the line
 pub record AllBack (c : ControlValue) (old : List TributaryValue) (hears : ℕ → Heard)
     (new : List TributaryValue) : Type 0 where
-  pub quiet : AllQuiet c new
+  pub no_bids : NoBids c new
   pub first : first_answer old hears new (length old) ≡ None
 
 pub all_miss : (c : ControlValue) (old : List TributaryValue) (hears : ℕ → Heard)
-    (new : List TributaryValue) → AreStations c old → AllQuiet c old
+    (new : List TributaryValue) → AreStations c old → NoBids c old
     → EachOf (length old) (λ t. IsMissed (hears t)) → EachHears old hears new
     → EachKeeps old hears new → AllBack c old hears new
-all_miss c old hears new stations quiet missed each keeps =
+all_miss c old hears new stations no_bids missed each keeps =
     let backs : (t : ℕ) → t < length old
     → StepsBack (terminal_in old t) (terminal_in new t) (answer_of old hears new t) =
     λ t less. misses (terminal_in old t) (hears t) (terminal_in new t) (answer_of old hears new t)
     (missed t less) (each.each t less) (keeps t less) in
     record {
-      quiet = λ t less.
+      no_bids = λ t less.
           let before : t < length old = omega (arith, each.count) in
-          back_quiet (peer_at c t) (terminal_in old t) (terminal_in new t)
-          (answer_of old hears new t) (stations.members t before).tributary (quiet t before)
+          no_bid_back (peer_at c t) (terminal_in old t) (terminal_in new t)
+          (answer_of old hears new t) (stations.members t before).tributary (no_bids t before)
           (backs t before);
       first = nobody_answers old hears new (length old) (λ t less. (backs t less).silent);
     }
 
 pub selecting_missed : (c : ControlValue) (old : List TributaryValue) (hears : ℕ → Heard)
-    (new : List TributaryValue) (s : ℕ) → AreStations c old → AllQuiet c old
+    (new : List TributaryValue) (s : ℕ) → AreStations c old → NoBids c old
     → EachOf (length old) (λ t. IsMissed (hears t)) → EachHears old hears new
     → EachKeeps old hears new →
     IsSelecting (first_answer old hears new (length old)) c new s false
-selecting_missed c old hears new s stations quiet missed each keeps =
-    let b : AllBack c old hears new = all_miss c old hears new stations quiet missed each keeps in
-    record { quiet = b.quiet; with_pending = rw (b.first) tt; fresh = tt }
+selecting_missed c old hears new s stations no_bids missed each keeps =
+    let b : AllBack c old hears new = all_miss c old hears new stations no_bids missed each keeps in
+    record { no_bids = b.no_bids; with_pending = rw (b.first) tt; fresh = tt }
 
 pub polling_missed : (c : ControlValue) (old : List TributaryValue) (hears : ℕ → Heard)
     (new : List TributaryValue) (replied : Replied) → current c < length old → AreStations c old
-    → AllQuiet c old → EachOf (length old) (λ t. IsMissed (hears t)) → EachHears old hears new
+    → NoBids c old → EachOf (length old) (λ t. IsMissed (hears t)) → EachHears old hears new
     → EachKeeps old hears new →
     IsPolling (first_answer old hears new (length old)) c new replied
-polling_missed c old hears new replied there stations quiet missed each keeps =
-    let b : AllBack c old hears new = all_miss c old hears new stations quiet missed each keeps in
+polling_missed c old hears new replied there stations no_bids missed each keeps =
+    let b : AllBack c old hears new = all_miss c old hears new stations no_bids missed each keeps in
     let after : current c < length new = omega (arith, each.count) in
     record {
-      others = λ t less differ. b.quiet t less;
-      present = inl (b.quiet (current c) after, rw (b.first) tt);
+      others = λ t less differ. b.no_bids t less;
+      present = inl (b.no_bids (current c) after, rw (b.first) tt);
     }

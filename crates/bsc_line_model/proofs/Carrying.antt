@@ -33,12 +33,11 @@ use Rattle.bsc_tributary.specs.declared.mode.Mode.TheVariants.{Sending}
 use Rattle.bsc_tributary.specs.Tributary.{holds, ActsOnSilence as TerminalActs}
 use Rattle.bsc_control.specs.Kept.{AfterHearing as ControlAfter}
 use Rattle.bsc_control.specs.Table.{Hears as ControlHears, ActsOnSilence as ControlActs}
-use Rattle.bsc_control.specs.Control.{peer_at, current, with_peer}
+use Rattle.bsc_control.specs.Control.{peer_at, with_peer}
 use Rattle.bsc_control.specs.Peer.{PeerValue, no_peer, outbound_at}
 use Rattle.std.proofs.lemmas.List.{length-set}
 use Rattle.std.proofs.lemmas.List.Quantifiers.{position-Some}
-use Rattle.bsc_control.proofs.Calls.{places, current_there}
-use Rattle.bsc_line_model.proofs.Stations.{same_or_not}
+use Rattle.bsc_line_model.proofs.Stations.{same_or_not, current_terminal_there}
 use Rattle.bsc_line_model.proofs.AllHear.{hears_down}
 use Rattle.bsc_line_model.proofs.AnswersHeard.{hears_up}
 use Rattle.bsc_line_model.proofs.Silences.{silent_control, silent_terminal}
@@ -167,12 +166,6 @@ line_at bids c ts pending next trusted addressed t x u out l nothing less is own
           (subst (λ (y : TributaryValue). TerminalActs y u out) (sym is) row));
     }
 
--- there is the terminal of the present entry
-current_within : (c : ControlValue) (ts : List TributaryValue) → AreStations c ts → current c
-    < length ts
-current_within c ts s =
-    subst (λ (n : ℕ). current c < n) s.count (current_there c (places c s.control.entries))
-
 -- one terminal changed so
 pub line_set : (c : ControlValue) (ts : List TributaryValue) (pending : Option Transmission)
     (trusted : Bool) (addressed : Option (ℕ × Way)) (t : ℕ) (x u : TributaryValue) →
@@ -190,7 +183,7 @@ line_set c ts pending trusted addressed t x u l less is same like =
       tuned = λ now. tuned_at addressed ts t u less (inr s.mode) (l.tuned now);
       together =
           λ now. together_like c ts c (slice_set ts t u) c.task pending
-          (current_within c ts l.stations) (terminal_like c ts t u less k) (l.together now);
+          (current_terminal_there c ts l.stations) (terminal_like c ts t u less k) (l.together now);
     }
 
 -- what the control station keeps for one terminal changed so
@@ -230,7 +223,7 @@ line_peer c d ts pending trusted addressed t q l there becomes is like =
       tuned = l.tuned;
       together =
           λ now. together_like c ts (with_peer c t q) ts c.task pending
-          (current_within c ts l.stations) (peer_like c ts t q there like) (l.together now);
+          (current_terminal_there c ts l.stations) (peer_like c ts t q there like) (l.together now);
     })
 
 -- the full length at a terminal, and for a selection address

@@ -44,7 +44,7 @@ use Rattle.bsc_line_model.specs.Terminals.{answer_of}
 use Rattle.bsc_line_model.specs.Together.{InTask, IsSelecting, IsSending, IsInBidDown, FliesDown}
 use Rattle.bsc_line_model.specs.Rounds.{SameDelays}
 use Rattle.bsc_control.proofs.Calls.{current_there}
-use Rattle.bsc_line_model.proofs.Stations.{same_or_not, terminal_there, at_rest_in, receiving_into}
+use Rattle.bsc_line_model.proofs.Stations.{same_or_not, terminal_there, at_rest_in, receiving_into, current_terminal_there}
 use Rattle.bsc_line_model.proofs.Tuning.{NamesOwn}
 use Rattle.bsc_line_model.proofs.SendingDown.{others_in_control, first_answer_is, place_of}
 use Rattle.bsc_line_model.proofs.Staying.{TerminalStays, TerminalsStay, terminal_same}
@@ -89,12 +89,6 @@ answered_by_one e way v w old new there h others this =
             ];
       };
     }
-
--- the terminal of the present entry is one of the line
-pub current_terminal_there : (l : LineValue) → IsGood l → current l.control < length l.terminals
-current_terminal_there l g =
-    subst (λ (n : ℕ). current l.control < n) g.line.stations.count
-    (current_there l.control (good_places l g))
 
 -- a terminal in control mode does nothing with what is no call and no EOT
 pub answers_nothing : (e : ℕ) (way : Way) (t : ℕ) (x u : TributaryValue) (out : Option Message)
@@ -141,7 +135,8 @@ text_down l new s n b g i calm delays is h =
     let e : ℕ = current c in
     let x : TributaryValue = terminal_at l e in
     let t : TextValue = text_of (outbound_at (peer c) s).queue b in
-    let there : e < length l.terminals = current_terminal_there l g in
+    let there : e < length l.terminals =
+    current_terminal_there l.control l.terminals g.line.stations in
     let sending : IsSending l.pending c l.terminals s =
     subst (λ (z : Task). InTask z l.pending c l.terminals) i.task g.together in
     let bid : IsInBidDown l.pending (peer c) e s x = sending.bid in
@@ -220,7 +215,8 @@ call_down laws l new s g task select ready delays h =
     let e : ℕ = current c in
     let x : TributaryValue = terminal_at l e in
     let a : List ℕ = select_address (peer c).terminal s in
-    let there : e < length l.terminals = current_terminal_there l g in
+    let there : e < length l.terminals =
+    current_terminal_there l.control l.terminals g.line.stations in
     let selecting : IsSelecting l.pending c l.terminals s false =
     subst (λ (z : Task). InTask z l.pending c l.terminals) task g.together in
     let peer_is : IsPeer (peer c) =
@@ -246,7 +242,7 @@ call_down laws l new s g task select ready delays h =
     } in
     let rests : (t : ℕ) → t < length l.terminals → IsAtRest (terminal_at l t).sender.phase =
     λ t less. at_rest_in (terminal_at l t).mode (terminal_at l t).sender.phase
-    (length (terminal_at l t).spools) (selecting.quiet t less).mode
+    (length (terminal_at l t).spools) (selecting.no_bids t less).mode
     (g.line.stations.members t less).tributary.bid in
     let same : ((spool_at (terminal_at new e).spools s).delays ≡ (spool_at x.spools s).delays)
     × ((spool_at x.spools s).delays < 2 ^ 64 - 1) =

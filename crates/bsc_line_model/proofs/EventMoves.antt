@@ -125,9 +125,9 @@ release_moves old new t (ToTerminal s) is k =
     (release_to_moves old t s tt (peer_there old t is k.there) select k.answer)
 
 -- an offer and a flag
-quiet_moves : (old new : LineValue) (set : LineValue) → new ≡ set → MovesNothing old set
+nothing_moves : (old new : LineValue) (set : LineValue) → new ≡ set → MovesNothing old set
     → MovesNothing old new
-quiet_moves old new set e k = subst (λ (l : LineValue). MovesNothing old l) (sym e) k
+nothing_moves old new set e k = subst (λ (l : LineValue). MovesNothing old l) (sym e) k
 
 pub offer_at_event : (old new : LineValue) (t : ℕ) (r : List ℕ) → OffersAt old t r (Ok tt) new
     → MovesOne t FromTerminal (Offer r) old new
@@ -146,19 +146,19 @@ offer_for_event old new t s r is d =
 pub ready_moves : (old new : LineValue) (t : ℕ) (ready : Bool)
     → Sets old t (ready_set old t ready) (Ok tt) new → MovesNothing old new
 ready_moves old new t ready d =
-    quiet_moves old new (ready_set old t ready) d.1
+    nothing_moves old new (ready_set old t ready) d.1
     (terminal_still old t (record (terminal_at old t) { ready = ready }) d.0 refl refl)
 
 pub urgent_at_moves : (old new : LineValue) (t : ℕ) → Sets old t (urgent_set_at old t) (Ok tt) new
     → MovesNothing old new
 urgent_at_moves old new t d =
-    quiet_moves old new (urgent_set_at old t) d.1
+    nothing_moves old new (urgent_set_at old t) d.1
     (terminal_still old t (record (terminal_at old t) { urgent = true }) d.0 refl refl)
 
 pub urgent_for_moves : (old new : LineValue) (t : ℕ) → IsLine old
     → Sets old t (urgent_set_for old t) (Ok tt) new → MovesNothing old new
 urgent_for_moves old new t is d =
-    quiet_moves old new (urgent_set_for old t) d.1
+    nothing_moves old new (urgent_set_for old t) d.1
     (peer_still old t (record (peer_at old.control t) { urgent = true })
     (peer_there old t is d.0) refl refl)
 

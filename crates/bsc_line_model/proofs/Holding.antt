@@ -42,8 +42,8 @@ pub record IsBidOf (task : Task) (pending : Option Transmission) (c : ControlVal
 pub bid_of : (task : Task) (pending : Option Transmission) (c : ControlValue)
     (ts : List TributaryValue) (t : ℕ) → t < length ts → (terminal_in ts t).mode ≡ Sends
     → InTask task pending c ts → IsBidOf task pending c ts t
-bid_of AtRest pending c ts t less sends k = absurd ((k.quiet t less).mode sends)
-bid_of (Selecting s enquired) pending c ts t less sends k = absurd ((k.quiet t less).mode sends)
+bid_of AtRest pending c ts t less sends k = absurd ((k.no_bids t less).mode sends)
+bid_of (Selecting s enquired) pending c ts t less sends k = absurd ((k.no_bids t less).mode sends)
 bid_of (Sending s) pending c ts t less sends k =
     elim (same_or_not t (current c)) [
       | inl same ↦ (let both : Receiving s ≡ Sends = sym k.bid.mode

@@ -30,7 +30,7 @@ use Rattle.bsc_line_model.specs.declared.transmission.Speaker.{Speaker}
 use Rattle.bsc_line_model.specs.declared.transmission.Speaker.TheVariants as sp
 use Rattle.bsc_line_model.specs.declared.transmission.Transmission.{Transmission}
 use Rattle.bsc_line_model.specs.Line.{terminal_in, no_terminal}
-use Rattle.bsc_line_model.specs.Together.{IsQuiet, AllQuiet, OthersQuiet, RestsUp, RestsDown}
+use Rattle.bsc_line_model.specs.Together.{HasNoBid, NoBids, NoOtherBids, RestsUp, RestsDown}
 use Rattle.bsc_line_model.specs.Together.{AllInControlMode, IsFresh, IsFreshAfter, IsAnswer}
 use Rattle.bsc_line_model.specs.Together.{IsSelectedBy, IsSelectedWith, IsInBidDown, IsInBidUp}
 use Rattle.bsc_line_model.specs.Together.{IsPolledBy, IsPolledWith, InTask}
@@ -64,28 +64,28 @@ pub record AreLike (c : ControlValue) (ts : List TributaryValue) (d : ControlVal
   pub like : (t : ℕ) → t < length ts
       → IsLike (peer_at c t) (terminal_in ts t) (peer_at d t) (terminal_in us t)
 
-quiet_like : (p : PeerValue) (x : TributaryValue) (q : PeerValue) (u : TributaryValue)
-    → IsLike p x q u → IsQuiet p x → IsQuiet q u
-quiet_like p x q u k h =
+no_bid_like : (p : PeerValue) (x : TributaryValue) (q : PeerValue) (u : TributaryValue)
+    → IsLike p x q u → HasNoBid p x → HasNoBid q u
+no_bid_like p x q u k h =
     record {
       mode = λ sends. h.mode (sym k.mode ∙ sends);
       up = k.rests_up h.up;
       down = λ s less. k.rests_down s (h.down s (omega (arith, k.outbounds)));
     }
 
-all_quiet_like : (c : ControlValue) (ts : List TributaryValue) (d : ControlValue)
-    (us : List TributaryValue) → AreLike c ts d us → AllQuiet c ts → AllQuiet d us
-all_quiet_like c ts d us k h t less =
+no_bids_like : (c : ControlValue) (ts : List TributaryValue) (d : ControlValue)
+    (us : List TributaryValue) → AreLike c ts d us → NoBids c ts → NoBids d us
+no_bids_like c ts d us k h t less =
     let before : t < length ts = omega (arith, k.count) in
-    quiet_like (peer_at c t) (terminal_in ts t) (peer_at d t) (terminal_in us t) (k.like t before)
+    no_bid_like (peer_at c t) (terminal_in ts t) (peer_at d t) (terminal_in us t) (k.like t before)
     (h t before)
 
 others_like : (c : ControlValue) (ts : List TributaryValue) (d : ControlValue)
-    (us : List TributaryValue) → AreLike c ts d us → OthersQuiet c ts (current c)
-    → OthersQuiet d us (current d)
+    (us : List TributaryValue) → AreLike c ts d us → NoOtherBids c ts (current c)
+    → NoOtherBids d us (current d)
 others_like c ts d us k h t less differ =
     let before : t < length ts = omega (arith, k.count) in
-    quiet_like (peer_at c t) (terminal_in ts t) (peer_at d t) (terminal_in us t) (k.like t before)
+    no_bid_like (peer_at c t) (terminal_in ts t) (peer_at d t) (terminal_in us t) (k.like t before)
     (h t before (λ same. differ (same ∙ sym k.current)))
 
 modes_like : (c : ControlValue) (ts : List TributaryValue) (d : ControlValue)
@@ -192,7 +192,7 @@ pub together_like : (c : ControlValue) (ts : List TributaryValue) (d : ControlVa
 together_like c ts d us AtRest pending there k h =
     record {
       nothing = h.nothing;
-      quiet = all_quiet_like c ts d us k h.quiet;
+      no_bids = no_bids_like c ts d us k h.no_bids;
       modes =
           modes_like c ts d us k h.modes;
     }
@@ -201,7 +201,7 @@ together_like c ts d us (Selecting s enquired) pending there k h =
     let like : IsLike (peer_at c e) (terminal_in ts e) (peer_at d e) (terminal_in us e) =
     k.like e there in
     record {
-      quiet = all_quiet_like c ts d us k h.quiet;
+      no_bids = no_bids_like c ts d us k h.no_bids;
       with_pending =
           subst (λ (n : ℕ). IsSelectedWith pending enquired (peer_at d n) n s (terminal_in us n) us)
           (sym k.current)
@@ -228,13 +228,13 @@ together_like c ts d us (Polling replied) pending there k h =
     record {
       others = others_like c ts d us k h.others;
       present =
-          subst (λ (n : ℕ). (IsQuiet (peer_at d n) (terminal_in us n)
+          subst (λ (n : ℕ). (HasNoBid (peer_at d n) (terminal_in us n)
           × IsPolledWith pending replied (peer_at d n) n us)
           ⊎ IsInBidUp pending (peer_at d n) n (terminal_in us n)) (sym k.current)
           (elim h.present [
             | inl q ↦
                 inl (
-                  quiet_like (peer_at c e) (terminal_in ts e) (peer_at d e) (terminal_in us e) like
+                  no_bid_like (peer_at c e) (terminal_in ts e) (peer_at d e) (terminal_in us e) like
                       q.0,
                   polled_like pending replied (peer_at c e) (peer_at d e) e ts us like.terminal
                       (modes_like c ts d us k) q.1,

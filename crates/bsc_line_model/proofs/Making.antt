@@ -12,7 +12,7 @@ use Rattle.bsc_spool.specs.Queue.{QueueValue, IsQueue}
 use Rattle.bsc_text.specs.declared.phase.Phase.{Phase}
 use Rattle.bsc_text.specs.declared.phase.Phase.TheVariants.{Idle}
 use Rattle.bsc_text.specs.Agreement.{IsResting}
-use Rattle.bsc_line_model.specs.Together.{AllQuiet, InTask}
+use Rattle.bsc_line_model.specs.Together.{NoBids, InTask}
 use Rattle.std.proofs.lemmas.List.{get_or-replicate}
 use Rattle.bsc_control.specs.Peer.{PeerValue, OutboundValue, IsPeer, IsNewPeer, no_peer}
 use Rattle.bsc_control.specs.Peer.{no_outbound, new_outbound, outbound_at}
@@ -61,11 +61,11 @@ new_stations setup given poll_list c ts new is made =
           };
     }
 
--- are quiet
-new_quiet : (setup : SetupValue) (given : List TerminalValue) (poll_list : List ℕ)
+-- no bid goes on on a new line
+no_bids_on_new_line : (setup : SetupValue) (given : List TerminalValue) (poll_list : List ℕ)
     (c : ControlValue) (ts : List TributaryValue) → IsNewControl setup given poll_list c
-    → IsControl c → AreNewTerminals setup given ts → AllQuiet c ts
-new_quiet setup given poll_list c ts new is made t less =
+    → IsControl c → AreNewTerminals setup given ts → NoBids c ts
+no_bids_on_new_line setup given poll_list c ts new is made t less =
     let stations : AreStations c ts = new_stations setup given poll_list c ts new is made in
     let before : t < length given = omega (arith, made.count) in
     let there : t < length c.peers = omega (arith, stations.count) in
@@ -111,7 +111,7 @@ new_line setup given poll_list c ts trusted new is made =
           subst (λ (k : Task). InTask k None c ts) (sym new.task)
           (record {
             nothing = refl;
-            quiet = new_quiet setup given poll_list c ts new is made;
+            no_bids = no_bids_on_new_line setup given poll_list c ts new is made;
             modes = λ t less. let before : t < length given = omega (arith, made.count) in
                 (made.each t before).mode;
           });

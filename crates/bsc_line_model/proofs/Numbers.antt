@@ -41,16 +41,15 @@ use Rattle.bsc_line_model.specs.Rounds.{block_count, poll_length, visit_length, 
 use Rattle.bsc_line_model.specs.Rounds.{entry_at, sent_times, IsCalm, BeginsVisit}
 use Rattle.bsc_line_model.specs.Rounds.{IsDelivered, SameDelays, IsVisited, IsRoundDone}
 use Rattle.bsc_line_model.specs.Rounds.{RunsDeliverVisit, RunsDeliverRound}
-use Rattle.bsc_line_model.specs.Together.{IsQuiet, AllQuiet, IsSelecting, InTask}
+use Rattle.bsc_line_model.specs.Together.{HasNoBid, NoBids, IsSelecting, InTask}
 use Rattle.bsc_control.proofs.Calls.{current_there}
 use Rattle.bsc_line_model.proofs.OutboundSteps.{selected_there}
 use Rattle.bsc_line_model.proofs.Soundness.{way_there}
-use Rattle.bsc_line_model.proofs.Stations.{same_or_not, terminal_there}
+use Rattle.bsc_line_model.proofs.Stations.{same_or_not, terminal_there, current_terminal_there}
 use Rattle.bsc_line_model.proofs.DownControl.{address_at}
-use Rattle.bsc_line_model.proofs.DownSteps.{current_terminal_there}
 use Rattle.bsc_line_model.proofs.Walking.{IsGood, Walks, good_places}
 use Rattle.bsc_line_model.proofs.Selections.{VisitLaws, Comes, Calls}
-use Rattle.bsc_line_model.proofs.Polls.{all_quiet_at_poll}
+use Rattle.bsc_line_model.proofs.Polls.{no_bids_at_poll}
 use Rattle.bsc_line_model.proofs.Visits.{IsCalmAt, IsVisited as Visiting, IsVisitDone, StaysBut}
 use Rattle.bsc_line_model.proofs.Visits.{but_same, selections_length, visit_from}
 use Rattle.bsc_line_model.proofs.VisitCounts.{calls_where_made, visit_is}
@@ -113,9 +112,10 @@ begins_next l place g h calm =
     let there : slice_get (terminals l.control) (current l.control)
     ≡ Some (peer l.control).terminal =
     terminal_there l.control l.terminals (current l.control) g.line.stations
-    (current_terminal_there l g)
+    (current_terminal_there l.control l.terminals g.line.stations)
     ∙ ap (λ (x : TerminalValue). Some x)
-    (g.line.stations.members (current l.control) (current_terminal_there l g)).addresses in
+    (g.line.stations.members (current l.control)
+    (current_terminal_there l.control l.terminals g.line.stations)).addresses in
     let own : IsAddressOf (terminals l.control) (current l.control) way address =
     record {
       terminal = (peer l.control).terminal;
@@ -182,14 +182,14 @@ calm_at l t g there c =
         omega (arith, past, same, of_peer.outbounds)
 
 -- while a call is pending no bid goes on
-quiet_by : (l : LineValue) (way : Way) (a : List ℕ) → IsGood l → IsTaskOf way l.control.task
+no_bids_by : (l : LineValue) (way : Way) (a : List ℕ) → IsGood l → IsTaskOf way l.control.task
     → l.pending ≡ Some (record { speaker = sp.Control; message = m.Call a })
-    → AllQuiet l.control l.terminals
-quiet_by l FromTerminal a g task is = all_quiet_at_poll l a Nothing g task is
-quiet_by l (ToTerminal s) a g task is =
+    → NoBids l.control l.terminals
+no_bids_by l FromTerminal a g task is = no_bids_at_poll l a Nothing g task is
+no_bids_by l (ToTerminal s) a g task is =
     let selecting : IsSelecting l.pending l.control l.terminals s false =
     subst (λ (z : Task). InTask z l.pending l.control l.terminals) task g.together in
-    selecting.quiet
+    selecting.no_bids
 
 not_sending : (way : Way) (task : Task) (s : ℕ) → IsTaskOf way task → task ≡ k.Sending s → ⊥
 not_sending FromTerminal task s is e = let both : k.Polling Nothing ≡ k.Sending s = sym is ∙ e in cc
@@ -207,20 +207,20 @@ delivered_at : (laws : VisitLaws) (l : LineValue) (place t : ℕ) (way : Way) �
     → Calls l place way → t < terminal_count l → IsCalmAt l t → IsEmptied l t → IsDelivered l t
 delivered_at laws l place t called g h there c e = by_way
   where
-    quiet : IsQuiet (peer_at l.control t) (terminal_at l t)
-    quiet =
-        quiet_by l called (address_at (peer l.control).terminal called) g h.called.task
+    no_bid : HasNoBid (peer_at l.control t) (terminal_at l t)
+    no_bid =
+        no_bids_by l called (address_at (peer l.control).terminal called) g h.called.task
         (h.pending ∙ ap (λ (o : Option Message). sent_by sp.Control o) h.called.call) t there
 
     by_way : IsDelivered l t
     by_way FromTerminal is =
         let rest : IsAtRest (terminal_at l t).sender.phase =
         rests_in (terminal_at l t).mode (terminal_at l t).sender.phase
-        (length (terminal_at l t).spools) quiet.mode
+        (length (terminal_at l t).spools) no_bid.mode
         (g.line.stations.members t there).tributary.bid in
         let x : _ =
         all_delivered laws.cuts (terminal_at l t).sender.phase (terminal_at l t).queue
-        (peer_at l.control t).spool.records quiet.up rest c.sure_up e.up in
+        (peer_at l.control t).spool.records no_bid.up rest c.sure_up e.up in
         record { known = x.0; spooled = x.1 }
     by_way (ToTerminal s) is =
         let within : s < length (peer_at l.control t).outbounds =
@@ -231,7 +231,7 @@ delivered_at laws l place t called g h there c e = by_way
         (λ used. not_sending called l.control.task s h.called.task used.1) in
         let x : _ =
         all_delivered laws.cuts o.sender.phase o.queue
-        (spool_at (terminal_at l t).spools s).records (quiet.down s within) rest
+        (spool_at (terminal_at l t).spools s).records (no_bid.down s within) rest
         (c.sure_down s) (e.down s within) in
         record { known = x.0; spooled = x.1 }
 

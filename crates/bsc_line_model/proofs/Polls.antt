@@ -38,17 +38,17 @@ use Rattle.bsc_line_model.specs.Line.{LineValue, terminal_in, terminal_at}
 use Rattle.bsc_line_model.specs.Carries.{IsCarriedUp, IsCarriedDown}
 use Rattle.bsc_line_model.specs.Kept.{IsTuned, AreTuned}
 use Rattle.bsc_line_model.specs.Terminals.{answer_of}
-use Rattle.bsc_line_model.specs.Together.{IsQuiet, InTask, IsPolling, IsPolledWith, IsInBidUp}
+use Rattle.bsc_line_model.specs.Together.{HasNoBid, InTask, IsPolling, IsPolledWith, IsInBidUp}
 use Rattle.bsc_line_model.specs.Together.{FliesUp}
 use Rattle.bsc_line_model.specs.Rounds.{block_count, SameDelays}
 use Rattle.bsc_control.proofs.Calls.{current_there, next_there}
-use Rattle.bsc_line_model.proofs.Stations.{same_or_not, terminal_there, at_rest_in}
+use Rattle.bsc_line_model.proofs.Stations.{same_or_not, terminal_there, at_rest_in, current_terminal_there}
 use Rattle.bsc_line_model.proofs.SendingDown.{others_in_control, first_answer_is}
 use Rattle.bsc_line_model.proofs.Staying.{Stays, ControlStays, TerminalStays, control_same}
 use Rattle.bsc_line_model.proofs.Staying.{terminals_same, stays_then}
 use Rattle.bsc_line_model.proofs.DownControl.{HasCalled}
 use Rattle.bsc_line_model.proofs.DownTerminals.{hears_other}
-use Rattle.bsc_line_model.proofs.DownSteps.{Answers, current_terminal_there, answers_nothing}
+use Rattle.bsc_line_model.proofs.DownSteps.{Answers, answers_nothing}
 use Rattle.bsc_line_model.proofs.DownSteps.{names_other}
 use Rattle.bsc_line_model.proofs.UpTerminals.{IsInBlockUp, SendsUp, EndsUp, GoesOnUp, ack_no_call}
 use Rattle.bsc_line_model.proofs.UpTerminals.{hears_ack, hears_poll}
@@ -98,12 +98,12 @@ one_acts e v old new place n there h polled others this = (
 )
 
 -- while a polling address is called no terminal sends
-pub all_quiet_at_poll : (l : LineValue) (a : List ℕ) (replied : Replied) → IsGood l → l.control.task
+pub no_bids_at_poll : (l : LineValue) (a : List ℕ) (replied : Replied) → IsGood l → l.control.task
     ≡ k.Polling replied → l.pending ≡ Some (record { speaker = sp.Control; message = msg.Call a })
-    → (t : ℕ) → t < length l.terminals → IsQuiet (peer_at l.control t) (terminal_at l t)
-all_quiet_at_poll l a replied g task is t less =
+    → (t : ℕ) → t < length l.terminals → HasNoBid (peer_at l.control t) (terminal_at l t)
+no_bids_at_poll l a replied g task is t less =
     elim (same_or_not t (current l.control)) [
-      | inl same ↦ subst (λ (n : ℕ). IsQuiet (peer_at l.control n) (terminal_at l n)) (sym same)
+      | inl same ↦ subst (λ (n : ℕ). HasNoBid (peer_at l.control n) (terminal_at l n)) (sym same)
           (here polling.present)
       | inr differ ↦ polling.others t less differ
     ]
@@ -111,11 +111,11 @@ all_quiet_at_poll l a replied g task is t less =
     polling : IsPolling l.pending l.control l.terminals replied
     polling = subst (λ (z : Task). InTask z l.pending l.control l.terminals) task g.together
 
-    here : ((IsQuiet (peer l.control) (terminal_in l.terminals (current l.control))
+    here : ((HasNoBid (peer l.control) (terminal_in l.terminals (current l.control))
         × IsPolledWith l.pending replied (peer l.control) (current l.control) l.terminals)
         ⊎ IsInBidUp l.pending (peer l.control) (current l.control)
         (terminal_in l.terminals (current l.control)))
-        → IsQuiet (peer l.control) (terminal_at l (current l.control))
+        → HasNoBid (peer l.control) (terminal_at l (current l.control))
     here (inl q) = q.0
     here (inr b) =
         (let flies : FliesUp (Some (record { speaker = sp.Control; message = msg.Call a }))
@@ -138,7 +138,8 @@ call_up laws l new n g task sure count is h =
     let e : ℕ = current c in
     let x : TributaryValue = terminal_at l e in
     let a : List ℕ = (peer c).terminal.poll in
-    let there : e < length l.terminals = current_terminal_there l g in
+    let there : e < length l.terminals =
+    current_terminal_there l.control l.terminals g.line.stations in
     let own : a ≡ x.terminal.poll =
     ap (λ (z : TerminalValue). z.poll) (sym (g.line.stations.members e there).addresses) in
     let its : IsAddressOf (terminals c) e FromTerminal a =
@@ -151,7 +152,7 @@ call_up laws l new n g task sure count is h =
     } in
     let rests : (t : ℕ) → t < length l.terminals → IsAtRest (terminal_at l t).sender.phase =
     λ t less. at_rest_in (terminal_at l t).mode (terminal_at l t).sender.phase
-    (length (terminal_at l t).spools) (all_quiet_at_poll l a Nothing g task is t less).mode
+    (length (terminal_at l t).spools) (no_bids_at_poll l a Nothing g task is t less).mode
     (g.line.stations.members t less).tributary.bid in
     let named : called_as x.terminal a ≡ Polling = (laws.names.polling x.terminal a).1 own in
     one_acts e (msg.Call a) l new c.place n there h
@@ -215,7 +216,8 @@ text_up l new place n b g polled i calm delays is h =
       | inr d ↦ not_landed_up l.pending (peer c) e x b t is i.phase d
     ] in
     let room : ((peer_at new.control e).spool.delays ≡ (peer c).spool.delays)
-    × ((peer c).spool.delays < 2 ^ 64 - 1) = delays.control e (current_terminal_there l g) in
+    × ((peer c).spool.delays < 2 ^ 64 - 1) =
+    delays.control e (current_terminal_there l.control l.terminals g.line.stations) in
     let y : (h.sent ≡ Some (message_of (ack b.alternation))) × IsPolled new.control place
     × ControlStays e FromTerminal c new.control =
     takes_up c new.control h.sent t b.alternation place (current_there c (good_places l g))
@@ -240,7 +242,8 @@ ack_up laws l new place n b g polled i h =
     let e : ℕ = current c in
     let x : TributaryValue = terminal_at l e in
     let w : Message = message_of (ack b.alternation) in
-    let there : e < length l.terminals = current_terminal_there l g in
+    let there : e < length l.terminals =
+    current_terminal_there l.control l.terminals g.line.stations in
     let tuned : AreTuned l.addressed l.terminals = g.line.tuned g.trusted in
     let addressed : l.addressed ≡ Some (e, FromTerminal) =
     subst (λ (z : Mode). IsTuned l.addressed e z) i.mode (tuned e there) in

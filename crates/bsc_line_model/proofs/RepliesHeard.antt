@@ -37,7 +37,7 @@ use Rattle.bsc_line_model.specs.Line.{terminal_in}
 use Rattle.bsc_line_model.specs.Terminals.{answer_of, EachHears, EachKeeps, first_answer}
 use Rattle.bsc_line_model.specs.Trust.{EachOf}
 use Rattle.bsc_line_model.specs.Kept.{IsTuned, AreTuned, AreStations}
-use Rattle.bsc_line_model.specs.Together.{IsQuiet, AllQuiet, OthersQuiet, AllInControlMode, IsFresh}
+use Rattle.bsc_line_model.specs.Together.{HasNoBid, NoBids, NoOtherBids, AllInControlMode, IsFresh}
 use Rattle.bsc_line_model.specs.Together.{IsSelectedWith, IsSelecting, IsInBidUp, IsPolling}
 use Rattle.bsc_line_model.specs.BidLaws.{BidLaws}
 use Rattle.bsc_line_model.proofs.Stations.{same_or_not, receiving_into}
@@ -104,20 +104,20 @@ one_modes old hears new addressed e way count is tuned one here t less =
           (tuned t before)))
     ]
 
--- the others stay quiet
+-- no bid goes on with the others
 pub others_unheard : (c : ControlValue) (old : List TributaryValue) (hears : ℕ → Heard)
     (new : List TributaryValue) (e : ℕ) → length new ≡ length old → OneHears old hears new e
-    → OthersQuiet c old e → OthersQuiet c new e
+    → NoOtherBids c old e → NoOtherBids c new e
 others_unheard c old hears new e count one others t less differ =
     let before : t < length old = omega (arith, count) in
-    subst (λ (y : TributaryValue). IsQuiet (peer_at c t) y) (sym (one.others t before differ))
+    subst (λ (y : TributaryValue). HasNoBid (peer_at c t) y) (sym (one.others t before differ))
     (others t before differ)
 
 -- the poll goes on
 pub polling_replied : (laws : BidLaws) (c : ControlValue) (old : List TributaryValue)
     (addressed : Option (ℕ × Way)) (w : Message) (hears : ℕ → Heard) (new : List TributaryValue)
     (replied : Replied) → current c < length old →
-    AreTuned addressed old → OthersQuiet c old (current c)
+    AreTuned addressed old → NoOtherBids c old (current c)
     → IsInBidUp (Some (record { speaker = sp.Control; message = w })) (peer c) (current c)
     (terminal_in old (current c)) → EachOf (length old) (λ t. IsFairlyHeard w (hears t)) →
     EachHears old hears new → EachKeeps old hears new
@@ -177,16 +177,16 @@ enq_answer x s alternation last room =
     )
 
 abbrev AnswersEnq : PeerValue → ℕ → ℕ → TributaryStep → List TributaryValue → Type 0
-AnswersEnq p e s step ts = IsQuiet p step.tributary × IsFresh step.tributary s
+AnswersEnq p e s step ts = HasNoBid p step.tributary × IsFresh step.tributary s
     × IsSelectedWith (sent_by (sp.Terminal e) step.sent) true p e s step.tributary ts
 
--- a selected terminal that replied stays quiet and fresh
-still_quiet : (p : PeerValue) (x : TributaryValue) (s : ℕ) (z : SpoolValue) (u : TributaryValue)
-    → IsQuiet p x → x.mode ≡ Receiving s → s < length x.spools → z.records
+-- with a selected terminal that replied no bid goes on, and it stays fresh
+still_no_bid : (p : PeerValue) (x : TributaryValue) (s : ℕ) (z : SpoolValue) (u : TributaryValue)
+    → HasNoBid p x → x.mode ≡ Receiving s → s < length x.spools → z.records
     ≡ (spool_at x.spools s).records →
     u.mode ≡ x.mode → u.sender ≡ x.sender → u.queue ≡ x.queue → u.spools ≡ slice_set x.spools s z
-    → IsQuiet p u
-still_quiet p x s z u q mode there same um us uq up =
+    → HasNoBid p u
+still_no_bid p x s z u q mode there same um us uq up =
     record {
       mode = λ sends. q.mode (sym um ∙ sends);
       up = rw (us, uq) q.up;
@@ -198,12 +198,13 @@ still_quiet p x s z u q mode there same um us uq up =
     }
 
 enq_terminal : (p : PeerValue) (e s : ℕ) (x : TributaryValue) (ts : List TributaryValue)
-    (last : Reply) (room : Bool) → (last ≡ Ack0) ⊎ (last ≡ Wack) → IsQuiet p x → x.mode
+    (last : Reply) (room : Bool) → (last ≡ Ack0) ⊎ (last ≡ Wack) → HasNoBid p x → x.mode
     ≡ Receiving s → s < length x.spools → AnswersEnq p e s (enq_answer x s Even last room) ts
 enq_terminal p e s x ts Ack0 room k q mode there =
     let f : IsFresh (enq_answer x s Even Ack0 room).tributary s =
     record { mode = mode; even = refl; last = inl refl } in (
-      still_quiet p x s (spool_at x.spools s) (enq_answer x s Even Ack0 room).tributary q mode there
+      still_no_bid p x s (spool_at x.spools s) (enq_answer x s Even Ack0 room).tributary q mode
+          there
           refl refl refl refl refl,
       f,
       (refl, (f, refl)),
@@ -211,7 +212,7 @@ enq_terminal p e s x ts Ack0 room k q mode there =
 enq_terminal p e s x ts Wack true k q mode there =
     let f : IsFresh (enq_answer x s Even Wack true).tributary s =
     record { mode = mode; even = refl; last = inl refl } in (
-      still_quiet p x s (room_asked (spool_at x.spools s) true)
+      still_no_bid p x s (room_asked (spool_at x.spools s) true)
           (enq_answer x s Even Wack true).tributary q mode there refl refl refl refl refl,
       f,
       (refl, (f, refl)),
@@ -219,7 +220,7 @@ enq_terminal p e s x ts Wack true k q mode there =
 enq_terminal p e s x ts Wack false k q mode there =
     let f : IsFresh (enq_answer x s Even Wack false).tributary s =
     record { mode = mode; even = refl; last = inr refl } in (
-      still_quiet p x s (room_asked (spool_at x.spools s) false)
+      still_no_bid p x s (room_asked (spool_at x.spools s) false)
           (enq_answer x s Even Wack false).tributary q mode there refl refl refl refl refl,
       f,
       (refl, (f, refl)),
@@ -246,7 +247,7 @@ enq_no_call h (inl e) = subst IsNoCall (sym e) tt
 enq_no_call h (inr e) = subst IsNoCall (sym e) tt
 
 enquired_terminal : (p : PeerValue) (e s : ℕ) (x u : TributaryValue) (h : Heard)
-    (out : Option Message) (ts : List TributaryValue) → IsQuiet p x → IsFresh x s → s
+    (out : Option Message) (ts : List TributaryValue) → HasNoBid p x → IsFresh x s → s
     < length x.spools → Hears x h u out → AfterHearing x h u out → IsEnqHeard h
     → AnswersEnq p e s (record { tributary = u; sent = out }) ts
 enquired_terminal p e s x u h out ts q f there row after (inl whole) =
@@ -269,12 +270,12 @@ enquired_terminal p e s x u h out ts q f there row after (inr noise) =
 -- ENQ is heard while a selection address is called
 pub selecting_enquired : (c : ControlValue) (old : List TributaryValue)
     (addressed : Option (ℕ × Way)) (hears : ℕ → Heard) (new : List TributaryValue) (s : ℕ)
-    → current c < length old → AreStations c old → AreTuned addressed old → AllQuiet c old
+    → current c < length old → AreStations c old → AreTuned addressed old → NoBids c old
     → IsFresh (terminal_in old (current c)) s →
     EachOf (length old) (λ t. IsFairlyHeard m.Enq (hears t)) → EachHears old hears new
     → EachKeeps old hears new
     → IsSelecting (first_answer old hears new (length old)) c new s true
-selecting_enquired c old addressed hears new s there stations tuned quiet fresh fair each keeps =
+selecting_enquired c old addressed hears new s there stations tuned no_bids fresh fair each keeps =
     let e : ℕ = current c in
     let x : TributaryValue = terminal_in old e in
     let u : TributaryValue = terminal_in new e in
@@ -288,12 +289,12 @@ selecting_enquired c old addressed hears new s there stations tuned quiet fresh 
     receiving_into x.mode x.sender.phase (length x.spools) s fresh.mode
     (stations.members e there).tributary.bid in
     let answers : AnswersEnq (peer c) e s (record { tributary = u; sent = out }) new =
-    enquired_terminal (peer c) e s x u (hears e) out new (quiet e there) fresh into
+    enquired_terminal (peer c) e s x u (hears e) out new (no_bids e there) fresh into
     (each.each e there) (keeps e there) (enq_heard (hears e) (fair e there)) in
     record {
-      quiet =
+      no_bids =
           with_others c new e (others_unheard c old hears new e each.count one
-          (λ t less differ. quiet t less)) answers.0;
+          (λ t less differ. no_bids t less)) answers.0;
       with_pending = rw (one.first) answers.2;
       fresh = answers.1;
     }

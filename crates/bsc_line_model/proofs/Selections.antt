@@ -32,13 +32,14 @@ use Rattle.bsc_line_model.specs.Line.{LineValue, terminal_at}
 use Rattle.bsc_line_model.specs.Carries.{IsCarriedUp}
 use Rattle.bsc_line_model.specs.Rounds.{block_count}
 use Rattle.bsc_control.proofs.Calls.{current_there}
+use Rattle.bsc_line_model.proofs.Stations.{current_terminal_there}
 use Rattle.bsc_line_model.proofs.Tuning.{NamesOwn}
 use Rattle.bsc_line_model.proofs.BlockCounts.{CutLaws}
 use Rattle.bsc_line_model.proofs.Staying.{Stays, ControlStays, terminals_same, terminals_then}
 use Rattle.bsc_line_model.proofs.Staying.{stays_then}
 use Rattle.bsc_line_model.proofs.DownControl.{HasCalled, SendsDown, EndsDown, GoesOnDown}
 use Rattle.bsc_line_model.proofs.DownControl.{begins_bid_down, learns}
-use Rattle.bsc_line_model.proofs.DownSteps.{OneAnswers, current_terminal_there, text_down}
+use Rattle.bsc_line_model.proofs.DownSteps.{OneAnswers, text_down}
 use Rattle.bsc_line_model.proofs.DownSteps.{call_down}
 use Rattle.bsc_line_model.proofs.OutboundSteps.{selected_there, sending_there}
 use Rattle.bsc_line_model.proofs.Walking.{IsGood, good_places, Walks, Stepped, one_step}
@@ -235,7 +236,8 @@ blocks_down laws (suc n) at m count e place l new r s g is here h calm number w 
     let y : Exchanged e place s (suc n) l x.line = x.holds in
     let sends : SendsDown x.line.control y.sent place s n = y.goes_on in
     let there : e < length l.terminals =
-    subst (λ (z : ℕ). z < length l.terminals) is (current_terminal_there l g) in
+    subst (λ (z : ℕ). z < length l.terminals) is
+    (current_terminal_there l.control l.terminals g.line.stations) in
     let z : Comes (IsSelectionDone e place s x.line) m r new =
     blocks_down laws n x.at m (2 * (n + 1) + m) e place x.line new r s y.good
     (current_same l.control x.line.control y.stays.control.poll_list (sends.place_is ∙ sym here)
@@ -299,7 +301,9 @@ selection laws n at m count l new r s g h ready calm number is w =
     blocks_down laws n (at + 1 + 1) m (2 * (n + 1) + m) e c.place two.mid new r s two.good
     (current_same c two.mid.control begun.1.poll_list begun.0.place_is) begun.0.place_is
     (record { sent = up.sent; pending = up.pending; sends = begun.0 })
-    ((stays.terminals.terminals e (current_terminal_there l g)).urgent calm) refl two.rest in
+    ((stays.terminals.terminals e
+    (current_terminal_there l.control l.terminals g.line.stations)).urgent calm) refl
+    two.rest in
     record {
       at = z.at;
       line = z.line;

@@ -31,7 +31,7 @@ use Rattle.bsc_line_model.specs.Line.{terminal_in}
 use Rattle.bsc_line_model.specs.Terminals.{answer_of, EachHears, EachKeeps, or_first, first_answer}
 use Rattle.bsc_line_model.specs.Trust.{EachOf}
 use Rattle.bsc_line_model.specs.Kept.{IsTuned, AreTuned, AreStations}
-use Rattle.bsc_line_model.specs.Together.{IsQuiet, IsInBidDown, FliesDown, IsSending}
+use Rattle.bsc_line_model.specs.Together.{HasNoBid, IsInBidDown, FliesDown, IsSending}
 use Rattle.bsc_line_model.specs.BidLaws.{BidLaws}
 use Rattle.bsc_line_model.proofs.Stations.{receiving_into}
 
@@ -245,7 +245,8 @@ sends_down laws c old addressed s w hears new there stations tuned sending fair 
     record {
       others = λ t less differ.
           let before : t < length old = omega (arith, each.count) in
-          subst (λ (y : TributaryValue). IsQuiet (peer_at c t) y) (sym (one.others t before differ))
+          subst (λ (y : TributaryValue). HasNoBid (peer_at c t) y)
+          (sym (one.others t before differ))
           (sending.others t before differ);
       bid =
           subst (λ (q : Option Transmission). IsInBidDown q (peer c) e s (terminal_in new e))

@@ -33,7 +33,7 @@ use Rattle.bsc_line_model.specs.declared.transmission.Speaker.TheVariants as sp
 use Rattle.bsc_line_model.specs.declared.transmission.Transmission.{Transmission}
 use Rattle.bsc_line_model.specs.Transmission.{sent_by}
 use Rattle.bsc_line_model.specs.Line.{terminal_in}
-use Rattle.bsc_line_model.specs.Together.{IsQuiet, AllQuiet, OthersQuiet, RestsUp, RestsDown}
+use Rattle.bsc_line_model.specs.Together.{HasNoBid, NoBids, NoOtherBids, RestsUp, RestsDown}
 use Rattle.bsc_line_model.specs.Together.{IsInBidDown, FliesDown, IsSending, InTask}
 use Rattle.bsc_line_model.proofs.Stations.{same_or_not}
 use Rattle.bsc_line_model.proofs.Calling.{called_next}
@@ -66,7 +66,7 @@ pub record HasActed (c : ControlValue) (ts : List TributaryValue) (s : ℕ) (ste
     0 where
   pub there : current c < length c.peers
   pub select : s < length (peer c).outbounds
-  pub others : OthersQuiet c ts (current c)
+  pub others : NoOtherBids c ts (current c)
   pub mode : (terminal_in ts (current c)).mode ≡ Receiving s
   pub up : RestsUp (peer c) (terminal_in ts (current c))
   pub down : (k : ℕ) → k < length (peer c).outbounds → k ≢ s
@@ -91,11 +91,11 @@ outbound_other : (p : PeerValue) (s k : ℕ) (o : OutboundValue) → k ≢ s
 outbound_other p s k o differ = get_or-set_other p.outbounds s k o no_outbound differ
 
 others_after : (c : ControlValue) (ts : List TributaryValue) (s : ℕ) (step : SenderStep)
-    → OthersQuiet c ts (current c) → OthersQuiet (after_step c s step) ts (current c)
-others_after c ts s step quiet t less differ =
-    subst (λ (q : PeerValue). IsQuiet q (terminal_in ts t))
+    → NoOtherBids c ts (current c) → NoOtherBids (after_step c s step) ts (current c)
+others_after c ts s step no_bids t less differ =
+    subst (λ (q : PeerValue). HasNoBid q (terminal_in ts t))
     (sym (get_or-set_other c.peers (current c) t
-    (with_outbound (peer c) s (outbound_after step)) no_peer differ)) (quiet t less differ)
+    (with_outbound (peer c) s (outbound_after step)) no_peer differ)) (no_bids t less differ)
 
 -- the other selection addresses rest as they did
 down_after : (p : PeerValue) (s : ℕ) (o : OutboundValue) (x : TributaryValue)
@@ -136,14 +136,15 @@ bid_after c ts s step pending f h flies bid =
           made;
     }
 
--- the bid is over: all are quiet
-quiet_after : (c : ControlValue) (ts : List TributaryValue) (s : ℕ) (step : SenderStep)
-    → HasActed c ts s step → IsAtRest step.sender.phase → AllQuiet (after_step c s step) ts
-quiet_after c ts s step h at_rest t less =
+-- the bid is over: none goes on
+no_bids_after : (c : ControlValue) (ts : List TributaryValue) (s : ℕ) (step : SenderStep)
+    → HasActed c ts s step → IsAtRest step.sender.phase → NoBids (after_step c s step) ts
+no_bids_after c ts s step h at_rest t less =
     elim (same_or_not t (current c)) [
       | inl same ↦
-          subst (λ (n : ℕ). IsQuiet (peer_at (after_step c s step) n) (terminal_in ts n)) (sym same)
-          (subst (λ (q : PeerValue). IsQuiet q (terminal_in ts (current c)))
+          subst (λ (n : ℕ). HasNoBid (peer_at (after_step c s step) n) (terminal_in ts n))
+          (sym same)
+          (subst (λ (q : PeerValue). HasNoBid q (terminal_in ts (current c)))
           (sym (peer_is c s step h.there))
           (record {
             mode = λ sends. let both : Receiving s ≡ Sends = sym h.mode ∙ sends in cc;
@@ -202,7 +203,7 @@ performed laws c ts s step after a.Over is h keeps count entries =
     let peers : length d.peers ≡ length ts =
     length-set c.peers (current c) (with_outbound (peer c) s (outbound_after step)) ∙ count in
     called_next d ts (next_call d after).place (next_call d after).way (next_there d after entries)
-    peers (quiet_after c ts s step h at_rest)
+    peers (no_bids_after c ts s step h at_rest)
 performed laws c ts s step after a.Quiet is h keeps count entries =
     let x : TributaryValue = terminal_in ts (current c) in
     let d : ControlValue = after_step c s step in

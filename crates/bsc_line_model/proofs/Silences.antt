@@ -28,11 +28,11 @@ use Rattle.bsc_line_model.specs.declared.transmission.Speaker.TheVariants as sp
 use Rattle.bsc_line_model.specs.Transmission.{sent_by}
 use Rattle.bsc_line_model.specs.Line.{terminal_in, no_terminal}
 use Rattle.bsc_line_model.specs.Kept.{IsTuned, AreTuned, AreStations}
-use Rattle.bsc_line_model.specs.Together.{IsQuiet, AllQuiet, OthersQuiet, AllInControlMode}
+use Rattle.bsc_line_model.specs.Together.{HasNoBid, NoBids, NoOtherBids, AllInControlMode}
 use Rattle.bsc_line_model.specs.Together.{IsSelecting, IsPolling, IsInBidUp, IsPolledWith, InTask}
 use Rattle.bsc_line_model.specs.BidLaws.{BidLaws}
 use Rattle.bsc_control.proofs.Calls.{places, current_there}
-use Rattle.bsc_line_model.proofs.Stations.{same_or_not}
+use Rattle.bsc_line_model.proofs.Stations.{same_or_not, current_terminal_there}
 use Rattle.bsc_line_model.proofs.Calling.{polled_next}
 use Rattle.bsc_line_model.proofs.SendingDown.{others_in_control}
 use Rattle.bsc_line_model.proofs.SendingUp.{keeps_going, going_in, times_out_down}
@@ -49,21 +49,21 @@ selects_again : (c : ControlValue) (ts : List TributaryValue) (s : ℕ) (enquire
       sent =
           Some (repeated c s enquired);
     }) ts
-selects_again c ts s enquired true stations is k = next_made c ts (Selection s) stations k.quiet
+selects_again c ts s enquired true stations is k = next_made c ts (Selection s) stations k.no_bids
 selects_again c ts s true false stations is k =
     subst (λ (t : Task). InTask t (Some
     (record { speaker = sp.Control; message = repeated c s true }))
     (record c { failures = c.failures + 1 }) ts) (sym is)
-    (record { quiet = k.quiet; with_pending = refl; fresh = k.fresh })
+    (record { no_bids = k.no_bids; with_pending = refl; fresh = k.fresh })
 selects_again c ts s false false stations is k =
     subst (λ (t : Task). InTask t (Some
     (record { speaker = sp.Control; message = repeated c s false }))
     (record c { failures = c.failures + 1 }) ts) (sym is)
-    (record { quiet = k.quiet; with_pending = refl; fresh = k.fresh })
+    (record { no_bids = k.no_bids; with_pending = refl; fresh = k.fresh })
 
 -- a poll is called again, or given up
 polls_again : (c : ControlValue) (ts : List TributaryValue) (over : Bool) → AreStations c ts
-    → AllQuiet c ts
+    → NoBids c ts
     → StepsTo (if over then next_call_step c (Poll false) else poll_call_step c c.place
     (c.failures + 1)) ts
 polls_again c ts true stations all = next_made c ts (Poll false) stations all
@@ -86,35 +86,34 @@ silent_control laws c d ts out stations nobody together row = by_task c.task ref
         ∙ ap (λ (k : Task). silence_in c k) is in
         subst (λ (o : ControlStep). StepsTo o ts) (sym step) steps
 
-    all_quiet : (replied : Replied) → IsPolling None c ts replied → AllQuiet c ts
-    all_quiet replied k =
+    no_bids : (replied : Replied) → IsPolling None c ts replied → NoBids c ts
+    no_bids replied k =
         elim k.present [
           | inl q ↦ with_others c ts (current c) k.others q.0
           | inr b ↦ absurd (nobody (current c)
-              (subst (λ (n : ℕ). current c < n) stations.count
-              (current_there c (places c stations.control.entries))) b.mode)
+              (current_terminal_there c ts stations) b.mode)
         ]
 
     by_task : (task : Task) → c.task ≡ task → InTask task None c ts
         → InTask d.task (sent_by sp.Control out) d ts
-    by_task AtRest is k = by_row AtRest is (next_made c ts Start stations k.quiet)
+    by_task AtRest is k = by_row AtRest is (next_made c ts Start stations k.no_bids)
     by_task (Selecting s enquired) is k =
         by_row (Selecting s enquired) is (selects_again c ts s enquired
         (nat_lt c.setup.tries (c.failures + 1)) stations is k)
     by_task (Sending s) is k = by_row (Sending s) is (times_out_down laws c ts s stations is k)
     by_task (Polling Nothing) is k =
         by_row (Polling Nothing) is (polls_again c ts (nat_lt c.setup.tries (c.failures + 1))
-        stations (all_quiet Nothing k))
+        stations (no_bids Nothing k))
     by_task (Polling WithoutRvi) is k =
         by_row (Polling WithoutRvi) is (next_made c ts (Poll false) stations
-        (all_quiet WithoutRvi k))
+        (no_bids WithoutRvi k))
     by_task (Polling WithRvi) is k =
-        by_row (Polling WithRvi) is (next_made c ts (Poll true) stations (all_quiet WithRvi k))
+        by_row (Polling WithRvi) is (next_made c ts (Poll true) stations (no_bids WithRvi k))
 
 -- the sending terminal acts on a silence: it is the polled one
 times_out_up : (laws : BidLaws) (c : ControlValue) (ts : List TributaryValue)
     (addressed : Option (ℕ × Way)) (u : TributaryValue) (out : Option Message) (replied : Replied)
-    → current c < length ts → AreTuned addressed ts → OthersQuiet c ts (current c) →
+    → current c < length ts → AreTuned addressed ts → NoOtherBids c ts (current c) →
     IsInBidUp None (peer c) (current c) (terminal_in ts (current c))
     → TerminalActs (terminal_in ts (current c)) u out
     → IsPolling (sent_by (sp.Terminal (current c)) out) c (slice_set ts (current c) u) replied
@@ -161,10 +160,10 @@ times_out_up laws c ts addressed u out replied there tuned others b row =
     record {
       others = λ t less differ.
           let before : t < length ts = omega (arith, length-set ts e u) in
-          subst (λ (y : TributaryValue). IsQuiet (peer_at c t) y)
+          subst (λ (y : TributaryValue). HasNoBid (peer_at c t) y)
           (sym (get_or-set_other ts e t u no_terminal differ)) (others t before differ);
       present =
-          subst (λ (y : TributaryValue). (IsQuiet p y
+          subst (λ (y : TributaryValue). (HasNoBid p y
           × IsPolledWith (sent_by (sp.Terminal e) out) replied p e us)
           ⊎ IsInBidUp (sent_by (sp.Terminal e) out) p e y) (sym this)
           (present_after p e u out replied us acted modes);
@@ -180,13 +179,12 @@ silent_terminal laws c ts addressed t u out stations less tuned sends together r
   where
     there : current c < length ts
     there =
-        subst (λ (n : ℕ). current c < n) stations.count
-        (current_there c (places c stations.control.entries))
+        current_terminal_there c ts stations
 
     by_task : (task : Task) → InTask task None c ts
         → InTask task (sent_by (sp.Terminal t) out) c (slice_set ts t u)
-    by_task AtRest k = absurd ((k.quiet t less).mode sends)
-    by_task (Selecting s enquired) k = absurd ((k.quiet t less).mode sends)
+    by_task AtRest k = absurd ((k.no_bids t less).mode sends)
+    by_task (Selecting s enquired) k = absurd ((k.no_bids t less).mode sends)
     by_task (Sending s) k =
         elim (same_or_not t (current c)) [
           | inl same ↦ (let both : Receiving s ≡ Sends = sym k.bid.mode

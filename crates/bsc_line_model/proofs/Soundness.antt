@@ -13,7 +13,7 @@ use Rattle.bsc_line_model.specs.declared.transmission.Transmission.{Transmission
 use Rattle.bsc_line_model.specs.Line.{LineValue, terminal_in, terminal_at, IsWay, channel_of}
 use Rattle.bsc_line_model.specs.Line.{phase_of}
 use Rattle.bsc_line_model.specs.Kept.{AreStations}
-use Rattle.bsc_line_model.specs.Together.{IsQuiet, IsInBidDown, IsInBidUp, InTask, AreTogether}
+use Rattle.bsc_line_model.specs.Together.{HasNoBid, IsInBidDown, IsInBidUp, InTask, AreTogether}
 use Rattle.bsc_line_model.specs.Together.{AreSound}
 use Rattle.bsc_line_model.specs.BidLaws.{BidLaws}
 use Rattle.bsc_line_model.proofs.Stations.{same_or_not}
@@ -30,10 +30,10 @@ abbrev HasWay : PeerValue → Way → Type 0
 HasWay p FromTerminal = Unit {0}
 HasWay p (ToTerminal s) = s < length p.outbounds
 
-quiet_sound : (p : PeerValue) (x : TributaryValue) (way : Way) → HasWay p way → IsQuiet p x
+no_bid_sound : (p : PeerValue) (x : TributaryValue) (way : Way) → HasWay p way → HasNoBid p x
     → IsSoundWith p x way
-quiet_sound p x FromTerminal w q = q.up.sound
-quiet_sound p x (ToTerminal s) w q = (q.down s w).sound
+no_bid_sound p x FromTerminal w q = q.up.sound
+no_bid_sound p x (ToTerminal s) w q = (q.down s w).sound
 
 bid_down_sound : (laws : BidLaws) (pending : Option Transmission) (p : PeerValue) (e s : ℕ)
     (x : TributaryValue) (way : Way) → HasWay p way → IsInBidDown pending p e s x
@@ -63,16 +63,16 @@ each_sound : (laws : BidLaws) (task : Task) (pending : Option Transmission) (c :
     (ts : List TributaryValue) (t : ℕ) (way : Way) → t < length ts → HasWay (peer_at c t) way
     → InTask task pending c ts → IsSoundWith (peer_at c t) (terminal_in ts t) way
 each_sound laws AtRest pending c ts t way less w h =
-    quiet_sound (peer_at c t) (terminal_in ts t) way w (h.quiet t less)
+    no_bid_sound (peer_at c t) (terminal_in ts t) way w (h.no_bids t less)
 each_sound laws (Selecting s enquired) pending c ts t way less w h =
-    quiet_sound (peer_at c t) (terminal_in ts t) way w (h.quiet t less)
+    no_bid_sound (peer_at c t) (terminal_in ts t) way w (h.no_bids t less)
 each_sound laws (Sending s) pending c ts t way less w h =
     elim (same_or_not t (current c)) [
       | inl same ↦
           subst (λ (n : ℕ). IsSoundWith (peer_at c n) (terminal_in ts n) way) (sym same)
           (bid_down_sound laws pending (peer c) (current c) s (terminal_in ts (current c)) way
           (subst (λ (n : ℕ). HasWay (peer_at c n) way) same w) h.bid)
-      | inr differ ↦ quiet_sound (peer_at c t) (terminal_in ts t) way w (h.others t less differ)
+      | inr differ ↦ no_bid_sound (peer_at c t) (terminal_in ts t) way w (h.others t less differ)
     ]
 each_sound laws (Polling replied) pending c ts t way less w h =
     elim (same_or_not t (current c)) [
@@ -80,11 +80,11 @@ each_sound laws (Polling replied) pending c ts t way less w h =
           (let here : HasWay (peer c) way = subst (λ (n : ℕ). HasWay (peer_at c n) way) same w in
           subst (λ (n : ℕ). IsSoundWith (peer_at c n) (terminal_in ts n) way) (sym same)
           (elim h.present [
-            | inl q ↦ quiet_sound (peer c) (terminal_in ts (current c)) way here q.0
+            | inl q ↦ no_bid_sound (peer c) (terminal_in ts (current c)) way here q.0
             | inr b ↦ bid_up_sound laws pending (peer c) (current c) (terminal_in ts (current c))
                 way here b
           ]))
-      | inr differ ↦ quiet_sound (peer_at c t) (terminal_in ts t) way w (h.others t less differ)
+      | inr differ ↦ no_bid_sound (peer_at c t) (terminal_in ts t) way w (h.others t less differ)
     ]
 
 -- a selection address of a terminal is one that the control station has

@@ -13,8 +13,9 @@ use Rattle.bsc_tributary.specs.Tributary.{TributaryValue}
 use Rattle.bsc_tributary.specs.Kept.{IsTributary, SuitsMode, Keeps as TerminalKeeps, AfterHearing}
 use Rattle.bsc_control.specs.declared.way.Way.{Way}
 use Rattle.bsc_control.specs.Peer.{PeerValue, no_peer}
-use Rattle.bsc_control.specs.Control.{ControlValue, terminals, peer_at}
+use Rattle.bsc_control.specs.Control.{ControlValue, terminals, peer_at, current}
 use Rattle.bsc_control.specs.Kept.{IsControl, Keeps as ControlKeeps}
+use Rattle.bsc_control.proofs.Calls.{places, current_there}
 use Rattle.bsc_line_model.specs.Line.{no_terminal, terminal_in}
 use Rattle.bsc_line_model.specs.Terminals.{EachHears, EachKeeps}
 use Rattle.bsc_line_model.specs.Kept.{IsMember, AreStations, IsTuned, AreTuned}
@@ -26,6 +27,12 @@ pub peer_terminal : (c : ControlValue) (t : ℕ) → t < length c.peers
     → get_or (terminals c) t no_peer.terminal ≡ (peer_at c t).terminal
 peer_terminal c t less =
     get_or-map (λ (p : PeerValue). p.terminal) c.peers t no_peer no_peer.terminal less
+
+-- the terminal of the present entry is one of the line
+pub current_terminal_there : (c : ControlValue) (ts : List TributaryValue) → AreStations c ts
+    → current c < length ts
+current_terminal_there c ts s =
+    subst (λ (n : ℕ). current c < n) s.count (current_there c (places c s.control.entries))
 
 -- the addresses of a terminal stand in the control station's list
 pub terminal_there : (c : ControlValue) (ts : List TributaryValue) (t : ℕ) → AreStations c ts → t

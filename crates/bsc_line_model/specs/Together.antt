@@ -35,17 +35,18 @@ RestsDown p x s =
     IsResting (outbound_at p s).sender.phase (outbound_at p s).queue (spool_at x.spools s).records
 
 -- no bid goes on with this terminal, and its channels are sound
-pub record IsQuiet (p : PeerValue) (x : TributaryValue) : Type 0 where
+pub record HasNoBid (p : PeerValue) (x : TributaryValue) : Type 0 where
   pub mode : x.mode ≢ mode.Sending
   pub up : RestsUp p x
   pub down : (s : ℕ) → s < length p.outbounds → RestsDown p x s
 
 -- no bid goes on with any terminal but this one, and the channels of the others are sound
-abbrev pub OthersQuiet : ControlValue → List TributaryValue → ℕ → Type 0
-OthersQuiet c ts e = (t : ℕ) → t < length ts → t ≢ e → IsQuiet (peer_at c t) (terminal_in ts t)
+abbrev pub NoOtherBids : ControlValue → List TributaryValue → ℕ → Type 0
+NoOtherBids c ts e = (t : ℕ) → t < length ts → t ≢ e → HasNoBid (peer_at c t) (terminal_in ts t)
 
-abbrev pub AllQuiet : ControlValue → List TributaryValue → Type 0
-AllQuiet c ts = (t : ℕ) → t < length ts → IsQuiet (peer_at c t) (terminal_in ts t)
+-- no bid goes on with any terminal, and all channels are sound
+abbrev pub NoBids : ControlValue → List TributaryValue → Type 0
+NoBids c ts = (t : ℕ) → t < length ts → HasNoBid (peer_at c t) (terminal_in ts t)
 
 -- all terminals are in control mode
 abbrev pub AllInControlMode : List TributaryValue → Type 0
@@ -137,28 +138,28 @@ IsPolledWith (Some sent) replied p e ts = IsPolledBy sent.speaker sent.message r
 -- the stations go together during this task
 pub record IsSelecting (pending : Option Transmission) (c : ControlValue)
     (ts : List TributaryValue) (s : ℕ) (enquired : Bool) : Type 0 where
-  pub quiet : AllQuiet c ts
+  pub no_bids : NoBids c ts
   pub with_pending : IsSelectedWith pending enquired (peer c) (current c) s
       (terminal_in ts (current c)) ts
   pub fresh : IsFreshAfter enquired (terminal_in ts (current c)) s
 
 pub record IsSending (pending : Option Transmission) (c : ControlValue)
     (ts : List TributaryValue) (s : ℕ) : Type 0 where
-  pub others : OthersQuiet c ts (current c)
+  pub others : NoOtherBids c ts (current c)
   pub bid : IsInBidDown pending (peer c) (current c) s (terminal_in ts (current c))
 
 pub record IsPolling (pending : Option Transmission) (c : ControlValue)
     (ts : List TributaryValue) (replied : Replied) : Type 0 where
-  pub others : OthersQuiet c ts (current c)
+  pub others : NoOtherBids c ts (current c)
   pub present :
-      (IsQuiet (peer c) (terminal_in ts (current c))
+      (HasNoBid (peer c) (terminal_in ts (current c))
       × IsPolledWith pending replied (peer c) (current c) ts)
       ⊎ IsInBidUp pending (peer c) (current c) (terminal_in ts (current c))
 
 pub record IsAtStart (pending : Option Transmission) (c : ControlValue)
     (ts : List TributaryValue) : Type 0 where
   pub nothing : pending ≡ None
-  pub quiet : AllQuiet c ts
+  pub no_bids : NoBids c ts
   pub modes : AllInControlMode ts
 
 abbrev pub InTask : Task → Option Transmission → ControlValue → List TributaryValue → Type 0
