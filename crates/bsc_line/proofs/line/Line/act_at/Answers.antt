@@ -12,12 +12,12 @@ there g c =
     subst (λ (l : LineValue). c.args.terminal < terminal_count l) (sym c.self.view_is)
     c.requires.there
 
-acted : (g : given.Over) (c : goal.After-show g) →
+terminal_acted : (g : given.Over) (c : goal.After-show g) →
     TerminalActsAlone c.args.terminal (line_of c.self.inside.control c.self.inside.terminals.items
     c.self.inside.sent c.self.inside.trusted c.self.inside.addressed)
     (line_of c.self.inside.control (slice_set c.self.inside.terminals.items c.args.terminal
     c.act.new.self) c.by-self-inside.result c.self.inside.trusted c.self.inside.addressed)
-acted g c =
+terminal_acted g c =
     acted_at (line_of c.self.inside.control c.self.inside.terminals.items c.self.inside.sent
     c.self.inside.trusted c.self.inside.addressed) c.args.terminal
     c.index_mut-station.result.now c.act.new.self c.act.new.sent c.by-self-inside.result
@@ -42,13 +42,13 @@ invariant_of-self g c =
                 (line_of c.self.inside.control
                 (slice_set c.self.inside.terminals.items c.args.terminal c.act.new.self)
                 c.by-self-inside.result c.self.inside.trusted c.self.inside.addressed))
-                owner (acted g c);
+                owner (terminal_acted g c);
           }),
       c.show.ensures,
     )
 
 pub returns-clause-does : goal.returns-clause-does
-returns-clause-does g c = rw (← c.self.view_is) (acted g c)
+returns-clause-does g c = rw (← c.self.view_is) (terminal_acted g c)
 
 pub returns-clause-line : goal.returns-clause-line
 returns-clause-line g c = (invariant_of-self g c).0

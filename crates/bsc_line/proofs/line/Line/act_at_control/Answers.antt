@@ -6,12 +6,12 @@ use Rattle.bsc_line_model.specs.Carries.{ControlActsAlone, OwnerActs}
 use Rattle.bsc_line.proofs.line.Line.act_at_control.Given as given
 use Rattle.bsc_line.proofs.line.Line.act_at_control.Goals as goal
 
-acted : (g : given.Over) (c : goal.After-show g) →
+control_acted : (g : given.Over) (c : goal.After-show g) →
     ControlActsAlone (line_of c.self.inside.control c.self.inside.terminals.items c.self.inside.sent
     c.self.inside.trusted c.self.inside.addressed)
     (line_of c.act.new.self c.self.inside.terminals.items c.by-self-inside.result
     c.self.inside.trusted c.self.inside.addressed)
-acted g c =
+control_acted g c =
     record {
       sent = c.act.new.sent;
       row = c.act.ensures.row;
@@ -37,13 +37,13 @@ invariant_of-self g c =
                 c.self.inside.trusted c.self.inside.addressed)
                 (line_of c.act.new.self c.self.inside.terminals.items c.by-self-inside.result
                 c.self.inside.trusted c.self.inside.addressed))
-                nobody (acted g c);
+                nobody (control_acted g c);
           }),
       c.show.ensures,
     )
 
 pub returns-clause-does : goal.returns-clause-does
-returns-clause-does g c = rw (← c.self.view_is) (acted g c)
+returns-clause-does g c = rw (← c.self.view_is) (control_acted g c)
 
 pub returns-clause-line : goal.returns-clause-line
 returns-clause-line g c = (invariant_of-self g c).0

@@ -53,14 +53,14 @@ addressed g c =
     (hearing_of c.args.hearings.now) c.self.inside.addressed
     c.addressed_after-self-inside.result) (counted g c) c.addressed_after-self-inside.ensures
 
-carried : (g : given.Over) (c : goal.After-show g) (s : Transmission) → c.self.inside.sent ≡ Some s
-    →
+is_carried_down : (g : given.Over) (c : goal.After-show g) (s : Transmission)
+    → c.self.inside.sent ≡ Some s →
     IsCarriedDown s.message (hearing_of c.args.hearings.now)
     (line_of c.self.inside.control c.self.inside.terminals.items c.self.inside.sent
     c.self.inside.trusted c.self.inside.addressed)
     (line_of c.self.inside.control c.hear_in-self-inside.new.terminals.items
     c.hear_in-self-inside.result c.both-self-inside.result c.addressed_after-self-inside.result)
-carried g c s e =
+is_carried_down g c s e =
     record {
       control = refl;
       terminals = c.hear_in-self-inside.ensures.each;
@@ -75,12 +75,13 @@ invariant_of-self g c =
     let pending : c.self.inside.sent ≡ Some c.requires.sent =
     ap (λ (l : LineValue). l.pending) c.self.view_is ∙ c.requires.pending in (
       c.each_event.ensures.down c.requires.sent (hearing_of c.args.hearings.now) _ _
-          c.self.invariant.0 pending c.requires.speaker (carried g c c.requires.sent pending),
+          c.self.invariant.0 pending c.requires.speaker
+          (is_carried_down g c c.requires.sent pending),
       c.show.ensures,
     )
 
 pub returns-clause-does : goal.returns-clause-does
-returns-clause-does g c = rw (← c.self.view_is) (carried g c)
+returns-clause-does g c = rw (← c.self.view_is) (is_carried_down g c)
 
 pub returns-clause-line : goal.returns-clause-line
 returns-clause-line g c = (invariant_of-self g c).0

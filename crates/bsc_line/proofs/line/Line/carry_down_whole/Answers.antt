@@ -16,14 +16,14 @@ addressed_after-self-inside-requires g c =
     c.self.invariant.0.stations in
     omega arith
 
-carried : (g : given.Over) (c : goal.After-show g) (s : Transmission) → c.self.inside.sent ≡ Some s
-    →
+is_carried_down_whole : (g : given.Over) (c : goal.After-show g) (s : Transmission)
+    → c.self.inside.sent ≡ Some s →
     IsCarriedDown s.message (λ t. Whole s.message)
     (line_of c.self.inside.control c.self.inside.terminals.items c.self.inside.sent
     c.self.inside.trusted c.self.inside.addressed)
     (line_of c.self.inside.control c.hear_in-self-inside.new.terminals.items
     c.hear_in-self-inside.result c.self.inside.trusted c.addressed_after-self-inside.result)
-carried g c s e =
+is_carried_down_whole g c s e =
     let heard : c.take_whole-heard.result ≡ Whole s.message =
     of_some (λ (z : Transmission). c.take_whole-heard.result ≡ Whole z.message)
     c.self.inside.sent s c.take_whole-heard.ensures.heard e in
@@ -41,12 +41,13 @@ invariant_of-self g c =
     let pending : c.self.inside.sent ≡ Some c.requires.sent =
     ap (λ (l : LineValue). l.pending) c.self.view_is ∙ c.requires.pending in (
       c.each_event.ensures.down c.requires.sent (λ t. Whole c.requires.sent.message) _ _
-          c.self.invariant.0 pending c.requires.speaker (carried g c c.requires.sent pending),
+          c.self.invariant.0 pending c.requires.speaker
+          (is_carried_down_whole g c c.requires.sent pending),
       c.show.ensures,
     )
 
 pub returns-clause-does : goal.returns-clause-does
-returns-clause-does g c = rw (← c.self.view_is) (carried g c)
+returns-clause-does g c = rw (← c.self.view_is) (is_carried_down_whole g c)
 
 pub returns-clause-line : goal.returns-clause-line
 returns-clause-line g c = (invariant_of-self g c).0

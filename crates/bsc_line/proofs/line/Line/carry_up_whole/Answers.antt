@@ -7,14 +7,14 @@ use Rattle.bsc_line.proofs.Carrying.{of_some, carried_up_whole}
 use Rattle.bsc_line.proofs.line.Line.carry_up_whole.Given as given
 use Rattle.bsc_line.proofs.line.Line.carry_up_whole.Goals as goal
 
-carried : (g : given.Over) (c : goal.After-show g) (s : Transmission) → c.self.inside.sent ≡ Some s
-    →
+is_carried_up_whole : (g : given.Over) (c : goal.After-show g) (s : Transmission)
+    → c.self.inside.sent ≡ Some s →
     IsCarriedUp s.message (Whole s.message)
     (line_of c.self.inside.control c.self.inside.terminals.items c.self.inside.sent
     c.self.inside.trusted c.self.inside.addressed)
     (line_of c.answer.new.self c.self.inside.terminals.items c.by-self-inside.result
     c.self.inside.trusted c.self.inside.addressed)
-carried g c s e =
+is_carried_up_whole g c s e =
     carried_up_whole s.message c.take_whole-heard.result _ _ c.answer.new.sent
     (of_some (λ (z : Transmission). c.take_whole-heard.result ≡ Whole z.message) c.self.inside.sent
     s c.take_whole-heard.ensures.heard e)
@@ -25,12 +25,12 @@ invariant_of-self g c =
     let pending : c.self.inside.sent ≡ Some c.requires.sent =
     ap (λ (l : LineValue). l.pending) c.self.view_is ∙ c.requires.pending in (
       c.each_event.ensures.up c.requires.sent (Whole c.requires.sent.message) _ _ c.self.invariant.0
-          pending c.requires.speaker (carried g c c.requires.sent pending),
+          pending c.requires.speaker (is_carried_up_whole g c c.requires.sent pending),
       c.show.ensures,
     )
 
 pub returns-clause-does : goal.returns-clause-does
-returns-clause-does g c = rw (← c.self.view_is) (carried g c)
+returns-clause-does g c = rw (← c.self.view_is) (is_carried_up_whole g c)
 
 pub returns-clause-line : goal.returns-clause-line
 returns-clause-line g c = (invariant_of-self g c).0
