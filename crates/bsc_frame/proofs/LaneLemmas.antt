@@ -7,11 +7,12 @@ use Rattle.std.specs.List.{prefix_len}
 use Rattle.std.specs.Simd.Lanes.{mask_l, top}
 use Rattle.std.proofs.lemmas.Simd.{map-map, mask_l-mod, first_set_mask_l}
 use Rattle.std.proofs.lemmas.List.{length-map}
+use Rattle.bsc_frame.specs.declared.front.TheConstants.{LANES}
 
 -- the first lane that is set in the mask is the first octet that stops the run
 pub first_lane_is : (stops : ℕ → Bool) (f : ℕ → ℕ) (octets lanes : List ℕ) (r : ℕ)
-    → ((x : ℕ) → top 7 (f x) ≡ stops x) → length octets ≡ 32 → lanes ≡ map f octets
-    → r ≡ cond (mask_l (map (top 7) lanes) % 2 ^ 64 == 0) 32
+    → ((x : ℕ) → top 7 (f x) ≡ stops x) → length octets ≡ LANES → lanes ≡ map f octets
+    → r ≡ cond (mask_l (map (top 7) lanes) % 2 ^ 64 == 0) LANES
     (trailing_zeros w64 (mask_l (map (top 7) lanes) % 2 ^ 64))
     → r ≡ prefix_len (λ x. not (stops x)) octets
 first_lane_is stops f octets lanes r e long by found =
@@ -20,8 +21,8 @@ first_lane_is stops f octets lanes r e long by found =
     let mask : mask_l (map (top 7) lanes) % 2 ^ 64 ≡ mask_l (map stops octets) =
     ap (λ l. mask_l l % 2 ^ 64) each ∙ mask_l-mod (map stops octets) 64
     (omega (arith, length-map octets stops)) in
-    found ∙ ap (λ m. cond (m == 0) 32 (trailing_zeros w64 m)) mask
-    ∙ first_set_mask_l stops octets 32 long (omega arith)
+    found ∙ ap (λ m. cond (m == 0) LANES (trailing_zeros w64 m)) mask
+    ∙ first_set_mask_l stops octets LANES long (omega arith)
   where
     map_same : (xs : List ℕ) → map (λ x. top 7 (f x)) xs ≡ map stops xs
     map_same [] = refl

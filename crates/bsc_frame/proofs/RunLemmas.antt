@@ -11,6 +11,7 @@ use Rattle.std.proofs.lemmas.List.{drop_all}
 use Rattle.std.proofs.lemmas.Bool.{eqb-true}
 use Rattle.bsc_frame.specs.Reading.{skip, is_either, is_octet, is_pad_octet, trimmed}
 use Rattle.bsc_frame.proofs.ReadLemmas.{rest_is, trimmed_push_pad}
+use Rattle.bsc_frame.specs.declared.front.TheConstants.{LANES}
 
 -- what a loop over the octets keeps: at of them were counted
 pub record CountedTo (p : ℕ → Bool) (at : ℕ) (s : List ℕ) : Type 0 where
@@ -68,19 +69,20 @@ cuts p (suc n) [] l = absurd (omega arith)
 cuts p (suc n) (x ∷ s) l = cuts_head p n x s (p x) refl (cuts p n s (omega arith))
 
 -- a lane that does not pass ends the front
-pub run_stops : (p : ℕ → Bool) (at run : ℕ) (s : List ℕ) → CountedTo p at s → 32 ≤ length s - at
-    → run ≡ prefix_len p (take 32 (drop at s)) → run < 32 → at + run ≡ prefix_len p s
+pub run_stops : (p : ℕ → Bool) (at run : ℕ) (s : List ℕ) → CountedTo p at s → LANES ≤ length s - at
+    → run ≡ prefix_len p (take LANES (drop at s)) → run < LANES → at + run ≡ prefix_len p s
 run_stops p at run s c l e h =
-    let k = (cuts p 32 (drop at s) (omega (arith, length-drop at s))).stops (omega arith) in
+    let k = (cuts p LANES (drop at s) (omega (arith, length-drop at s))).stops (omega arith) in
     omega (arith, c.rest, k)
 
 -- all lanes pass
-pub run_goes_on : (p : ℕ → Bool) (at run : ℕ) (s : List ℕ) → CountedTo p at s → 32 ≤ length s - at
-    → run ≡ prefix_len p (take 32 (drop at s)) → 32 ≤ run → CountedTo p (at + 32) s
+pub run_goes_on : (p : ℕ → Bool) (at run : ℕ) (s : List ℕ) → CountedTo p at s
+    → LANES ≤ length s - at → run ≡ prefix_len p (take LANES (drop at s)) → LANES ≤ run
+    → CountedTo p (at + LANES) s
 run_goes_on p at run s c l e h =
-    let k = (cuts p 32 (drop at s) (omega (arith, length-drop at s))).goes_on (omega arith) in
-    let further : prefix_len p (drop 32 (drop at s)) ≡ prefix_len p (drop (at + 32) s) =
-    ap (prefix_len p) (drop-drop 32 at s) in
+    let k = (cuts p LANES (drop at s) (omega (arith, length-drop at s))).goes_on (omega arith) in
+    let further : prefix_len p (drop LANES (drop at s)) ≡ prefix_len p (drop (at + LANES) s) =
+    ap (prefix_len p) (drop-drop LANES at s) in
     record { within = omega arith; rest = omega (arith, c.rest, k, further) }
 
 -- what is counted after the last whole lanes is added
@@ -152,17 +154,17 @@ trimmed_pads front (x ∷ pads) l =
     pad_head front x pads (x == 0xff) refl (trimmed_pads (front ++ x ∷ []) pads) l
 
 -- lanes of PAD at the end change nothing
-pub trim_more : (s : List ℕ) (end run : ℕ) → trimmed (take end s) ≡ trimmed s → end ≤ length s → 32
-    ≤ end
-    → run ≡ prefix_len (is_either 0xff 0xff) (take 32 (drop (end - 32) s)) → 32 ≤ run
-    → trimmed (take (end - 32) s) ≡ trimmed s
+pub trim_more : (s : List ℕ) (end run : ℕ) → trimmed (take end s) ≡ trimmed s → end ≤ length s
+    → LANES ≤ end
+    → run ≡ prefix_len (is_either 0xff 0xff) (take LANES (drop (end - LANES) s)) → LANES ≤ run
+    → trimmed (take (end - LANES) s) ≡ trimmed s
 trim_more s end run same within l e all =
-    let back : (end - 32) + 32 ≡ end = omega arith in
-    let parts : take end s ≡ take (end - 32) s ++ take 32 (drop (end - 32) s) =
-    ap (λ k. take k s) (sym back) ∙ take-add (end - 32) 32 s in
-    let long : length (take 32 (drop (end - 32) s)) ≤ 32 =
-    omega (arith, length-take 32 (drop (end - 32) s)) in
-    sym (trimmed_pads (take (end - 32) s) (take 32 (drop (end - 32) s)) (omega arith))
+    let back : (end - LANES) + LANES ≡ end = omega arith in
+    let parts : take end s ≡ take (end - LANES) s ++ take LANES (drop (end - LANES) s) =
+    ap (λ k. take k s) (sym back) ∙ take-add (end - LANES) LANES s in
+    let long : length (take LANES (drop (end - LANES) s)) ≤ LANES =
+    omega (arith, length-take LANES (drop (end - LANES) s)) in
+    sym (trimmed_pads (take (end - LANES) s) (take LANES (drop (end - LANES) s)) (omega arith))
     ∙ ap trimmed (sym parts) ∙ same
 
 -- what a loop over the octets at the front uses

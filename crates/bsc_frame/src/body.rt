@@ -79,7 +79,7 @@ pub(crate) fn starts_with(octets: &[u8], octet: u8) -> bool
 #[tactic(auto, using(crate::proofs::RunLemmas::skip_pads, crate::proofs::RunLemmas::skip_all), unfolding(crate::specs::Reading::heard, crate::specs::Reading::heard_body, crate::specs::Reading::control))]
 #[inline(always)]
 fn body_of_few(octets: &[u8]) -> &[u8]
-    requires { length octets.now < 32 }
+    requires { length octets.now < LANES }
     ensures { heard octets.now ≡ heard_body result.now }
 {
     let pads = either_rest(octets, LEADING_PADS[0], LEADING_PADS[1]);

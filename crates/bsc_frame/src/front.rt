@@ -12,7 +12,7 @@ pub(crate) const LANES: usize = 32;
 
 /// The first lane of the 32 that is set in the mask; 32 where none is.
 fn first_lane(mask: u64) -> usize
-    ensures { result ≡ (if mask == 0 then 32 else trailing_zeros w64 mask) }
+    ensures { result ≡ (if mask == 0 then LANES else trailing_zeros w64 mask) }
 {
     if mask == 0 {
         LANES
@@ -23,8 +23,8 @@ fn first_lane(mask: u64) -> usize
 
 /// How many of the 32 octets from the place on come before the first that is neither of the two.
 pub(crate) fn either_in(octets: &[u8], at: usize, one: u8, other: u8) -> usize
-    requires { at + 32 ≤ length octets.now }
-    ensures { result ≡ prefix_len (is_either one other) (take 32 (drop at octets.now)) }
+    requires { at + LANES ≤ length octets.now }
+    ensures { result ≡ prefix_len (is_either one other) (take LANES (drop at octets.now)) }
 {
     let lanes = u8x32::from_slice(&octets[at..]);
     let stops = lanes.simd_ne(u8x32::splat(one)) & lanes.simd_ne(u8x32::splat(other));
@@ -33,8 +33,8 @@ pub(crate) fn either_in(octets: &[u8], at: usize, one: u8, other: u8) -> usize
 
 /// How many of the 32 octets from the place on come before the first US, ETB or ETX.
 fn before_ending_in(octets: &[u8], at: usize) -> usize
-    requires { at + 32 ≤ length octets.now }
-    ensures { result ≡ prefix_len is_before_ending (take 32 (drop at octets.now)) }
+    requires { at + LANES ≤ length octets.now }
+    ensures { result ≡ prefix_len is_before_ending (take LANES (drop at octets.now)) }
 {
     let lanes = u8x32::from_slice(&octets[at..]);
     let ends = lanes.simd_eq(u8x32::splat(US))
