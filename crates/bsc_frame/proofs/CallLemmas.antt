@@ -32,13 +32,13 @@ pub record Called (buffer : List ℕ) (i : ℕ) (s : List ℕ) : Type 0 where
   pub reads : Reads (take i buffer) i s
 
 -- the codes are as many as the octets before the place
-front_long : (b : List ℕ) (i : ℕ) (s : List ℕ) → Called b i s → length (take i b) ≡ i
-front_long b i s c = omega (arith, length-take i b, c.within, c.whole)
+called_front_length : (b : List ℕ) (i : ℕ) (s : List ℕ) → Called b i s → length (take i b) ≡ i
+called_front_length b i s c = omega (arith, length-take i b, c.within, c.whole)
 
 -- codes that were read are an address
 front_is : (b : List ℕ) (i : ℕ) (s : List ℕ) → Called b i s → 0 < i → IsAddress (take i b)
 front_is b i s c h =
-    let long = front_long b i s c in
+    let long = called_front_length b i s c in
     record { some = omega (arith, long); most = omega (arith, long, c.within); each = c.codes }
 
 -- what is called decides the message
@@ -75,7 +75,7 @@ pub call_full : (b : List ℕ) (i : ℕ) (s : List ℕ) → Called b i s → i <
     → (get_or s i 0 ≡ 0x85 → ⊥)
     → i ≡ MAX_ADDRESS → None ≡ call_of s
 call_full b i s c l e full =
-    message s None (called_full (take i b) i s c.reads l e (front_long b i s c ∙ full))
+    message s None (called_full (take i b) i s c.reads l e (called_front_length b i s c ∙ full))
 
 -- nor is an octet of even parity in one
 pub call_wrong : (b : List ℕ) (i : ℕ) (s : List ℕ) → Called b i s → i < length s
@@ -83,7 +83,7 @@ pub call_wrong : (b : List ℕ) (i : ℕ) (s : List ℕ) → Called b i s → i 
     → (i ≡ MAX_ADDRESS → ⊥) → code_of (get_or s i 0) ≡ None → None ≡ call_of s
 call_wrong b i s c l e less k =
     message s None (called_wrong (take i b) i s c.reads l e
-    (omega (arith, front_long b i s c, c.within)) k)
+    (omega (arith, called_front_length b i s c, c.within)) k)
 
 -- and there is no call without ENQ
 pub call_none : (b : List ℕ) (i : ℕ) (s : List ℕ) → Called b i s → length s ≤ i → None ≡ call_of s
@@ -119,7 +119,8 @@ code_more : (b : List ℕ) (i : ℕ) (s : List ℕ) (k : ℕ) → Called b i s �
     → (get_or s i 0 ≡ 0x85 → ⊥) → (i ≡ MAX_ADDRESS → ⊥) → code_of (get_or s i 0) ≡ Some k
     → Reads (take i b ++ k ∷ []) (i + 1) s
 code_more b i s k c l e less h =
-    called_more (take i b) i s k c.reads l e (omega (arith, front_long b i s c, c.within)) h
+    called_more (take i b) i s k c.reads l e
+    (omega (arith, called_front_length b i s c, c.within)) h
 
 -- where it may not stand in an address, there is no call
 pub call_wrong_code : (b : List ℕ) (i : ℕ) (s : List ℕ) (k : ℕ) → Called b i s → i < length s

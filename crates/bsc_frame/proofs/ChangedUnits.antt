@@ -52,10 +52,10 @@ same_odd : (c d : ℕ) → c < 128 → d < 128 → odd_octet c ≡ odd_octet d �
 same_odd c d l k e = sym (odd_octet_low c l) ∙ ap (λ o. o % 128) e ∙ odd_octet_low d k
 
 -- after codes with another check there is no rest
-wrong_check : (codes : List ℕ) (k : ℕ) (rest : List ℕ)
+after_check_wrong : (codes : List ℕ) (k : ℕ) (rest : List ℕ)
     → (odd_octet (longitudinal_sum codes) ≡ k → ⊥)
     → after_check codes (k ∷ rest) ≡ None
-wrong_check codes k rest h = rw (test_false (odd_octet (longitudinal_sum codes)) k h) refl
+after_check_wrong codes k rest h = rw (test_false (odd_octet (longitudinal_sum codes)) k h) refl
 
 -- codes whose check is wrong are no unit
 unchecked : (after_us : Bool) (codes : List ℕ) (k : ℕ) (rest : List ℕ) → IsRun codes
@@ -66,7 +66,7 @@ unchecked after_us codes k rest r l h =
     rw (
       gathered_read MAX_UNIT_CODES codes (map odd_octet codes) (k ∷ rest) (filled_plain codes) r
           l,
-      wrong_check codes k rest h,
+      after_check_wrong codes k rest h,
     ) refl
 
 -- a unit with one code changed, and the check of the old codes, is no unit

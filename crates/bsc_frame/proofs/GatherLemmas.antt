@@ -59,11 +59,11 @@ more_codes x c octets (d ∷ cs) rest e g = record {
 }
 
 -- what is read with one code more at the front is read without it
-before_some : (c : ℕ) (o : Option (List ℕ × List ℕ)) (g : List ℕ × List ℕ) → before_gathered c o
-    ≡ Some g
+before_gathered_some : (c : ℕ) (o : Option (List ℕ × List ℕ)) (g : List ℕ × List ℕ)
+    → before_gathered c o ≡ Some g
     → (h : List ℕ × List ℕ) × (o ≡ Some h) × (g.0 ≡ c ∷ h.0) × (g.1 ≡ h.1)
-before_some c None g e = cc
-before_some c (Some h) g e = (h, refl, cc, cc)
+before_gathered_some c None g e = cc
+before_gathered_some c (Some h) g e = (h, refl, cc, cc)
 
 -- lists that are equal to those that are gathered are gathered
 same_gathers : (octets codes codes' rest rest' : List ℕ) → codes ≡ codes' → rest ≡ rest'
@@ -88,7 +88,7 @@ gathers_code x xs (Some c) more g k f e = elim (chosen (is_ending_code c) _ _ _ 
         ends = h.0;
       })
   | inr h ↦
-      let b = before_some c more g h.1 in
+      let b = before_gathered_some c more g h.1 in
       same_gathers (x ∷ xs) g.0 (c ∷ b.0.0) g.1 b.0.1 b.2 b.3
       (more_codes x c xs b.0.0 b.0.1 (code_of_some x c k).1 (f b.0 b.1))
 ]

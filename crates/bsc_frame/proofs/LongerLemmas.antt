@@ -11,7 +11,7 @@ use Rattle.bsc_frame.proofs.ControlLemmas.{chosen}
 use Rattle.bsc_frame.proofs.UnitLemmas.{UnitAt, unit_at_reads, unit_at_read}
 use Rattle.bsc_frame.proofs.TextUnits.{units_at_read}
 use Rattle.bsc_frame.proofs.UnitLemmas.{bind_some}
-use Rattle.bsc_frame.proofs.TextUnits.{before_some}
+use Rattle.bsc_frame.proofs.TextUnits.{before_units_some}
 use Rattle.bsc_frame.specs.declared.limits.TheConstants.{MAX_UNITS}
 
 -- a unit is still read with more octets after it, which are left
@@ -47,7 +47,7 @@ units_longer (suc n) after_us octets t y ys e =
     (unit_longer after_us octets (y ∷ ys) u.0 u.1 u.2 (unit_at_reads after_us octets u b.1)) in
     elim (chosen (u.1 == 0x1f) _ _ _ b.2) [
       | inl h ↦
-          let r = before_some u.0 (units_at n true u.2) t h.1 in
+          let r = before_units_some u.0 (units_at n true u.2) t h.1 in
           let none : units_at n true (u.2 ++ y ∷ ys) ≡ None =
           units_longer n true u.2 r.0 y ys r.1 in
           rw (first, h.0, none) refl

@@ -46,9 +46,9 @@ first_or d [] = d
 first_or d (u ∷ us) = u
 
 -- the units after the first
-abbrev after_first : List TextUnit → List TextUnit
-after_first [] = []
-after_first (u ∷ us) = us
+abbrev later_units : List TextUnit → List TextUnit
+later_units [] = []
+later_units (u ∷ us) = us
 
 -- marks and characters that give the same units from a start on are the same
 same_from : (start : ℕ) (ms ns : List Mark) (xs ys : List ℕ) → AreMarked start ms xs
@@ -66,7 +66,7 @@ same_from start (m ∷ ms) (n ∷ ns) xs ys h k e =
     let u : TextUnit = record { chars = slice_range xs start m.end; em = m.em } in
     let v : TextUnit = record { chars = slice_range ys start n.end; em = n.em } in
     let one : u ≡ v = ap (first_or u) e in
-    let more : units_from m.end ms xs ≡ units_from n.end ns ys = ap after_first e in
+    let more : units_from m.end ms xs ≡ units_from n.end ns ys = ap later_units e in
     let chars : slice_range xs start m.end ≡ slice_range ys start n.end =
     ap (λ (x : TextUnit). x.chars) one in
     let ends : m.end ≡ n.end =

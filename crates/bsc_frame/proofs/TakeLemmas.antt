@@ -26,11 +26,11 @@ use Rattle.bsc_frame.specs.declared.limits.TheConstants.{MAX_CHARS, MAX_UNIT_COD
 -- ---- the front
 
 -- an STX is at most one code
-length_start : (after_us : Bool) (codes : List ℕ) → length codes
+length_after_start : (after_us : Bool) (codes : List ℕ) → length codes
     ≤ length (after_start after_us codes) + 1
-length_start false codes = omega arith
-length_start true [] = omega arith
-length_start true (x ∷ codes) = by_test (x == 0x02)
+length_after_start false codes = omega arith
+length_after_start true [] = omega arith
+length_after_start true (x ∷ codes) = by_test (x == 0x02)
   where
     by_test : (b : Bool) → suc (length codes) ≤ length (cond b codes (x ∷ codes)) + 1
     by_test true = omega arith
@@ -59,7 +59,7 @@ long_unit after_us codes octets l =
           r.1.most,
           ap length r.0,
           length_unit_codes f.0 f.1,
-          length_start after_us codes,
+          length_after_start after_us codes,
         ))
 
 -- where no octet ends a unit, no unit is read
@@ -87,9 +87,9 @@ at_front after_us s m c e l =
     ]
 
 -- without SYN nothing is filtered out
-pub no_fill : (s : List ℕ) → list_any (is_octet 0x16) s ≡ false → filter is_other s ≡ s
-no_fill [] h = refl
-no_fill (x ∷ s) h = by_test (x == 0x16) refl h (no_fill s)
+pub filter_no_fill : (s : List ℕ) → list_any (is_octet 0x16) s ≡ false → filter is_other s ≡ s
+filter_no_fill [] h = refl
+filter_no_fill (x ∷ s) h = by_test (x == 0x16) refl h (filter_no_fill s)
   where
     by_test : (b : Bool) → (x == 0x16) ≡ b → (b || list_any (is_octet 0x16) s) ≡ false
         → (list_any (is_octet 0x16) s ≡ false → filter is_other s ≡ s)
@@ -98,8 +98,8 @@ no_fill (x ∷ s) h = by_test (x == 0x16) refl h (no_fill s)
     by_test false e h f = ap (λ t. x ∷ t) (f h)
 
 -- an octet that carries an ending character is no SYN
-ending_other : (x : ℕ) → is_ending_octet x ≡ true → is_other x ≡ true
-ending_other x e = by_test (x == 0x16) refl
+ending_octet_other : (x : ℕ) → is_ending_octet x ≡ true → is_other x ≡ true
+ending_octet_other x e = by_test (x == 0x16) refl
   where
     by_test : (b : Bool) → (x == 0x16) ≡ b → not b ≡ true
     by_test true f = let z : x ≡ 0x16 = eqb-true x 0x16 f in let t : is_ending_octet x ≡ false =
@@ -132,7 +132,7 @@ ends_filtered s e = record {
   front = filter is_other e.front;
   last = e.last;
   whole = ap (filter is_other) e.whole ∙ filter-append is_other e.front (e.last ∷ [])
-      ∙ rw (ending_other e.last e.ends) refl;
+      ∙ rw (ending_octet_other e.last e.ends) refl;
   ends = e.ends;
 }
 
@@ -314,9 +314,9 @@ parts_none octets chars em last c p n = by_unit (read_unit (map low_bits octets)
 -- ---- the check, and an STX after one
 
 -- a wrong check: no unit is read
-pub wrong_check : (after_us : Bool) (front octets : List ℕ) → None ≡ after_check front octets
+pub wrong_check_none : (after_us : Bool) (front octets : List ℕ) → None ≡ after_check front octets
     → unit_before after_us (map low_bits front) octets ≡ None
-wrong_check after_us front octets e = rw (check_low front octets, ← e) refl
+wrong_check_none after_us front octets e = rw (check_low front octets, ← e) refl
 
 -- a right check of codes that are no unit: none is read
 pub wrong_unit : (after_us : Bool) (front octets rest : List ℕ) → AreCarried front
@@ -353,7 +353,7 @@ pub front_without_fill : (after_us : Bool) (s : List ℕ) (place : ℕ) → AreC
     ≡ unit_at after_us s
 front_without_fill after_us s place c e l n =
     ap (λ z. unit_before after_us (map low_bits z) (drop (place + 1) s))
-    (sym (no_fill (take (place + 1) s) n))
+    (sym (filter_no_fill (take (place + 1) s) n))
     ∙ sym (at_front after_us s (place + 1) c (omega arith) (omega arith))
 
 -- where fill was squeezed out, the unit is read from the octets that are left
@@ -366,10 +366,10 @@ front_squeezed after_us s place unit c e l n =
     ∙ sym (at_front after_us s (place + 1) c (omega arith) (omega arith))
 
 -- more than MAX_UNIT_CODES octets without fill are no unit
-pub front_long : (after_us : Bool) (s : List ℕ) (place : ℕ) → AreCarried s
+pub long_front_none : (after_us : Bool) (s : List ℕ) (place : ℕ) → AreCarried s
     → place ≡ prefix_len is_before_ending s → place < length s
     → MAX_UNIT_CODES < length (filter is_other (take (place + 1) s))
     → unit_at after_us s ≡ None
 unfolding unit_at
-front_long after_us s place c e l n =
+long_front_none after_us s place c e l n =
     rw ((cut (place + 1) MAX_UNIT_CODES s c (omega arith) (omega arith)).full n) refl

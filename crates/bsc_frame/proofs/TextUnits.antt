@@ -32,10 +32,11 @@ pub record ReadsUnits (n : ℕ) (after_us : Bool) (octets : List ℕ) (t : TextV
   pub each : AllByRecursion IsUnit t.units
 
 -- a text that is read after a unit has that unit first
-pub before_some : (u : TextUnit) (o : Option TextValue) (t : TextValue) → before_units u o ≡ Some t
+pub before_units_some : (u : TextUnit) (o : Option TextValue) (t : TextValue)
+    → before_units u o ≡ Some t
     → (s : TextValue) × (o ≡ Some s) × (record { units = u ∷ s.units; end = s.end } ≡ t)
-before_some u None t e = cc
-before_some u (Some s) t e = (s, refl, some_is _ _ e)
+before_units_some u None t e = cc
+before_units_some u (Some s) t e = (s, refl, some_is _ _ e)
 
 -- a unit that others follow ends with US
 more_end : (us : List TextUnit) (end : End) → 0 < length us → ending us end ≡ 0x1f
@@ -65,7 +66,7 @@ units_step : (n : ℕ) (after_us : Bool) (octets : List ℕ) (t : TextValue) (f 
     → ReadsUnits (suc n) after_us octets t
 units_step n after_us octets t f a more e = elim (chosen (f.1 == 0x1f) _ _ _ e) [
   | inl h ↦
-      let b = before_some f.0 (units_at n true f.2) t h.1 in
+      let b = before_units_some f.0 (units_at n true f.2) t h.1 in
       let r = more b.0 b.1 in
       let us : ending b.0.units b.0.end ≡ f.1 = more_end b.0.units b.0.end r.some
       ∙ sym (eqb-true f.1 0x1f h.0) in

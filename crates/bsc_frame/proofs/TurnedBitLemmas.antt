@@ -14,13 +14,13 @@ first_syn : (m : Message) → IsMessage m → get_or (wire m) 0 0 ≡ 0x16
 first_syn m h = let s = sent_of m h in ap (λ w. get_or w 0 0) s.whole
 
 -- an octet with one bit turned is not fill where it stands
-no_fill : (m : Message) → IsMessage m → (place bit : ℕ) → bit < 8
+turned_no_fill : (m : Message) → IsMessage m → (place bit : ℕ) → bit < 8
     → IsFillIn m place (turned bit (get_or (wire m) place 0)) → ⊥
-no_fill m h place bit l (inl k) =
+turned_no_fill m h place bit l (inl k) =
     let first : turned bit (get_or (wire m) place 0) ≡ turned bit 0x16 =
     ap (λ p. turned bit (get_or (wire m) p 0)) k.0 ∙ ap (turned bit) (first_syn m h) in
     syn_no_pad bit place l (subst (IsLeadingPad place) first k)
-no_fill m h place bit l (inr k) = in_call k.0 k.1
+turned_no_fill m h place bit l (inr k) = in_call k.0 k.1
   where
     in_call : IsSomeCall m → IsCallFill place (turned bit (get_or (wire m) place 0)) → ⊥
     in_call c (inl f) =
@@ -37,7 +37,7 @@ pub turned_spells : (m n : Message) (place bit : ℕ) → IsMessage m → place 
     < 8
     → Spells (with_turned_bit place bit (wire m)) n → ⊥
 turned_spells m n place bit h l b k =
-    no_fill m h place bit b
+    turned_no_fill m h place bit b
     ((spelled_where m n place (turned bit (get_or (wire m) place 0)) h l
     (turned_other bit (get_or (wire m) place 0))).0 k).1
 

@@ -194,13 +194,13 @@ pub not_stx : (u : TextUnit) (e : ℕ) → IsUnit u → is_ending_code e ≡ tru
     → begins (is_octet 0x02) (unit_codes u e) ≡ false
 not_stx u e h k = by_chars u.chars u.em h.each
   where
-    ending_other : (e ≡ 0x1f) ⊎ ((e ≡ 0x17) ⊎ (e ≡ 0x03)) → (e == 0x02) ≡ false
-    ending_other (inl k) = rw k refl
-    ending_other (inr (inl k)) = rw k refl
-    ending_other (inr (inr k)) = rw k refl
+    ending_no_start : (e ≡ 0x1f) ⊎ ((e ≡ 0x17) ⊎ (e ≡ 0x03)) → (e == 0x02) ≡ false
+    ending_no_start (inl k) = rw k refl
+    ending_no_start (inr (inl k)) = rw k refl
+    ending_no_start (inr (inr k)) = rw k refl
 
     by_chars : (chars : List ℕ) (em : Bool) → AllByRecursion (λ c. IsTrue (is_record_char c)) chars
         → begins (is_octet 0x02) (unit_codes (record { chars = chars; em = em }) e) ≡ false
     by_chars [] true p = refl
-    by_chars [] false p = ending_other (ending_cases e k)
+    by_chars [] false p = ending_no_start (ending_cases e k)
     by_chars (c ∷ chars) em p = test_false c 0x02 (char_not c 0x02 p.0 stx_no_char)

@@ -83,10 +83,10 @@ unit_at_reads after_us octets f h =
 -- ---- the codes of a unit as they are gathered
 
 -- a run grows at its front by a code that is neither SYN nor an ending character
-run_more : (c : ℕ) (codes : List ℕ) → IsOther c → is_ending_code c ≡ false → IsRun codes
+is_run_cons : (c : ℕ) (codes : List ℕ) → IsOther c → is_ending_code c ≡ false → IsRun codes
     → IsRun (c ∷ codes)
-run_more c [] o e r = absurd r
-run_more c (d ∷ codes) o e r = (o, e, r)
+is_run_cons c [] o e r = absurd r
+is_run_cons c (d ∷ codes) o e r = (o, e, r)
 
 -- a record character is a code of seven bits
 pub char_lt : (c : ℕ) → is_record_char c ≡ true → c < 128
@@ -114,8 +114,8 @@ char_no_end c true e h = let w : true ≡ false = sym h ∙ ending_no_char c e i
 char_no_end c false e h = e
 
 -- an ending character is no SYN and below 128
-pub ending_other : (e : ℕ) → is_ending_code e ≡ true → IsOther e
-ending_other e h = elim (ending_cases e h) [
+pub ending_code_other : (e : ℕ) → is_ending_code e ≡ true → IsOther e
+ending_code_other e h = elim (ending_cases e h) [
   | inl k ↦ record { code = omega arith; other = λ z. omega arith }
   | inr w ↦ elim w [
     | inl k ↦ record { code = omega arith; other = λ z. omega arith }
@@ -130,13 +130,14 @@ run_chars : (chars codes : List ℕ) → AllByRecursion (λ c. IsTrue (is_record
     → IsRun (chars ++ codes)
 run_chars [] codes h r = r
 run_chars (c ∷ chars) codes h r =
-    run_more c (chars ++ codes) (char_other c h.0) (char_no_end c (is_ending_code c) refl h.0)
+    is_run_cons c (chars ++ codes) (char_other c h.0) (char_no_end c (is_ending_code c) refl h.0)
     (run_chars chars codes h.1 r)
 
 -- so are EM, where it is marked, and the ending character
 run_em : (em : Bool) (e : ℕ) → is_ending_code e ≡ true → IsRun (cond em (0x19 ∷ []) [] ++ e ∷ [])
-run_em true e h = (record { code = lit< tt; other = λ z. omega arith }, refl, (ending_other e h, h))
-run_em false e h = (ending_other e h, h)
+run_em true e h =
+    (record { code = lit< tt; other = λ z. omega arith }, refl, (ending_code_other e h, h))
+run_em false e h = (ending_code_other e h, h)
 
 -- the codes of a unit are a run: only the last ends it, and none is SYN
 pub run_unit : (u : TextUnit) (e : ℕ) → IsUnit u → is_ending_code e ≡ true → IsRun (unit_codes u e)
@@ -149,7 +150,7 @@ pub run_start : (after_us : Bool) (start codes : List ℕ) → IsStart after_us 
     → IsRun (start ++ codes)
 run_start after_us start codes (inl e) r = rw e r
 run_start after_us start codes (inr e) r =
-    rw e.1 (run_more 0x02 codes (record { code = lit< tt; other = λ z. omega arith }) refl r)
+    rw e.1 (is_run_cons 0x02 codes (record { code = lit< tt; other = λ z. omega arith }) refl r)
 
 -- EM is at most one code
 length_em : (b : Bool) → length {A = ℕ} (cond b (0x19 ∷ []) []) ≤ 1
@@ -157,9 +158,9 @@ length_em true = omega arith
 length_em false = omega arith
 
 -- what may stand before the codes of a unit is at most one code
-length_start : (after_us : Bool) (start : List ℕ) → IsStart after_us start → length start ≤ 1
-length_start after_us start (inl e) = omega (arith, ap length e)
-length_start after_us start (inr e) = omega (arith, ap length e.1)
+start_at_most_one : (after_us : Bool) (start : List ℕ) → IsStart after_us start → length start ≤ 1
+start_at_most_one after_us start (inl e) = omega (arith, ap length e)
+start_at_most_one after_us start (inr e) = omega (arith, ap length e.1)
 
 -- a unit has at most two codes more than characters
 pub length_unit_codes : (u : TextUnit) (e : ℕ) → length (unit_codes u e) ≤ length u.chars + 2
@@ -182,7 +183,7 @@ unit_at_read after_us octets u e rest a =
     omega (
       arith,
       a.unit.most,
-      length_start after_us a.start a.is_start,
+      start_at_most_one after_us a.start a.is_start,
       length_unit_codes u e,
       length-append a.start (unit_codes u e),
     ) in

@@ -2,12 +2,13 @@ use Rattle.std.proofs.Common.{map}
 use Rattle.bsc_frame.specs.Drafts.{AddsUnit}
 use Rattle.bsc_frame.specs.Reading.{low_bits, read_unit, after_start}
 use Rattle.bsc_frame.proofs.CarriedLemmas.{carried}
-use Rattle.bsc_frame.proofs.TakeLemmas.{wrong_check, wrong_unit, right_unit, odd_start, ends_start}
+use Rattle.bsc_frame.proofs.TakeLemmas.{wrong_check_none, wrong_unit, right_unit, odd_start}
+use Rattle.bsc_frame.proofs.TakeLemmas.{ends_start}
 use Rattle.bsc_frame.proofs.unit_decoder.take_front.Goals as goal
 
 pub returns-in_default-clause-none : goal.returns-in_default-clause-none
 returns-in_default-clause-none c =
-    wrong_check c.args.after_us c.args.front.now c.args.octets.now
+    wrong_check_none c.args.after_us c.args.front.now c.args.octets.now
     (rw c.in_default.is at c.checked.ensures)
 
 pub take_chars-requires-clause-odd : goal.take_chars-requires-clause-odd

@@ -6,7 +6,7 @@ use Rattle.bsc_frame.specs.Reading.{low_bits, is_other, unit_before, unit_at}
 use Rattle.bsc_frame.proofs.CarriedLemmas.{carried}
 use Rattle.bsc_frame.proofs.TakeLemmas.{at_end, front_ends, ends_filtered, front_without_fill}
 use Rattle.bsc_frame.proofs.TakeLemmas.{front_squeezed}
-use Rattle.bsc_frame.proofs.TakeLemmas.{front_long}
+use Rattle.bsc_frame.proofs.TakeLemmas.{long_front_none}
 use Rattle.bsc_frame.proofs.unit_decoder.take_unit.Goals as goal
 
 pub returns-then-place-octets-clause-none : goal.returns-then-place-octets-clause-none
@@ -46,7 +46,7 @@ returns-then-not-has_fill-clause-none c =
 
 pub returns-in_default-clause-none : goal.returns-in_default-clause-none
 returns-in_default-clause-none c =
-    front_long c.args.after_us c.args.octets.now c.before_ending-place.result
+    long_front_none c.args.after_us c.args.octets.now c.before_ending-place.result
     (carried c.args.octets.now c.requires.odd c.type_inv.octets)
     c.before_ending-place.ensures.count (omega arith)
     (rw c.split_at.ensures.front at c.in_default.ensures.none)
