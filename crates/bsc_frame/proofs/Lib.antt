@@ -14,6 +14,7 @@ pub mod WireSteps
 pub mod OddLemmas
 pub mod LaneLemmas
 pub mod RunLemmas
+pub mod BodyLemmas
 pub mod CarriedLemmas
 pub mod CutLemmas
 pub mod TakeLemmas

@@ -76,7 +76,6 @@ pub(crate) fn starts_with(octets: &[u8], octet: u8) -> bool
 }
 
 /// The body of fewer than 32 octets, taken one at a time.
-#[tactic(auto, using(crate::proofs::RunLemmas::skip_pads, crate::proofs::RunLemmas::skip_all), unfolding(crate::specs::Reading::heard, crate::specs::Reading::heard_body, crate::specs::Reading::control))]
 #[inline(always)]
 fn body_of_few(octets: &[u8]) -> &[u8]
     requires { length octets.now < LANES }
@@ -100,7 +99,7 @@ fn starts_with_pad(octets: &[u8]) -> bool
 
 /// The body of any octets, taken 32 at a time. What begins with neither a leading pad nor SYN is
 /// passed by at its first octet.
-#[tactic(auto, using(crate::proofs::FrontLemmas::skip_none), unfolding(crate::specs::Reading::heard, crate::specs::Reading::heard_body, crate::specs::Reading::control))]
+#[tactic(auto, using(crate::proofs::BodyLemmas::empty_body))]
 #[inline(always)]
 fn body_of_many(octets: &[u8]) -> &[u8]
     ensures { heard octets.now ≡ heard_body result.now }
