@@ -166,6 +166,3 @@ trim_more s end run same within l e all =
     omega (arith, length-take LANES (drop (end - LANES) s)) in
     sym (trimmed_pads (take (end - LANES) s) (take LANES (drop (end - LANES) s)) (omega arith))
     ∙ ap trimmed (sym parts) ∙ same
-
--- what a loop over the octets at the front uses
-pub ruleset run_steps = (run_more, run_stop, run_end)

@@ -168,9 +168,6 @@ codes_all chars buffer i s k l u =
     let same : length s ≡ i = omega arith in
     ap (λ n. take n buffer) same ∙ k.front ∙ ap (map low_bits) (take_all i s l)
 
--- what a squeeze of lanes uses
-pub ruleset squeeze_steps = (squeeze_more, squeeze_start, squeeze_all)
-
 -- what a squeeze of a part uses
 pub ruleset part_steps = (part_start, part_more, part_full, part_last)
 

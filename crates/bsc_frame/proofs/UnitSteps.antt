@@ -190,6 +190,3 @@ read_start d s h e =
     nothing_before : (o : Option TextValue) → before_all [] o ≡ o
     nothing_before None = refl
     nothing_before (Some t) = refl
-
--- what the loop over the units of a text uses
-pub ruleset read_steps = (read_start, read_stop, read_more, read_extra, read_whole, read_all)

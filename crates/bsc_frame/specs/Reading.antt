@@ -78,18 +78,23 @@ abbrev pub begins : (ℕ → Bool) → List ℕ → Bool
 begins test [] = false
 begins test (x ∷ xs) = test x
 
+-- a body that is no text and not one octet: a reply of two octets, or a call
+abbrev pub longer_control : List ℕ → Option Message
+longer_control body =
+    if bytes_eq body (0x10 ∷ 0xb0 ∷ []) then Some Ack0
+    else if bytes_eq body (0x10 ∷ 0x31 ∷ []) then Some Ack1
+    else if bytes_eq body (0x10 ∷ 0x3b ∷ []) then Some Wack
+    else if bytes_eq body (0x10 ∷ 0xbc ∷ []) then Some Rvi
+    else if begins (is_octet 0x04) body then call (drop 1 body)
+    else None
+
 -- a body that is no text
 unfoldable pub control : List ℕ → Option Message
 control body =
     if bytes_eq body (0x04 ∷ []) then Some Eot
     else if bytes_eq body (0x85 ∷ []) then Some Enq
     else if bytes_eq body (0x15 ∷ []) then Some Nak
-    else if bytes_eq body (0x10 ∷ 0xb0 ∷ []) then Some Ack0
-    else if bytes_eq body (0x10 ∷ 0x31 ∷ []) then Some Ack1
-    else if bytes_eq body (0x10 ∷ 0x3b ∷ []) then Some Wack
-    else if bytes_eq body (0x10 ∷ 0xbc ∷ []) then Some Rvi
-    else if begins (is_octet 0x04) body then call (drop 1 body)
-    else None
+    else longer_control body
 
 abbrev pub whole_or_noise : Option Message → Heard
 whole_or_noise (Some m) = Whole m

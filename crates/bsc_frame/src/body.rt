@@ -32,7 +32,6 @@ pub(crate) fn after_all(octets: &[u8], octet: u8) -> &[u8]
 }
 
 /// The octets without PAD at their end, dropped 32 at a time.
-#[tactic(auto, using(crate::proofs::RunLemmas::trim_more))]
 fn trim_lanes(octets: &[u8]) -> &[u8]
     ensures { trimmed result.now ≡ trimmed octets.now }
 {

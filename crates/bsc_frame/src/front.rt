@@ -44,7 +44,6 @@ fn before_ending_in(octets: &[u8], at: usize) -> usize
 }
 
 /// How many octets at the front are one of the two, taken one at a time.
-#[tactic(auto, using(crate::proofs::RunLemmas::run_steps))]
 pub(crate) fn either_rest(octets: &[u8], one: u8, other: u8) -> usize
     ensures count { result ≡ prefix_len (is_either one other) octets.now }
     ensures within { result ≤ length octets.now }
@@ -58,7 +57,6 @@ pub(crate) fn either_rest(octets: &[u8], one: u8, other: u8) -> usize
 }
 
 /// How many octets come before the first US, ETB or ETX, taken one at a time.
-#[tactic(auto, using(crate::proofs::RunLemmas::run_steps))]
 fn before_ending_rest(octets: &[u8]) -> usize
     ensures count { result ≡ prefix_len is_before_ending octets.now }
     ensures within { result ≤ length octets.now }

@@ -1,7 +1,7 @@
 //! Short messages: all but texts. They are told without room for a text, which a `Heard` has.
 ghost use Rattle.std.specs.Prelude.{◌≡◌, IfSome, IfNone};
 ghost use Rattle.bsc_frame.specs.Short.{heard_as, IsHeard, BeginsText};
-ghost use Rattle.bsc_frame.specs.Reading.{call, control, whole_or_noise};
+ghost use Rattle.bsc_frame.specs.Reading.{call, control, longer_control, whole_or_noise};
 
 use crate::Address;
 use crate::body::{after_all, body_of, starts_with};
@@ -49,7 +49,17 @@ pub(crate) fn short_of(body: &[u8]) -> Short
         Short::Enq
     } else if body == [NAK].as_slice() {
         Short::Nak
-    } else if body == ACK0.as_slice() {
+    } else {
+        longer_of(body)
+    }
+}
+
+/// What a body is that is no text and not one octet.
+#[inline(always)]
+fn longer_of(body: &[u8]) -> Short
+    ensures { heard_as result ≡ whole_or_noise (longer_control body.now) }
+{
+    if body == ACK0.as_slice() {
         Short::Ack0
     } else if body == ACK1.as_slice() {
         Short::Ack1

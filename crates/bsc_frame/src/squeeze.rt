@@ -37,7 +37,7 @@ pub(crate) fn has_fill(octets: &[u8]) -> bool
 /// Puts the octets without fill after the first ones of the buffer, and gives how many there are
 /// then. Each octet is stored, and the next one is stored in its place where it is fill.
 #[inline(always)]
-#[tactic(auto, using(crate::proofs::SqueezeLemmas::squeeze_steps))]
+#[tactic(auto, using(crate::proofs::SqueezeLemmas::squeeze_more))]
 fn squeeze_part(octets: &[u8], buffer: &mut UnitBuffer, start: usize) -> usize
     requires part { length octets.now ≤ PART }
     requires start { start ≤ TOO_MANY }

@@ -154,7 +154,6 @@ fn take_unit<'a>(after_us: bool, octets: &'a [u8], draft: &mut Draft) -> Option<
 }
 
 /// Reads the units of a text, after its STX, into an empty draft, and gives the end of the text.
-#[tactic(auto, using(crate::proofs::UnitSteps::read_steps))]
 pub(crate) fn read_units(octets: &[u8], draft: &mut Draft) -> Option<End>
     requires draft { IsDraft draft.old }
     requires empty { draft_units draft.old ≡ [] }
