@@ -71,7 +71,6 @@ fn before_ending_rest(octets: &[u8]) -> usize
 
 /// How many octets at the front are one of the two. Mostly there is none: most transmissions have
 /// no pads.
-#[tactic(auto, using(crate::proofs::RunLemmas::run_rest, crate::proofs::RunLemmas::run_none))]
 pub(crate) fn either_front(octets: &[u8], one: u8, other: u8) -> usize
     ensures count { result ≡ prefix_len (is_either one other) octets.now }
     ensures within { result ≤ length octets.now }
@@ -94,7 +93,6 @@ pub(crate) fn either_front(octets: &[u8], one: u8, other: u8) -> usize
 }
 
 /// How many octets come before the first US, ETB or ETX.
-#[tactic(auto, using(crate::proofs::RunLemmas::run_rest))]
 pub(crate) fn before_ending(octets: &[u8]) -> usize
     ensures count { result ≡ prefix_len is_before_ending octets.now }
     ensures within { result ≤ length octets.now }
