@@ -78,7 +78,7 @@ abbrev pub begins : (ℕ → Bool) → List ℕ → Bool
 begins test [] = false
 begins test (x ∷ xs) = test x
 
--- a body that is no text and not one octet: a reply of two octets, or a call
+-- a body that is no text and no message of one octet: a reply of two octets, or a call
 abbrev pub longer_control : List ℕ → Option Message
 longer_control body =
     if bytes_eq body (0x10 ∷ 0xb0 ∷ []) then Some Ack0

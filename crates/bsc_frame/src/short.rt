@@ -54,7 +54,7 @@ pub(crate) fn short_of(body: &[u8]) -> Short
     }
 }
 
-/// What a body is that is no text and not one octet.
+/// What a body is that is no text and no message of one octet.
 #[inline(always)]
 fn longer_of(body: &[u8]) -> Short
     ensures { heard_as result ≡ whole_or_noise (longer_control body.now) }
