@@ -163,15 +163,15 @@ fn check_together(alloc: Global, words: &StationWords, role: Role) -> Result<(),
 {
     let counts = words.rounds.is_some() || words.idle_rounds.is_some();
     if role != Role::Control && (words.shared || counts) {
-        let why = "--shared, --rounds and --idle-rounds are those of a control station";
+        let why = "--shared, --rounds and --idle-rounds need --control";
         return Err(wrong_together(alloc, why));
     }
     if role == Role::Control && words.connect.is_some() && !words.shared {
-        let why = "a control station that connects has one connection: --shared";
+        let why = "--control with --connect needs --shared";
         return Err(wrong_together(alloc, why));
     }
     if words.gap.is_some() && !words.raw {
-        return Err(wrong_together(alloc, "--gap is that of --raw"));
+        return Err(wrong_together(alloc, "--gap needs --raw"));
     }
     Ok(())
 }

@@ -111,7 +111,7 @@ fn program<'a>(alloc: Global) -> Command<'a>
     ensures { app_of result ≡ program_app }
 {
     Command::new(alloc, "bscline")
-        .about("Prints the names of the transmissions on standard input, one a line")
+        .about("Print the names of the transmissions on standard input, one a line")
         .version("0.1.0")
 }
 

@@ -86,7 +86,7 @@ offers: [\"a\", \"b\"], text: true, trace: false })",
 
 #[test]
 fn help(rt: HostRuntime) -> Result<(), Fail> {
-    let top = b"Prints the names of the transmissions on standard input, one a line
+    let top = b"Print the names of the transmissions on standard input, one a line
 
 Usage: bscline [COMMAND]
 
