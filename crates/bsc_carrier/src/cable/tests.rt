@@ -158,21 +158,21 @@ fn what_is_read_at_a_terminals_end_is_told(rt: HostRuntime) -> Result<(), Fail> 
     Ok(())
 }
 
-/// What `down` and then `up` answer where one call of these ends fails. After an error no end is
-/// touched.
+/// What `down` and then `up` of the second terminal answer where these calls of the two ends of each
+/// side fail. After an error no end is touched.
 fn answers_when_failing(
     rt: &impl Abort,
     alloc: Global,
-    control_call: Option<usize>,
-    terminal_call: Option<usize>,
+    control_calls: [Option<usize>; 2],
+    terminal_calls: [Option<usize>; 2],
 ) -> Result<(Result<(), CarrierError>, Result<(), CarrierError>), Fail> {
     let record = [0x00, 0x01, 0x16];
     let mut cable = two_connections(rt, alloc, &record, &record)?;
-    if let Some(end) = cable.control_ends.get_mut(1) {
-        end.fails_at = control_call;
+    for (end, call) in cable.control_ends.iter_mut().zip(control_calls) {
+        end.fails_at = call;
     }
-    if let Some(end) = cable.terminal_ends.get_mut(0) {
-        end.fails_at = terminal_call;
+    for (end, call) in cable.terminal_ends.iter_mut().zip(terminal_calls) {
+        end.fails_at = call;
     }
     let mut heard = Octets::new();
     assert_eq!(rt; cable.terminal_ends.len(), 2);
@@ -186,24 +186,28 @@ fn answers_when_failing(
     Ok((down, up))
 }
 
+/// The failed call may be one of any end, the first one or a later one of its side.
 #[test]
 fn first_failed_call_is_the_error_from_then_on(rt: HostRuntime) -> Result<(), Fail> {
     let device = Err(CarrierError::Device);
-    for (control_call, terminal_call, down, up) in [
-        (Some(1), None, device, device),
-        (Some(2), None, device, device),
-        (Some(3), None, device, device),
-        (None, Some(1), device, device),
-        (None, Some(2), device, device),
-        (None, Some(3), device, device),
-        (Some(4), None, Ok(()), device),
-        (Some(5), None, Ok(()), device),
-        (Some(6), None, Ok(()), device),
-        (Some(7), Some(4), Ok(()), Ok(())),
-    ] {
-        let answers = answers_when_failing(&rt, rt.alloc(), control_call, terminal_call)?;
-        assert_eq!(rt; answers, (down, up), "{control_call:?} {terminal_call:?}");
+    for call in 1..=3 {
+        for calls in [[Some(call), None], [None, Some(call)]] {
+            let answers = answers_when_failing(&rt, rt.alloc(), calls, [None, None])?;
+            assert_eq!(rt; answers, (device, device), "control {calls:?}");
+            let answers = answers_when_failing(&rt, rt.alloc(), [None, None], calls)?;
+            assert_eq!(rt; answers, (device, device), "terminals {calls:?}");
+        }
     }
+    for call in 4..=6 {
+        let calls = [None, Some(call)];
+        let answers = answers_when_failing(&rt, rt.alloc(), calls, [None, None])?;
+        assert_eq!(rt; answers, (Ok(()), device), "control {calls:?}");
+        let answers = answers_when_failing(&rt, rt.alloc(), [None, None], calls)?;
+        assert_eq!(rt; answers, (Ok(()), device), "terminals {calls:?}");
+    }
+    let (control, terminals) = ([Some(4), Some(7)], [Some(4), Some(7)]);
+    let answers = answers_when_failing(&rt, rt.alloc(), control, terminals)?;
+    assert_eq!(rt; answers, (Ok(()), Ok(())));
     Ok(())
 }
 
