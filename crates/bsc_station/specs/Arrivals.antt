@@ -26,3 +26,13 @@ abbrev pub AreCounted : (ℕ → Way → End) → (ℕ → ℕ) → (ℕ → Way
 AreCounted ends terminal_of way_of old new count =
     (n : ℕ) → n < count → slice_index new n
     ≡ counted ends (terminal_of n) (way_of n) (slice_index old n)
+
+-- more records of some channel are printed than before
+pub record MoreArePrinted (old new : List ℕ) (count : ℕ) : Type 0 where
+  pub channel : ℕ
+  pub is_one : channel < count
+  pub grew : slice_index old channel < slice_index new channel
+
+-- of each channel as many records are printed as before
+abbrev pub AsManyArePrinted : List ℕ → List ℕ → ℕ → Type 0
+AsManyArePrinted old new count = (n : ℕ) → n < count → slice_index new n ≡ slice_index old n

@@ -1,11 +1,12 @@
 //! The records that arrive at a station are printed.
 
-ghost use Rattle.std.specs.Prelude.{◌≡◌, ◌<◌, length, OnOk};
+ghost use Rattle.std.specs.Prelude.{◌≡◌, ◌<◌, length, Ok, OnOk, false, true};
 ghost use Rattle.std.specs.List.{flat_map};
 ghost use Rattle.std.specs.Io.KnownBytes.{Appends};
 ghost use Rattle.bsc_run.specs.Printed.{channel_name, each_below};
 ghost use Rattle.bsc_station.specs.Printed.{arrival_line, record_shown};
-ghost use Rattle.bsc_station.specs.Arrivals.{AreCounted, arrivals_of, channel_arrivals, counted};
+ghost use Rattle.bsc_station.specs.Arrivals.{AreCounted, AsManyArePrinted, MoreArePrinted, arrivals_of};
+ghost use Rattle.bsc_station.specs.Arrivals.{channel_arrivals, counted};
 
 use crate::printing::put;
 use crate::{Party, Received};
@@ -52,6 +53,10 @@ pub fn print_arrivals<A: Allocator + Copy, P: Party, W: Write>(
         printed.old) (P.receives s))) }
     ensures counts { OnOk result (AreCounted (P.ends station.now) P.terminal_of P.way_of
         printed.old printed.new (P.receives station.now)) }
+    ensures some { result ≡ Ok true →
+        MoreArePrinted printed.old printed.new (P.receives station.now) }
+    ensures none { result ≡ Ok false →
+        AsManyArePrinted printed.old printed.new (P.receives station.now) }
 {
     let mut found = false;
     'channels: for number in 0..station.spools() {
@@ -63,7 +68,8 @@ pub fn print_arrivals<A: Allocator + Copy, P: Party, W: Write>(
     Ok(found)
 }
 
-/// Prints the records of one channel beyond those printed before, and counts them.
+/// Prints the records of one channel beyond those printed before, and counts them. True where there
+/// was one.
 fn print_channel<A: Allocator + Copy, P: Party, W: Write>(
     alloc: A,
     form: Form,
@@ -79,6 +85,8 @@ fn print_channel<A: Allocator + Copy, P: Party, W: Write>(
         (P.way_of number) printed.old)) }
     ensures count { OnOk result (printed.new ≡ counted (P.ends station.now) (P.terminal_of number)
         (P.way_of number) printed.old) }
+    ensures some { result ≡ Ok true → printed.old < printed.new }
+    ensures none { result ≡ Ok false → printed.new ≡ printed.old }
 {
     let received = station.received(number);
     let records = received.records;

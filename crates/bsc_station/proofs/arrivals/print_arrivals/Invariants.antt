@@ -1,7 +1,7 @@
-use Rattle.std.proofs.Common.{◌≡◌, ℕ, ◌≤◌, slice_index}
+use Rattle.std.proofs.Common.{◌≡◌, ℕ, ◌≤◌, true, false, slice_index}
 use Rattle.std.specs.Io.KnownBytes.{Appends}
 use Rattle.bsc_run.specs.Printed.{each_below}
-use Rattle.bsc_station.specs.Arrivals.{AreCounted, arrivals_of}
+use Rattle.bsc_station.specs.Arrivals.{AreCounted, MoreArePrinted, AsManyArePrinted, arrivals_of}
 use Rattle.bsc_station.proofs.arrivals.print_arrivals.Given as goal
 
 abbrev pub invariant-channels : goal.invariant-channels
@@ -14,5 +14,7 @@ invariant-channels g l =
           l.number);
       counts : AreCounted (g.P.Party.ends s) g.P.Party.terminal_of g.P.Party.way_of
           l.initial.printed l.printed l.number;
+      some : l.found ≡ true → MoreArePrinted l.initial.printed l.printed l.number;
+      none : l.found ≡ false → AsManyArePrinted l.initial.printed l.printed l.number;
       others : (n : ℕ) → l.number ≤ n → slice_index l.printed n ≡ slice_index l.initial.printed n;
     }
