@@ -39,7 +39,7 @@ struct Channel {
 /// line each, channel by channel: `printed` has for each channel on which the station receives how
 /// many of its records were printed. What is written is flushed. True where a record was printed.
 /// After an error a part may have been written. (Own.)
-pub fn print_arrivals<A: Allocator + Copy, P: Party, W: Write>(
+pub(crate) fn print_arrivals<A: Allocator + Copy, P: Party, W: Write>(
     alloc: A,
     form: Form,
     station: &P,

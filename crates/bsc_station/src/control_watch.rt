@@ -4,9 +4,9 @@ ghost use Rattle.std.specs.Prelude.{◌≡◌};
 
 use crate::ended::LastWatch;
 use crate::rounds::{Limits, Rounds};
+use crate::trace::Who;
 use crate::visits::{Sent, Visits};
 use crate::watch::Watch;
-use crate::trace::Who;
 use crate::{Timer, station_standing};
 use bsc_control::{Control, Way};
 use bsc_frame::{Heard, Message, decode};

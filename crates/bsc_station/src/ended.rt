@@ -2,9 +2,9 @@
 
 ghost use Rattle.std.specs.Prelude.{◌≡◌, false};
 
-use crate::watch::{Watch, live};
 use crate::Timer;
 use crate::trace::Who;
+use crate::watch::{Watch, live};
 use bsc_frame::{Heard, Message};
 use bsc_live::{LiveError, Monitor, Note};
 use bsc_text::Station;

@@ -1,7 +1,7 @@
 //! Who watches a terminal, and says when it ends.
 
-use crate::watch::Watch;
 use crate::trace::Who;
+use crate::watch::Watch;
 use crate::{LineTerminal, Timer};
 use bsc_carrier::CarrierError;
 use bsc_live::{LiveError, Monitor, Note};

@@ -135,7 +135,11 @@ pub(crate) fn write_silence<W: Write>(time: u64, out: &mut W) -> Result<(), Prin
 }
 
 /// Writes the line of a peer that took the connection at a place.
-pub(crate) fn write_joined<W: Write>(time: u64, connection: usize, out: &mut W) -> Result<(), PrintError>
+pub(crate) fn write_joined<W: Write>(
+    time: u64,
+    connection: usize,
+    out: &mut W,
+) -> Result<(), PrintError>
     ensures { OnOk result (Appends (W.contents out.old) (W.contents out.new)
         (codes "+" ++ decimal time ++ codes " connection " ++ decimal connection
         ++ codes " joined\n")) }

@@ -1,7 +1,8 @@
 //! What is printed while a station is attended.
 
+use crate::arrivals::print_arrivals;
 use crate::trace::{Deed, Who, write_closed, write_joined, write_silence, write_transmission};
-use crate::{Form, Party, Timer, print_arrivals};
+use crate::{Form, Party, Timer};
 use bsc_carrier::CarrierError;
 use bsc_live::{LiveError, Note};
 use bsc_names::PrintError;
