@@ -72,8 +72,8 @@ const LOSSY_LINE_SCRIPT: &str = r#"# A record waits in each direction.
 offer-at 0 HI
 offer-for 1 BYE
 
-# The control station polls A. One bit of the text is turned on its way: a character has even parity,
-# so the control station answers NAK and the text is sent again.
+# The control station polls A. One bit of the text is turned on its way: a character has even
+# parity, so the control station answers NAK and the text is sent again.
 silence
 carry
 heard 16 16 02 C8 48 19 83 9B FF

@@ -29,7 +29,8 @@ fn texts_and_statuses(rt: HostRuntime) -> Result<(), Fail> {
         (Fault::OutOfMemory, "out of memory", 1),
         (
             Fault::from(not_text(alloc)),
-            "error: a word is not UTF-8\n\nUsage: bscline [COMMAND]\n\nFor more information, try '--help'.\n",
+            "error: a word is not UTF-8\n\nUsage: bscline [COMMAND]\n\n\
+                For more information, try '--help'.\n",
             2,
         ),
     ];
