@@ -12,6 +12,7 @@ mod station;
 mod station_settings;
 mod station_words;
 mod texts;
+mod values;
 mod whole_command;
 mod words;
 

@@ -1,13 +1,12 @@
 //! The words of `bscline station`.
-ghost use Rattle.std.specs.Prelude.{◌≡◌, [], map, codes, IfOk, false, option_map, string_bytes};
-ghost use Rattle.std.specs.Prelude.{unwrap_or};
-ghost use Rattle.clap.specs.Words.{app_of, first_value, found_of, matched_of, raw_values, rows_of};
-ghost use Rattle.clap.specs.Words.{rule_of};
+ghost use Rattle.std.specs.Prelude.{◌≡◌, codes, IfOk, false};
+ghost use Rattle.clap.specs.Words.{app_of, found_of, rows_of, rule_of};
 ghost use Rattle.clap.specs.declared.builder.command.Command.TheViews.{out-Command};
-ghost use Rattle.bsc_command.specs.Options.{flag, is_true_text, option, value_list};
+ghost use Rattle.bsc_command.specs.Options.{flag, option, value_list};
 ghost use Rattle.bsc_command.specs.StationWords.{asked_words, words_in, station_app, party_app};
 ghost use Rattle.bsc_command.specs.StationWords.{place_app, timing_app};
 
+use crate::values::{is_given, option_text, option_texts, required_text};
 use clap::{Arg, ArgAction, ArgMatches, Command};
 use std::alloc::{AllocError, Global};
 
@@ -197,68 +196,6 @@ fn with_printing<'a>(alloc: Global, command: Command<'a>) -> Result<Command<'a>,
             "trace",
             "Print what is sent and heard on standard error",
         ))
-}
-
-/// The text of a value that the command requires.
-fn required_text(alloc: Global, matches: &ArgMatches<'_>, id: &str) -> Result<String, AllocError>
-    ensures { IfOk result (λ s.
-        string_bytes s ≡ unwrap_or (first_value (found_of matches.now) id.now) []) }
-{
-    match matches.get_str(id) {
-        Some(text) => String::from_str(alloc, text),
-        None => Ok(String::new(alloc)),
-    }
-}
-
-/// The text of an option, where it was given.
-fn option_text(
-    alloc: Global,
-    matches: &ArgMatches<'_>,
-    id: &str,
-) -> Result<Option<String>, AllocError>
-    ensures { IfOk result (λ s.
-        option_map string_bytes s ≡ first_value (found_of matches.now) id.now) }
-{
-    match matches.get_str(id) {
-        Some(text) => Ok(Some(String::from_str(alloc, text)?)),
-        None => Ok(None),
-    }
-}
-
-/// The texts of an option, as often as it was given.
-fn option_texts(
-    alloc: Global,
-    matches: &ArgMatches<'_>,
-    id: &str,
-) -> Result<Vec<String>, AllocError>
-    ensures { IfOk result (λ s. map string_bytes s.items
-        ≡ unwrap_or (option_map raw_values (matched_of (found_of matches.now) id.now)) []) }
-{
-    match matches.get_strs(id) {
-        Some(texts) => texts_of(alloc, texts),
-        None => Ok(Vec::new(alloc)),
-    }
-}
-
-/// Texts of their own.
-fn texts_of(alloc: Global, texts: &[&str]) -> Result<Vec<String>, AllocError>
-    ensures { IfOk result (λ s. map string_bytes s.items ≡ map (λ t. t.now) texts.now) }
-{
-    let mut own = Vec::new(alloc);
-    'texts: for text in texts {
-        own.push(String::from_str(alloc, text)?)?;
-    }
-    Ok(own)
-}
-
-/// Whether the flag was given. `clap` has the text `true` for one that was.
-fn is_given(matches: &ArgMatches<'_>, id: &str) -> bool
-    ensures { result ≡ is_true_text (unwrap_or (first_value (found_of matches.now) id.now) []) }
-{
-    match matches.get_str(id) {
-        Some(text) => text == "true",
-        None => false,
-    }
 }
 
 /// The words that the matches of `station` have.

@@ -1,16 +1,16 @@
 //! The words of the command line.
 ghost use Rattle.std.specs.Prelude.{◌≡◌, ◌⊎◌, ◌≢◌, [], map, IfOk, IfErr, OnOk, codes, false};
-ghost use Rattle.std.specs.Prelude.{string_bytes, unwrap_or};
-ghost use Rattle.clap.specs.Words.{app_of, kind_of, HasKind, first_value, found_of, rows_of};
-ghost use Rattle.clap.specs.Words.{rule_of, subcommand_rows_of};
+ghost use Rattle.clap.specs.Words.{app_of, kind_of, HasKind, found_of, rows_of, rule_of};
+ghost use Rattle.clap.specs.Words.{subcommand_rows_of};
 ghost use Rattle.clap.specs.declared.builder.command.Command.TheViews.{out-Command};
 ghost use Rattle.bsc_command.specs.CommandLine.{IsHelp, bscline_app, name_app, naming_app};
 ghost use Rattle.bsc_command.specs.CommandLine.{program_app, run_app, show_app, faults_at, asked};
 ghost use Rattle.bsc_command.specs.CommandLine.{asked_of, asked_run, asked_station, asked_sub};
-ghost use Rattle.bsc_command.specs.Options.{flag, is_true_text, required};
+ghost use Rattle.bsc_command.specs.Options.{flag, required};
 
 use crate::Fault;
 use crate::station_words::{StationWords, station_command, station_words};
+use crate::values::{is_given, required_text};
 use clap::error::ErrorKind;
 use clap::{Arg, ArgAction, ArgMatches, Command, Error};
 use std::alloc::{AllocError, Global};
@@ -131,34 +131,13 @@ fn command_line<'a>(alloc: Global) -> Result<Command<'a>, AllocError>
     running.subcommand(station_command(alloc)?)
 }
 
-/// The text of a value that the command requires.
-fn text_of(alloc: Global, matches: &ArgMatches<'_>, id: &str) -> Result<String, AllocError>
-    ensures { IfOk result (λ s. string_bytes s
-        ≡ unwrap_or (first_value (found_of matches.now) id.now) []) }
-{
-    match matches.get_str(id) {
-        Some(text) => String::from_str(alloc, text),
-        None => Ok(String::new(alloc)),
-    }
-}
-
-/// Whether the flag was given. `clap` has the text `true` for one that was.
-fn is_given(matches: &ArgMatches<'_>, id: &str) -> bool
-    ensures { result ≡ is_true_text (unwrap_or (first_value (found_of matches.now) id.now) []) }
-{
-    match matches.get_str(id) {
-        Some(text) => text == "true",
-        None => false,
-    }
-}
-
 /// The run that the matches of `run` ask for.
 fn run_of(alloc: Global, matches: &ArgMatches<'_>) -> Result<Work, AllocError>
     ensures { IfOk result (λ w. asked w ≡ asked_run (rows_of (found_of matches.now))) }
 {
     Ok(Work::Run {
-        config: text_of(alloc, matches, "CONFIG")?,
-        script: text_of(alloc, matches, "SCRIPT")?,
+        config: required_text(alloc, matches, "CONFIG")?,
+        script: required_text(alloc, matches, "SCRIPT")?,
         check: is_given(matches, "check"),
     })
 }
@@ -177,7 +156,7 @@ fn work_of(alloc: Global, matches: &ArgMatches<'_>) -> Result<Work, AllocError>
     match matches.subcommand() {
         None => Ok(Work::Names),
         Some((sub, inner)) => match sub {
-            "name" => Ok(Work::Name(text_of(alloc, inner, "HEX")?)),
+            "name" => Ok(Work::Name(required_text(alloc, inner, "HEX")?)),
             "run" => run_of(alloc, inner),
             "station" => station_of(alloc, inner),
             _ => Ok(Work::Show),

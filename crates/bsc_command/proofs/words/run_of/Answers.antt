@@ -11,10 +11,10 @@ returns c =
     let value : (id : Text) → unwrap_or (first_value found id) [] ≡ value_at id (rows_of found)
     = λ id. ap (λ o. unwrap_or o []) (first_value-rows found id) in
     let check = c.is_given.result in
-    let config_is = c.in_ok-text_of.ensures ∙ value (codes "CONFIG") in
-    let script_is = c.in_ok-text_of-2.ensures ∙ value (codes "SCRIPT") in
+    let config_is = c.in_ok-required_text.ensures ∙ value (codes "CONFIG") in
+    let script_is = c.in_ok-required_text-2.ensures ∙ value (codes "SCRIPT") in
     let check_is = c.is_given.ensures ∙ ap is_true_text (value (codes "check")) in
-    ap (λ t. run t (string_bytes c.in_ok-text_of-2.field-0) check) config_is
+    ap (λ t. run t (string_bytes c.in_ok-required_text-2.field-0) check) config_is
     ∙ (ap (λ t. run (value_at (codes "CONFIG") (rows_of found)) t check) script_is
     ∙ ap (λ b. run (value_at (codes "CONFIG") (rows_of found))
     (value_at (codes "SCRIPT") (rows_of found)) b) check_is)

@@ -18,8 +18,8 @@ paired k None t rows a b = cc
 paired k (Some z) t rows a b =
     ap Some (ap₂ (λ u v. (u, v)) (sym (same_Some _ _ a)) (sym (same_Some _ _ b)))
 
-pub returns-in_ok-text_of-in-name : goal.returns-in_ok-text_of-in-name
-returns-in_ok-text_of-in-name c =
+pub returns-in_ok-required_text-in-name : goal.returns-in_ok-required_text-in-name
+returns-in_ok-required_text-in-name c =
     let inner = found_of c.in-Some.inner.now in
     let sub_is : c.in-Some.sub.now ≡ codes "name" = search rules in
     let pair : subcommand_rows_of c.args.matches.now ≡ Some (c.in-Some.sub.now, rows_of inner) =
@@ -29,6 +29,6 @@ returns-in_ok-text_of-in-name c =
     ))
     (out-ArgMatches c.args.matches.now).subcommand _ _ c.in-Some.ensures.name
     c.in-Some.ensures.rows in
-    ap name (c.in_ok-text_of-in-name.ensures
+    ap name (c.in_ok-required_text-in-name.ensures
     ∙ ap (λ o. unwrap_or o []) (first_value-rows inner (codes "HEX")))
     ∙ sym (ap asked_sub pair ∙ ap (λ t. asked_by t (rows_of inner)) sub_is)
