@@ -13,15 +13,19 @@ use Rattle.bsc_command.specs.declared.fault.Fault.TheVariants.{InDoubt, Undelive
 use Rattle.bsc_command.specs.Faults.{IsNameFault, IsNamesFault, IsPrintFault, IsRunFault}
 use Rattle.bsc_command.specs.Faults.{IsStationFault, IsUsage}
 use Rattle.bsc_command.specs.Lines.{PrintsInput, StopsAt}
+use Rattle.bsc_command.specs.Running.{IsRunDone}
 
--- The work was done with this input: a writer that held old holds new.
-abbrev pub IsDone : Asked → Option (List ℕ) → Option (List ℕ) → Option (List ℕ) → Type 0
-IsDone names input old new = IfSome input (λ octets. PrintsInput name_line octets old new)
-IsDone (name text) input old new =
-    IsSomeAnd (octets_of text) (λ octets. Prints name_line octets old new)
-IsDone show input old new = IfSome input (λ octets. PrintsInput unit_lines octets old new)
-IsDone (run config script check) input old new = Unit {0}
-IsDone (station words) input old new = Unit {0}
+-- Of the streams of a run's cable: what was written to one, and what one has left to give.
+module _ {S : Type 0} (contents remaining : S → Option (List ℕ)) where
+  -- The work was done with this input: a writer that held old holds new.
+  abbrev pub IsDone : Asked → Option (List ℕ) → Option (List ℕ) → Option (List ℕ) → Type 0
+  IsDone names input old new = IfSome input (λ octets. PrintsInput name_line octets old new)
+  IsDone (name text) input old new =
+      IsSomeAnd (octets_of text) (λ octets. Prints name_line octets old new)
+  IsDone show input old new = IfSome input (λ octets. PrintsInput unit_lines octets old new)
+  IsDone (run config script check) input old new =
+      IsRunDone contents remaining check config script input old new
+  IsDone (station words) input old new = Unit {0}
 
 -- The work stopped at the line with this number.
 abbrev pub StopsAtLine : Asked → ℕ → Option (List ℕ) → Option (List ℕ) → Option (List ℕ) → Type 0
@@ -52,9 +56,11 @@ AskForHelp words = (error : Error) × HasKind (faults_at words) error × IsHelp 
 
 -- The words were obeyed with this input: the help or the version was printed, or they are a command
 -- and its work was done.
-abbrev pub IsObeyed : List Text → Option (List ℕ) → Option (List ℕ) → Option (List ℕ) → Type 0
-IsObeyed words input old new =
-    AskForHelp words ⊎ ((faults_at words ≡ []) × IsDone (asked_of words) input old new)
+abbrev pub IsObeyed : {S : Type 0} (contents remaining : S → Option (List ℕ)) → List Text
+    → Option (List ℕ) → Option (List ℕ) → Option (List ℕ) → Type 0
+IsObeyed contents remaining words input old new =
+    AskForHelp words
+    ⊎ ((faults_at words ≡ []) × IsDone contents remaining (asked_of words) input old new)
 
 -- A fault of the words, of printing, or of the work that the words ask for.
 abbrev pub IsFaultAt : List Text → Fault → Type 0

@@ -10,9 +10,9 @@ use std::alloc::Global;
 use std::io::{Read, Write};
 
 /// Does the work. The input is read where the work asks for it, and as a whole before anything is
-/// printed. A run reads its files and makes its connections by the host; what it prints is told by
-/// `bsc_run::run_line`, and nothing where it only checks. A station is attended until it ends; what
-/// it prints is told by the calls of `bsc_station`.
+/// printed. A run reads its files and makes its connections by the host; where it is done it has
+/// printed what `bsc_run::run_line` says of what its texts say, and nothing where it only checks. A
+/// station is attended until it ends; what it prints is told by the calls of `bsc_station`.
 pub fn perform<R: Read, H: Host, W: Write>(
     alloc: Global,
     work: &Work,
@@ -21,7 +21,7 @@ pub fn perform<R: Read, H: Host, W: Write>(
     out: &mut W,
 ) -> Result<(), Fault>
     ensures ok { OnOk result
-        (IsDone (asked work.now) (R.remaining input.old)
+        (IsDone H.Stream.contents H.Stream.remaining (asked work.now) (R.remaining input.old)
         (W.contents out.old) (W.contents out.new)) }
     ensures fault { IfErr result (IsFaultOf (asked work.now)) }
     ensures wrong { (n : ℕ) → result ≡ Err (Fault.NotHexadecimalAt n) →

@@ -1,7 +1,8 @@
 //! A run of a line: its texts are read, then what they say is checked, and then the events are run.
 
-ghost use Rattle.std.specs.Prelude.{◌≡◌, ◌⊎◌, Err, IfErr, IsTrue};
+ghost use Rattle.std.specs.Prelude.{◌≡◌, ◌≢◌, ◌⊎◌, Err, IfErr, IsTrue, OnOk, codes, false};
 ghost use Rattle.bsc_command.specs.Faults.{IsLineRunFault, IsRunFault};
+ghost use Rattle.bsc_command.specs.Running.{IsRunDone, RunsOnCable};
 
 use crate::texts::{STANDARD_INPUT, read_text};
 use crate::words::two_standard_inputs;
@@ -29,18 +30,28 @@ pub(crate) fn run<R: Read, H: Host, W: Write>(
     ensures unread { (result ≡ Err Fault.InputTooLong) ⊎ (result ≡ Err Fault.Input) →
         out.new ≡ out.old }
     ensures checked { IsTrue check → out.new ≡ out.old }
+    ensures done { OnOk result
+        (IsRunDone H.Stream.contents H.Stream.remaining check config.now script.now
+        (R.remaining input.old) (W.contents out.old) (W.contents out.new)) }
 {
-    if config == STANDARD_INPUT && script == STANDARD_INPUT {
+    if are_both_standard_input(config, script) {
         return Err(Fault::from(two_standard_inputs(alloc)));
     }
-    let config = read_text(alloc, config, input, host)?;
-    let script = read_text(alloc, script, input, host)?;
-    let config = read_config(alloc, &config)?;
-    let script = read_script(alloc, &script)?;
+    let config_text = read_text(alloc, config, input, host)?;
+    let script_text = read_text(alloc, script, input, host)?;
+    let config = read_config(alloc, &config_text)?;
+    let script = read_script(alloc, &script_text)?;
     if check {
         return Ok(());
     }
     run_on_cable(alloc, &config, &script, host, out)
+}
+
+/// Whether both paths stand for standard input, which has only one text.
+fn are_both_standard_input(config: &str, script: &str) -> bool
+    ensures { result ≡ false → script.now ≡ codes "-" → config.now ≢ codes "-" }
+{
+    config == STANDARD_INPUT && script == STANDARD_INPUT
 }
 
 /// Runs the events on a new line, over new connections.
@@ -51,7 +62,10 @@ fn run_on_cable<H: Host, W: Write>(
     host: &mut H,
     out: &mut W,
 ) -> Result<(), Fault>
-    ensures { IfErr result IsLineRunFault }
+    ensures fault { IfErr result IsLineRunFault }
+    ensures ran { OnOk result
+        (RunsOnCable H.Stream.contents H.Stream.remaining config.now script.now
+        (W.contents out.old) (W.contents out.new)) }
 {
     let mut cable = host.connect(config.terminals())?;
     run_line(alloc, config, script, &mut cable, out)?;

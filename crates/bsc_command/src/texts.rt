@@ -1,7 +1,8 @@
 //! Whole texts, of files or of standard input.
 
-ghost use Rattle.std.specs.Prelude.{IfErr};
+ghost use Rattle.std.specs.Prelude.{◌≡◌, ◌≢◌, IfErr, IfOk, codes};
 ghost use Rattle.bsc_command.specs.Faults.{IsPathFault, IsTextFault};
+ghost use Rattle.bsc_command.specs.Running.{IsTextAt};
 
 use crate::{Fault, Host};
 use bsc_input::{InputError, read_input};
@@ -18,7 +19,9 @@ pub(crate) fn read_text<R: Read, H: Host>(
     input: &mut R,
     host: &mut H,
 ) -> Result<Vec<u8>, Fault>
-    ensures { IfErr result IsTextFault }
+    ensures fault { IfErr result IsTextFault }
+    ensures text { IfOk result (λ text. IsTextAt path.now (R.remaining input.old) text.items) }
+    ensures unasked { path.now ≢ codes "-" → input.new ≡ input.old }
 {
     if path == STANDARD_INPUT {
         return Ok(read_input(alloc, input)?);

@@ -1,7 +1,9 @@
 //! The whole command: from the words of the command line to the exit status.
 
-ghost use Rattle.std.specs.Prelude.{◌≡◌, ◌≢◌, ◌⊎◌, [], map, string_bytes, IfErr, IfOk, IsOkAnd, OnOk};
+ghost use Rattle.std.specs.Prelude.{◌≡◌, ◌≢◌, ◌⊎◌, [], map, string_bytes};
+ghost use Rattle.std.specs.Prelude.{Err, IfErr, IfOk, IsOkAnd, Ok, OnOk};
 ghost use Rattle.std.specs.Io.Buffered.{writer_buffer, writer_contents};
+ghost use Rattle.std.specs.Io.KnownBytes.{Keeps};
 ghost use Rattle.bsc_command.specs.declared.fault.Fault.{Fault as FaultValue};
 ghost use Rattle.bsc_command.specs.Faults.{IsPrintFault, status_of};
 ghost use Rattle.bsc_command.specs.Program.{IsFaultAt, IsObeyed};
@@ -31,14 +33,53 @@ fn obey<R: Read, H: Host, W: Write>(
     out: &mut W,
 ) -> Result<(), Fault>
     ensures ok { OnOk result
-        (IsObeyed (map string_bytes words.now) (R.remaining input.old)
-        (W.contents out.old) (W.contents out.new)) }
+        (IsObeyed H.Stream.contents H.Stream.remaining (map string_bytes words.now)
+        (R.remaining input.old) (W.contents out.old) (W.contents out.new)) }
     ensures fault { IfErr result (IsFaultAt (map string_bytes words.now)) }
 {
     let words = lent(alloc, words)?;
     match read_words(alloc, &words) {
         Ok(work) => perform(alloc, &work, input, host, out),
         Err(error) => help_or_fault(error, out),
+    }
+}
+
+/// Does what the words ask for, where they could be had.
+fn obey_given<R: Read, H: Host, W: Write>(
+    alloc: Global,
+    words: Result<Vec<String>, Fault>,
+    input: &mut R,
+    host: &mut H,
+    out: &mut W,
+) -> Result<(), Fault>
+    ensures ok { OnOk result
+        (IsOkAnd words (λ given.
+        IsObeyed H.Stream.contents H.Stream.remaining (map string_bytes given.items)
+        (R.remaining input.old) (W.contents out.old) (W.contents out.new))) }
+    ensures fault { IfErr result (λ fault.
+        IfOk words (λ given. IsFaultAt (map string_bytes given.items) fault)
+        × IfErr words (λ given. fault ≡ given)) }
+{
+    match words {
+        Ok(words) => obey(alloc, &words, input, host, out),
+        Err(fault) => Err(fault),
+    }
+}
+
+/// Lets what was printed leave the buffer, and gives the outcome of the work. Where it cannot leave,
+/// the fault is `Output`.
+fn flush_after<W: Write + Drop>(
+    outcome: Result<(), Fault>,
+    out: &mut BufWriter<W>,
+) -> Result<(), Fault>
+    ensures kept { Keeps (writer_contents W.contents out.old) (writer_contents W.contents out.new) }
+    ensures ok { OnOk result (outcome ≡ Ok tt) }
+    ensures flushed { OnOk result (writer_buffer out.new ≡ []) }
+    ensures fault { IfErr result (λ fault. IsPrintFault fault ⊎ (outcome ≡ Err fault)) }
+{
+    match out.flush() {
+        Ok(()) => outcome,
+        Err(_) => Err(Fault::Output),
     }
 }
 
@@ -68,7 +109,9 @@ pub fn command<R: Read, H: Host, W: Write + Drop, E: Write>(
     errors: &mut E,
 ) -> u8
     ensures done { result ≡ 0 →
-        IsOkAnd words (λ given. IsObeyed (map string_bytes given.items) (R.remaining input.old)
+        IsOkAnd words (λ given.
+        IsObeyed H.Stream.contents H.Stream.remaining (map string_bytes given.items)
+        (R.remaining input.old)
         (writer_contents W.contents out.old) (writer_contents W.contents out.new)) }
     ensures flushed { result ≡ 0 → writer_buffer out.new ≡ [] }
     ensures untold { result ≡ 0 → errors.new ≡ errors.old }
@@ -77,15 +120,8 @@ pub fn command<R: Read, H: Host, W: Write + Drop, E: Write>(
         × IfErr words (λ given. (fault ≡ given) ⊎ IsPrintFault fault)
         × (result ≡ status_of fault) }
 {
-    let outcome = match words {
-        Ok(words) => obey(alloc, &words, input, host, out),
-        Err(fault) => Err(fault),
-    };
-    let flushed = match out.flush() {
-        Ok(()) => outcome,
-        Err(_) => Err(Fault::Output),
-    };
-    match flushed {
+    let outcome = obey_given(alloc, words, input, host, out);
+    match flush_after(outcome, out) {
         Ok(()) => 0,
         Err(fault) => fail(&fault, errors),
     }

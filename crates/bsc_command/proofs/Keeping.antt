@@ -1,0 +1,96 @@
+-- What was done stays done where a writer keeps what it holds.
+use Rattle.std.proofs.Common.{ℕ, List, ◌++◌, Bool, true, false, Option, None, Some, inl, inr}
+use Rattle.std.proofs.Common.{IsSomeAnd}
+use Rattle.std.specs.Io.KnownBytes.{Keeps}
+use Rattle.std.proofs.KnownBytes.{Appends-kept, Keeps-trans}
+use Rattle.clap.specs.Words.{Text}
+use Rattle.bsc_frame.specs.declared.message.Heard.{Heard}
+use Rattle.bsc_input.specs.Hexadecimal.{octets_of}
+use Rattle.bsc_names.specs.Names.{Prints, name_line, unit_lines}
+use Rattle.bsc_run.specs.Printed.{report_of}
+use Rattle.bsc_command.specs.CommandLine.{Asked, names, name, show, run, station, asked_of}
+use Rattle.bsc_command.specs.Lines.{PrintsInput}
+use Rattle.bsc_command.specs.Running.{HasRun, IsRunDone}
+use Rattle.bsc_command.specs.Program.{IsDone, IsObeyed}
+
+prints_kept : (named : Heard → List ℕ) (octets : List ℕ) (a b c : Option (List ℕ))
+    → Prints named octets a b → Keeps b c → Prints named octets a c
+prints_kept named octets a b c p k = record {
+  heard = p.heard;
+  is_heard = p.is_heard;
+  appended = Appends-kept a b c (named p.heard) p.appended k;
+}
+
+input_kept : (named : Heard → List ℕ) (input : List ℕ) (a b c : Option (List ℕ))
+    → PrintsInput named input a b → Keeps b c → PrintsInput named input a c
+input_kept named input a b c p k = record {
+  right = p.right;
+  printed = record {
+    text = p.printed.text;
+    shown = p.printed.shown;
+    appended = Appends-kept a b c p.printed.text p.printed.appended k;
+  };
+}
+
+name_kept : (read : Option (List ℕ)) (a b c : Option (List ℕ))
+    → IsSomeAnd read (λ octets. Prints name_line octets a b) → Keeps b c
+    → IsSomeAnd read (λ octets. Prints name_line octets a c)
+name_kept None a b c p k = absurd p
+name_kept (Some octets) a b c p k = prints_kept name_line octets a b c p k
+
+module _ {S : Type 0} (contents remaining : S → Option (List ℕ)) where
+  has_run_kept : (config script : Text) (input a b c : Option (List ℕ))
+      → HasRun contents remaining config script input a b → Keeps b c
+      → HasRun contents remaining config script input a c
+  has_run_kept config script input a b c p k =
+      let runs = p.ran.runs in
+      record {
+        config = p.config;
+        steps = p.steps;
+        read = p.read;
+        ran = record {
+          before = p.ran.before;
+          after = p.ran.after;
+          connections = p.ran.connections;
+          runs = record {
+            begun = runs.begun;
+            ended = runs.ended;
+            new_line = runs.new_line;
+            runs = record {
+              text = runs.runs.text;
+              plays = runs.runs.plays;
+              written = Appends-kept a b c (runs.runs.text ++ report_of runs.ended)
+                  runs.runs.written k;
+            };
+          };
+        };
+      }
+
+  run_kept : (check : Bool) (config script : Text) (input a b c : Option (List ℕ))
+      → IsRunDone contents remaining check config script input a b → Keeps b c
+      → IsRunDone contents remaining check config script input a c
+  run_kept true config script input a b c p k = record {
+    config = p.config;
+    steps = p.steps;
+    read = p.read;
+    nothing = Keeps-trans a b c p.nothing k;
+  }
+  run_kept false config script input a b c p k = has_run_kept config script input a b c p k
+
+  done_kept : (work : Asked) (input a b c : Option (List ℕ))
+      → IsDone contents remaining work input a b → Keeps b c
+      → IsDone contents remaining work input a c
+  done_kept names None a b c p k = p
+  done_kept names (Some octets) a b c p k = input_kept name_line octets a b c p k
+  done_kept (name text) input a b c p k = name_kept (octets_of text) a b c p k
+  done_kept show None a b c p k = p
+  done_kept show (Some octets) a b c p k = input_kept unit_lines octets a b c p k
+  done_kept (run config script check) input a b c p k = run_kept check config script input a b c p k
+  done_kept (station words) input a b c p k = p
+
+  pub obeyed_kept : (words : List Text) (input a b c : Option (List ℕ))
+      → IsObeyed contents remaining words input a b → Keeps b c
+      → IsObeyed contents remaining words input a c
+  obeyed_kept words input a b c (inl help) k = inl help
+  obeyed_kept words input a b c (inr p) k =
+      inr (p.0, done_kept (asked_of words) input a b c p.1 k)

@@ -1,0 +1,25 @@
+use Rattle.std.proofs.Common.{inl, inr, map, string_bytes}
+use Rattle.std.specs.Io.Buffered.{writer_contents}
+use Rattle.bsc_command.specs.Faults.{IsPrintFault}
+use Rattle.bsc_command.specs.Program.{IsFaultAt}
+use Rattle.bsc_command.proofs.Keeping.{obeyed_kept}
+use Rattle.bsc_command.proofs.Outcomes.{and_then, done, fault_told}
+use Rattle.bsc_command.proofs.whole_command.command.Goals as goal
+
+pub returns-in-Ok-clause-done : goal.returns-in-Ok-clause-done
+returns-in-Ok-clause-done g c = λ _.
+    and_then c.args.words
+    (λ given p.
+    obeyed_kept g.H.Stream.Write.contents g.H.Stream.Read.remaining (map string_bytes given.items)
+    (g.R.Read.remaining c.args.input.now) (writer_contents g.W.Write.contents c.args.out.now)
+    (writer_contents g.W.Write.contents c.obey_given-outcome.new.out)
+    (writer_contents g.W.Write.contents c.flush_after.new.out) p c.in-Ok.ensures.kept)
+    (done c.obey_given-outcome.result c.in-Ok.ensures.ok c.obey_given-outcome.ensures.ok)
+
+pub returns-in-Err-clause-fault : goal.returns-in-Err-clause-fault
+returns-in-Err-clause-fault g c = λ _.
+    let told =
+    fault_told c.args.words (λ given fault. IsFaultAt (map string_bytes given.items) fault)
+    IsPrintFault c.obey_given-outcome.result c.in-Err.fault (λ given p. inr (inl p))
+    c.obey_given-outcome.ensures.fault c.in-Err.ensures.fault in
+    (c.in-Err.fault, told.0, told.1, c.fail.ensures)
