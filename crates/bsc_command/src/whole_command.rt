@@ -66,8 +66,8 @@ fn obey_given<R: Read, H: Host, W: Write>(
     }
 }
 
-/// Lets what was printed leave the buffer, and gives the outcome of the work. Where it cannot leave,
-/// the fault is `Output`.
+/// Lets what was printed leave the buffer, and gives the outcome of the work; `Output` where it
+/// cannot leave.
 fn flush_after<W: Write + Drop>(
     outcome: Result<(), Fault>,
     out: &mut BufWriter<W>,

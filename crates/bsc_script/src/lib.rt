@@ -12,8 +12,8 @@
 //! | `silence` | nothing is heard for the time of a time-out |
 //! | `ready T`, `unready T` | terminal T takes selections, or it does not |
 //! | `urgent-at T`, `urgent-for T` | terminal T, or the control station for it, asks for the line |
-//! | `release T from` | the doubt about what terminal T sent is ended |
-//! | `release T to`, `release T to S` | the doubt about what was sent to its address 0 or S is ended |
+//! | `release T from` | the doubt of what terminal T sent is ended |
+//! | `release T to`, `release T to S` | the doubt of what was sent to its address 0 or S is ended |
 //!
 //! T has one to three decimal digits, S has one. HEX is hexadecimal text; an ITEM is hexadecimal
 //! text without spaces, or `-` where the terminal hears nothing. Words stand one space apart.

@@ -158,8 +158,8 @@ fn what_is_read_at_a_terminals_end_is_told(rt: HostRuntime) -> Result<(), Fail> 
     Ok(())
 }
 
-/// What `down` and then `up` of the second terminal answer where these calls of the two ends of each
-/// side fail. After an error no end is touched.
+/// What `down`, and then `up` of the second terminal, answer where these calls of the two ends of
+/// each side fail. After an error no end is touched.
 fn answers_when_failing(
     rt: &impl Abort,
     alloc: Global,
