@@ -4,13 +4,14 @@ use Rattle.std.proofs.Common.{IsSomeAnd}
 use Rattle.std.specs.Io.KnownBytes.{Keeps}
 use Rattle.std.proofs.KnownBytes.{Appends-kept, Keeps-trans}
 use Rattle.clap.specs.Words.{Text}
+use Rattle.bsc_asked.specs.Asked.{AskedValue, names, name, show, run, station}
 use Rattle.bsc_frame.specs.declared.message.Heard.{Heard}
 use Rattle.bsc_input.specs.Hexadecimal.{octets_of}
 use Rattle.bsc_names.specs.Names.{Prints, name_line, unit_lines}
 use Rattle.bsc_run.specs.Printed.{report_of}
-use Rattle.bsc_command.specs.CommandLine.{Asked, names, name, show, run, station, asked_of}
-use Rattle.bsc_command.specs.Lines.{PrintsInput}
-use Rattle.bsc_command.specs.Running.{HasRun, IsRunDone}
+use Rattle.bsc_naming.specs.Lines.{PrintsInput}
+use Rattle.bsc_running.specs.Running.{HasRun, IsRunDone}
+use Rattle.bsc_words.specs.CommandLine.{asked_of}
 use Rattle.bsc_command.specs.Program.{IsDone, IsObeyed}
 
 prints_kept : (named : Heard → List ℕ) (octets : List ℕ) (a b c : Option (List ℕ))
@@ -77,9 +78,9 @@ module _ {S : Type 0} (contents remaining : S → Option (List ℕ)) where
   }
   run_kept false config script input a b c p k = has_run_kept config script input a b c p k
 
-  done_kept : (work : Asked) (input a b c : Option (List ℕ))
-      → IsDone contents remaining work input a b → Keeps b c
-      → IsDone contents remaining work input a c
+  done_kept : (asked : AskedValue) (input a b c : Option (List ℕ))
+      → IsDone contents remaining asked input a b → Keeps b c
+      → IsDone contents remaining asked input a c
   done_kept names None a b c p k = p
   done_kept names (Some octets) a b c p k = input_kept name_line octets a b c p k
   done_kept (name text) input a b c p k = name_kept (octets_of text) a b c p k

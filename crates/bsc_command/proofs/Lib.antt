@@ -1,7 +1,3 @@
-pub mod PartLemmas
-pub mod ListLemmas
-pub mod LineLemmas
-pub mod HeardLemmas
+pub mod FaultLemmas
 pub mod Keeping
-pub mod ReadTexts
 pub mod Outcomes

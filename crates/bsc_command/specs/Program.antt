@@ -1,24 +1,21 @@
 -- What the program prints for its work. All of it is own.
-use Rattle.std.specs.Prelude.{◌≡◌, ◌⊎◌, ℕ, List, [], Option, IfSome, IsSomeAnd, Result, Ok, Err}
-use Rattle.std.specs.Prelude.{if◌then◌else◌}
+use Rattle.std.specs.Prelude.{◌≡◌, ◌⊎◌, ℕ, List, [], Option, IfSome, IsSomeAnd}
 use Rattle.clap.specs.Words.{HasKind, Text, kind_of}
 use Rattle.clap.specs.declared.error.Error.{Error}
-use Rattle.bsc_station.specs.declared.standing.Standing.{Standing}
-use Rattle.bsc_command.specs.CommandLine.{Asked, names, name, show, run, station, IsHelp, asked_of}
-use Rattle.bsc_command.specs.CommandLine.{faults_at}
+use Rattle.bsc_asked.specs.Asked.{AskedValue, names, name, show, run, station}
 use Rattle.bsc_input.specs.Hexadecimal.{octets_of}
 use Rattle.bsc_names.specs.Names.{Prints, name_line, unit_lines}
+use Rattle.bsc_naming.specs.Lines.{PrintsInput, StopsAt}
+use Rattle.bsc_running.specs.Running.{IsRunDone}
+use Rattle.bsc_words.specs.CommandLine.{IsHelp, asked_of, faults_at}
 use Rattle.bsc_command.specs.declared.fault.Fault.{Fault}
-use Rattle.bsc_command.specs.declared.fault.Fault.TheVariants.{InDoubt, Undelivered}
 use Rattle.bsc_command.specs.Faults.{IsNameFault, IsNamesFault, IsPrintFault, IsRunFault}
 use Rattle.bsc_command.specs.Faults.{IsStationFault, IsUsage}
-use Rattle.bsc_command.specs.Lines.{PrintsInput, StopsAt}
-use Rattle.bsc_command.specs.Running.{IsRunDone}
 
 -- Of the streams of a run's cable: what was written to one, and what one has left to give.
 module _ {S : Type 0} (contents remaining : S → Option (List ℕ)) where
   -- The work was done with this input: a writer that held old holds new.
-  abbrev pub IsDone : Asked → Option (List ℕ) → Option (List ℕ) → Option (List ℕ) → Type 0
+  abbrev pub IsDone : AskedValue → Option (List ℕ) → Option (List ℕ) → Option (List ℕ) → Type 0
   IsDone names input old new = IfSome input (λ octets. PrintsInput name_line octets old new)
   IsDone (name text) input old new =
       IsSomeAnd (octets_of text) (λ octets. Prints name_line octets old new)
@@ -28,7 +25,7 @@ module _ {S : Type 0} (contents remaining : S → Option (List ℕ)) where
   IsDone (station words) input old new = Unit {0}
 
 -- The work stopped at the line with this number.
-abbrev pub StopsAtLine : Asked → ℕ → Option (List ℕ) → Option (List ℕ) → Option (List ℕ) → Type 0
+abbrev pub StopsAtLine : AskedValue → ℕ → Option (List ℕ) → Option (List ℕ) → Option (List ℕ) → Type 0
 StopsAtLine names number input old new =
     IfSome input (λ octets. StopsAt name_line number octets old new)
 StopsAtLine (name text) number input old new = ⊥
@@ -38,17 +35,12 @@ StopsAtLine (run config script check) number input old new = ⊥
 StopsAtLine (station words) number input old new = ⊥
 
 -- A fault that this work may end with.
-abbrev pub IsFaultOf : Asked → Fault → Type 0
+abbrev pub IsFaultOf : AskedValue → Fault → Type 0
 IsFaultOf names fault = IsNamesFault fault
 IsFaultOf (name text) fault = IsNameFault fault
 IsFaultOf show fault = IsNamesFault fault
 IsFaultOf (run config script check) fault = IsRunFault fault
 IsFaultOf (station words) fault = IsStationFault fault
-
--- How a station that ended stands is the answer of its run: doubt comes before what waits.
-abbrev pub outcome_of : Standing → Result (Unit {0}) Fault
-outcome_of standing =
-    if standing.doubt then Err InDoubt else (if standing.waiting then Err Undelivered else Ok tt)
 
 -- The words ask for the help or the version.
 abbrev pub AskForHelp : List Text → Type 0

@@ -1,94 +1,45 @@
 //! The faults that end the command, each with its text and its exit status.
-ghost use Rattle.std.specs.Prelude.{◌≡◌};
-ghost use Rattle.bsc_command.specs.Faults.{status_of};
+ghost use Rattle.std.specs.Prelude.{◌≡◌, ◌≢◌};
+ghost use Rattle.bsc_command.specs.Faults.{IsAttendingFault, IsRunningFault, IsUsageOf, status_of};
+ghost use Rattle.bsc_command.specs.Faults.{attending_status_of, running_status_of};
 
-use bsc_carrier::CarrierError;
-use bsc_config::ConfigError;
-use bsc_input::InputError;
-use bsc_live::LiveError;
-use bsc_loopback::LoopbackError;
-use bsc_names::PrintError;
+use bsc_attending::AttendingError;
+use bsc_input::{InputError, TextError};
+use bsc_naming::NamingError;
 use bsc_run::RunError;
-use bsc_script::ScriptError;
-use bsc_sockets::SocketsError;
-use bsc_station::OfferError;
+use bsc_running::RunningError;
+use bsc_words::wrong_words;
 use clap::error::ErrorKind;
-use std::alloc::{AllocError, AllocFailed};
+use std::alloc::{AllocError, Global};
 use thiserror::Error;
 
 /// Why the command ends without having done its work. The text is one line of standard error, after
-/// the program's name. Those of a configuration, of a script and of a run are told by the error of
-/// the crate that reads or runs it; but out of memory is always `OutOfMemory`.
+/// the program's name.
 #[derive(Debug, Drop, Error)]
 pub enum Fault {
-    /// The one transmission to be named is not in hexadecimal text.
-    #[error("not hexadecimal")]
-    NotHexadecimal,
+    /// Standard input was not read.
+    #[error("{error}")]
+    Text { error: TextError },
 
-    /// The line of the input with this number, counted from 1, is the first that is neither
-    /// blank, nor a line of a trace, nor hexadecimal text.
-    #[error("line {line}: not hexadecimal")]
-    NotHexadecimalAt { line: u64 },
+    /// Names were not printed, or not all of them.
+    #[error("{error}")]
+    Naming { error: NamingError },
 
-    /// Standard input has more octets than are read.
-    #[error("input too long")]
-    InputTooLong,
+    /// A run was not done to its end.
+    #[error("{error}")]
+    Running { error: RunningError },
 
-    /// Standard input could not be read.
-    #[error("input fault")]
-    Input,
+    /// A station did not do its work, or not all of it.
+    #[error("{error}")]
+    Attending { error: AttendingError },
 
     /// Standard output did not take the text.
     #[error("output fault")]
     Output,
 
-    /// A growth was refused. It may stand in place of any other fault.
+    /// A growth was refused while the words were read.
     #[error("out of memory")]
     OutOfMemory,
-
-    /// The file at this path could not be opened or read.
-    #[error("cannot read {path}")]
-    CannotRead { path: String },
-
-    /// The file at this path has more octets than are read.
-    #[error("{path} is too long")]
-    FileTooLong { path: String },
-
-    /// The configuration is refused.
-    #[error("{error}")]
-    Config { error: ConfigError },
-
-    /// The script has a line that is no event.
-    #[error("{error}")]
-    Script { error: ScriptError },
-
-    /// The connections of the line could not be made.
-    #[error("cannot make the sockets")]
-    Sockets,
-
-    /// The run did not do all of the script.
-    #[error("{error}")]
-    Run { error: RunError },
-
-    /// The line of the records at this path is no record.
-    #[error("{path} {error}")]
-    Offer { path: String, error: OfferError },
-
-    /// The connections of a station could not be made, or could not be waited for.
-    #[error("{error}")]
-    Connections { error: SocketsError },
-
-    /// The connection of a terminal was closed for this reason.
-    #[error("connection closed: {error}")]
-    Closed { error: CarrierError },
-
-    /// A station ended, and of some records it does not know if they arrived.
-    #[error("records in doubt")]
-    InDoubt,
-
-    /// A station ended, and some records that were offered are not known to have arrived.
-    #[error("records not delivered")]
-    Undelivered,
 
     /// The words of the command line are no command. The text is that of `clap`, which is printed
     /// as it stands.
@@ -106,122 +57,25 @@ impl From<AllocError> for Fault {
     }
 }
 
-impl<T: Drop> From<AllocFailed<T>> for Fault {
-    ghost use Rattle.bsc_command.specs.declared.fault.Fault.TheVariants.{OutOfMemory};
-
-    ghost from_gives = { λ _ fault. fault ≡ OutOfMemory };
-
-    fn from(_error: AllocFailed<T>) -> Fault {
-        Fault::OutOfMemory
-    }
-}
-
 impl From<InputError> for Fault {
     ghost use Rattle.bsc_command.specs.Faults.{input_fault};
 
     ghost from_gives = { λ error fault. fault ≡ input_fault error };
 
     fn from(error: InputError) -> Fault {
-        match error {
-            InputError::TooLong => Fault::InputTooLong,
-            InputError::Device => Fault::Input,
-            InputError::Memory => Fault::OutOfMemory,
+        Fault::Text {
+            error: TextError::from(error),
         }
     }
 }
 
-impl From<PrintError> for Fault {
-    ghost use Rattle.bsc_command.specs.Faults.{print_fault};
+impl From<NamingError> for Fault {
+    ghost use Rattle.bsc_command.specs.declared.fault.Fault.TheVariants.{Naming};
 
-    ghost from_gives = { λ error fault. fault ≡ print_fault error };
+    ghost from_gives = { λ error fault. fault ≡ Naming error };
 
-    fn from(error: PrintError) -> Fault {
-        match error {
-            PrintError::Output => Fault::Output,
-            PrintError::Memory => Fault::OutOfMemory,
-        }
-    }
-}
-
-impl From<ConfigError> for Fault {
-    ghost use Rattle.bsc_command.specs.Faults.{config_fault};
-
-    ghost from_gives = { λ error fault. fault ≡ config_fault error };
-
-    fn from(error: ConfigError) -> Fault {
-        match error {
-            ConfigError::Memory => Fault::OutOfMemory,
-            error => Fault::Config { error },
-        }
-    }
-}
-
-impl From<ScriptError> for Fault {
-    ghost use Rattle.bsc_command.specs.Faults.{script_fault};
-
-    ghost from_gives = { λ error fault. fault ≡ script_fault error };
-
-    fn from(error: ScriptError) -> Fault {
-        match error {
-            ScriptError::Memory => Fault::OutOfMemory,
-            error => Fault::Script { error },
-        }
-    }
-}
-
-impl From<LoopbackError> for Fault {
-    ghost use Rattle.bsc_command.specs.Faults.{loopback_fault};
-
-    ghost from_gives = { λ error fault. fault ≡ loopback_fault error };
-
-    fn from(error: LoopbackError) -> Fault {
-        match error {
-            LoopbackError::Sockets => Fault::Sockets,
-            LoopbackError::Memory => Fault::OutOfMemory,
-        }
-    }
-}
-
-impl From<RunError> for Fault {
-    ghost use Rattle.bsc_command.specs.Faults.{run_fault};
-
-    ghost from_gives = { λ error fault. fault ≡ run_fault error };
-
-    fn from(error: RunError) -> Fault {
-        match error {
-            RunError::Output => Fault::Output,
-            RunError::Memory => Fault::OutOfMemory,
-            error => Fault::Run { error },
-        }
-    }
-}
-
-impl From<SocketsError> for Fault {
-    ghost use Rattle.bsc_command.specs.Faults.{sockets_fault};
-
-    ghost from_gives = { λ error fault. fault ≡ sockets_fault error };
-
-    fn from(error: SocketsError) -> Fault {
-        match error {
-            SocketsError::Memory => Fault::OutOfMemory,
-            error => Fault::Connections { error },
-        }
-    }
-}
-
-impl From<LiveError> for Fault {
-    ghost use Rattle.bsc_command.specs.Faults.{live_fault};
-
-    ghost from_gives = { λ error fault. fault ≡ live_fault error };
-
-    fn from(error: LiveError) -> Fault {
-        match error {
-            LiveError::Wait | LiveError::Count => Fault::Connections {
-                error: SocketsError::Sockets,
-            },
-            LiveError::Output => Fault::Output,
-            LiveError::Memory => Fault::OutOfMemory,
-        }
+    fn from(error: NamingError) -> Fault {
+        Fault::Naming { error }
     }
 }
 
@@ -239,6 +93,47 @@ impl From<clap::Error> for Fault {
     }
 }
 
+/// The fault of words that are wrong, for this reason.
+fn words_fault(alloc: Global, kind: ErrorKind, why: &str) -> Fault
+    requires { kind ≢ ErrorKind.OutOfMemory }
+    ensures { IsUsageOf kind result }
+{
+    Fault::from(wrong_words(alloc, kind, why))
+}
+
+/// The fault of a run that was not done to its end. What its words say wrong is wrong usage.
+pub(crate) fn running_fault(alloc: Global, error: RunningError) -> Fault
+    ensures { IsRunningFault error result }
+{
+    match error {
+        RunningError::BothStandardInput => {
+            let why = "CONFIG and SCRIPT cannot both be standard input";
+            words_fault(alloc, ErrorKind::ArgumentConflict, why)
+        }
+        error => Fault::Running { error },
+    }
+}
+
+/// The fault of a station that did not do its work. What its words say wrong is wrong usage.
+pub(crate) fn attending_fault(alloc: Global, error: AttendingError) -> Fault
+    ensures { IsAttendingFault error result }
+{
+    match error {
+        AttendingError::WrongValue { why } => words_fault(alloc, ErrorKind::InvalidValue, why),
+        AttendingError::WrongTogether { why } => {
+            words_fault(alloc, ErrorKind::ArgumentConflict, why)
+        }
+        error => Fault::Attending { error },
+    }
+}
+
+/// The fault where a word is no text, as `clap` has it for any other wrong value.
+pub fn not_text(alloc: Global) -> Fault
+    ensures { IsUsageOf ErrorKind.InvalidValue result }
+{
+    words_fault(alloc, ErrorKind::InvalidValue, "a word is not UTF-8")
+}
+
 /// The exit status of the program: 2 for wrong usage, 3 where the line refused an event of a script
 /// or a station ended in doubt, 4 where one ended with records that are not delivered, and 1 for
 /// every other fault.
@@ -247,11 +142,33 @@ pub fn status(fault: &Fault) -> u8
 {
     match fault {
         Fault::Usage(_) => 2,
-        Fault::Run {
+        Fault::Running { error } => running_status(error),
+        Fault::Attending { error } => attending_status(error),
+        _ => 1,
+    }
+}
+
+/// The exit status of a run that was not done to its end.
+fn running_status(error: &RunningError) -> u8
+    ensures { result ≡ running_status_of error.now }
+{
+    match error {
+        RunningError::BothStandardInput => 2,
+        RunningError::Run {
             error: RunError::Refused { .. },
         } => 3,
-        Fault::InDoubt => 3,
-        Fault::Undelivered => 4,
+        _ => 1,
+    }
+}
+
+/// The exit status of a station that did not do its work.
+fn attending_status(error: &AttendingError) -> u8
+    ensures { result ≡ attending_status_of error.now }
+{
+    match error {
+        AttendingError::WrongValue { .. } | AttendingError::WrongTogether { .. } => 2,
+        AttendingError::InDoubt => 3,
+        AttendingError::Undelivered => 4,
         _ => 1,
     }
 }

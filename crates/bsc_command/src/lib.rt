@@ -1,30 +1,12 @@
-//! What the command `bscline` does: it names transmissions of a line, shows the units of texts,
-//! runs a whole line over loopback connections, and runs one station of a line over TCP.
+//! The command `bscline`: from its words to its exit status, over any reader, any writer and any
+//! machine. The work itself is that of `bsc_naming`, `bsc_running` and `bsc_attending`.
 #![tactic(auto)]
 
 mod fault;
-mod host;
-mod naming;
-mod offering;
+mod help;
 mod program;
-mod running;
-mod station;
-mod station_settings;
-mod station_words;
-mod texts;
-mod values;
 mod whole_command;
-mod words;
 
-pub use bsc_input::{InputError, MAX_INPUT, read_input};
-pub use fault::{Fault, status};
-pub use host::{Asked, Host, Opened};
-pub use naming::{name, names, show};
+pub use fault::{Fault, not_text, status};
 pub use program::perform;
-pub use station_settings::Place;
-pub use station_words::StationWords;
 pub use whole_command::{command, fail};
-pub use words::{Work, not_text, read_words};
-
-#[cfg(test)]
-mod tests;

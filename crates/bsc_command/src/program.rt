@@ -1,55 +1,62 @@
-//! The work of the program, over any reader, any writer and any host.
-ghost use Rattle.std.specs.Prelude.{◌≡◌, ◌⊎◌, ℕ, OnOk, IfErr, List, true};
+//! The work of the program, over any reader, any writer and any machine.
+ghost use Rattle.std.specs.Prelude.{◌≡◌, ℕ, OnOk, IfErr, List, true};
+ghost use Rattle.bsc_asked.specs.Asked.{asked as asked_now, name as name_asked, run as run_asked};
+ghost use Rattle.bsc_command.specs.Faults.{IsEarly};
 ghost use Rattle.bsc_command.specs.Program.{IsDone, IsFaultOf, StopsAtLine};
-ghost use Rattle.bsc_command.specs.CommandLine.{asked, name as name_asked, run as run_asked};
+ghost use Rattle.bsc_naming.specs.declared.error.NamingError.TheVariants.{NotHexadecimalAt};
 
-use crate::running::run;
-use crate::station::station;
-use crate::{Fault, Host, Work, name, names, read_input, show};
+use crate::Fault;
+use crate::fault::{attending_fault, running_fault};
+use bsc_asked::Asked;
+use bsc_attending::{Network, station};
+use bsc_input::{Files, read_input};
+use bsc_naming::{name, names, show};
+use bsc_running::{Cables, run};
 use std::alloc::Global;
 use std::io::{Read, Write};
 
 /// Does the work. The input is read where the work asks for it, and as a whole before anything is
-/// printed. A run reads its files and makes its connections by the host; where it is done it has
+/// printed. A run reads its files and makes its connections by the machine; where it is done it has
 /// printed what `bsc_run::run_line` says of what its texts say, and nothing where it only checks. A
 /// station is attended until it ends; what it prints is told by the calls of `bsc_station`.
-pub fn perform<R: Read, H: Host, W: Write>(
+pub fn perform<R: Read, H: Files + Cables + Network, W: Write>(
     alloc: Global,
-    work: &Work,
+    asked: &Asked,
     input: &mut R,
-    host: &mut H,
+    machine: &mut H,
     out: &mut W,
 ) -> Result<(), Fault>
     ensures ok { OnOk result
-        (IsDone H.Stream.contents H.Stream.remaining (asked work.now) (R.remaining input.old)
+        (IsDone H.Stream.contents H.Stream.remaining (asked_now asked.now) (R.remaining input.old)
         (W.contents out.old) (W.contents out.new)) }
-    ensures fault { IfErr result (IsFaultOf (asked work.now)) }
-    ensures wrong { (n : ℕ) → result ≡ Err (Fault.NotHexadecimalAt n) →
-        StopsAtLine (asked work.now) n (R.remaining input.old)
+    ensures fault { IfErr result (IsFaultOf (asked_now asked.now)) }
+    ensures wrong { (n : ℕ) → result ≡ Err (Fault.Naming (NotHexadecimalAt n)) →
+        StopsAtLine (asked_now asked.now) n (R.remaining input.old)
         (W.contents out.old) (W.contents out.new) }
-    ensures unread { (result ≡ Err Fault.InputTooLong) ⊎ (result ≡ Err Fault.Input) →
-        out.new ≡ out.old }
-    ensures unasked { (text : List ℕ) → asked work.now ≡ name_asked text → input.new ≡ input.old }
-    ensures checked { (config script : List ℕ) → asked work.now ≡ run_asked config script true →
-        out.new ≡ out.old }
+    ensures early { IfErr result (λ fault. IsEarly fault → out.new ≡ out.old) }
+    ensures unasked { (text : List ℕ) → asked_now asked.now ≡ name_asked text →
+        input.new ≡ input.old }
+    ensures checked { (config script : List ℕ) → asked_now asked.now ≡ run_asked config script true
+        → out.new ≡ out.old }
 {
-    match work {
-        Work::Names => names(alloc, &read_input(alloc, input)?, out),
-        Work::Name(text) => name(alloc, text.as_str(), out),
-        Work::Show => show(alloc, &read_input(alloc, input)?, out),
-        Work::Run {
+    match asked {
+        Asked::Names => Ok(names(alloc, &read_input(alloc, input)?, out)?),
+        Asked::Name(text) => Ok(name(alloc, text.as_str(), out)?),
+        Asked::Show => Ok(show(alloc, &read_input(alloc, input)?, out)?),
+        Asked::Run {
             config,
             script,
             check,
-        } => run(
-            alloc,
-            config.as_str(),
-            script.as_str(),
-            *check,
-            input,
-            host,
-            out,
-        ),
-        Work::Station(words) => station(alloc, words, input, host, out),
+        } => {
+            let (config, script) = (config.as_str(), script.as_str());
+            match run(alloc, config, script, *check, input, machine, out) {
+                Ok(()) => Ok(()),
+                Err(error) => Err(running_fault(alloc, error)),
+            }
+        }
+        Asked::Station(words) => match station(alloc, words, input, machine, out) {
+            Ok(()) => Ok(()),
+            Err(error) => Err(attending_fault(alloc, error)),
+        },
     }
 }

@@ -8,8 +8,12 @@ ghost use Rattle.bsc_command.specs.declared.fault.Fault.{Fault as FaultValue};
 ghost use Rattle.bsc_command.specs.Faults.{IsPrintFault, status_of};
 ghost use Rattle.bsc_command.specs.Program.{IsFaultAt, IsObeyed};
 
-use crate::words::help_or_fault;
-use crate::{Fault, Host, perform, read_words, status};
+use crate::help::help_or_fault;
+use crate::{Fault, perform, status};
+use bsc_attending::Network;
+use bsc_input::Files;
+use bsc_running::Cables;
+use bsc_words::read_words;
 use std::alloc::{AllocError, Global};
 use std::io::{BufWriter, Read, Write};
 
@@ -25,11 +29,11 @@ fn lent(alloc: Global, words: &[String]) -> Result<Vec<&str>, AllocError>
 }
 
 /// Does what the words ask for, or prints the help or the version.
-fn obey<R: Read, H: Host, W: Write>(
+fn obey<R: Read, H: Files + Cables + Network, W: Write>(
     alloc: Global,
     words: &[String],
     input: &mut R,
-    host: &mut H,
+    machine: &mut H,
     out: &mut W,
 ) -> Result<(), Fault>
     ensures ok { OnOk result
@@ -39,17 +43,17 @@ fn obey<R: Read, H: Host, W: Write>(
 {
     let words = lent(alloc, words)?;
     match read_words(alloc, &words) {
-        Ok(work) => perform(alloc, &work, input, host, out),
+        Ok(asked) => perform(alloc, &asked, input, machine, out),
         Err(error) => help_or_fault(error, out),
     }
 }
 
 /// Does what the words ask for, where they could be had.
-fn obey_given<R: Read, H: Host, W: Write>(
+fn obey_given<R: Read, H: Files + Cables + Network, W: Write>(
     alloc: Global,
     words: Result<Vec<String>, Fault>,
     input: &mut R,
-    host: &mut H,
+    machine: &mut H,
     out: &mut W,
 ) -> Result<(), Fault>
     ensures ok { OnOk result
@@ -61,7 +65,7 @@ fn obey_given<R: Read, H: Host, W: Write>(
         × IfErr words (λ given. fault ≡ given)) }
 {
     match words {
-        Ok(words) => obey(alloc, &words, input, host, out),
+        Ok(words) => obey(alloc, &words, input, machine, out),
         Err(fault) => Err(fault),
     }
 }
@@ -100,11 +104,11 @@ pub fn fail<E: Write>(fault: &Fault, errors: &mut E) -> u8
 /// work was done or the help or the version was printed, else that of the fault, which `fail`
 /// tells. What was printed leaves the buffer, also before a fault; where it cannot, the fault is
 /// `Output`. Words that could not be had are given as their fault. (Own.)
-pub fn command<R: Read, H: Host, W: Write + Drop, E: Write>(
+pub fn command<R: Read, H: Files + Cables + Network, W: Write + Drop, E: Write>(
     alloc: Global,
     words: Result<Vec<String>, Fault>,
     input: &mut R,
-    host: &mut H,
+    machine: &mut H,
     out: &mut BufWriter<W>,
     errors: &mut E,
 ) -> u8
@@ -120,7 +124,7 @@ pub fn command<R: Read, H: Host, W: Write + Drop, E: Write>(
         × IfErr words (λ given. (fault ≡ given) ⊎ IsPrintFault fault)
         × (result ≡ status_of fault) }
 {
-    let outcome = obey_given(alloc, words, input, host, out);
+    let outcome = obey_given(alloc, words, input, machine, out);
     match flush_after(outcome, out) {
         Ok(()) => 0,
         Err(fault) => fail(&fault, errors),

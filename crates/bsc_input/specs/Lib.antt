@@ -1,3 +1,4 @@
 pub mod Hexadecimal
 pub mod Parts
 pub mod Lines
+pub mod Texts

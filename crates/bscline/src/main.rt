@@ -2,10 +2,10 @@
 //! the library `bsc_command`, which does all else.
 #![tactic(auto)]
 
-mod host;
+mod machine;
 
 use bsc_command::{Fault, command, fail, not_text};
-use host::{Errors, Machine};
+use machine::{Errors, Machine};
 use std::io::{BufWriter, ErrorKind};
 use std::process::ExitCode;
 use std::rt::Env;
@@ -16,12 +16,12 @@ fn main(rt: HostRuntime) -> ExitCode {
     let Ok(mut out) = BufWriter::new(rt.alloc(), io::writer(&rt)) else {
         return ExitCode::from(fail(&Fault::OutOfMemory, &mut errors));
     };
-    let (words, mut input, mut host) = (words(&rt), rt.reader(), Machine { runtime: &rt });
+    let (words, mut input, mut machine) = (words(&rt), rt.reader(), Machine { runtime: &rt });
     ExitCode::from(command(
         rt.alloc(),
         words,
         &mut input,
-        &mut host,
+        &mut machine,
         &mut out,
         &mut errors,
     ))
@@ -32,6 +32,6 @@ fn words<R: AllocGlobal + Env>(rt: &R) -> Result<Vec<String>, Fault> {
     match env::args(rt) {
         Ok(words) => Ok(words.collect(rt.alloc())?),
         Err(error) if error.kind() == ErrorKind::OutOfMemory => Err(Fault::OutOfMemory),
-        Err(_) => Err(Fault::from(not_text(rt.alloc()))),
+        Err(_) => Err(not_text(rt.alloc())),
     }
 }

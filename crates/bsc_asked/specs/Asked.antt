@@ -1,0 +1,21 @@
+-- What is asked of the command, by texts. All of it is own.
+use Rattle.std.specs.Prelude.{ℕ, List, Bool, string_bytes}
+use Rattle.bsc_asked.specs.declared.asked.Asked.{Asked}
+use Rattle.bsc_asked.specs.declared.asked.Asked.TheVariants.{Names, Name, Show, Run, Station}
+use Rattle.bsc_asked.specs.StationWords.{AskedWords, asked_words}
+
+-- The work that was asked for, by texts.
+pub data AskedValue : Type 0 where
+  names : AskedValue
+  name : List ℕ → AskedValue
+  show : AskedValue
+  run : List ℕ → List ℕ → Bool → AskedValue
+  station : AskedWords → AskedValue
+
+-- The work as texts.
+abbrev pub asked : Asked → AskedValue
+asked Names = names
+asked (Name hex) = name (string_bytes hex)
+asked Show = show
+asked (Run config script check) = run (string_bytes config) (string_bytes script) check
+asked (Station words) = station (asked_words words)

@@ -1,0 +1,2 @@
+pub mod StationWords
+pub mod Asked

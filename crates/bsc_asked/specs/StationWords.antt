@@ -1,0 +1,39 @@
+-- The words of `station` by their texts. All of it is own.
+use Rattle.std.specs.Prelude.{ℕ, List, Bool, Option, map, option_map, string_bytes}
+use Rattle.bsc_asked.specs.declared.station_words.StationWords.{StationWords}
+
+-- the words by their texts
+pub record AskedWords : Type 0 where
+  pub config : List ℕ
+  pub control : Bool
+  pub terminal : Option (List ℕ)
+  pub listen : Option (List ℕ)
+  pub connect : Option (List ℕ)
+  pub shared : Bool
+  pub raw : Bool
+  pub gap : Option (List ℕ)
+  pub time_out : Option (List ℕ)
+  pub rounds : Option (List ℕ)
+  pub idle_rounds : Option (List ℕ)
+  pub offers : List (List ℕ)
+  pub text : Bool
+  pub trace : Bool
+
+-- the words of the code, by their texts
+abbrev pub asked_words : StationWords → AskedWords
+asked_words w = record {
+  config = string_bytes w.config;
+  control = w.control;
+  terminal = option_map string_bytes w.terminal;
+  listen = option_map string_bytes w.listen;
+  connect = option_map string_bytes w.connect;
+  shared = w.shared;
+  raw = w.raw;
+  gap = option_map string_bytes w.gap;
+  time_out = option_map string_bytes w.time_out;
+  rounds = option_map string_bytes w.rounds;
+  idle_rounds = option_map string_bytes w.idle_rounds;
+  offers = map string_bytes w.offers.items;
+  text = w.text;
+  trace = w.trace;
+}

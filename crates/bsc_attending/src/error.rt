@@ -1,0 +1,148 @@
+//! Why a station did not do its work.
+ghost use Rattle.std.specs.Prelude.{◌≡◌};
+
+use bsc_carrier::CarrierError;
+use bsc_config::ConfigError;
+use bsc_input::TextError;
+use bsc_live::LiveError;
+use bsc_names::PrintError;
+use bsc_sockets::SocketsError;
+use bsc_station::OfferError;
+use std::alloc::{AllocError, AllocFailed};
+use thiserror::Error;
+
+/// Why a station did not do its work, or not all of it. Out of memory is `Memory`, whatever met it.
+#[derive(Debug, Drop, Error)]
+pub enum AttendingError {
+    /// A value of the words is wrong, for this reason.
+    #[error("{why}")]
+    WrongValue { why: &'static str },
+
+    /// The words do not go together, for this reason.
+    #[error("{why}")]
+    WrongTogether { why: &'static str },
+
+    /// The text of the configuration or of records was not read.
+    #[error("{error}")]
+    Text { error: TextError },
+
+    /// The configuration is refused.
+    #[error("{error}")]
+    Config { error: ConfigError },
+
+    /// The line of the records at this path is no record.
+    #[error("{path} {error}")]
+    Offer { path: String, error: OfferError },
+
+    /// The connections of the station could not be made, or could not be waited for.
+    #[error("{error}")]
+    Connections { error: SocketsError },
+
+    /// The connection of a terminal was closed for this reason.
+    #[error("connection closed: {error}")]
+    Closed { error: CarrierError },
+
+    /// The station ended, and of some records it does not know if they arrived.
+    #[error("records in doubt")]
+    InDoubt,
+
+    /// The station ended, and some records that were offered are not known to have arrived.
+    #[error("records not delivered")]
+    Undelivered,
+
+    /// Standard output did not take the text.
+    #[error("output fault")]
+    Output,
+
+    /// A growth was refused.
+    #[error("out of memory")]
+    Memory,
+}
+
+impl From<AllocError> for AttendingError {
+    ghost use Rattle.bsc_attending.specs.declared.error.AttendingError.TheVariants.{Memory};
+
+    ghost from_gives = { λ _ attending. attending ≡ Memory };
+
+    fn from(_error: AllocError) -> AttendingError {
+        AttendingError::Memory
+    }
+}
+
+impl<T: Drop> From<AllocFailed<T>> for AttendingError {
+    ghost use Rattle.bsc_attending.specs.declared.error.AttendingError.TheVariants.{Memory};
+
+    ghost from_gives = { λ _ attending. attending ≡ Memory };
+
+    fn from(_error: AllocFailed<T>) -> AttendingError {
+        AttendingError::Memory
+    }
+}
+
+impl From<TextError> for AttendingError {
+    ghost use Rattle.bsc_attending.specs.Errors.{text_error};
+
+    ghost from_gives = { λ error attending. attending ≡ text_error error };
+
+    fn from(error: TextError) -> AttendingError {
+        match error {
+            TextError::Memory => AttendingError::Memory,
+            error => AttendingError::Text { error },
+        }
+    }
+}
+
+impl From<ConfigError> for AttendingError {
+    ghost use Rattle.bsc_attending.specs.Errors.{config_error};
+
+    ghost from_gives = { λ error attending. attending ≡ config_error error };
+
+    fn from(error: ConfigError) -> AttendingError {
+        match error {
+            ConfigError::Memory => AttendingError::Memory,
+            error => AttendingError::Config { error },
+        }
+    }
+}
+
+impl From<PrintError> for AttendingError {
+    ghost use Rattle.bsc_attending.specs.Errors.{print_error};
+
+    ghost from_gives = { λ error attending. attending ≡ print_error error };
+
+    fn from(error: PrintError) -> AttendingError {
+        match error {
+            PrintError::Output => AttendingError::Output,
+            PrintError::Memory => AttendingError::Memory,
+        }
+    }
+}
+
+impl From<SocketsError> for AttendingError {
+    ghost use Rattle.bsc_attending.specs.Errors.{sockets_error};
+
+    ghost from_gives = { λ error attending. attending ≡ sockets_error error };
+
+    fn from(error: SocketsError) -> AttendingError {
+        match error {
+            SocketsError::Memory => AttendingError::Memory,
+            error => AttendingError::Connections { error },
+        }
+    }
+}
+
+impl From<LiveError> for AttendingError {
+    ghost use Rattle.bsc_attending.specs.Errors.{live_error};
+
+    ghost from_gives = { λ error attending. attending ≡ live_error error };
+
+    fn from(error: LiveError) -> AttendingError {
+        match error {
+            LiveError::Wait | LiveError::Count => AttendingError::Connections {
+                error: SocketsError::Sockets,
+            },
+            LiveError::Output => AttendingError::Output,
+            LiveError::Memory => AttendingError::Memory,
+        }
+    }
+}

@@ -1,0 +1,176 @@
+//! The records that a station is to send.
+
+ghost use Rattle.std.specs.Prelude.{◌≡◌, IfErr, IfOk};
+ghost use Rattle.bsc_attending.specs.Errors.{IsOfferError};
+ghost use Rattle.bsc_block.specs.Blocks.{AreShort};
+
+use crate::AttendingError;
+use crate::AttendingError::WrongValue;
+use crate::settings::Role;
+use bsc_asked::StationWords;
+use bsc_block::Record;
+use bsc_control::Control;
+use bsc_input::{Files, STANDARD_INPUT, read_text};
+use bsc_station::{LineTerminal, OfferError, offer_at_terminal, offer_for_terminal, read_records};
+use bsc_text::Setup;
+use std::alloc::Global;
+use std::io::Read;
+
+/// Where the records of an option come from, and at the control station where they go.
+struct Offer<'a> {
+    terminal: usize,
+    select: usize,
+    path: &'a str,
+}
+
+/// The number of a text.
+fn number_of(text: &str) -> Option<usize> {
+    match text.parse::<u8>() {
+        Ok(number) => Some(usize::from(number)),
+        Err(_) => None,
+    }
+}
+
+/// The terminal and its selection address: `T.S`, or `T` for address 0.
+fn channel_of(text: &str) -> Option<(usize, usize)> {
+    match text.split_once('.') {
+        Some((terminal, select)) => Some((number_of(terminal)?, number_of(select)?)),
+        None => Some((number_of(text)?, 0)),
+    }
+}
+
+/// What a text offers at the control station: `T.S=PATH` or `T=PATH`.
+fn offer_of(text: &str) -> Option<Offer<'_>> {
+    let (channel, path) = text.split_once('=')?;
+    let (terminal, select) = channel_of(channel)?;
+    Some(Offer {
+        terminal,
+        select,
+        path,
+    })
+}
+
+/// The path of an option of this station.
+fn path_of(text: &str, role: Role) -> &str {
+    match role {
+        Role::Terminal { .. } => text,
+        Role::Control => match text.split_once('=') {
+            Some((_, path)) => path,
+            None => text,
+        },
+    }
+}
+
+/// Whether standard input is given more than once.
+pub(crate) fn repeats_standard_input(words: &StationWords, role: Role) -> bool {
+    let mut given = words.config.as_str() == STANDARD_INPUT;
+    for offer in &words.offers {
+        if path_of(offer.as_str(), role) == STANDARD_INPUT {
+            if given {
+                return true;
+            }
+            given = true;
+        }
+    }
+    false
+}
+
+/// The error of a text whose lines are no records.
+fn offer_error(alloc: Global, path: &str, error: OfferError) -> AttendingError
+    ensures { IsOfferError result }
+{
+    let Ok(path) = String::from_str(alloc, path) else {
+        return AttendingError::Memory;
+    };
+    match error {
+        OfferError::Refused { .. } => AttendingError::Offer { path, error },
+        OfferError::Memory => AttendingError::Memory,
+    }
+}
+
+/// The records of the lines of the text at this path.
+fn records_at<R: Read, F: Files>(
+    alloc: Global,
+    path: &str,
+    setup: Setup,
+    input: &mut R,
+    files: &mut F,
+) -> Result<Vec<Record>, AttendingError>
+    ensures error { IfErr result IsOfferError }
+    ensures short { IfOk result (λ records. AreShort setup.format.full records.items) }
+{
+    let text = read_text(alloc, path, input, files)?;
+    match read_records(alloc, &text, setup.format().full()) {
+        Ok(records) => Ok(records),
+        Err(error) => Err(offer_error(alloc, path, error)),
+    }
+}
+
+/// Offers the lines of each text at a terminal.
+pub(crate) fn offer_all_at_terminal<R: Read, F: Files>(
+    alloc: Global,
+    offers: &[String],
+    setup: Setup,
+    terminal: &mut LineTerminal<Global>,
+    input: &mut R,
+    files: &mut F,
+) -> Result<(), AttendingError>
+    requires { terminal.old.tributary.queue.format ≡ setup.format }
+    ensures { IfErr result IsOfferError }
+{
+    'offers: for path in offers {
+        let records = records_at(alloc, path.as_str(), setup, input, files)?;
+        if offer_at_terminal(terminal, records).is_err() {
+            return Err(AttendingError::Memory);
+        }
+    }
+    Ok(())
+}
+
+/// Offers the lines of each text at the control station.
+pub(crate) fn offer_all_for_terminals<R: Read, F: Files>(
+    alloc: Global,
+    offers: &[String],
+    control: &mut Control<Global>,
+    input: &mut R,
+    files: &mut F,
+) -> Result<(), AttendingError>
+    ensures { IfErr result IsOfferError }
+{
+    'offers: for text in offers {
+        offer_for(alloc, text.as_str(), control, input, files)?;
+    }
+    Ok(())
+}
+
+/// Offers the lines of one text at the control station.
+fn offer_for<R: Read, F: Files>(
+    alloc: Global,
+    text: &str,
+    control: &mut Control<Global>,
+    input: &mut R,
+    files: &mut F,
+) -> Result<(), AttendingError>
+    ensures { IfErr result IsOfferError }
+{
+    let Some(offer) = offer_of(text) else {
+        return Err(WrongValue {
+            why: "--offer takes T.S=PATH at the control station",
+        });
+    };
+    let Offer {
+        terminal,
+        select,
+        path,
+    } = offer;
+    if terminal >= control.terminals() || select >= control.addresses(terminal) {
+        return Err(WrongValue {
+            why: "--offer names a channel that CONFIG has not",
+        });
+    }
+    let records = records_at(alloc, path, control.setup(), input, files)?;
+    match offer_for_terminal(control, terminal, select, records) {
+        Ok(()) => Ok(()),
+        Err(_) => Err(AttendingError::Memory),
+    }
+}

@@ -1,0 +1,85 @@
+//! The station of a configuration, with the records that it is to send: all that is read before a
+//! connection is made.
+
+ghost use Rattle.std.specs.Prelude.{IfErr};
+ghost use Rattle.bsc_attending.specs.Errors.{IsPreparingError};
+
+use crate::AttendingError;
+use crate::AttendingError::{WrongTogether, WrongValue};
+use crate::offering::{offer_all_at_terminal, offer_all_for_terminals, repeats_standard_input};
+use crate::settings::Role;
+use bsc_asked::StationWords;
+use bsc_config::{Config, read_config};
+use bsc_control::Control;
+use bsc_input::{Files, read_text};
+use bsc_station::{LineTerminal, new_control, new_terminal};
+use std::alloc::Global;
+use std::io::Read;
+
+/// A station that has its records.
+#[derive(Drop)]
+pub(crate) enum Prepared {
+    /// The control station.
+    Control { control: Control<Global> },
+
+    /// One of the terminals.
+    Terminal { terminal: LineTerminal<Global> },
+}
+
+/// Reads and checks the configuration and all records of the station that the words ask for.
+pub(crate) fn prepare<R: Read, F: Files>(
+    alloc: Global,
+    words: &StationWords,
+    role: Role,
+    input: &mut R,
+    files: &mut F,
+) -> Result<Prepared, AttendingError>
+    ensures { IfErr result IsPreparingError }
+{
+    if repeats_standard_input(words, role) {
+        let why = "standard input is given more than once";
+        return Err(WrongTogether { why });
+    }
+    let text = read_text(alloc, words.config.as_str(), input, files)?;
+    let config = read_config(alloc, &text)?;
+    match role {
+        Role::Control => control_station(alloc, words, &config, input, files),
+        Role::Terminal { number } => terminal(alloc, words, &config, number, input, files),
+    }
+}
+
+/// The control station with its records.
+fn control_station<R: Read, F: Files>(
+    alloc: Global,
+    words: &StationWords,
+    config: &Config,
+    input: &mut R,
+    files: &mut F,
+) -> Result<Prepared, AttendingError>
+    ensures { IfErr result IsPreparingError }
+{
+    let mut control = new_control(alloc, config)?;
+    offer_all_for_terminals(alloc, &words.offers, &mut control, input, files)?;
+    Ok(Prepared::Control { control })
+}
+
+/// The terminal of this number with its records.
+fn terminal<R: Read, F: Files>(
+    alloc: Global,
+    words: &StationWords,
+    config: &Config,
+    number: usize,
+    input: &mut R,
+    files: &mut F,
+) -> Result<Prepared, AttendingError>
+    ensures { IfErr result IsPreparingError }
+{
+    if number >= config.terminals() {
+        let why = "CONFIG has no such terminal";
+        return Err(WrongValue { why });
+    }
+    let mut terminal = new_terminal(alloc, config, number);
+    let setup = config.setup();
+    offer_all_at_terminal(alloc, &words.offers, setup, &mut terminal, input, files)?;
+    Ok(Prepared::Terminal { terminal })
+}

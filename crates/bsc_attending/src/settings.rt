@@ -1,0 +1,191 @@
+//! What the words of `station` say.
+
+ghost use Rattle.std.specs.Prelude.{IfErr};
+ghost use Rattle.bsc_attending.specs.Errors.{IsWordsError};
+
+use crate::AttendingError::{WrongTogether, WrongValue};
+use crate::{AttendingError, Place};
+use bsc_asked::StationWords;
+use bsc_station::{Form, Limits, Printing};
+
+/// The gap unless one is given, in milliseconds.
+const GAP: u64 = 50;
+
+/// The time-out unless one is given, in milliseconds.
+const TIME_OUT: u64 = 3_000;
+
+/// The idle rounds in a row after which a control station ends, unless a number is given.
+const IDLE_ROUNDS: u64 = 2;
+
+/// The longest gap and time-out: one hour, in milliseconds.
+const MAX_TIME: u64 = 3_600_000;
+
+/// Which station of the line it is.
+#[derive(Clone, Copy, Debug, PartialEq, Eq)]
+pub(crate) enum Role {
+    /// The control station.
+    Control,
+
+    /// The terminal of this number.
+    Terminal { number: usize },
+}
+
+/// What the words of `station` say.
+#[derive(Clone, Copy, Debug, PartialEq, Eq)]
+pub(crate) struct StationSettings<'a> {
+    pub(crate) role: Role,
+    pub(crate) place: Place<'a>,
+    pub(crate) shared: bool,
+    pub(crate) raw: bool,
+    /// The gap in milliseconds.
+    pub(crate) gap: u64,
+    /// The time-out in milliseconds.
+    pub(crate) time_out: u64,
+    pub(crate) limits: Limits,
+    pub(crate) printing: Printing,
+}
+
+/// The text of an option.
+fn given_text(text: &Option<String>) -> Option<&str> {
+    match text {
+        Some(text) => Some(text.as_str()),
+        None => None,
+    }
+}
+
+/// The number from 1 up to the greatest that the text gives.
+fn number_of(text: &str, most: u64) -> Option<u64> {
+    match text.parse::<u64>() {
+        Ok(number) if 1 <= number && number <= most => Some(number),
+        _ => None,
+    }
+}
+
+/// A number, or what stands for it where it is not given.
+fn number(
+    given: &Option<String>,
+    unless_given: u64,
+    most: u64,
+    why: &'static str,
+) -> Result<u64, AttendingError>
+    ensures { IfErr result IsWordsError }
+{
+    let Some(text) = given_text(given) else {
+        return Ok(unless_given);
+    };
+    match number_of(text, most) {
+        Some(number) => Ok(number),
+        None => Err(WrongValue { why }),
+    }
+}
+
+/// Which station it is.
+fn read_role(words: &StationWords) -> Result<Role, AttendingError>
+    ensures { IfErr result IsWordsError }
+{
+    match (words.control, given_text(&words.terminal)) {
+        (true, None) => Ok(Role::Control),
+        (false, Some(number)) => match number.parse::<u8>() {
+            Ok(number) => Ok(Role::Terminal {
+                number: usize::from(number),
+            }),
+            Err(_) => Err(WrongValue {
+                why: "--terminal takes the number of a terminal",
+            }),
+        },
+        _ => Err(WrongTogether {
+            why: "either --control or --terminal says which station it is",
+        }),
+    }
+}
+
+/// Where its connections are.
+fn read_place(words: &StationWords) -> Result<Place<'_>, AttendingError>
+    ensures { IfErr result IsWordsError }
+{
+    match (given_text(&words.listen), given_text(&words.connect)) {
+        (Some(address), None) => Ok(Place::Listen { address }),
+        (None, Some(address)) => Ok(Place::Connect { address }),
+        _ => Err(WrongTogether {
+            why: "either --listen or --connect says where its connections are",
+        }),
+    }
+}
+
+/// When a control station ends.
+fn read_limits(words: &StationWords) -> Result<Limits, AttendingError>
+    ensures { IfErr result IsWordsError }
+{
+    let rounds = match given_text(&words.rounds) {
+        None => None,
+        Some(text) => match number_of(text, u64::MAX) {
+            Some(rounds) => Some(rounds),
+            None => return Err(WrongValue {
+                why: "--rounds takes a number from 1 up",
+            }),
+        },
+    };
+    let why = "--idle-rounds takes a number from 1 up";
+    let idle_rounds = number(&words.idle_rounds, IDLE_ROUNDS, u64::MAX, why)?;
+    Ok(Limits {
+        rounds,
+        idle_rounds,
+    })
+}
+
+/// Options that do not belong to the station.
+fn check_together(words: &StationWords, role: Role) -> Result<(), AttendingError>
+    ensures { IfErr result IsWordsError }
+{
+    let counts = words.rounds.is_some() || words.idle_rounds.is_some();
+    if role != Role::Control && (words.shared || counts) {
+        let why = "--shared, --rounds and --idle-rounds need --control";
+        return Err(WrongTogether { why });
+    }
+    if role == Role::Control && words.connect.is_some() && !words.shared {
+        let why = "--control with --connect needs --shared";
+        return Err(WrongTogether { why });
+    }
+    if words.gap.is_some() && !words.raw {
+        return Err(WrongTogether {
+            why: "--gap needs --raw",
+        });
+    }
+    Ok(())
+}
+
+/// How the station prints.
+fn printing_of(words: &StationWords) -> Printing {
+    Printing {
+        form: if words.text {
+            Form::Text
+        } else {
+            Form::Hexadecimal
+        },
+        trace: words.trace,
+    }
+}
+
+/// What the words say. What they say wrong is a usage fault: a number that is none or out of range,
+/// and options that do not go together or of which one is missing. (Own.)
+pub(crate) fn read_settings(words: &StationWords) -> Result<StationSettings<'_>, AttendingError>
+    ensures { IfErr result IsWordsError }
+{
+    let role = read_role(words)?;
+    let place = read_place(words)?;
+    check_together(words, role)?;
+    let why = "--gap takes milliseconds, 1 to 3600000";
+    let gap = number(&words.gap, GAP, MAX_TIME, why)?;
+    let why = "--time-out takes milliseconds, 1 to 3600000";
+    let time_out = number(&words.time_out, TIME_OUT, MAX_TIME, why)?;
+    Ok(StationSettings {
+        role,
+        place,
+        shared: words.shared,
+        raw: words.raw,
+        gap,
+        time_out,
+        limits: read_limits(words)?,
+        printing: printing_of(words),
+    })
+}

@@ -1,5 +1,0 @@
-use Rattle.std.proofs.Common.{◌≡◌, map, take, string_bytes}
-use Rattle.bsc_command.proofs.values.texts_of.Given as goal
-
-abbrev pub invariant-texts : goal.invariant-texts
-invariant-texts l = map string_bytes l.own.items ≡ map (λ t. t.now) (take l.text-index l.texts)

@@ -1,0 +1,10 @@
+use Rattle.std.proofs.Common.{◌≡◌, length}
+use Rattle.bsc_input.specs.Parts.{parts_at}
+use Rattle.bsc_naming.specs.Lines.{last_part}
+use Rattle.bsc_naming.proofs.naming.last_word.Given as goal
+
+abbrev pub invariant-words : goal.invariant-words
+invariant-words l = last_part (parts_at 32 l.line) ≡ last_part (parts_at 32 l.left)
+
+abbrev pub decreases-words : goal.decreases-words
+decreases-words l = length l.left

@@ -1,0 +1,28 @@
+use Rattle.std.proofs.Common.{◌≡◌, Some, true, false, sym, ap, ◌∙◌, option_map, rules}
+use Rattle.bsc_input.specs.Hexadecimal.{octets_of}
+use Rattle.bsc_input.specs.Lines.{is_blank}
+use Rattle.bsc_names.specs.Names.{shown}
+use Rattle.bsc_naming.specs.Lines.{is_traced}
+use Rattle.bsc_naming.proofs.LineLemmas.{prints_lines_one, prints_lines_skip, digits_plain}
+use Rattle.bsc_naming.proofs.LineLemmas.{given_blank}
+use Rattle.bsc_naming.proofs.Outcomes.{on_ok}
+use Rattle.bsc_naming.proofs.naming.write_line.Goals as goal
+
+pub returns-then-is_blank-clause-ok : goal.returns-then-is_blank-clause-ok
+returns-then-is_blank-clause-ok g c =
+    let line = c.args.line.now in
+    let plain : is_traced line ≡ false = search rules in
+    let blank : is_blank line ≡ true = search rules in
+    prints_lines_skip (shown c.args.detail) line line _ (digits_plain line plain)
+    (given_blank line blank)
+
+pub returns-in-Some-clause-ok : goal.returns-in-Some-clause-ok
+returns-in-Some-clause-ok g c =
+    let line = c.args.line.now in
+    let octets = c.deref.result.now in
+    let read : octets_of line ≡ Some octets = sym c.in_ok-octets.ensures
+    ∙ ap (option_map (λ v. v.items)) c.in-Some.is ∙ ap Some (sym c.deref.ensures.value) in
+    let plain : is_traced line ≡ false = search rules in
+    let blank : is_blank line ≡ false = search rules in
+    on_ok c.write_transmission.result (prints_lines_one (shown c.args.detail) line line octets _ _
+    (digits_plain line plain) blank read) c.write_transmission.ensures.ok

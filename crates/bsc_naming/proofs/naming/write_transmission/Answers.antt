@@ -1,0 +1,13 @@
+use Rattle.bsc_naming.proofs.HeardLemmas.{is_heard}
+use Rattle.bsc_naming.proofs.naming.write_transmission.Goals as goal
+
+pub returns-clause-ok : goal.returns-clause-ok
+returns-clause-ok g c =
+    let decoded = c.decode-heard.ensures in
+    record {
+      heard = c.decode-heard.result;
+      is_heard =
+          is_heard c.args.octets.now c.decode-heard.result decoded.whole decoded.failed
+          decoded.noise;
+      appended = c.in_ok-write_shown.ensures.ok;
+    }

@@ -1,0 +1,28 @@
+-- Which errors end which work. All of it is own.
+use Rattle.bsc_names.specs.declared.error.PrintError.{PrintError}
+use Rattle.bsc_names.specs.declared.error.PrintError.TheVariants as print
+use Rattle.bsc_naming.specs.declared.error.NamingError.{NamingError}
+use Rattle.bsc_naming.specs.declared.error.NamingError.TheVariants.{NotHexadecimal}
+use Rattle.bsc_naming.specs.declared.error.NamingError.TheVariants.{NotHexadecimalAt, Output}
+use Rattle.bsc_naming.specs.declared.error.NamingError.TheVariants.{Memory}
+
+-- The error of what was not written.
+abbrev pub print_error : PrintError → NamingError
+print_error print.Output = Output
+print_error print.Memory = Memory
+
+-- The errors of printing.
+abbrev pub IsPrintError : NamingError → Type 0
+IsPrintError Output = Unit {0}
+IsPrintError Memory = Unit {0}
+IsPrintError _ = ⊥
+
+-- The errors of naming one transmission.
+abbrev pub IsNameError : NamingError → Type 0
+IsNameError NotHexadecimal = Unit {0}
+IsNameError error = IsPrintError error
+
+-- The errors of naming many lines.
+abbrev pub IsLineError : NamingError → Type 0
+IsLineError (NotHexadecimalAt line) = Unit {0}
+IsLineError error = IsPrintError error

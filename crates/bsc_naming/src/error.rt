@@ -1,0 +1,50 @@
+//! Why names were not printed, or not all of them.
+ghost use Rattle.std.specs.Prelude.{◌≡◌};
+
+use bsc_names::PrintError;
+use std::alloc::AllocError;
+use thiserror::Error;
+
+/// Why names were not printed, or not all of them.
+#[derive(Clone, Copy, Debug, PartialEq, Eq, Error)]
+pub enum NamingError {
+    /// The one transmission to be named is not in hexadecimal text.
+    #[error("not hexadecimal")]
+    NotHexadecimal,
+
+    /// The line with this number, counted from 1, is the first that is neither blank, nor a line
+    /// of a trace, nor hexadecimal text.
+    #[error("line {line}: not hexadecimal")]
+    NotHexadecimalAt { line: u64 },
+
+    /// The writer did not take the text.
+    #[error("output fault")]
+    Output,
+
+    /// A growth was refused.
+    #[error("out of memory")]
+    Memory,
+}
+
+impl From<AllocError> for NamingError {
+    ghost use Rattle.bsc_naming.specs.declared.error.NamingError.TheVariants.{Memory};
+
+    ghost from_gives = { λ _ error. error ≡ Memory };
+
+    fn from(_error: AllocError) -> NamingError {
+        NamingError::Memory
+    }
+}
+
+impl From<PrintError> for NamingError {
+    ghost use Rattle.bsc_naming.specs.Errors.{print_error};
+
+    ghost from_gives = { λ printed error. error ≡ print_error printed };
+
+    fn from(error: PrintError) -> NamingError {
+        match error {
+            PrintError::Output => NamingError::Output,
+            PrintError::Memory => NamingError::Memory,
+        }
+    }
+}

@@ -1,0 +1,12 @@
+-- The texts of a run, which are read one after the other.
+use Rattle.std.proofs.Common.{◌≡◌, ◌≢◌, ℕ, List, Option, subst}
+use Rattle.std.specs.Prelude.{IfSome, codes}
+use Rattle.bsc_input.specs.Texts.{IsTextAt}
+
+-- where only one of the two is standard input, what was read before the script leaves its text
+pub script_is : {R : Type 0} (remaining : R → Option (List ℕ)) (config script : List ℕ)
+    (before after : R) (text : List ℕ) → (script ≡ codes "-" → config ≢ codes "-")
+    → (config ≢ codes "-" → after ≡ before)
+    → IsTextAt script (remaining after) text → IsTextAt script (remaining before) text
+script_is remaining config script before after text one same is input =
+    subst (λ i. IfSome (remaining i) (λ octets. text ≡ octets)) (same (one input)) (is input)

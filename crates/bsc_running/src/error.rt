@@ -1,0 +1,106 @@
+//! Why a run was not done to its end.
+ghost use Rattle.std.specs.Prelude.{◌≡◌};
+
+use bsc_config::ConfigError;
+use bsc_input::TextError;
+use bsc_loopback::LoopbackError;
+use bsc_run::RunError;
+use bsc_script::ScriptError;
+use thiserror::Error;
+
+/// Why a run was not done to its end. Out of memory is `Memory`, whatever met it.
+#[derive(Debug, Drop, Error)]
+pub enum RunningError {
+    /// The configuration and the script are both standard input, which has only one text.
+    #[error("CONFIG and SCRIPT cannot both be standard input")]
+    BothStandardInput,
+
+    /// The text of the configuration or of the script was not read.
+    #[error("{error}")]
+    Text { error: TextError },
+
+    /// The configuration is refused.
+    #[error("{error}")]
+    Config { error: ConfigError },
+
+    /// The script has a line that is no event.
+    #[error("{error}")]
+    Script { error: ScriptError },
+
+    /// The connections of the line could not be made.
+    #[error("cannot make the sockets")]
+    Sockets,
+
+    /// The run did not do all of the script.
+    #[error("{error}")]
+    Run { error: RunError },
+
+    /// A growth was refused.
+    #[error("out of memory")]
+    Memory,
+}
+
+impl From<TextError> for RunningError {
+    ghost use Rattle.bsc_running.specs.Errors.{text_error};
+
+    ghost from_gives = { λ error running. running ≡ text_error error };
+
+    fn from(error: TextError) -> RunningError {
+        match error {
+            TextError::Memory => RunningError::Memory,
+            error => RunningError::Text { error },
+        }
+    }
+}
+
+impl From<ConfigError> for RunningError {
+    ghost use Rattle.bsc_running.specs.Errors.{config_error};
+
+    ghost from_gives = { λ error running. running ≡ config_error error };
+
+    fn from(error: ConfigError) -> RunningError {
+        match error {
+            ConfigError::Memory => RunningError::Memory,
+            error => RunningError::Config { error },
+        }
+    }
+}
+
+impl From<ScriptError> for RunningError {
+    ghost use Rattle.bsc_running.specs.Errors.{script_error};
+
+    ghost from_gives = { λ error running. running ≡ script_error error };
+
+    fn from(error: ScriptError) -> RunningError {
+        match error {
+            ScriptError::Memory => RunningError::Memory,
+            error => RunningError::Script { error },
+        }
+    }
+}
+
+impl From<LoopbackError> for RunningError {
+    ghost use Rattle.bsc_running.specs.Errors.{loopback_error};
+
+    ghost from_gives = { λ error running. running ≡ loopback_error error };
+
+    fn from(error: LoopbackError) -> RunningError {
+        match error {
+            LoopbackError::Sockets => RunningError::Sockets,
+            LoopbackError::Memory => RunningError::Memory,
+        }
+    }
+}
+
+impl From<RunError> for RunningError {
+    ghost use Rattle.bsc_running.specs.Errors.{run_error};
+
+    ghost from_gives = { λ error running. running ≡ run_error error };
+
+    fn from(error: RunError) -> RunningError {
+        match error {
+            RunError::Memory => RunningError::Memory,
+            error => RunningError::Run { error },
+        }
+    }
+}

@@ -1,0 +1,70 @@
+//! A run of a line: its texts are read, then what they say is checked, and then the events are run.
+
+ghost use Rattle.std.specs.Prelude.{◌≡◌, ◌≢◌, Err, IfErr, IsTrue, OnOk, codes, false};
+ghost use Rattle.bsc_running.specs.Errors.{IsEarly};
+ghost use Rattle.bsc_running.specs.Running.{IsRunDone, RunsOnCable};
+
+use crate::{Cables, RunningError};
+use bsc_config::{Config, read_config};
+use bsc_input::{Files, STANDARD_INPUT, read_text};
+use bsc_run::run_line;
+use bsc_script::{Script, read_script};
+use std::alloc::Global;
+use std::io::{Read, Write};
+
+/// Runs the events of the script on a line of the configuration, over a cable of the machine, and
+/// prints what is on the line after each event that is heard, and a report at the end. Both are
+/// named by their paths; one of them may be `-`, which is standard input. Both are read before what
+/// they say is checked, the configuration first. With `check` nothing is run or printed. (Own.)
+pub fn run<R: Read, H: Files + Cables, W: Write>(
+    alloc: Global,
+    config: &str,
+    script: &str,
+    check: bool,
+    input: &mut R,
+    machine: &mut H,
+    out: &mut W,
+) -> Result<(), RunningError>
+    ensures early { IfErr result (λ error. IsEarly error → out.new ≡ out.old) }
+    ensures checked { IsTrue check → out.new ≡ out.old }
+    ensures done { OnOk result
+        (IsRunDone H.Stream.contents H.Stream.remaining check config.now script.now
+        (R.remaining input.old) (W.contents out.old) (W.contents out.new)) }
+{
+    if are_both_standard_input(config, script) {
+        return Err(RunningError::BothStandardInput);
+    }
+    let config_text = read_text(alloc, config, input, machine)?;
+    let script_text = read_text(alloc, script, input, machine)?;
+    let config = read_config(alloc, &config_text)?;
+    let script = read_script(alloc, &script_text)?;
+    if check {
+        return Ok(());
+    }
+    run_on_cable(alloc, &config, &script, machine, out)
+}
+
+/// Whether both paths stand for standard input, which has only one text.
+fn are_both_standard_input(config: &str, script: &str) -> bool
+    ensures { result ≡ false → script.now ≡ codes "-" → config.now ≢ codes "-" }
+{
+    config == STANDARD_INPUT && script == STANDARD_INPUT
+}
+
+/// Runs the events on a new line, over new connections.
+fn run_on_cable<H: Cables, W: Write>(
+    alloc: Global,
+    config: &Config,
+    script: &Script<'_, Global>,
+    machine: &mut H,
+    out: &mut W,
+) -> Result<(), RunningError>
+    ensures early { IfErr result (λ error. IsEarly error → out.new ≡ out.old) }
+    ensures ran { OnOk result
+        (RunsOnCable H.Stream.contents H.Stream.remaining config.now script.now
+        (W.contents out.old) (W.contents out.new)) }
+{
+    let mut cable = machine.connect(config.terminals())?;
+    run_line(alloc, config, script, &mut cable, out)?;
+    Ok(())
+}

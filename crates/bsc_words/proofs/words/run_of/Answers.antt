@@ -1,0 +1,20 @@
+use Rattle.std.proofs.Common.{ap, ◌≡◌, ◌∙◌, [], unwrap_or, codes, string_bytes}
+use Rattle.clap.specs.Words.{Text, first_value, found_of, rows_of}
+use Rattle.clap.proofs.WalkLemmas.{first_value-rows}
+use Rattle.bsc_asked.specs.Asked.{run}
+use Rattle.bsc_words.specs.Options.{is_true_text, value_at}
+use Rattle.bsc_words.proofs.words.run_of.Goals as goal
+
+pub returns : goal.returns
+returns c =
+    let found = found_of c.args.matches.now in
+    let value : (id : Text) → unwrap_or (first_value found id) [] ≡ value_at id (rows_of found)
+    = λ id. ap (λ o. unwrap_or o []) (first_value-rows found id) in
+    let check = c.is_given.result in
+    let config_is = c.in_ok-required_text.ensures ∙ value (codes "CONFIG") in
+    let script_is = c.in_ok-required_text-2.ensures ∙ value (codes "SCRIPT") in
+    let check_is = c.is_given.ensures ∙ ap is_true_text (value (codes "check")) in
+    ap (λ t. run t (string_bytes c.in_ok-required_text-2.field-0) check) config_is
+    ∙ (ap (λ t. run (value_at (codes "CONFIG") (rows_of found)) t check) script_is
+    ∙ ap (λ b. run (value_at (codes "CONFIG") (rows_of found))
+    (value_at (codes "SCRIPT") (rows_of found)) b) check_is)

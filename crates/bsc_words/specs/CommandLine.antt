@@ -1,0 +1,69 @@
+-- The command line: what `clap` reads of the command, and the work that its matches ask for. All of
+-- it is own.
+use Rattle.std.specs.Prelude.{◌≡◌, ◌⊎◌, List, [], ◌∷◌, true, Option, Some, None, codes}
+use Rattle.std.specs.Prelude.{if◌then◌else◌}
+use Rattle.std.specs.Str.{bytes_eq}
+use Rattle.clap.specs.Words.{App, Kinds, Row, Text, fault_of, new_app, subcommand_of}
+use Rattle.clap.specs.declared.error.kind.ErrorKind.{ErrorKind}
+use Rattle.clap.specs.declared.error.kind.ErrorKind.TheVariants.{DisplayHelp, DisplayVersion}
+use Rattle.bsc_asked.specs.Asked.{AskedValue, names, name, show, run, station}
+use Rattle.bsc_words.specs.Options.{flag, is_true_text, required, value_at, with_rules, with_shapes}
+use Rattle.bsc_words.specs.StationWords.{station_app, words_in}
+
+-- `name HEX`.
+abbrev pub name_app : App
+name_app = with_rules (new_app (codes "name")) (required (codes "HEX") ∷ [])
+
+-- `show`.
+abbrev pub show_app : App
+show_app = new_app (codes "show")
+
+-- `run CONFIG SCRIPT`, with the flag `--check`.
+abbrev pub run_app : App
+run_app =
+    with_rules (new_app (codes "run"))
+    (required (codes "CONFIG") ∷ required (codes "SCRIPT") ∷ flag (codes "check") ∷ [])
+
+-- The program, which has a version.
+abbrev pub program_app : App
+program_app =
+    record { top = record (new_app (codes "bscline")).top { has_version = true }; subs = [] }
+
+-- The program with its commands.
+abbrev pub bscline_app : App
+bscline_app =
+    with_shapes program_app (name_app.top ∷ show_app.top ∷ run_app.top ∷ station_app.top ∷ [])
+
+-- The kinds of error that `clap` may give at the words; none where the words are a command.
+unfoldable pub faults_at : List Text → Kinds
+faults_at words = fault_of bscline_app words
+
+-- The configuration and the script, by their paths, and whether they are only checked.
+abbrev pub asked_run : List Row → AskedValue
+asked_run rows =
+    run (value_at (codes "CONFIG") rows) (value_at (codes "SCRIPT") rows)
+    (is_true_text (value_at (codes "check") rows))
+
+-- One station, by its words.
+abbrev pub asked_station : List Row → AskedValue
+asked_station rows = station (words_in rows)
+
+-- The work that was asked for, by the name of the command and its values.
+abbrev pub asked_by : Text → List Row → AskedValue
+asked_by sub rows =
+    if bytes_eq sub (codes "name") then name (value_at (codes "HEX") rows)
+    else (if bytes_eq sub (codes "run") then asked_run rows
+    else (if bytes_eq sub (codes "station") then asked_station rows else show))
+
+-- The work that was asked for by a command; without one, the names of standard input.
+abbrev pub asked_sub : Option (Text × List Row) → AskedValue
+asked_sub None = names
+asked_sub (Some p) = asked_by p.0 p.1
+
+-- What the words ask for, as `clap` reads them.
+unfoldable pub asked_of : List Text → AskedValue
+asked_of words = asked_sub (subcommand_of bscline_app words)
+
+-- The help or the version was asked for.
+abbrev pub IsHelp : ErrorKind → Type 0
+IsHelp kind = (kind ≡ DisplayHelp) ⊎ (kind ≡ DisplayVersion)

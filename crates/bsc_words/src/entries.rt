@@ -1,0 +1,116 @@
+//! Commands that are made of the rows of a table.
+ghost use Rattle.std.specs.Prelude.{◌≡◌, IfOk, map, false};
+ghost use Rattle.clap.specs.Words.{app_of, rule_of, shape_of};
+ghost use Rattle.clap.specs.declared.builder.command.Command.TheViews.{out-Command};
+ghost use Rattle.bsc_words.specs.Options.{entry_rule, subcommand_shape, with_rules, with_shapes};
+
+use clap::{Arg, ArgAction, Command};
+use std::alloc::{AllocError, Global};
+
+/// What is given for an entry.
+#[derive(Clone, Copy)]
+pub(crate) enum Given {
+    /// A value without a name before it, which has to be there.
+    Required,
+
+    /// A name only.
+    Flag,
+
+    /// A name and a value.
+    Value,
+
+    /// A name and a value, more than once.
+    Values,
+}
+
+/// An argument or an option of a command.
+#[derive(Clone, Copy)]
+pub(crate) struct Entry {
+    /// Its name, without the two hyphens of an option.
+    pub(crate) id: &'static str,
+
+    /// What is given for it.
+    pub(crate) given: Given,
+
+    /// What its value is called in the help; nothing where it has none.
+    pub(crate) value: &'static str,
+
+    /// What the help says of it.
+    pub(crate) help: &'static str,
+}
+
+/// A command of the program.
+#[derive(Clone, Copy)]
+pub(crate) struct Subcommand {
+    /// Its name.
+    pub(crate) name: &'static str,
+
+    /// What the help says of it.
+    pub(crate) about: &'static str,
+
+    /// Its arguments and options.
+    pub(crate) entries: &'static [Entry],
+}
+
+/// The argument of an entry, as `clap` takes it.
+fn argument<'a>(alloc: Global, entry: &'a Entry) -> Arg<'a>
+    ensures rule { rule_of result ≡ entry_rule entry.now }
+    ensures local { result.global ≡ false }
+{
+    let argument = Arg::new(alloc, entry.id).help(entry.help);
+    match entry.given {
+        Given::Required => argument.required(true).action(ArgAction::Set),
+        Given::Flag => argument.long(entry.id).action(ArgAction::SetTrue),
+        Given::Value => argument
+            .long(entry.id)
+            .value_name(entry.value)
+            .action(ArgAction::Set),
+        Given::Values => argument
+            .long(entry.id)
+            .value_name(entry.value)
+            .action(ArgAction::Append),
+    }
+}
+
+/// The command with these arguments and options after those that it has.
+fn with_entries<'a>(
+    alloc: Global,
+    command: Command<'a>,
+    entries: &'a [Entry],
+) -> Result<Command<'a>, AllocError>
+    requires local { (out-Command command).has_globals ≡ false }
+    ensures app { IfOk result (λ c. app_of c
+        ≡ with_rules (app_of command.entry) (map entry_rule entries.now)) }
+    ensures local { IfOk result (λ c. (out-Command c).has_globals ≡ false) }
+{
+    let mut command = command;
+    'entries: for entry in entries {
+        command = command.arg(argument(alloc, entry))?;
+    }
+    Ok(command)
+}
+
+/// The command of a row.
+fn command_of<'a>(alloc: Global, row: &'a Subcommand) -> Result<Command<'a>, AllocError>
+    ensures shape { IfOk result (λ c. shape_of c ≡ subcommand_shape row.now) }
+    ensures local { IfOk result (λ c. (out-Command c).has_globals ≡ false) }
+{
+    let bare = Command::new(alloc, row.name).about(row.about);
+    with_entries(alloc, bare, row.entries)
+}
+
+/// The program with these commands after those that it has.
+pub(crate) fn with_subcommands<'a>(
+    alloc: Global,
+    program: Command<'a>,
+    rows: &'a [Subcommand],
+) -> Result<Command<'a>, AllocError>
+    ensures { IfOk result (λ c. app_of c
+        ≡ with_shapes (app_of program.entry) (map subcommand_shape rows.now)) }
+{
+    let mut program = program;
+    'rows: for row in rows {
+        program = program.subcommand(command_of(alloc, row)?)?;
+    }
+    Ok(program)
+}

@@ -1,0 +1,144 @@
+//! The commands of the program, with their arguments and options, as tables.
+
+use crate::entries::Given::{Flag, Required, Value, Values};
+use crate::entries::{Entry, Subcommand};
+
+/// Prints the name of one transmission.
+const NAME: Subcommand = Subcommand {
+    name: "name",
+    about: "Print the name of one transmission",
+    entries: &[Entry {
+        id: "HEX",
+        given: Required,
+        value: "",
+        help: "The octets in hexadecimal text; spaces are dropped",
+    }],
+};
+
+/// Prints names, with the units of texts.
+const SHOW: Subcommand = Subcommand {
+    name: "show",
+    about: "Print the names of standard input, with the units of texts",
+    entries: &[],
+};
+
+/// Runs a whole line.
+const RUN: Subcommand = Subcommand {
+    name: "run",
+    about: "Run a line over loopback sockets, and print what is on it",
+    entries: &[
+        Entry {
+            id: "CONFIG",
+            given: Required,
+            value: "",
+            help: "The configuration, in TOML; - is standard input",
+        },
+        Entry {
+            id: "SCRIPT",
+            given: Required,
+            value: "",
+            help: "The events, one a line; - is standard input",
+        },
+        Entry {
+            id: "check",
+            given: Flag,
+            value: "",
+            help: "Read and check both, and run nothing",
+        },
+    ],
+};
+
+/// Runs one station.
+const STATION: Subcommand = Subcommand {
+    name: "station",
+    about: "Run one station of a line over TCP",
+    entries: &[
+        Entry {
+            id: "CONFIG",
+            given: Required,
+            value: "",
+            help: "The configuration, in TOML; - is standard input",
+        },
+        Entry {
+            id: "control",
+            given: Flag,
+            value: "",
+            help: "Be the control station",
+        },
+        Entry {
+            id: "terminal",
+            given: Value,
+            value: "T",
+            help: "Be terminal T, counted from 0",
+        },
+        Entry {
+            id: "listen",
+            given: Value,
+            value: "ADDRESS",
+            help: "Let peers connect at this address",
+        },
+        Entry {
+            id: "connect",
+            given: Value,
+            value: "ADDRESS",
+            help: "Connect to a peer at this address",
+        },
+        Entry {
+            id: "shared",
+            given: Flag,
+            value: "",
+            help: "Reach all terminals by one connection",
+        },
+        Entry {
+            id: "raw",
+            given: Flag,
+            value: "",
+            help: "Send octets as they stand; a gap ends a transmission",
+        },
+        Entry {
+            id: "gap",
+            given: Value,
+            value: "MS",
+            help: "The gap in milliseconds, 50 unless given",
+        },
+        Entry {
+            id: "time-out",
+            given: Value,
+            value: "MS",
+            help: "The time-out in milliseconds, 3000 unless given",
+        },
+        Entry {
+            id: "rounds",
+            given: Value,
+            value: "N",
+            help: "End after N rounds of the poll list",
+        },
+        Entry {
+            id: "idle-rounds",
+            given: Value,
+            value: "N",
+            help: "End after N idle rounds in a row, 2 unless given",
+        },
+        Entry {
+            id: "offer",
+            given: Values,
+            value: "OFFER",
+            help: "Offer the lines of PATH: at a terminal PATH, at the control station T.S=PATH",
+        },
+        Entry {
+            id: "text",
+            given: Flag,
+            value: "",
+            help: "Print records that arrive as text",
+        },
+        Entry {
+            id: "trace",
+            given: Flag,
+            value: "",
+            help: "Print what is sent and heard on standard error",
+        },
+    ],
+};
+
+/// The commands, in the order in which the help has them.
+pub(crate) const COMMANDS: &[Subcommand] = &[NAME, SHOW, RUN, STATION];

@@ -1,0 +1,90 @@
+//! The words of the command line.
+ghost use Rattle.std.specs.Prelude.{◌≡◌, ◌⊎◌, [], map, IfOk, IfErr, OnOk};
+ghost use Rattle.clap.specs.Words.{HasKind, app_of, found_of, kind_of, rows_of, subcommand_rows_of};
+ghost use Rattle.bsc_asked.specs.Asked.{asked};
+ghost use Rattle.bsc_words.specs.CommandLine.{asked_of, asked_run, asked_station, asked_sub};
+ghost use Rattle.bsc_words.specs.CommandLine.{bscline_app, faults_at};
+
+use crate::entries::with_subcommands;
+use crate::station_words::station_words;
+use crate::tables::COMMANDS;
+use crate::values::{is_given, required_text};
+use bsc_asked::Asked;
+use clap::error::ErrorKind;
+use clap::{ArgMatches, Command, Error};
+use std::alloc::{AllocError, Global};
+
+/// The command line of `bscline`.
+fn command_line<'a>(alloc: Global) -> Result<Command<'a>, AllocError>
+    ensures { IfOk result (λ c. app_of c ≡ bscline_app) }
+{
+    let program = Command::new(alloc, "bscline")
+        .about("Print the names of the transmissions on standard input, one a line")
+        .version("0.1.0");
+    with_subcommands(alloc, program, COMMANDS)
+}
+
+/// The run that the matches of `run` ask for.
+fn run_of(alloc: Global, matches: &ArgMatches<'_>) -> Result<Asked, AllocError>
+    ensures { IfOk result (λ w. asked w ≡ asked_run (rows_of (found_of matches.now))) }
+{
+    Ok(Asked::Run {
+        config: required_text(alloc, matches, "CONFIG")?,
+        script: required_text(alloc, matches, "SCRIPT")?,
+        check: is_given(matches, "check"),
+    })
+}
+
+/// The station that the matches of `station` ask for.
+fn station_of(alloc: Global, matches: &ArgMatches<'_>) -> Result<Asked, AllocError>
+    ensures { IfOk result (λ w. asked w ≡ asked_station (rows_of (found_of matches.now))) }
+{
+    Ok(Asked::Station(station_words(alloc, matches)?))
+}
+
+/// The work that the matches ask for.
+fn work_of(alloc: Global, matches: &ArgMatches<'_>) -> Result<Asked, AllocError>
+    ensures { IfOk result (λ w. asked w ≡ asked_sub (subcommand_rows_of matches.now)) }
+{
+    match matches.subcommand() {
+        None => Ok(Asked::Names),
+        Some((sub, inner)) => match sub {
+            "name" => Ok(Asked::Name(required_text(alloc, inner, "HEX")?)),
+            "run" => run_of(alloc, inner),
+            "station" => station_of(alloc, inner),
+            _ => Ok(Asked::Show),
+        },
+    }
+}
+
+/// What the words ask for, the program's name first.
+pub fn read_words(alloc: Global, words: &[&str]) -> Result<Asked, Error>
+    ensures asked { IfOk result (λ w. asked w ≡ asked_of (map (λ s. s.now) words.now)) }
+    ensures kinds { IfErr result (HasKind (faults_at (map (λ s. s.now) words.now))) }
+    ensures fits { OnOk result (faults_at (map (λ s. s.now) words.now) ≡ []) }
+{
+    let command_line = command_line(alloc)?;
+    match command_line.try_get_matches_from(words) {
+        Ok(matches) => Ok(work_of(alloc, &matches)?),
+        Err(error) => Err(error),
+    }
+}
+
+/// The answer where a value is wrong, or values do not go together, for this reason, as `clap` has
+/// it.
+pub fn wrong_words(alloc: Global, kind: ErrorKind, why: &str) -> Error
+    ensures { (kind_of result ≡ kind) ⊎ (kind_of result ≡ ErrorKind.OutOfMemory) }
+{
+    match wrong_words_error(alloc, kind, why) {
+        Ok(error) => error,
+        Err(error) => Error::from(error),
+    }
+}
+
+/// The answer of [`wrong_words`], or out of memory.
+fn wrong_words_error(alloc: Global, kind: ErrorKind, why: &str) -> Result<Error, AllocError>
+    ensures { IfOk result (λ e. kind_of e ≡ kind) }
+{
+    let mut command_line = command_line(alloc)?;
+    command_line.error(kind, why)
+}

@@ -1,0 +1,151 @@
+//! The machine that the program runs on: its files, its loopback address, its network, its clock,
+//! and standard error.
+
+use bsc_attending::{Network, Opened, Place, Wanted};
+use bsc_carrier::Cable;
+use bsc_carrier::limits::MAX_CONNECTIONS;
+use bsc_input::{Files, InputError, read_input};
+use bsc_loopback::{LoopbackError, connect};
+use bsc_running::Cables;
+use bsc_sockets::{
+    Listening, Reading, Settings, Sockets, SocketsError, Writing, connect as connect_to, listen,
+};
+use bsc_station::Timer;
+use std::alloc::Global;
+use std::fs::File;
+use std::io;
+use std::io::{Error, ErrorKind, Write};
+use std::net::Net;
+use std::rt::Files as Filing;
+use std::time::{Clock, Duration, Instant};
+
+/// For how long a station that listens waits for each peer before it gives up, in milliseconds.
+const PATIENCE: u64 = 60_000;
+
+/// The machine of this runtime.
+#[derive(Drop)]
+pub struct Machine<'a, R> {
+    pub runtime: &'a R,
+}
+
+/// The time that has passed on this machine.
+#[derive(Drop)]
+pub struct Since<'a, R> {
+    runtime: &'a R,
+    start: Option<Instant>,
+}
+
+impl<R: Clock> Timer for Since<'_, R> {
+    fn milliseconds(&mut self) -> u64 {
+        let Some(start) = self.start else {
+            return 0;
+        };
+        match start.elapsed(self.runtime) {
+            Ok(time) => u64::try_from(time.as_millis()).unwrap_or(u64::MAX),
+            Err(_) => 0,
+        }
+    }
+}
+
+/// Standard error.
+#[derive(Drop)]
+pub struct Errors<'a, R> {
+    pub runtime: &'a R,
+}
+
+impl<R: Eprint> Write for Errors<'_, R> {
+    fn write(&mut self, octets: &[u8]) -> io::Result<usize> {
+        match str::from_utf8(octets) {
+            Ok(text) => {
+                eprint!(self.runtime; "{text}")?;
+                Ok(octets.len())
+            }
+            Err(_) => Err(Error::from(ErrorKind::InvalidData)),
+        }
+    }
+
+    fn flush(&mut self) -> io::Result<()> {
+        Ok(())
+    }
+}
+
+impl<R: AllocGlobal + Filing> Files for Machine<'_, R> {
+    fn read_file(&mut self, path: &str) -> Result<Vec<u8>, InputError> {
+        match File::open(self.runtime, path) {
+            Ok(mut file) => read_input(self.runtime.alloc(), &mut file),
+            Err(_) => Err(InputError::Device),
+        }
+    }
+}
+
+impl<R: AllocGlobal + Net> Cables for Machine<'_, R> {
+    type Stream = R::Stream;
+
+    fn connect(&mut self, count: usize) -> Result<Cable<R::Stream>, LoopbackError> {
+        connect(self.runtime, self.runtime.alloc(), count)
+    }
+}
+
+impl<'a, R: AllocGlobal + Clock + Eprint + Net> Network for Machine<'a, R> {
+    type Reader = Reading;
+
+    type Writer = Writing<'a, R, Global>;
+
+    type Waiter = Sockets<'a, R, Global>;
+
+    type Timer = Since<'a, R>;
+
+    type Trace = Errors<'a, R>;
+
+    fn open(
+        &mut self,
+        wanted: &Wanted<'_>,
+    ) -> Result<Opened<Self::Reader, Self::Writer, Self::Waiter>, SocketsError> {
+        let (runtime, alloc) = (self.runtime, self.runtime.alloc());
+        let settings = Settings {
+            time_out: Duration::from_millis(wanted.time_out),
+            gap: Duration::from_millis(wanted.gap),
+            begins: wanted.begins,
+        };
+        let begun = match wanted.place {
+            Place::Connect { address } => {
+                connect_to(runtime, alloc, address, settings.time_out, settings)?
+            }
+            Place::Listen { address } => {
+                let listening = Listening::bind(runtime, address)?;
+                let patience = Duration::from_millis(PATIENCE);
+                let peers = wanted.connections.min(MAX_CONNECTIONS);
+                listen(
+                    runtime,
+                    alloc,
+                    listening,
+                    peers,
+                    patience,
+                    wanted.stays,
+                    settings,
+                )?
+            }
+        };
+        Ok(Opened {
+            waiter: begun.sockets,
+            connections: begun.connections,
+        })
+    }
+
+    fn timer(&mut self) -> Since<'a, R> {
+        let start = match Instant::now(self.runtime) {
+            Ok(start) => Some(start),
+            Err(_) => None,
+        };
+        Since {
+            runtime: self.runtime,
+            start,
+        }
+    }
+
+    fn trace(&mut self) -> Errors<'a, R> {
+        Errors {
+            runtime: self.runtime,
+        }
+    }
+}

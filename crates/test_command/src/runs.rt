@@ -1,0 +1,440 @@
+//! The examples of the repository, with the texts of their files, run over loopback connections.
+
+use bsc_carrier::Cable;
+use bsc_input::{Files, InputError};
+use bsc_loopback::{LoopbackError, connect};
+use bsc_running::{Cables, run};
+use std::alloc::Global;
+use std::net::Net;
+use std::test::Fail;
+
+/// The configuration of `examples/two_terminals`.
+const TWO_TERMINALS_LINE: &str = r#"version = 1
+poll_list = [0, 1]
+
+[[terminals]]
+poll = "A"
+select = "a"
+
+[[terminals]]
+poll = "B"
+select = "b"
+"#;
+
+/// The script of `examples/two_terminals`.
+const TWO_TERMINALS_SCRIPT: &str =
+    r#"# A record waits at terminal 0. The control station polls A, which sends it, and then B.
+offer-at 0 HI
+silence
+carry
+carry
+carry
+carry
+carry
+carry
+"#;
+
+/// The output of `examples/two_terminals`.
+const TWO_TERMINALS_PRINTED: &str = r#"control CALL A
+terminal 0 TEXT ETX 1
+control ACK1
+terminal 0 EOT
+control CALL B
+terminal 1 EOT
+control CALL A
+from 0: offered 1, known 1, spooled 1
+  4849
+to 0: offered 0, known 0, spooled 0
+from 1: offered 0, known 0, spooled 0
+to 1: offered 0, known 0, spooled 0
+trusted
+"#;
+
+/// The configuration of `examples/lossy_line`.
+const LOSSY_LINE_LINE: &str =
+    r#"# A station that has tried twice more in vain gives up at the next silence.
+version = 1
+tries = 2
+poll_list = [0, 1]
+
+[[terminals]]
+poll = "A"
+select = "a"
+
+[[terminals]]
+poll = "B"
+select = "b"
+"#;
+
+/// The script of `examples/lossy_line`.
+const LOSSY_LINE_SCRIPT: &str = r#"# A record waits in each direction.
+offer-at 0 HI
+offer-for 1 BYE
+
+# The control station polls A. One bit of the text is turned on its way: a character has even
+# parity, so the control station answers NAK and the text is sent again.
+silence
+carry
+heard 16 16 02 C8 48 19 83 9B FF
+carry
+carry
+
+# The acknowledgement is lost, and so is the ENQ that asks for it again. The terminal gives up: the
+# record arrived, but its sender cannot know, so it is in doubt.
+lose
+silence
+lose
+silence
+carry
+
+# Terminal 0 hears nothing of the call of B's selection address, and terminal 1 hears noise: nobody
+# answers, and the call is repeated.
+heard-each - 161610
+silence
+carry
+carry
+
+# Only terminal 1 hears the text. It is the only one that has to.
+heard-each - 161602C2D9451983C4FF
+carry
+carry
+carry
+carry
+
+# The count of the records that arrived ends the doubt of terminal 0.
+release 0 from
+"#;
+
+/// The output of `examples/lossy_line`.
+const LOSSY_LINE_PRINTED: &str = r#"control CALL A
+terminal 0 TEXT ETX 1
+control NAK
+terminal 0 TEXT ETX 1
+control ACK1
+quiet
+terminal 0 ENQ
+quiet
+terminal 0 EOT
+control CALL b
+quiet
+control CALL b
+terminal 1 ACK0
+control TEXT ETX 1
+terminal 1 ACK1
+control CALL B
+terminal 1 EOT
+control CALL A
+terminal 0 EOT
+from 0: offered 1, known 1, spooled 1
+  4849
+to 0: offered 0, known 0, spooled 0
+from 1: offered 0, known 0, spooled 0
+to 1: offered 1, known 1, spooled 1
+  425945
+trusted
+"#;
+
+/// The configuration of `examples/two_spools`.
+const TWO_SPOOLS_LINE: &str = r#"# Terminal 0 has two spools, each with an address of its own.
+version = 2
+poll_list = [0, 1]
+
+[[terminals]]
+poll = "A"
+select = ["a", "c"]
+
+[[terminals]]
+poll = "B"
+select = ["b"]
+"#;
+
+/// The script of `examples/two_spools`.
+const TWO_SPOOLS_SCRIPT: &str =
+    r#"# A record waits for the first spool of terminal 0, and an empty one for the second.
+offer-to 0 0 HI
+offer-to 0 1
+
+# The control station selects the first address, then the second, and then polls both terminals:
+# twelve transmissions.
+silence
+carry
+carry
+carry
+carry
+carry
+carry
+carry
+carry
+carry
+carry
+carry
+carry
+"#;
+
+/// The output of `examples/two_spools`.
+const TWO_SPOOLS_PRINTED: &str = r#"control CALL a
+terminal 0 ACK0
+control TEXT ETX 1
+terminal 0 ACK1
+control CALL c
+terminal 0 ACK0
+control TEXT ETX 1
+terminal 0 ACK1
+control CALL A
+terminal 0 EOT
+control CALL B
+terminal 1 EOT
+control CALL A
+from 0: offered 0, known 0, spooled 0
+to 0.0: offered 1, known 1, spooled 1
+  4849
+to 0.1: offered 1, known 1, spooled 1
+  -
+from 1: offered 0, known 0, spooled 0
+to 1: offered 0, known 0, spooled 0
+trusted
+"#;
+
+/// A machine with two files, `line.toml` and `script.txt`, and real connections.
+#[derive(Drop)]
+struct Machine<'a, R> {
+    runtime: &'a R,
+    alloc: Global,
+    line: &'static str,
+    script: &'static str,
+}
+
+impl<R: Net> Files for Machine<'_, R> {
+    fn read_file(&mut self, path: &str) -> Result<Vec<u8>, InputError> {
+        let text = match path {
+            "line.toml" => self.line,
+            "script.txt" => self.script,
+            "long.txt" => return Err(InputError::TooLong),
+            _ => return Err(InputError::Device),
+        };
+        match Vec::from_slice(self.alloc, text.as_bytes()) {
+            Ok(octets) => Ok(octets),
+            Err(_) => Err(InputError::Memory),
+        }
+    }
+}
+
+impl<R: Net> Cables for Machine<'_, R> {
+    type Stream = R::Stream;
+
+    fn connect(&mut self, count: usize) -> Result<Cable<R::Stream>, LoopbackError> {
+        connect(self.runtime, self.alloc, count)
+    }
+}
+
+/// A run: the texts of the two files, the paths that it is given, standard input, and what comes of
+/// it.
+struct Case {
+    line: &'static str,
+    script: &'static str,
+    paths: (&'static str, &'static str),
+    check: bool,
+    input: &'static str,
+    printed: Option<&'static str>,
+    error: &'static str,
+}
+
+/// What is printed by a run, and the text of its error.
+fn printed<R: Net>(runtime: &R, alloc: Global, case: &Case) -> Result<(Vec<u8>, String), Fail> {
+    let (line, script) = (case.line, case.script);
+    let mut machine = Machine {
+        runtime,
+        alloc,
+        line,
+        script,
+    };
+    let mut out = Vec::new(alloc);
+    let mut input = case.input.as_bytes();
+    let (config, script) = case.paths;
+    let error = match run(
+        alloc,
+        config,
+        script,
+        case.check,
+        &mut input,
+        &mut machine,
+        &mut out,
+    ) {
+        Ok(()) => String::new(alloc),
+        Err(error) => error.to_string(alloc)?,
+    };
+    Ok((out, error))
+}
+
+/// The first of these runs of which something else comes.
+fn first_wrong<R: Net>(runtime: &R, alloc: Global, cases: &[Case]) -> Result<Option<usize>, Fail> {
+    for (place, case) in cases.iter().enumerate() {
+        let (out, error) = printed(runtime, alloc, case)?;
+        let is_printed = match case.printed {
+            Some(text) => out.as_slice() == text.as_bytes(),
+            None => true,
+        };
+        if !is_printed || error.as_str() != case.error {
+            return Ok(Some(place));
+        }
+    }
+    Ok(None)
+}
+
+const PATHS: (&str, &str) = ("line.toml", "script.txt");
+
+/// The examples, and one that is only checked.
+const EXAMPLES: [Case; 4] = [
+    Case {
+        line: TWO_TERMINALS_LINE,
+        script: TWO_TERMINALS_SCRIPT,
+        paths: PATHS,
+        check: false,
+        input: "",
+        printed: Some(TWO_TERMINALS_PRINTED),
+        error: "",
+    },
+    Case {
+        line: LOSSY_LINE_LINE,
+        script: LOSSY_LINE_SCRIPT,
+        paths: PATHS,
+        check: false,
+        input: "",
+        printed: Some(LOSSY_LINE_PRINTED),
+        error: "",
+    },
+    Case {
+        line: TWO_SPOOLS_LINE,
+        script: TWO_SPOOLS_SCRIPT,
+        paths: PATHS,
+        check: false,
+        input: "",
+        printed: Some(TWO_SPOOLS_PRINTED),
+        error: "",
+    },
+    Case {
+        line: TWO_TERMINALS_LINE,
+        script: TWO_TERMINALS_SCRIPT,
+        paths: PATHS,
+        check: true,
+        input: "",
+        printed: Some(""),
+        error: "",
+    },
+];
+
+#[test]
+fn examples_print_what_their_files_say(rt: HostRuntime) -> Result<(), Fail> {
+    assert_eq!(rt; first_wrong(&rt, rt.alloc(), &EXAMPLES)?, None);
+    Ok(())
+}
+
+/// The configuration is read first, then the script; then what they say is checked in that order,
+/// and only then is the line made.
+const FAULTS: [Case; 11] = [
+    Case {
+        line: "?",
+        script: "?",
+        paths: ("none.toml", "none.txt"),
+        check: false,
+        input: "",
+        printed: Some(""),
+        error: "cannot read none.toml",
+    },
+    Case {
+        line: "?",
+        script: "?",
+        paths: ("long.txt", "none.txt"),
+        check: false,
+        input: "",
+        printed: Some(""),
+        error: "long.txt is too long",
+    },
+    Case {
+        line: "?",
+        script: "?",
+        paths: ("line.toml", "none.txt"),
+        check: false,
+        input: "",
+        printed: Some(""),
+        error: "cannot read none.txt",
+    },
+    Case {
+        line: "?",
+        script: "?",
+        paths: ("line.toml", "long.txt"),
+        check: false,
+        input: "",
+        printed: Some(""),
+        error: "long.txt is too long",
+    },
+    Case {
+        line: "?",
+        script: "?",
+        paths: PATHS,
+        check: false,
+        input: "",
+        printed: Some(""),
+        error: "config: not toml",
+    },
+    Case {
+        line: "version = 1",
+        script: "?",
+        paths: PATHS,
+        check: false,
+        input: "",
+        printed: Some(""),
+        error: "config: missing key poll_list",
+    },
+    Case {
+        line: TWO_TERMINALS_LINE,
+        script: "?",
+        paths: PATHS,
+        check: false,
+        input: "",
+        printed: Some(""),
+        error: "script line 1: not an event",
+    },
+    Case {
+        line: TWO_TERMINALS_LINE,
+        script: "\n#\ncarry\n",
+        paths: PATHS,
+        check: false,
+        input: "",
+        printed: None,
+        error: "script line 3: refused: nothing sent",
+    },
+    Case {
+        line: TWO_TERMINALS_LINE,
+        script: "?",
+        paths: ("line.toml", "-"),
+        check: false,
+        input: "silence\nsilence\n",
+        printed: None,
+        error: "script line 2: refused: a transmission is pending",
+    },
+    Case {
+        line: "?",
+        script: "silence\nlose\nready 9",
+        paths: ("-", "script.txt"),
+        check: false,
+        input: TWO_TERMINALS_LINE,
+        printed: None,
+        error: "script line 3: refused: no such terminal",
+    },
+    Case {
+        line: "",
+        script: "",
+        paths: ("-", "-"),
+        check: false,
+        input: "version = 1",
+        printed: Some(""),
+        error: "CONFIG and SCRIPT cannot both be standard input",
+    },
+];
+
+#[test]
+fn a_run_names_the_first_fault(rt: HostRuntime) -> Result<(), Fail> {
+    assert_eq!(rt; first_wrong(&rt, rt.alloc(), &FAULTS)?, None);
+    Ok(())
+}

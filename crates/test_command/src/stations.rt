@@ -1,0 +1,183 @@
+//! Whole stations by their words, over a connection that is scripted. The octets are those of
+//! docs/PROTOCOL.md.
+
+use crate::machine::{Due, Scene, wrong};
+use std::test::Fail;
+
+/// What terminal 0 hears: a poll, which it answers by a text; ACK1; a selection; a text; EOT.
+const HEARD: &[&[u8]] = &[
+    b"\x16\x16\x04\xFF\x16\x16\xC1\x85\xFF",
+    b"\x16\x16\x10\x31\xFF",
+    b"\x16\x16\x04\xFF\x16\x16\x61\x85\xFF",
+    b"\x16\x16\x02\xC8\x49\x19\x83\x9B\xFF",
+    b"\x16\x16\x04\xFF",
+];
+
+/// These transmissions as socket records.
+const RECORDS: &[&[u8]] = &[
+    b"\x00\x09\x16\x16\x04\xFF\x16\x16\xC1\x85\xFF",
+    b"\x00\x05\x16\x16\x10\x31\xFF",
+    b"\x00\x09\x16\x16\x04\xFF\x16\x16\x61\x85\xFF",
+    b"\x00\x09\x16\x16\x02\xC8\x49\x19\x83\x9B\xFF",
+    b"\x00\x04\x16\x16\x04\xFF",
+];
+
+/// EOT as a socket record, and a part of the next record.
+const CUT: &[&[u8]] = &[b"\x00\x04\x16\x16\x04\xFF", b"\x00\x05\x16\x16"];
+
+/// A length that no record has.
+const WRONG: &[&[u8]] = &[b"\xFF\xFF", &[0x55; 2048], &[0x55; 2048]];
+
+/// What a control station hears that has a record for terminal 0: ACK0, ACK1, and EOT to each poll
+/// of two rounds.
+const ANSWERS: &[&[u8]] = &[
+    b"\x00\x05\x16\x16\x10\xB0\xFF",
+    b"\x00\x05\x16\x16\x10\x31\xFF",
+    b"\x00\x04\x16\x16\x04\xFF",
+    b"\x00\x04\x16\x16\x04\xFF",
+    b"\x00\x04\x16\x16\x04\xFF",
+    b"\x00\x04\x16\x16\x04\xFF",
+];
+
+/// What terminal 0 prints that hears this and has a record to send.
+const TERMINAL: &str = "to 0: HI\nfrom 0: offered 1, known 1\nto 0: spooled 1\n  4849\n";
+
+/// A station: its words after `bscline station line.toml`, what its connection gives and when, and
+/// what comes of it.
+struct Case {
+    words: &'static [&'static str],
+    scene: Scene,
+    due: Due,
+}
+
+const CASES: [Case; 6] = [
+    Case {
+        words: &[
+            "--terminal",
+            "0",
+            "--connect",
+            "h:1",
+            "--offer",
+            "-",
+            "--text",
+        ],
+        scene: Scene {
+            pieces: RECORDS,
+            steps: b"",
+        },
+        due: Due {
+            asking: Some((false, 1, false, false, 3_000, 50)),
+            out: TERMINAL,
+            errors: "",
+            status: 0,
+        },
+    },
+    Case {
+        words: &[
+            "--terminal",
+            "0",
+            "--listen",
+            "h:1",
+            "--raw",
+            "--gap",
+            "7",
+            "--time-out",
+            "9",
+            "--offer",
+            "-",
+            "--text",
+        ],
+        scene: Scene {
+            pieces: HEARD,
+            steps: b"rtrtrtrtrt",
+        },
+        due: Due {
+            asking: Some((true, 1, false, false, 9, 7)),
+            out: TERMINAL,
+            errors: "",
+            status: 0,
+        },
+    },
+    Case {
+        words: &["--terminal", "1", "--connect", "h:1"],
+        scene: Scene {
+            pieces: CUT,
+            steps: b"",
+        },
+        due: Due {
+            asking: Some((false, 1, false, false, 3_000, 50)),
+            out: "from 1: offered 0, known 0\nto 1: spooled 0\n",
+            errors: "bscline: connection closed: the input ended within a record\n",
+            status: 1,
+        },
+    },
+    Case {
+        words: &["--terminal", "1", "--connect", "h:1"],
+        scene: Scene {
+            pieces: WRONG,
+            steps: b"",
+        },
+        due: Due {
+            asking: Some((false, 1, false, false, 3_000, 50)),
+            out: "from 1: offered 0, known 0\nto 1: spooled 0\n",
+            errors: "bscline: connection closed: the length of a record is wrong\n",
+            status: 1,
+        },
+    },
+    Case {
+        words: &[
+            "--control",
+            "--listen",
+            "h:1",
+            "--offer",
+            "0=-",
+            "--idle-rounds",
+            "1",
+        ],
+        scene: Scene {
+            pieces: ANSWERS,
+            steps: b"trrrrrr",
+        },
+        due: Due {
+            asking: Some((true, 2, true, true, 6_000, 50)),
+            out: "from 0: spooled 0\nto 0: offered 1, known 1\nfrom 1: spooled 0\n\
+            to 1: offered 0, known 0\n",
+            errors: "",
+            status: 0,
+        },
+    },
+    Case {
+        words: &[
+            "--control",
+            "--connect",
+            "h:1",
+            "--shared",
+            "--offer",
+            "0=-",
+            "--time-out",
+            "40",
+        ],
+        scene: Scene {
+            pieces: &[],
+            steps: b"t",
+        },
+        due: Due {
+            asking: Some((false, 1, false, true, 80, 50)),
+            out: "from 0: spooled 0\nto 0: offered 1, known 0\nfrom 1: spooled 0\n\
+            to 1: offered 0, known 0\n",
+            errors: "bscline: records not delivered\n",
+            status: 4,
+        },
+    },
+];
+
+/// What each asks for of its machine, prints, tells on standard error, and ends with.
+#[test]
+fn stations_end_as_their_connections_do(rt: HostRuntime) -> Result<(), Fail> {
+    for case in &CASES {
+        let words = (["bscline", "station", "line.toml"].as_slice(), case.words);
+        let different = wrong(rt.alloc(), words, b"HI\n", case.scene, &case.due)?;
+        assert_eq!(rt; different, None);
+    }
+    Ok(())
+}

@@ -1,0 +1,192 @@
+//! What words are read as, and what `clap` prints for them.
+
+use bsc_words::read_words;
+use std::alloc::Global;
+use std::io::Write;
+use std::test::Fail;
+
+/// Words, and what is read of them or printed for them.
+type Row = (&'static [&'static str], &'static str);
+
+/// What the words ask for, or what `clap` prints for them.
+fn answer(alloc: Global, words: &[&str]) -> Result<Vec<u8>, Fail> {
+    let mut out = Vec::new(alloc);
+    match read_words(alloc, words) {
+        Ok(asked) => write!(out, "{asked:?}")?,
+        Err(error) => write!(out, "{error}")?,
+    }
+    Ok(out)
+}
+
+/// The first row of a table that is answered otherwise.
+fn first_wrong(alloc: Global, rows: &[Row]) -> Result<Option<usize>, Fail> {
+    for (place, (words, text)) in rows.iter().enumerate() {
+        if answer(alloc, words)?.as_slice() != text.as_bytes() {
+            return Ok(Some(place));
+        }
+    }
+    Ok(None)
+}
+
+/// What is asked for.
+const ASKED: [Row; 11] = [
+    (
+        &[
+            "bscline",
+            "station",
+            "c",
+            "--control",
+            "--listen",
+            "h:1",
+            "--trace",
+        ],
+        "Station(StationWords { config: \"c\", control: true, terminal: None, \
+listen: Some(\"h:1\"), connect: None, shared: false, raw: false, gap: None, time_out: None, \
+rounds: None, idle_rounds: None, offers: [], text: false, trace: true })",
+    ),
+    (
+        &[
+            "bscline",
+            "station",
+            "--terminal=1",
+            "--connect",
+            "h:1",
+            "--raw",
+            "--gap=9",
+            "--time-out=8",
+            "--offer",
+            "a",
+            "--text",
+            "c",
+            "--offer",
+            "b",
+            "--shared",
+            "--rounds=7",
+            "--idle-rounds",
+            "6",
+        ],
+        "Station(StationWords { config: \"c\", control: false, terminal: Some(\"1\"), \
+listen: None, connect: Some(\"h:1\"), shared: true, raw: true, gap: Some(\"9\"), \
+time_out: Some(\"8\"), rounds: Some(\"7\"), idle_rounds: Some(\"6\"), \
+offers: [\"a\", \"b\"], text: true, trace: false })",
+    ),
+    (&["bscline"], "Names"),
+    (&["bscline", "show"], "Show"),
+    (&["bscline", "name", "161610B0FF"], "Name(\"161610B0FF\")"),
+    (&["bscline", "name", "16 04"], "Name(\"16 04\")"),
+    (&["bscline", "name", ""], "Name(\"\")"),
+    (&["bscline", "name", "--", "-1"], "Name(\"-1\")"),
+    (
+        &["bscline", "run", "c", "s"],
+        "Run { config: \"c\", script: \"s\", check: false }",
+    ),
+    (
+        &["bscline", "run", "--check", "-", "s"],
+        "Run { config: \"-\", script: \"s\", check: true }",
+    ),
+    (&["bscline", "--version"], "bscline 0.1.0\n"),
+];
+
+/// The help of the program.
+const HELP: &str = "Print the names of the transmissions on standard input, one a line
+
+Usage: bscline [COMMAND]
+
+Commands:
+  name     Print the name of one transmission
+  show     Print the names of standard input, with the units of texts
+  run      Run a line over loopback sockets, and print what is on it
+  station  Run one station of a line over TCP
+  help     Print this message or the help of the given subcommand(s)
+
+Options:
+  -h, --help     Print help
+  -V, --version  Print version
+";
+
+/// The help of `name`.
+const NAME_HELP: &str = "Print the name of one transmission
+
+Usage: bscline name <HEX>
+
+Arguments:
+  <HEX>  The octets in hexadecimal text; spaces are dropped
+
+Options:
+  -h, --help  Print help
+";
+
+const HELPED: [Row; 3] = [
+    (&["bscline", "--help"], HELP),
+    (&["bscline", "help"], HELP),
+    (&["bscline", "name", "-h"], NAME_HELP),
+];
+
+/// A word that is no command, one too many and one too few.
+const WRONG: [Row; 5] = [
+    (
+        &["bscline", "poll", "c", "s"],
+        "error: unrecognized subcommand 'poll'
+
+Usage: bscline [COMMAND]
+
+For more information, try '--help'.
+",
+    ),
+    (
+        &["bscline", "run", "c"],
+        "error: the following required arguments were not provided:
+  <SCRIPT>
+
+Usage: bscline run <CONFIG> <SCRIPT>
+
+For more information, try '--help'.
+",
+    ),
+    (
+        &["bscline", "name"],
+        "error: the following required arguments were not provided:
+  <HEX>
+
+Usage: bscline name <HEX>
+
+For more information, try '--help'.
+",
+    ),
+    (
+        &["bscline", "name", "16", "04"],
+        "error: unexpected argument '04' found
+
+Usage: bscline name <HEX>
+
+For more information, try '--help'.
+",
+    ),
+    (
+        &["bscline", "--units"],
+        "error: unexpected argument '--units' found
+
+Usage: bscline [COMMAND]
+
+For more information, try '--help'.
+",
+    ),
+];
+
+#[test]
+fn words_ask_for_their_work(rt: HostRuntime) -> Result<(), Fail> {
+    assert_eq!(rt; first_wrong(rt.alloc(), &ASKED)?, None);
+    Ok(())
+}
+
+#[test]
+fn help_is_printed(rt: HostRuntime) -> Result<(), Fail> {
+    assert_eq!(rt; first_wrong(rt.alloc(), &HELPED)?, None);
+    Ok(())
+}
+
+#[test]
+fn wrong_usage_is_told(rt: HostRuntime) -> Result<(), Fail> {
+    assert_eq!(rt; first_wrong(rt.alloc(), &WRONG)?, None);
+    Ok(())
+}
