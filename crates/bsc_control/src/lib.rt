@@ -20,6 +20,3 @@ mod way;
 pub use control::Control;
 pub use refusal::SetupError;
 pub use way::Way;
-
-#[cfg(test)]
-mod tests;

@@ -14,6 +14,3 @@ mod tributary;
 
 pub use called::addresses_differ;
 pub use tributary::Tributary;
-
-#[cfg(test)]
-mod tests;

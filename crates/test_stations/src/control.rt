@@ -1,0 +1,295 @@
+//! A control station by itself.
+
+mod exchange;
+
+use crate::control::exchange::Step::{
+    AsksForLine, GivesBack, Hears, Known, Owner, Release, Spooled, Takes,
+};
+use crate::control::exchange::{Exchange, play, play_each};
+use crate::hearing::{QUIET, SILENCE};
+use bsc_control::{SetupError, Way};
+use bsc_fixtures::lines::setup;
+use bsc_fixtures::octets::{
+    ACK0, ACK1, CALL_POLL_A, CALL_POLL_B, CALL_SELECT_A, CALL_SELECT_B, CALL_SELECT_C, ENQ, EOT,
+    NAK, RVI, TEXT_EMPTY, TEXT_FIRST_SEVEN, TEXT_HI, TEXT_LAST_SEVEN, WACK,
+};
+use bsc_text::{ReleaseError, Setup};
+use refusing_alloc::{Refusal, Refusing};
+use std::test::Fail;
+
+/// The characters of an empty record.
+const EMPTY: &[u8] = b"";
+
+/// Terminals are polled.
+const POLLS: &[Exchange<'static>] = &[
+    Exchange {
+        shows: "an address is found by its terminal and way",
+        poll_list: &[0, 1],
+        steps: &[
+            Owner(b"A", Some((0, Way::FromTerminal))),
+            Owner(b"a", Some((0, Way::ToTerminal(0)))),
+            Owner(b"c", Some((0, Way::ToTerminal(1)))),
+            Owner(b"B", Some((1, Way::FromTerminal))),
+            Owner(b"b", Some((1, Way::ToTerminal(0)))),
+            Owner(b"C", None),
+        ],
+    },
+    Exchange {
+        shows: "the poll list is gone through",
+        poll_list: &[0, 1],
+        steps: &[
+            Hears(ACK0, QUIET),
+            Hears(SILENCE, CALL_POLL_A),
+            Hears(EOT, CALL_POLL_B),
+            Hears(SILENCE, CALL_POLL_B),
+            Hears(SILENCE, CALL_POLL_B),
+            Hears(SILENCE, CALL_POLL_B),
+            Hears(SILENCE, CALL_POLL_A),
+        ],
+    },
+    Exchange {
+        shows: "an urgent station polls the same entry again",
+        poll_list: &[0, 1],
+        steps: &[
+            AsksForLine(0),
+            Hears(SILENCE, CALL_POLL_A),
+            Hears(TEXT_HI, RVI),
+            Hears(EOT, CALL_POLL_A),
+            Hears(TEXT_HI, ACK1),
+            Hears(EOT, CALL_POLL_B),
+            Spooled(&[b"HI", b"HI"]),
+        ],
+    },
+];
+
+/// Terminals are selected, and take the records for them.
+const SELECTIONS: &[Exchange<'static>] = &[
+    Exchange {
+        shows: "seven records go in one block",
+        poll_list: &[0, 1],
+        steps: &[
+            Takes(0, 0, &[EMPTY; 7]),
+            Hears(SILENCE, CALL_SELECT_A),
+            Hears(ACK0, TEXT_LAST_SEVEN),
+            Hears(ACK1, CALL_POLL_A),
+            Known(7, false),
+        ],
+    },
+    Exchange {
+        shows: "an eighth record goes in a second block",
+        poll_list: &[0, 1],
+        steps: &[
+            Takes(0, 0, &[EMPTY; 8]),
+            Hears(SILENCE, CALL_SELECT_A),
+            Hears(ACK0, TEXT_FIRST_SEVEN),
+            Hears(ACK1, TEXT_EMPTY),
+            Hears(ACK0, CALL_POLL_A),
+            Known(8, false),
+        ],
+    },
+    Exchange {
+        shows: "a bid that is interrupted goes on in the next round",
+        poll_list: &[0, 1],
+        steps: &[
+            Takes(0, 0, &[EMPTY; 8]),
+            Hears(SILENCE, CALL_SELECT_A),
+            Hears(ACK0, TEXT_FIRST_SEVEN),
+            Hears(RVI, CALL_POLL_A),
+            Hears(TEXT_HI, ACK1),
+            Hears(EOT, CALL_POLL_B),
+            Hears(EOT, CALL_SELECT_A),
+            Hears(ACK0, TEXT_EMPTY),
+            Known(7, false),
+            Spooled(&[b"HI"]),
+        ],
+    },
+    Exchange {
+        shows: "each selection address is called in turn",
+        poll_list: &[0, 1],
+        steps: &[
+            Takes(0, 0, &[b"HI"]),
+            Takes(0, 1, &[EMPTY]),
+            Hears(SILENCE, CALL_SELECT_A),
+            Hears(ACK0, TEXT_HI),
+            Hears(ACK1, CALL_SELECT_C),
+            Hears(ACK0, TEXT_EMPTY),
+            Hears(ACK1, CALL_POLL_A),
+            Hears(EOT, CALL_POLL_B),
+            Hears(EOT, CALL_POLL_A),
+        ],
+    },
+    Exchange {
+        shows: "a repeated selection keeps the urgent flag",
+        poll_list: &[0, 1],
+        steps: &[
+            Takes(0, 0, &[b"HI"]),
+            Hears(SILENCE, CALL_SELECT_A),
+            AsksForLine(0),
+            Hears(SILENCE, CALL_SELECT_A),
+            Hears(ACK0, TEXT_HI),
+            Hears(ACK1, CALL_POLL_A),
+            Hears(TEXT_HI, RVI),
+        ],
+    },
+    Exchange {
+        shows: "a refused selection leaves no doubt",
+        poll_list: &[0, 1],
+        steps: &[
+            Takes(0, 0, &[b"HI"]),
+            Hears(SILENCE, CALL_SELECT_A),
+            Hears(NAK, CALL_POLL_A),
+            Hears(EOT, CALL_POLL_B),
+            Known(0, false),
+        ],
+    },
+    Exchange {
+        shows: "a selection waits for room",
+        poll_list: &[0, 1],
+        steps: &[
+            Takes(0, 0, &[b"HI"]),
+            Hears(SILENCE, CALL_SELECT_A),
+            Hears(WACK, ENQ),
+            Hears(SILENCE, ENQ),
+            Hears(ACK0, TEXT_HI),
+        ],
+    },
+    Exchange {
+        shows: "seven records wait for room",
+        poll_list: &[0, 1],
+        steps: &[
+            Takes(0, 0, &[EMPTY; 7]),
+            Hears(SILENCE, CALL_SELECT_A),
+            Hears(WACK, ENQ),
+            Hears(ACK0, TEXT_LAST_SEVEN),
+            Hears(ACK1, CALL_POLL_A),
+            Known(7, false),
+        ],
+    },
+];
+
+/// One failure is borne.
+const FAILURES: &[Exchange<'static>] = &[
+    Exchange {
+        shows: "a terminal that does not answer is left",
+        poll_list: &[1, 0],
+        steps: &[
+            Takes(1, 0, &[b"HI"]),
+            Takes(0, 0, &[b"HI"]),
+            Hears(SILENCE, CALL_SELECT_B),
+            Hears(ACK0, TEXT_HI),
+            Hears(ACK1, CALL_POLL_B),
+            Hears(SILENCE, CALL_POLL_B),
+            Hears(SILENCE, CALL_SELECT_A),
+            Hears(SILENCE, CALL_SELECT_A),
+            Hears(ACK0, TEXT_HI),
+            Hears(ACK1, CALL_POLL_A),
+        ],
+    },
+    Exchange {
+        shows: "a doubtful block waits for its release",
+        poll_list: &[0, 1],
+        steps: &[
+            Takes(0, 0, &[b"HI"]),
+            Hears(SILENCE, CALL_SELECT_A),
+            Hears(ACK0, TEXT_HI),
+            Hears(SILENCE, ENQ),
+            Hears(SILENCE, CALL_POLL_A),
+            Hears(EOT, CALL_POLL_B),
+            Hears(EOT, CALL_POLL_A),
+            Known(0, true),
+            Release(2, Err(ReleaseError::CountMismatch)),
+            Release(1, Ok(())),
+            Release(1, Err(ReleaseError::NotInDoubt)),
+            Known(1, false),
+        ],
+    },
+];
+
+#[test]
+fn terminals_are_polled_in_turn(rt: HostRuntime) -> Result<(), Fail> {
+    play_each(rt.alloc(), setup(3)?, POLLS)?;
+    Ok(())
+}
+
+#[test]
+fn records_go_to_selected_terminals(rt: HostRuntime) -> Result<(), Fail> {
+    play_each(rt.alloc(), setup(3)?, SELECTIONS)?;
+    Ok(())
+}
+
+#[test]
+fn failures_are_borne_as_often_as_is_set(rt: HostRuntime) -> Result<(), Fail> {
+    play_each(rt.alloc(), setup(1)?, FAILURES)?;
+    Ok(())
+}
+
+/// Nothing happens at a new station.
+const NEW: Exchange<'static> = Exchange {
+    shows: "a new station takes memory",
+    poll_list: &[0, 1],
+    steps: &[],
+};
+
+/// The first growth after those of a new station is refused.
+const REFUSED_GROWTHS: &[Exchange<'static>] = &[
+    Exchange {
+        shows: "a refused growth delays a text",
+        poll_list: &[0, 1],
+        steps: &[
+            Hears(SILENCE, CALL_POLL_A),
+            Hears(TEXT_HI, NAK),
+            Hears(TEXT_HI, ACK1),
+            Hears(EOT, CALL_POLL_B),
+            Spooled(&[b"HI"]),
+        ],
+    },
+    Exchange {
+        shows: "an offer without memory changes nothing",
+        poll_list: &[0, 1],
+        steps: &[
+            GivesBack(b"HI"),
+            Hears(SILENCE, CALL_POLL_A),
+            Takes(0, 0, &[b"HI"]),
+        ],
+    },
+];
+
+/// Plays these exchanges, in each of which the growth of this number is refused: what the first one
+/// that goes otherwise, or in which none is refused, shows.
+fn play_without(alloc: &Refusing, setup: Setup, growth: usize) -> Result<(), &'static str> {
+    for exchange in REFUSED_GROWTHS {
+        alloc.refuse_nth(growth);
+        if play(alloc, setup, exchange) != Ok(None) || alloc.refused() != 1 {
+            return Err(exchange.shows);
+        }
+    }
+    Ok(())
+}
+
+#[test]
+fn a_refused_growth_changes_only_a_reply(rt: HostRuntime) -> Result<(), Fail> {
+    let alloc = Refusing::new(rt.alloc());
+    let setup = setup(3)?;
+    play(&alloc, setup, &NEW)?;
+    play_without(&alloc, setup, alloc.requests().saturating_add(1))?;
+    Ok(())
+}
+
+/// Whether a new station is made exactly where no growth is refused.
+fn is_made_of_memory(alloc: &Refusing, setup: Setup) -> bool {
+    match play(alloc, setup, &NEW) {
+        Ok(_) => alloc.refused() == 0,
+        Err(error) => alloc.refused() > 0 && error == SetupError::Memory,
+    }
+}
+
+#[test]
+fn each_growth_of_a_new_station_is_refused_in_turn(rt: HostRuntime) -> Result<(), Fail> {
+    let alloc = Refusing::new(rt.alloc());
+    let setup = setup(3)?;
+    for request in alloc.in_turn(Refusal::Nth, 1..99) {
+        request?;
+        assert!(rt; is_made_of_memory(&alloc, setup));
+    }
+    Ok(())
+}

@@ -1,0 +1,188 @@
+//! Exchanges of a control station as tables.
+
+ghost use Rattle.std.specs.Prelude.{◌<◌, IsTrue, length};
+ghost use Rattle.bsc_control.specs.Control.{peer_at};
+
+use crate::hearing::sends;
+use bsc_block::Record;
+use bsc_control::{Control, SetupError, Way};
+use bsc_fixtures::lines::two_terminals_by_three;
+use bsc_fixtures::records::are_records;
+use bsc_frame::Address;
+use bsc_text::{ReleaseError, Setup, Station};
+use std::alloc::Allocator;
+
+/// A step of an exchange. A release, and what is known, are those of the first selection address of
+/// terminal 0.
+pub(crate) enum Step<'a> {
+    /// These octets are heard, or a silence where there are none, and those are sent, or none.
+    Hears(&'a [u8], &'a [u8]),
+
+    /// These records are taken for this selection address of a terminal.
+    Takes(usize, usize, &'a [&'a [u8]]),
+
+    /// A record for the first selection address of terminal 0 comes back as it was.
+    GivesBack(&'a [u8]),
+
+    /// The control station asks this terminal for the line.
+    AsksForLine(usize),
+
+    /// The doubt is ended with this count, which is answered so.
+    Release(usize, Result<(), ReleaseError>),
+
+    /// How many records are known to have arrived, and whether the last block is in doubt.
+    Known(usize, bool),
+
+    /// Exactly these records arrived from terminal 0.
+    Spooled(&'a [&'a [u8]]),
+
+    /// The terminal and the way whose address these codes are.
+    Owner(&'a [u8], Option<(usize, Way)>),
+}
+
+/// An exchange of a new control station with two terminals, where terminal 0 has two selection
+/// addresses.
+pub(crate) struct Exchange<'a> {
+    /// What it shows.
+    pub(crate) shows: &'a str,
+
+    /// The poll list.
+    pub(crate) poll_list: &'a [u8],
+
+    /// What happens, and what comes of it.
+    pub(crate) steps: &'a [Step<'a>],
+}
+
+/// Whether the control station has such a selection address.
+fn has_address<A: Allocator>(control: &Control<A>, terminal: usize, select: usize) -> bool
+    ensures terminal { IsTrue result → terminal < length control.now.peers }
+    ensures select { IsTrue result → select < length (peer_at control.now terminal).outbounds }
+{
+    terminal < control.terminals() && select < control.addresses(terminal)
+}
+
+/// Offers a record for a selection address: whether it is taken, or comes back as it was. None
+/// where there is no such record or address, or another record comes back.
+fn offers<A: Allocator>(
+    control: &mut Control<A>,
+    terminal: usize,
+    select: usize,
+    chars: &[u8],
+) -> Option<bool> {
+    let record = Record::read(chars, control.setup().format().full()).ok()?;
+    if !has_address(control, terminal, select) {
+        return None;
+    }
+    match control.offer(terminal, select, record) {
+        Ok(()) => Some(true),
+        Err(record) if record.chars() == chars => Some(false),
+        Err(_) => None,
+    }
+}
+
+/// Offers these records for a selection address: whether each of them is taken.
+fn takes<A: Allocator>(
+    control: &mut Control<A>,
+    terminal: usize,
+    select: usize,
+    records: &[&[u8]],
+) -> bool {
+    for chars in records {
+        if offers(control, terminal, select, chars) != Some(true) {
+            return false;
+        }
+    }
+    true
+}
+
+/// Asks a terminal for the line, if there is such a terminal.
+fn asks_for_line<A: Allocator>(control: &mut Control<A>, terminal: usize) -> bool {
+    let is_there = terminal < control.terminals();
+    if is_there {
+        control.set_urgent(terminal);
+    }
+    is_there
+}
+
+/// Ends the doubt of the first selection address of terminal 0. None where there is no such
+/// address.
+fn released<A: Allocator>(
+    control: &mut Control<A>,
+    count: usize,
+) -> Option<Result<(), ReleaseError>> {
+    if !has_address(control, 0, 0) {
+        return None;
+    }
+    Some(control.release(0, Way::ToTerminal(0), count))
+}
+
+/// How many records for the first selection address of terminal 0 are known to have arrived, and
+/// whether the last block is in doubt. None where there is no such address.
+fn known<A: Allocator>(control: &Control<A>) -> Option<(usize, bool)> {
+    if !has_address(control, 0, 0) {
+        return None;
+    }
+    let known = control.queue(0, 0).known();
+    Some((known, control.in_doubt(0, Way::ToTerminal(0))))
+}
+
+/// Whether exactly these records arrived from terminal 0.
+fn has_spooled<A: Allocator>(control: &Control<A>, records: &[&[u8]]) -> bool {
+    control.terminals() > 0 && are_records(control.spool(0).records(), records)
+}
+
+/// The terminal and the way whose address these codes are.
+fn owner<A: Allocator>(control: &Control<A>, codes: &[u8]) -> Option<(usize, Way)> {
+    let address = Address::read(codes).ok()?;
+    control.find(&address)
+}
+
+/// Whether a step goes so.
+fn goes<A: Allocator>(control: &mut Control<A>, step: &Step<'_>) -> bool {
+    match step {
+        Step::Hears(heard, sent) => sends(control, heard, sent),
+        Step::Takes(terminal, select, records) => takes(control, *terminal, *select, records),
+        Step::GivesBack(chars) => offers(control, 0, 0, chars) == Some(false),
+        Step::AsksForLine(terminal) => asks_for_line(control, *terminal),
+        Step::Release(count, answer) => released(control, *count) == Some(*answer),
+        Step::Known(count, in_doubt) => known(control) == Some((*count, *in_doubt)),
+        Step::Spooled(records) => has_spooled(control, records),
+        Step::Owner(codes, expected) => owner(control, codes) == *expected,
+    }
+}
+
+/// The place of the first step that goes otherwise.
+fn wrong_step<A: Allocator>(control: &mut Control<A>, steps: &[Step<'_>]) -> Option<usize> {
+    for (place, step) in steps.iter().enumerate() {
+        if !goes(control, step) {
+            return Some(place);
+        }
+    }
+    None
+}
+
+/// Plays an exchange: the place of the first step that goes otherwise.
+pub(crate) fn play<A: Allocator + Copy>(
+    alloc: A,
+    setup: Setup,
+    exchange: &Exchange<'_>,
+) -> Result<Option<usize>, SetupError> {
+    let terminals = two_terminals_by_three();
+    let mut control = Control::new(alloc, setup, &terminals, exchange.poll_list)?;
+    Ok(wrong_step(&mut control, exchange.steps))
+}
+
+/// Plays these exchanges: what the first one that goes otherwise shows, and what its play gave.
+pub(crate) fn play_each<'a, A: Allocator + Copy>(
+    alloc: A,
+    setup: Setup,
+    exchanges: &[Exchange<'a>],
+) -> Result<(), (&'a str, Result<Option<usize>, SetupError>)> {
+    for exchange in exchanges {
+        let played = play(alloc, setup, exchange);
+        if played != Ok(None) {
+            return Err((exchange.shows, played));
+        }
+    }
+    Ok(())
+}

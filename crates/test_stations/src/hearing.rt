@@ -1,0 +1,34 @@
+//! What a station of either kind sends once it has heard octets, or a silence.
+
+ghost use Rattle.std.specs.Prelude.{◌⊎◌, Option};
+ghost use Rattle.bsc_frame.specs.declared.message.Message.{Message as MessageValue};
+ghost use Rattle.bsc_frame.specs.declared.message.Heard.{Heard as HeardValue};
+
+use bsc_frame::Wire;
+use bsc_text::Station;
+
+/// Nothing is heard for the time of a time-out.
+pub(crate) const SILENCE: &[u8] = &[];
+
+/// Nothing is sent.
+pub(crate) const QUIET: &[u8] = &[];
+
+/// An octet with which nothing that is sent begins.
+const NO_TRANSMISSION: u8 = 0x55;
+
+/// Whether a station that hears these octets, or a silence where there are none, sends exactly the
+/// expected ones, and answers whether it sends any. The wire has an octet before.
+pub(crate) fn sends<S: Station>(station: &mut S, heard: &[u8], expected: &[u8]) -> bool
+    ensures { ((heard : HeardValue) × ((sent : Option MessageValue)
+        × S.hears station.old heard station.new sent))
+        ⊎ ((sent : Option MessageValue) × S.acts station.old station.new sent) }
+{
+    let mut wire = Wire::new();
+    wire.push(NO_TRANSMISSION);
+    let sends = if heard.is_empty() {
+        station.silence(&mut wire)
+    } else {
+        station.hear(heard, &mut wire)
+    };
+    sends != expected.is_empty() && wire.as_slice() == expected
+}

@@ -1,0 +1,141 @@
+//! Exchanges of a terminal as tables.
+
+ghost use Rattle.std.specs.Prelude.{◌≡◌, ◌≤◌, ◌<◌, IfOk, length};
+
+use crate::hearing::sends;
+use bsc_block::Record;
+use bsc_fixtures::lines::{setup, two_terminals_by_three};
+use bsc_fixtures::records::are_records;
+use bsc_text::{ReleaseError, Setup, Station};
+use bsc_tributary::{Tributary, addresses_differ};
+use std::alloc::Allocator;
+
+/// A step of an exchange.
+pub(crate) enum Step<'a> {
+    /// These octets are heard, or a silence where there are none, and those are sent, or none.
+    Hears(&'a [u8], &'a [u8]),
+
+    /// The record HI is offered: whether it is taken, or comes back as it was.
+    OfferHi(bool),
+
+    /// From here on the terminal takes selections, or does not.
+    Ready(bool),
+
+    /// The terminal asks for the line.
+    AsksForLine,
+
+    /// Whether the terminal acts on a silence.
+    HoldsLine(bool),
+
+    /// The doubt is ended with this count, which is answered so.
+    Release(usize, Result<(), ReleaseError>),
+
+    /// How many of its records are known to have arrived, and whether its last block is in doubt.
+    Known(usize, bool),
+
+    /// Exactly these records arrived by selections of the address of this number.
+    Spooled(usize, &'a [&'a [u8]]),
+}
+
+/// An exchange of a new terminal, which is polled by A and selected by a and c, with a control
+/// station.
+pub(crate) struct Exchange<'a> {
+    /// What it shows.
+    pub(crate) shows: &'a str,
+
+    /// What happens, and what comes of it.
+    pub(crate) steps: &'a [Step<'a>],
+}
+
+/// Offers the record HI: whether it is taken, or comes back as it was. None where another record
+/// comes back.
+fn offers_hi<A: Allocator>(tributary: &mut Tributary<A>) -> Option<bool>
+    requires { tributary.old.queue.format.full ≡ 80 }
+    ensures terminal { tributary.new.terminal ≡ tributary.old.terminal }
+    ensures full { tributary.new.queue.format.full ≡ 80 }
+{
+    let record = Record::read(b"HI", 80).ok()?;
+    match tributary.offer(record) {
+        Ok(()) => Some(true),
+        Err(record) if record.chars() == b"HI".as_slice() => Some(false),
+        Err(_) => None,
+    }
+}
+
+/// Whether exactly these records arrived by selections of the address of this number, which is 0 or
+/// 1.
+fn has_spooled<A: Allocator>(tributary: &Tributary<A>, select: usize, records: &[&[u8]]) -> bool
+    requires { length tributary.now.terminal.selects ≡ 2 }
+{
+    select < 2 && are_records(tributary.spool(select).records(), records)
+}
+
+/// Whether a step goes so.
+fn goes<A: Allocator>(tributary: &mut Tributary<A>, step: &Step<'_>) -> bool
+    requires selects { length tributary.old.terminal.selects ≡ 2 }
+    requires full { tributary.old.queue.format.full ≡ 80 }
+    ensures selects { length tributary.new.terminal.selects ≡ 2 }
+    ensures full { tributary.new.queue.format.full ≡ 80 }
+{
+    match step {
+        Step::Hears(heard, sent) => sends(tributary, heard, sent),
+        Step::OfferHi(taken) => offers_hi(tributary) == Some(*taken),
+        Step::Ready(ready) => {
+            tributary.set_ready(*ready);
+            true
+        }
+        Step::AsksForLine => {
+            tributary.set_urgent();
+            true
+        }
+        Step::HoldsLine(holds) => tributary.holds_line() == *holds,
+        Step::Release(count, answer) => tributary.release(*count) == *answer,
+        Step::Known(known, in_doubt) => {
+            (tributary.queue().known(), tributary.in_doubt()) == (*known, *in_doubt)
+        }
+        Step::Spooled(select, records) => has_spooled(tributary, *select, records),
+    }
+}
+
+/// The place of the first step that goes otherwise.
+fn wrong_step<A: Allocator>(tributary: &mut Tributary<A>, steps: &[Step<'_>]) -> Option<usize>
+    requires selects { length tributary.old.terminal.selects ≡ 2 }
+    requires full { tributary.old.queue.format.full ≡ 80 }
+{
+    for (place, step) in steps.iter().enumerate() {
+        if !goes(tributary, step) {
+            return Some(place);
+        }
+    }
+    None
+}
+
+/// Plays an exchange: the place of the first step that goes otherwise.
+pub(crate) fn play<A: Allocator + Copy>(
+    alloc: A,
+    setup: Setup,
+    exchange: &Exchange<'_>,
+) -> Option<usize>
+    requires { setup.format.full ≡ 80 }
+{
+    let [terminal, _] = two_terminals_by_three();
+    let mut tributary = Tributary::new(alloc, setup, terminal);
+    wrong_step(&mut tributary, exchange.steps)
+}
+
+/// Plays these exchanges: what the first one that goes otherwise shows, and the place of the first
+/// step that does.
+pub(crate) fn play_each<'a, A: Allocator + Copy>(
+    alloc: A,
+    setup: Setup,
+    exchanges: &[Exchange<'a>],
+) -> Result<(), (&'a str, usize)>
+    requires { setup.format.full ≡ 80 }
+{
+    for exchange in exchanges {
+        if let Some(place) = play(alloc, setup, exchange) {
+            return Err((exchange.shows, place));
+        }
+    }
+    Ok(())
+}
