@@ -2,9 +2,20 @@ use Rattle.std.proofs.Common.{◌<◌, length, sym, ◌∙◌, ap}
 use Rattle.bsc_control.specs.Addresses.{numbered}
 use Rattle.bsc_control.specs.Control.{peer_at}
 use Rattle.bsc_control.proofs.Controls.{keeps_outbound_offer}
+use Rattle.bsc_control.proofs.Entries.{peer_with_outbound, entries_with_peer}
 use Rattle.bsc_control.proofs.Reached.{peer_reached, outbound_reached, stays_reached}
 use Rattle.bsc_control.proofs.Reached.{unchanged_reached}
 use Rattle.bsc_control.proofs.control.Control.offer.Goals as goal
+
+pub invariant_of-peer : goal.invariant_of-peer
+invariant_of-peer g c =
+    peer_with_outbound _ c.args.select c.offer.new.self c.offer.ensures.outbound c.peer.invariant
+
+pub invariant_of-procedure : goal.invariant_of-procedure
+invariant_of-procedure g c =
+    let peer =
+    peer_with_outbound _ c.args.select c.offer.new.self c.offer.ensures.outbound c.peer.invariant in
+    entries_with_peer _ c.args.terminal _ peer c.procedure.invariant
 
 pub invariant_of-self : goal.invariant_of-self
 invariant_of-self g c =

@@ -6,6 +6,11 @@ use Rattle.bsc_control.proofs.Entries.{peer_with_outbound, entries_with_peer}
 use Rattle.bsc_control.proofs.Reached.{peer_reached, outbound_reached, stays_reached}
 use Rattle.bsc_control.proofs.control.Control.release.Goals as goal
 
+pub invariant_of-peer : goal.invariant_of-peer
+invariant_of-peer g c =
+    peer_with_outbound _ c.select.result c.release.new.self c.release.ensures.outbound
+    c.peer.invariant
+
 pub invariant_of-procedure : goal.invariant_of-procedure
 invariant_of-procedure g c =
     let peer =
