@@ -1,8 +1,9 @@
 -- What a station's invariants say of its parts stays where one of the parts is replaced.
-use Rattle.std.proofs.Common.{ℕ, ◌<◌, sym, ◌∙◌, subst}
+use Rattle.std.proofs.Common.{ℕ, Bool, ◌<◌, sym, ◌∙◌, subst}
 use Rattle.std.proofs.lemmas.List.{length-set}
 use Rattle.std.proofs.lemmas.List.Elements.{All-set}
 use Rattle.std.specs.List.{All}
+use Rattle.bsc_text.specs.Receiver.{ReceiverValue}
 use Rattle.bsc_control.specs.Control.{ControlValue, HasEntries, with_peer}
 use Rattle.bsc_control.specs.Peer.{OutboundValue, PeerValue, IsOutbound, IsPeer, with_outbound}
 
@@ -14,6 +15,16 @@ peer_with_outbound p s o is h =
       outbounds = length-set p.outbounds s o ∙ h.outbounds;
       ready = All-set IsOutbound p.outbounds s o is h.ready;
     }
+
+pub peer_with_receiver : (p : PeerValue) (r : ReceiverValue) → IsPeer p
+    → IsPeer (record p { receiver = r })
+peer_with_receiver p r h =
+    record { terminal = h.terminal; outbounds = h.outbounds; ready = h.ready }
+
+pub peer_with_flag : (p : PeerValue) (urgent : Bool) → IsPeer p
+    → IsPeer (record p { urgent = urgent })
+peer_with_flag p urgent h =
+    record { terminal = h.terminal; outbounds = h.outbounds; ready = h.ready }
 
 pub entries_with_peer : (c : ControlValue) (t : ℕ) (p : PeerValue) → IsPeer p → HasEntries c
     → HasEntries (with_peer c t p)

@@ -80,16 +80,21 @@ invariant_of-result g c =
       peers = c.loop-terminal.invariant.peers;
     }
 
-pub returns-clause-entries : goal.returns-clause-entries
-returns-clause-entries g c =
+pub returns-clause-value : goal.returns-clause-value
+returns-clause-value g c =
     record {
-      place =
-          subst (λ (xs : List ℕ). 0 < length xs) (sym c.in_ok-from_slice.ensures.items)
-          c.requires.some;
-      entries =
-          entries_of c.args.terminals.now c.loop-terminal.terminal-index c.loop-terminal.peers.items
-          c.args.poll_list.now c.in_ok-from_slice.field-0.items c.loop-terminal.invariant.made
-          c.loop-terminal-test.false
-          c.in_ok-from_slice.ensures.items c.requires.entries;
-      peers = c.loop-terminal.invariant.peers;
+      setup_given = refl;
+      poll_list_given = c.in_ok-from_slice.ensures.items;
+      terminals_given =
+          c.loop-terminal.invariant.made
+          ∙ take_all c.loop-terminal.terminal-index c.args.terminals.now
+          c.loop-terminal-test.false;
+      place = refl;
+      task = refl;
+      failures = refl;
+      wacks = refl;
+      peers = c.loop-terminal.invariant.fresh;
     }
+
+pub returns-clause-entries : goal.returns-clause-entries
+returns-clause-entries g c = invariant_of-result g c
