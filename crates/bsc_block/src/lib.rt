@@ -12,6 +12,3 @@ pub use block::{Block, unpack};
 pub use format::{Format, FormatError};
 pub use packing::{build, pack};
 pub use record::{Record, RecordError};
-
-#[cfg(test)]
-mod tests;

@@ -27,10 +27,3 @@ pub use encoder::{Wire, encode};
 pub use message::{Heard, Message};
 pub use short::{Short, decode_short};
 pub use text::{End, Text, Unit};
-
-#[cfg(test)]
-mod plain;
-#[cfg(test)]
-mod spoiled;
-#[cfg(test)]
-mod tests;

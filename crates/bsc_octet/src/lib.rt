@@ -13,6 +13,3 @@ mod record_chars;
 pub use longitudinal::sum;
 pub use parity::{all_odd, from_line, to_line};
 pub use record_chars::is_record_char;
-
-#[cfg(test)]
-mod tests;

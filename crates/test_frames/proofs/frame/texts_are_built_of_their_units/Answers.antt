@@ -1,7 +1,7 @@
 -- H and I are record characters.
 use Rattle.std.proofs.Common.{arith, refl}
 use Rattle.bsc_octet.specs.Octet.{is_record_char}
-use Rattle.bsc_frame.proofs.tests.units_are_checked_one_by_one.Goals as goal
+use Rattle.test_frames.proofs.frame.texts_are_built_of_their_units.Goals as goal
 
 pub of-text-requires-clause-each : goal.of-text-requires-clause-each
 unfolding is_record_char

@@ -1,0 +1,201 @@
+//! Records and blocks by hand.
+ghost use Rattle.std.specs.Prelude.{◌≡◌, ◌≤◌, IfOk, length};
+ghost use Rattle.bsc_block.specs.Blocks.{AreShort};
+
+use bsc_block::{Block, Format, FormatError, Record, RecordError, build, pack, unpack};
+use bsc_frame::limits::MAX_UNITS;
+use bsc_frame::{End, Heard, Message, Text, Wire, decode, encode};
+use std::test::Fail;
+
+/// Two numbers, and what a format of them is refused for.
+const FORMATS: &[(u8, u16, Option<FormatError>)] = &[
+    (0, 145, Some(FormatError::Full)),
+    (145, 400, Some(FormatError::Full)),
+    (144, 145, Some(FormatError::BlockChars)),
+    (144, 401, Some(FormatError::BlockChars)),
+    (1, 146, None),
+    (144, 400, None),
+];
+
+/// Codes, and what a record of them is refused for where the full length is 80.
+const RECORDS: &[(&[u8], Option<RecordError>)] = &[
+    (&[0x19; 81], Some(RecordError::TooLong)),
+    (&[0x19], Some(RecordError::NotText(0))),
+    (&[0x41, 0x80], Some(RecordError::NotText(1))),
+    (&[0x41; 80], None),
+    (&[], None),
+];
+
+/// The text of the record HI, which is not full: EM follows it.
+const HI: &[u8] = &[0x16, 0x16, 0x02, 0xc8, 0x49, 0x19, 0x83, 0x9b, 0xff];
+
+/// The text of the record HI where the full length is 2.
+const FULL_HI: &[u8] = &[0x16, 0x16, 0x02, 0xc8, 0x49, 0x83, 0x02, 0xff];
+
+/// The text of a form feed, whose check is the octet of SYN.
+const FORM_FEED: &[u8] = &[0x16, 0x16, 0x02, 0x8c, 0x19, 0x83, 0x16, 0xff];
+
+/// The text of HI with EM, and of a unit of EM alone.
+const TWO_UNITS: &[u8] = &[
+    0x16, 0x16, 0x02, 0xc8, 0x49, 0x19, 0x1f, 0x07, 0x19, 0x83, 0x1a, 0xff,
+];
+
+// Whether a format of these numbers is refused for this.
+fn is_format(full: u8, block_chars: u16, why: Option<FormatError>) -> bool {
+    match Format::new(full, block_chars) {
+        Ok(format) => why.is_none() && format.full() == full,
+        Err(other) => why == Some(other),
+    }
+}
+
+// Whether a record of these codes is refused for this.
+fn is_record(codes: &[u8], why: Option<RecordError>) -> bool {
+    match Record::read(codes, 80) {
+        Ok(record) => why.is_none() && record.chars() == codes,
+        Err(other) => why == Some(other),
+    }
+}
+
+#[test]
+fn formats_have_limits(rt: HostRuntime) {
+    for (full, block_chars, why) in FORMATS {
+        assert!(rt;
+            is_format(*full, *block_chars, *why),
+            "{full}, {block_chars}"
+        );
+    }
+}
+
+#[test]
+fn records_are_read(rt: HostRuntime) {
+    for (codes, why) in RECORDS {
+        assert!(rt; is_record(codes, *why), "{codes:?}");
+    }
+}
+
+// A record of `count` letters A.
+fn letters(count: usize) -> Result<Record, RecordError>
+    requires { count ≤ 80 }
+    ensures { IfOk result (λ r. length r ≤ 80) }
+{
+    Record::read(&[0x41; 80][..count], 80)
+}
+
+// How many of four records of 80 letters A and one of `count` are packed.
+fn packed(count: usize, format: Format) -> Result<usize, RecordError>
+    requires count { count ≤ 80 }
+    requires full { format.full ≡ 80 }
+{
+    let records = [
+        letters(80)?,
+        letters(80)?,
+        letters(80)?,
+        letters(80)?,
+        letters(count)?,
+    ];
+    Ok(pack(&records, format))
+}
+
+#[test]
+fn a_block_takes_what_counts_400(rt: HostRuntime) -> Result<(), Fail> {
+    let format = Format::new(80, 400)?;
+    for (count, taken) in [(80, 4), (75, 4), (74, 5)] {
+        assert_eq!(rt; packed(count, format)?, taken);
+    }
+    Ok(())
+}
+
+// What is sent for the text of the records.
+fn wire_of(records: &[Record], format: Format) -> Wire
+    requires some { 1 ≤ length records.now }
+    requires few { length records.now ≤ MAX_UNITS }
+    requires short { AreShort format.full records.now }
+{
+    let mut message = None;
+    build(records, format, End::Etx, &mut message);
+    let mut wire = Wire::new();
+    if let Some(message) = &message {
+        encode(message, &mut wire);
+    }
+    wire
+}
+
+// Whether these octets are sent for the text of the record of these codes.
+fn is_sent(codes: &[u8], full: u8, octets: &[u8]) -> bool
+    requires low { 1 ≤ full }
+    requires high { full ≤ 144 }
+{
+    match (Format::new(full, 400), Record::read(codes, full)) {
+        (Ok(format), Ok(record)) => wire_of(&[record], format).as_slice() == octets,
+        _ => false,
+    }
+}
+
+#[test]
+fn records_are_built_and_sent(rt: HostRuntime) {
+    assert!(rt; is_sent(b"HI", 80, HI));
+    assert!(rt; is_sent(b"HI", 2, FULL_HI));
+    assert!(rt; is_sent(b"\x0c", 80, FORM_FEED));
+}
+
+#[test]
+fn several_records_are_one_text(rt: HostRuntime) -> Result<(), Fail> {
+    let format = Format::new(80, 400)?;
+    let records = [Record::read(b"HI", 80)?, Record::read(b"", 80)?];
+    assert_eq!(rt; wire_of(&records, format).as_slice(), TWO_UNITS);
+    Ok(())
+}
+
+// The text of these octets.
+fn text_of(octets: &[u8]) -> Option<Text> {
+    match decode(octets) {
+        Heard::Whole(Message::Text(text)) => Some(text),
+        _ => None,
+    }
+}
+
+// Whether the block holds these records.
+fn holds(block: &Block<'_>, records: &[&[u8]]) -> bool {
+    for place in 0..block.count() {
+        if records.get(place) != Some(&block.chars(place)) {
+            return false;
+        }
+    }
+    block.count() == records.len()
+}
+
+// Whether the octets are heard as a text of these records.
+fn carries(octets: &[u8], records: &[&[u8]]) -> bool {
+    match &decode(octets) {
+        Heard::Whole(Message::Text(text)) => holds(&unpack(text), records),
+        _ => false,
+    }
+}
+
+#[test]
+fn units_hold_records(rt: HostRuntime) {
+    assert!(rt; carries(TWO_UNITS, &[b"HI", b""]));
+    // A unit without characters and EM holds no record.
+    assert!(rt; carries(&[0x16, 0x16, 0x02, 0x83, 0x83, 0xff], &[]));
+}
+
+#[test]
+fn received_records_may_be_longer_than_sent_ones(rt: HostRuntime) {
+    let mut octets = [0xc1; 150];
+    octets[..3].copy_from_slice(&[0x16, 0x16, 0x02]);
+    octets[147..].copy_from_slice(&[0x83, 0x83, 0xff]);
+    assert!(rt; carries(&octets, &[&[0x41; 144]]));
+}
+
+#[test]
+fn the_records_of_a_block_outlive_it(rt: HostRuntime) -> Result<(), Fail> {
+    let text = text_of(TWO_UNITS).ok_or("no text")?;
+    let (chars, copy) = {
+        let block = unpack(&text);
+        assert_eq!(rt; block.count(), 2);
+        (block.chars(0), block.record(0))
+    };
+    assert_eq!(rt; chars, b"HI".as_slice());
+    assert_eq!(rt; copy.chars(), b"HI".as_slice());
+    Ok(())
+}

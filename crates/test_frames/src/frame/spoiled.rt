@@ -1,0 +1,124 @@
+//! Transmissions that were spoiled on the line: cut short, with one bit turned, and with damage
+//! that is not found.
+use super::{HI, SHORTEST_CALL, UnitRow, hears_call, is_text_of, kind};
+use bsc_frame::{End, decode};
+
+/// What the fronts of a call are heard as, by how many octets they have.
+const CALL_FRONTS: &[&str] = &[
+    "NOISE", "NOISE", "NOISE", "EOT", "EOT", "NOISE", "NOISE", "NOISE", "CALL", "CALL",
+];
+
+/// What the fronts of a text are heard as, by how many octets they have.
+const TEXT_FRONTS: &[&str] = &[
+    "NOISE", "NOISE", "NOISE", "FAILED", "FAILED", "FAILED", "FAILED", "FAILED", "TEXT", "TEXT",
+];
+
+/// Texts, of which each but the first one of a group comes from another one by damage.
+const TEXTS: &[(&[u8], &[UnitRow])] = &[
+    // The same bits of two characters are turned.
+    (HI, &[(b"HI", true)]),
+    (
+        &[0x16, 0x16, 0x02, 0x49, 0xc8, 0x19, 0x83, 0x9b, 0xff],
+        &[(b"IH", true)],
+    ),
+    // NUL is heard as fill.
+    (
+        &[0x16, 0x16, 0x02, 0xc1, 0x80, 0x19, 0x83, 0x5b, 0xff],
+        &[(b"A\0", true)],
+    ),
+    (
+        &[0x16, 0x16, 0x02, 0xc1, 0x16, 0x19, 0x83, 0x5b, 0xff],
+        &[(b"A", true)],
+    ),
+    // A tab is heard as the end of a unit before a check that is SYN, and the end of a unit as a
+    // tab.
+    (
+        &[0x16, 0x16, 0x02, 0x89, 0x1f, 0x16, 0xc1, 0x83, 0xc2, 0xff],
+        &[(b"\t", false), (b"A", false)],
+    ),
+    (
+        &[0x16, 0x16, 0x02, 0x1f, 0x1f, 0x16, 0xc1, 0x83, 0xc2, 0xff],
+        &[(b"", false), (b"A", false)],
+    ),
+    (
+        &[0x16, 0x16, 0x02, 0x89, 0x89, 0x16, 0xc1, 0x83, 0xc2, 0xff],
+        &[(b"\t\tA", false)],
+    ),
+];
+
+/// Octets with two turned bits, and the name of what is heard.
+const NAMES: &[(&[u8], &str)] = &[
+    // ACK0, of which two bits of one octet are turned, is another reply.
+    (&[0x16, 0x16, 0x10, 0x31, 0xff], "ACK1"),
+    // HI, of which two bits of one character are turned.
+    (
+        &[0x16, 0x16, 0x02, 0x49, 0x49, 0x19, 0x83, 0x9b, 0xff],
+        "FAILED",
+    ),
+];
+
+// Whether the fronts of the octets are heard as these, by how many octets they have.
+fn fronts_are(octets: &[u8], names: &[&str]) -> bool {
+    for (count, name) in names.iter().enumerate() {
+        if octets.get(..count).map(|front| kind(&decode(front))) != Some(*name) {
+            return false;
+        }
+    }
+    true
+}
+
+// Whether the octets are heard as this, whichever bit of the octet at the place is turned.
+fn turned_bits_are(sent: &[u8], place: usize, name: &str) -> bool {
+    let mut octets = [0; 9];
+    if sent.len() != 9 || place >= 9 {
+        return false;
+    }
+    for mask in [0x01, 0x02, 0x04, 0x08, 0x10, 0x20, 0x40, 0x80] {
+        octets.copy_from_slice(sent);
+        octets[place] ^= mask;
+        if kind(&decode(&octets)) != name {
+            return false;
+        }
+    }
+    true
+}
+
+#[test]
+fn fronts_of_a_call_are_noise_then_eot_then_noise(rt: HostRuntime) {
+    assert!(rt; fronts_are(SHORTEST_CALL, CALL_FRONTS));
+}
+
+#[test]
+fn fronts_of_a_text_are_noise_then_failed(rt: HostRuntime) {
+    assert!(rt; fronts_are(HI, TEXT_FRONTS));
+}
+
+#[test]
+fn one_turned_bit_makes_noise_or_a_failed_text(rt: HostRuntime) {
+    for place in 0..9usize {
+        assert!(rt; turned_bits_are(SHORTEST_CALL, place, "NOISE"), "{place}");
+        let text = if place < 3 { "NOISE" } else { "FAILED" };
+        assert!(rt; turned_bits_are(HI, place, text), "{place}");
+    }
+}
+
+// Other equipment may leave out the SYN before the address; a character may then come of its PAD.
+#[test]
+fn one_turned_bit_of_a_call_without_its_second_syn_may_make_another_call(rt: HostRuntime) {
+    assert!(rt; hears_call(b"A", &[0x16, 0x04, 0xff, 0xc1, 0x85]));
+    assert!(rt; hears_call(b"~A", &[0x16, 0x04, 0xfe, 0xc1, 0x85]));
+}
+
+#[test]
+fn two_turned_bits_may_make_another_reply(rt: HostRuntime) {
+    for (octets, name) in NAMES {
+        assert_eq!(rt; kind(&decode(octets)), *name);
+    }
+}
+
+#[test]
+fn damage_may_make_another_text(rt: HostRuntime) {
+    for (octets, units) in TEXTS {
+        assert!(rt; is_text_of(&decode(octets), units, End::Etx), "{octets:?}");
+    }
+}
