@@ -13,9 +13,6 @@ use crate::limits::{MAX_RECORD, MAX_RECORD_OCTETS};
 use arrayvec::ArrayVec;
 use std::marker::Model;
 
-#[cfg(test)]
-mod tests;
-
 /// The octets of a record, its two octets of length included.
 pub(crate) type RecordOctets = ArrayVec<u8, MAX_RECORD_OCTETS>;
 

@@ -17,9 +17,6 @@ use std::alloc::{Allocator, Global};
 use std::io::{Read, Write};
 use std::marker::Model;
 
-#[cfg(test)]
-mod tests;
-
 /// The two ends of 1 to 64 connections, one for each terminal (own). After an error every later
 /// call answers that error and touches no stream.
 #[derive(Drop)]

@@ -10,8 +10,6 @@ mod cable;
 mod error;
 pub mod laws;
 pub mod limits;
-#[cfg(test)]
-mod memory;
 mod record;
 
 pub use assembler::Assembler;

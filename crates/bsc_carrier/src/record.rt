@@ -12,9 +12,6 @@ use crate::error::{CarrierError, Octets};
 use crate::limits::MAX_RECORD;
 use std::io::{Read, Write};
 
-#[cfg(test)]
-mod tests;
-
 /// Writes all of the octets. A write that fails, or takes nothing, ends it.
 fn write_whole<W: Write>(writer: &mut W, octets: &[u8]) -> Result<(), CarrierError>
     ensures ok { OnOk result (Appends (W.contents writer.old) (W.contents writer.new) octets.now) }

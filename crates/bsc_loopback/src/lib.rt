@@ -12,9 +12,6 @@ use std::net::{Net, OpenListener, OpenStream, SocketAddr, TcpListener};
 use std::time::Duration;
 use thiserror::Error;
 
-#[cfg(test)]
-mod tests;
-
 /// How many seconds an end waits for octets, and for room for octets, before its read or write
 /// fails. What one end has written the other can read at once, so an end that waits this long waits
 /// for nothing. (Own.)

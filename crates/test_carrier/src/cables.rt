@@ -1,0 +1,176 @@
+//! Cables over memory.
+
+use crate::memory::MemoryStream;
+use bsc_carrier::{Cable, CarrierError, Octets};
+use std::alloc::Global;
+use std::test::Fail;
+
+/// A record of one octet, SYN.
+const SYN: &[u8] = &[0x00, 0x01, 0x16];
+
+/// A record of another octet, EOT.
+const EOT: &[u8] = &[0x00, 0x01, 0x04];
+
+/// Inputs that begin with no whole record, and the error that each is where one has to come.
+const WRONG_INPUTS: &[(&[u8], CarrierError)] = &[
+    (&[], CarrierError::Short),
+    (&[0x00], CarrierError::Short),
+    (&[0x00, 0x02, 0x04], CarrierError::Short),
+    (&[0x00, 0x00], CarrierError::Length),
+    (&[0x08, 0x01], CarrierError::Length),
+];
+
+/// Which call of a cable is made.
+#[derive(Clone, Copy)]
+enum Call {
+    Down,
+    DownTo(usize),
+    Up(usize),
+}
+
+type Answer = Result<(), CarrierError>;
+
+/// One connection: what the control station's end and the terminal's end give.
+type Connection<'a> = (&'a [u8], &'a [u8]);
+
+/// Which call of which end fails: the ends of the first connection are 0 and 1, those of the next
+/// one 2 and 3, the control station's first. The first call is 1, and 0 none.
+type Failing = (usize, usize);
+
+const NONE_FAILS: Failing = (0, 0);
+
+/// A cable of these connections, each end of which moves one octet a call.
+fn cable<'a>(
+    alloc: Global,
+    connections: &[Connection<'a>],
+    failing: Failing,
+) -> Result<Cable<MemoryStream<'a>>, Fail> {
+    let mut control_ends = Vec::new(alloc);
+    let mut terminal_ends = Vec::new(alloc);
+    for (place, (control, terminal)) in connections.iter().enumerate() {
+        control_ends.push(end(alloc, control, 2 * place, failing))?;
+        terminal_ends.push(end(alloc, terminal, 2 * place + 1, failing))?;
+    }
+    let count = control_ends.len();
+    if count != terminal_ends.len() || count == 0 || count > 2 {
+        return Err("not so many".into());
+    }
+    Ok(Cable::new(control_ends, terminal_ends))
+}
+
+/// The end at this place, which gives these octets.
+fn end<'a>(alloc: Global, input: &'a [u8], place: usize, failing: Failing) -> MemoryStream<'a> {
+    let (fails, call) = failing;
+    MemoryStream::new(alloc, input, 1, if place == fails { call } else { 0 })
+}
+
+/// What the call of an octet, SYN, answers; None where there is no such terminal.
+fn answer(cable: &mut Cable<MemoryStream<'_>>, call: Call, heard: &mut Octets) -> Option<Answer> {
+    let count = cable.terminals();
+    match call {
+        Call::Down => Some(cable.down(&[0x16], heard)),
+        Call::DownTo(terminal) if terminal < count => {
+            Some(cable.down_to(terminal, &[0x16], heard))
+        }
+        Call::Up(terminal) if terminal < count => Some(cable.up(terminal, &[0x16], heard)),
+        _ => None,
+    }
+}
+
+/// The place of the first call that answers something else, or after which something else was
+/// heard: SYN, or after an error what was heard before.
+fn first_wrong(cable: &mut Cable<MemoryStream<'_>>, calls: &[(Call, Answer)]) -> Option<usize> {
+    for (place, (call, expected)) in calls.iter().enumerate() {
+        let mut heard = Octets::new();
+        heard.push(0x42);
+        let is_expected = answer(cable, *call, &mut heard) == Some(*expected);
+        let octet = if expected.is_ok() { 0x16 } else { 0x42 };
+        if !is_expected || heard.as_slice() != [octet].as_slice() {
+            return Some(place);
+        }
+    }
+    None
+}
+
+/// The place of the first call that goes wrong over a cable of these connections.
+fn wrong_call(
+    alloc: Global,
+    connections: &[Connection<'_>],
+    failing: Failing,
+    calls: &[(Call, Answer)],
+) -> Result<Option<usize>, Fail> {
+    let mut cable = cable(alloc, connections, failing)?;
+    Ok(first_wrong(&mut cable, calls))
+}
+
+/// Two connections whose terminals' ends give different octets.
+const DIFFERENT: &[Connection<'static>] = &[(SYN, SYN), (SYN, EOT)];
+
+const UNEQUAL: Answer = Err(CarrierError::Unequal);
+
+/// Calls of a cable of these connections, and what they answer: the first error is that from then on.
+const CALLS_WHEN_DIFFERENT: &[(Call, Answer)] = &[
+    (Call::Down, UNEQUAL),
+    (Call::Up(0), UNEQUAL),
+    (Call::DownTo(1), UNEQUAL),
+    (Call::Down, UNEQUAL),
+];
+
+#[test]
+fn far_ends_that_differ_are_unequal_for_good(rt: HostRuntime) -> Result<(), Fail> {
+    let wrong = wrong_call(rt.alloc(), DIFFERENT, NONE_FAILS, CALLS_WHEN_DIFFERENT)?;
+    assert_eq!(rt; wrong, None);
+    Ok(())
+}
+
+/// The first call that goes wrong where one end gives this input, a control station's end or a
+/// terminal's, the first or a later one. The first error of a cable is its error from then on.
+fn wrong_after(alloc: Global, input: &[u8], error: CarrierError) -> Result<Option<usize>, Fail> {
+    let (up, down) = ((Call::Up(0), Err(error)), (Call::Down, Err(error)));
+    let to_second = (Call::DownTo(1), Err(error));
+    let wrong_at_control = [(input, SYN)];
+    let wrong_at_first = [(SYN, input), (SYN, SYN)];
+    let wrong_at_second = [(SYN, SYN), (SYN, input)];
+    let after_up = wrong_call(alloc, &wrong_at_control, NONE_FAILS, &[up, down])?;
+    let at_first = wrong_call(alloc, &wrong_at_first, NONE_FAILS, &[down, up, down])?;
+    let at_second = wrong_call(alloc, &wrong_at_second, NONE_FAILS, &[down, up, down])?;
+    let after_one = wrong_call(alloc, &wrong_at_second, NONE_FAILS, &[to_second, up])?;
+    Ok(after_up.or(at_first).or(at_second).or(after_one))
+}
+
+#[test]
+fn what_is_read_at_an_end_is_told(rt: HostRuntime) -> Result<(), Fail> {
+    for (input, error) in WRONG_INPUTS {
+        assert_eq!(rt; wrong_after(rt.alloc(), input, *error)?, None, "{input:?}");
+    }
+    Ok(())
+}
+
+/// Two connections of which nothing is wrong.
+const RIGHT: &[Connection<'static>] = &[(SYN, SYN), (SYN, SYN)];
+
+const DEVICE: Answer = Err(CarrierError::Device);
+
+/// What a call of all terminals and then one of the second terminal answer over `RIGHT`. Each takes
+/// three reads or writes of each end that it uses.
+fn calls_when_failing(failing: Failing) -> &'static [(Call, Answer)] {
+    let (end, call) = failing;
+    if call <= 3 {
+        &[(Call::Down, DEVICE), (Call::Up(1), DEVICE)]
+    } else if end >= 2 && call <= 6 {
+        &[(Call::Down, Ok(())), (Call::Up(1), DEVICE)]
+    } else {
+        &[(Call::Down, Ok(())), (Call::Up(1), Ok(()))]
+    }
+}
+
+/// The failed call is each of the first seven of each of four ends.
+#[test]
+fn first_failed_call_is_the_error_from_then_on(rt: HostRuntime) -> Result<(), Fail> {
+    for place in 0..28usize {
+        let failing = (place / 7, place % 7 + 1);
+        let wrong = wrong_call(rt.alloc(), RIGHT, failing, calls_when_failing(failing))?;
+        assert_eq!(rt; wrong, None, "{failing:?}");
+    }
+    Ok(())
+}

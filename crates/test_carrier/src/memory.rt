@@ -1,0 +1,65 @@
+//! A stream over memory: it moves a few octets a call, counts its calls, and fails when it is told
+//! to.
+
+use std::alloc::Global;
+use std::io;
+use std::io::{Error, ErrorKind, Read, Write};
+
+#[derive(Drop)]
+pub(crate) struct MemoryStream<'a> {
+    /// What is left to be read.
+    input: &'a [u8],
+    pub(crate) output: Vec<u8>,
+    /// How many octets a call moves at most.
+    step: usize,
+    /// How many reads and writes there were.
+    pub(crate) calls: usize,
+    /// Which call fails, the first being 1; 0 where none does.
+    fails_at: usize,
+}
+
+impl<'a> MemoryStream<'a> {
+    /// A stream that gives these octets.
+    pub(crate) fn new(
+        alloc: Global,
+        input: &'a [u8],
+        step: usize,
+        fails_at: usize,
+    ) -> MemoryStream<'a> {
+        MemoryStream {
+            input,
+            output: Vec::new(alloc),
+            step,
+            calls: 0,
+            fails_at,
+        }
+    }
+
+    fn count_call(&mut self) -> io::Result<()> {
+        self.calls = self.calls.wrapping_add(1);
+        if self.fails_at == self.calls {
+            return Err(Error::from(ErrorKind::Interrupted));
+        }
+        Ok(())
+    }
+}
+
+impl<'a> Read for MemoryStream<'a> {
+    fn read(&mut self, buf: &mut [u8]) -> io::Result<usize> {
+        self.count_call()?;
+        let most = buf.len().min(self.step);
+        self.input.read(&mut buf[..most])
+    }
+}
+
+impl<'a> Write for MemoryStream<'a> {
+    fn write(&mut self, buf: &[u8]) -> io::Result<usize> {
+        self.count_call()?;
+        let most = buf.len().min(self.step);
+        self.output.write(&buf[..most])
+    }
+
+    fn flush(&mut self) -> io::Result<()> {
+        Ok(())
+    }
+}
