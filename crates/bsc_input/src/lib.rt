@@ -13,6 +13,3 @@ pub use input::{InputError, MAX_INPUT, read_input};
 pub use lines::{is_blank, split_line, without_return};
 pub use parts::split_at_first;
 pub use texts::{Files, STANDARD_INPUT, TextError, read_text};
-
-#[cfg(test)]
-mod tests;

@@ -6,6 +6,3 @@ mod printed;
 
 pub use error::PrintError;
 pub use printed::{Detail, write_chars, write_name, write_shown};
-
-#[cfg(test)]
-mod tests;
