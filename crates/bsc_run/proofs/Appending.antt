@@ -1,9 +1,8 @@
 -- Texts that are written one after the other.
-use Rattle.std.proofs.Common.{ℕ, ◌+◌, List, ◌++◌, Option, Result, Ok, Err, add-one}
+use Rattle.std.proofs.Common.{ℕ, List, ◌++◌, Option, Result, Ok, Err}
 use Rattle.std.specs.Prelude.{OnOk}
 use Rattle.std.specs.Io.KnownBytes.{Appends}
 use Rattle.std.proofs.KnownBytes.{Appends-trans}
-use Rattle.bsc_run.specs.Printed.{each_below}
 
 pub on_ok : {T E P Q : Type 0} (r : Result T E) → (P → Q) → OnOk r P → OnOk r Q
 on_ok (Ok x) f p = f p
@@ -23,9 +22,3 @@ pub four_on_ok : {T E : Type 0} (a b c d e : Option (List ℕ)) (w x y z : List 
 four_on_ok a b c d e w x y z r p q s t =
     on_ok r (Appends-trans a d e (w ++ x ++ y) z
     (Appends-trans a c d (w ++ x) y (Appends-trans a b c w x p q) s)) t
-
--- one more of the texts of the numbers in order
-pub each_below_more : (a b c : Option (List ℕ)) (text : ℕ → List ℕ) (n : ℕ)
-    → Appends a b (each_below text n)
-    → Appends b c (text n) → Appends a c (each_below text (n + 1))
-each_below_more a b c text n p q = rw add-one (Appends-trans a b c (each_below text n) (text n) p q)

@@ -1,10 +1,11 @@
 -- What is printed of a line: what is pending while a script runs, and the report at its end (own).
-use Rattle.std.specs.Prelude.{ℕ, zero, suc, Bool, nat_eq, if◌then◌else◌, List, [], ◌++◌}
-use Rattle.std.specs.Prelude.{length, Option, None, Some, codes}
+use Rattle.std.specs.Prelude.{ℕ, Bool, if◌then◌else◌, List, ◌++◌, length, Option, None, Some}
+use Rattle.std.specs.Prelude.{codes}
 use Rattle.std.specs.List.{flat_map}
 use Rattle.std.specs.Fmt.{decimal}
 use Rattle.bsc_frame.specs.declared.message.Heard.TheVariants.{Whole}
-use Rattle.bsc_names.specs.Names.{name_line, chars_shown}
+use Rattle.bsc_names.specs.Names.{name_line}
+use Rattle.bsc_printing.specs.Channels.{channel_name, doubt_shown, record_line, each_below}
 use Rattle.bsc_text.specs.Channel.{Channel}
 use Rattle.bsc_text.specs.Sender.{is_in_doubt}
 use Rattle.bsc_control.specs.declared.way.Way.{Way}
@@ -26,28 +27,11 @@ pending_line None = codes "quiet\n"
 pending_line (Some sent) =
     speaker_name sent.speaker ++ codes " " ++ name_line (Whole sent.message)
 
--- a selection address is named where its terminal has more than this one
-abbrev pub address_name : ℕ → ℕ → List ℕ
-address_name count s = if nat_eq count 1 then [] else codes "." ++ decimal s
-
--- a channel is named by its way and its terminal, which has this many selection addresses
-abbrev pub channel_name : ℕ → ℕ → Way → List ℕ
-channel_name count t FromTerminal = codes "from " ++ decimal t
-channel_name count t (ToTerminal s) = codes "to " ++ decimal t ++ address_name count s
-
--- the end of a channel's line: whether its sending end is in doubt
-abbrev pub doubt_shown : Bool → List ℕ
-doubt_shown doubt = if doubt then codes ", in doubt\n" else codes "\n"
-
 -- what a channel has offered, known and spooled
 abbrev pub counts_shown : Channel → List ℕ
 counts_shown c =
     codes ": offered " ++ decimal (length c.offered) ++ codes ", known " ++ decimal c.known
     ++ codes ", spooled " ++ decimal (length c.spooled)
-
--- the line of a record: its codes in hexadecimal
-abbrev pub record_line : List ℕ → List ℕ
-record_line r = codes "  " ++ chars_shown r ++ codes "\n"
 
 -- the lines of a channel: what it has, and the records that arrived
 abbrev pub channel_lines : LineValue → ℕ → Way → List ℕ
@@ -55,11 +39,6 @@ channel_lines l t way =
     channel_name (select_count l t) t way ++ counts_shown (channel_of l t way)
     ++ doubt_shown (is_in_doubt (phase_of l t way))
     ++ flat_map record_line (channel_of l t way).spooled
-
--- the texts of the numbers below n, in order
-abbrev pub each_below : (ℕ → List ℕ) → ℕ → List ℕ
-each_below text zero = []
-each_below text (suc n) = each_below text n ++ text n
 
 -- the lines of a terminal: the channel from it, and then those to it
 abbrev pub terminal_lines : LineValue → ℕ → List ℕ

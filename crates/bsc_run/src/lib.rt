@@ -13,7 +13,7 @@ mod trace;
 
 pub use error::RunError;
 pub use play::run_on;
-pub use report::{write_channel_name, write_record, write_report};
+pub use report::write_report;
 pub use run::run_line;
 
 #[cfg(test)]

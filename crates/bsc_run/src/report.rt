@@ -2,18 +2,16 @@
 //! and whether the line is trusted.
 
 ghost use Rattle.std.specs.Prelude.{◌≡◌, ◌<◌, OnOk};
-ghost use Rattle.std.specs.List.{flat_map};
 ghost use Rattle.std.specs.Io.KnownBytes.{Appends};
 ghost use Rattle.bsc_line_model.specs.Line.{terminal_count, IsChannel, channel_of};
 ghost use Rattle.bsc_line_model.specs.Offers.{select_count};
-ghost use Rattle.bsc_run.specs.Printed.{channel_name, counts_shown, doubt_shown, record_line};
-ghost use Rattle.bsc_run.specs.Printed.{channel_lines, terminal_lines, trust_line, report_of};
+ghost use Rattle.bsc_run.specs.Printed.{counts_shown, channel_lines, terminal_lines, trust_line};
+ghost use Rattle.bsc_run.specs.Printed.{report_of};
 
-use crate::trace::put;
-use bsc_block::Record;
 use bsc_control::Way;
 use bsc_line::Line;
-use bsc_names::{PrintError, write_chars};
+use bsc_names::PrintError;
+use bsc_printing::{doubt_text, put, write_channel_name, write_records};
 use std::alloc::Allocator;
 use std::io::Write;
 
@@ -81,28 +79,6 @@ fn write_channel<A: Allocator + Copy, B: Allocator, W: Write>(
     write_records(alloc, line.spooled(terminal, way), out)
 }
 
-/// Writes the name of a channel of a terminal that has this many selection addresses. After an
-/// error a part of it may have been written.
-pub fn write_channel_name<W: Write>(
-    addresses: usize,
-    terminal: usize,
-    way: Way,
-    out: &mut W,
-) -> Result<(), PrintError>
-    ensures { OnOk result
-        (Appends (W.contents out.old) (W.contents out.new) (channel_name addresses terminal way)) }
-{
-    let written = match way {
-        Way::FromTerminal => write!(out, "from {terminal}"),
-        Way::ToTerminal(_) if addresses == 1 => write!(out, "to {terminal}"),
-        Way::ToTerminal(select) => write!(out, "to {terminal}.{select}"),
-    };
-    match written {
-        Ok(()) => Ok(()),
-        Err(_) => Err(PrintError::Output),
-    }
-}
-
 /// Writes how many records a channel has offered, known and spooled.
 fn write_counts<B: Allocator, W: Write>(
     line: &Line<B>,
@@ -122,41 +98,4 @@ fn write_counts<B: Allocator, W: Write>(
         Ok(()) => Ok(()),
         Err(_) => Err(PrintError::Output),
     }
-}
-
-/// The end of a channel's line.
-fn doubt_text(doubt: bool) -> &'static [u8]
-    ensures { result.now ≡ doubt_shown doubt }
-{
-    if doubt { b", in doubt\n" } else { b"\n" }
-}
-
-/// Writes a line for each record.
-fn write_records<A: Allocator + Copy, W: Write>(
-    alloc: A,
-    records: &[Record],
-    out: &mut W,
-) -> Result<(), PrintError>
-    ensures { OnOk result
-        (Appends (W.contents out.old) (W.contents out.new) (flat_map record_line records.now)) }
-{
-    'records: for record in records {
-        write_record(alloc, record.chars(), out)?;
-    }
-    Ok(())
-}
-
-/// Writes the line of a record of these characters. After an error a part of it may have been
-/// written.
-pub fn write_record<A: Allocator, W: Write>(
-    alloc: A,
-    chars: &[u8],
-    out: &mut W,
-) -> Result<(), PrintError>
-    ensures { OnOk result
-        (Appends (W.contents out.old) (W.contents out.new) (record_line chars.now)) }
-{
-    put(b"  ", out)?;
-    write_chars(alloc, chars, out)?;
-    put(b"\n", out)
 }

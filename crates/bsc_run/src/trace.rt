@@ -10,18 +10,9 @@ use bsc_frame::decode;
 use bsc_frame::laws::{one_reading, reading};
 use bsc_line::{Line, Speaker};
 use bsc_names::{Detail, PrintError, write_shown};
+use bsc_printing::put;
 use std::alloc::Allocator;
 use std::io::Write;
-
-/// Writes the octets.
-pub(crate) fn put<W: Write>(octets: &[u8], out: &mut W) -> Result<(), PrintError>
-    ensures { OnOk result (Appends (W.contents out.old) (W.contents out.new) octets.now) }
-{
-    match out.write_all(octets) {
-        Ok(()) => Ok(()),
-        Err(_) => Err(PrintError::Output),
-    }
-}
 
 /// Writes who sent what is pending.
 fn write_speaker<W: Write>(speaker: Speaker, out: &mut W) -> Result<(), PrintError>

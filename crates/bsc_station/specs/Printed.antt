@@ -5,7 +5,7 @@ use Rattle.std.specs.Fmt.{decimal}
 use Rattle.bsc_control.specs.declared.way.Way.{Way}
 use Rattle.bsc_control.specs.declared.way.Way.TheVariants.{FromTerminal, ToTerminal}
 use Rattle.bsc_names.specs.Names.{chars_shown}
-use Rattle.bsc_run.specs.Printed.{channel_name, doubt_shown, each_below, record_line}
+use Rattle.bsc_printing.specs.Channels.{channel_name, doubt_shown, each_below, record_line}
 use Rattle.bsc_station.specs.Ends.{End, sending, receiving}
 use Rattle.bsc_station.specs.declared.arrivals.Form.{Form}
 use Rattle.bsc_station.specs.declared.arrivals.Form.TheVariants.{Hexadecimal, Text}

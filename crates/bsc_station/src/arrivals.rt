@@ -3,17 +3,16 @@
 ghost use Rattle.std.specs.Prelude.{◌≡◌, ◌<◌, length, Ok, OnOk, false, true};
 ghost use Rattle.std.specs.List.{flat_map};
 ghost use Rattle.std.specs.Io.KnownBytes.{Appends};
-ghost use Rattle.bsc_run.specs.Printed.{channel_name, each_below};
+ghost use Rattle.bsc_printing.specs.Channels.{channel_name, each_below};
 ghost use Rattle.bsc_station.specs.Printed.{arrival_line, record_shown};
 ghost use Rattle.bsc_station.specs.Arrivals.{AreCounted, AsManyArePrinted, MoreArePrinted, arrivals_of};
 ghost use Rattle.bsc_station.specs.Arrivals.{channel_arrivals, counted};
 
-use crate::printing::put;
 use crate::{Party, Received};
 use bsc_block::Record;
 use bsc_control::Way;
 use bsc_names::{PrintError, write_chars};
-use bsc_run::write_channel_name;
+use bsc_printing::{put, write_channel_name};
 use std::alloc::Allocator;
 use std::io::Write;
 

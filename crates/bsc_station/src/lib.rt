@@ -17,7 +17,6 @@ mod making;
 mod offering;
 mod offers;
 mod party;
-mod printing;
 mod report;
 mod rounds;
 mod standing;

@@ -4,18 +4,17 @@ ghost use Rattle.std.specs.Prelude.{◌≡◌, ◌++◌, ◌<◌, codes, length,
 ghost use Rattle.std.specs.List.{flat_map};
 ghost use Rattle.std.specs.Fmt.{decimal};
 ghost use Rattle.std.specs.Io.KnownBytes.{Appends};
-ghost use Rattle.bsc_run.specs.Printed.{doubt_shown, record_line};
+ghost use Rattle.bsc_printing.specs.Channels.{doubt_shown, record_line};
 ghost use Rattle.bsc_station.specs.Ends.{IsWay};
 ghost use Rattle.bsc_station.specs.EndValues.{end_of};
 ghost use Rattle.bsc_station.specs.Printed.{end_shown, channel_lines, terminal_lines};
 ghost use Rattle.bsc_station.specs.Printed.{station_report};
 
-use crate::printing::put;
 use crate::{ChannelEnd, Party};
 use bsc_block::Record;
 use bsc_control::Way;
 use bsc_names::PrintError;
-use bsc_run::{write_channel_name, write_record};
+use bsc_printing::{doubt_text, put, write_channel_name, write_records};
 use std::alloc::Allocator;
 use std::io::Write;
 
@@ -124,13 +123,6 @@ fn write_counts<W: Write>(offered: usize, known: usize, out: &mut W) -> Result<(
     }
 }
 
-/// The end of the line of a channel on which a station sends.
-fn doubt_text(doubt: bool) -> &'static [u8]
-    ensures { result.now ≡ doubt_shown doubt }
-{
-    if doubt { b", in doubt\n" } else { b"\n" }
-}
-
 /// Writes the records that arrived on a channel on which a station receives.
 fn write_receiving<A: Allocator + Copy, W: Write>(
     alloc: A,
@@ -143,10 +135,7 @@ fn write_receiving<A: Allocator + Copy, W: Write>(
         ++ flat_map record_line records.now)) }
 {
     write_count(records.len(), out)?;
-    'records: for record in records {
-        write_record(alloc, record.chars(), out)?;
-    }
-    Ok(())
+    write_records(alloc, records, out)
 }
 
 /// Writes how many records arrived.

@@ -8,11 +8,11 @@ ghost use Rattle.bsc_names.specs.Names.{name_of};
 ghost use Rattle.bsc_station.specs.Traces.{deed_shown, octets_shown, time_shown, transmission_line};
 ghost use Rattle.bsc_station.specs.Traces.{who_shown};
 
-use crate::printing::put;
 use bsc_carrier::CarrierError;
 use bsc_frame::laws::{one_reading, reading};
 use bsc_frame::{Heard, decode};
 use bsc_names::{PrintError, write_chars, write_name};
+use bsc_printing::put;
 use std::alloc::Allocator;
 use std::io::Write;
 

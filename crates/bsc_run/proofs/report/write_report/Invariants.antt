@@ -1,5 +1,6 @@
 use Rattle.std.specs.Io.KnownBytes.{Appends}
-use Rattle.bsc_run.specs.Printed.{each_below, terminal_lines}
+use Rattle.bsc_printing.specs.Channels.{each_below}
+use Rattle.bsc_run.specs.Printed.{terminal_lines}
 use Rattle.bsc_run.proofs.report.write_report.Given as goal
 
 abbrev pub invariant-terminals : goal.invariant-terminals

@@ -2,8 +2,9 @@ use Rattle.std.proofs.Common.{◌≡◌, arith}
 use Rattle.std.proofs.KnownBytes.{Appends-trans}
 use Rattle.bsc_control.specs.declared.way.Way.TheVariants.{FromTerminal, ToTerminal}
 use Rattle.bsc_line_model.specs.Offers.{select_count}
-use Rattle.bsc_run.specs.Printed.{each_below, channel_lines}
-use Rattle.bsc_run.proofs.Appending.{each_below_more}
+use Rattle.bsc_printing.specs.Channels.{each_below}
+use Rattle.bsc_printing.proofs.Appending.{each_below_more}
+use Rattle.bsc_run.specs.Printed.{channel_lines}
 use Rattle.bsc_run.proofs.report.write_terminal.Goals as goal
 
 pub selects-preserved : goal.selects-preserved

@@ -1,6 +1,7 @@
 use Rattle.std.specs.Io.KnownBytes.{Appends}
 use Rattle.bsc_control.specs.declared.way.Way.TheVariants.{ToTerminal}
-use Rattle.bsc_run.specs.Printed.{each_below, channel_lines}
+use Rattle.bsc_printing.specs.Channels.{each_below}
+use Rattle.bsc_run.specs.Printed.{channel_lines}
 use Rattle.bsc_run.proofs.report.write_terminal.Given as goal
 
 abbrev pub invariant-selects : goal.invariant-selects

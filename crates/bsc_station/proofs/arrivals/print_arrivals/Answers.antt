@@ -1,6 +1,6 @@
 use Rattle.std.proofs.Common.{◌≡◌, ℕ, rules, arith, slice_index, subst}
 use Rattle.std.specs.Io.KnownBytes.{Appends}
-use Rattle.bsc_run.proofs.Appending.{each_below_more}
+use Rattle.bsc_printing.proofs.Appending.{each_below_more}
 use Rattle.bsc_station.specs.Arrivals.{arrivals_of, channel_arrivals}
 use Rattle.bsc_station.proofs.Counts.{as_many_with_channel, more_with_channel}
 use Rattle.bsc_station.proofs.arrivals.print_arrivals.Goals as goal

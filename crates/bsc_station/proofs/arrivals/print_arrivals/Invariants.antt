@@ -1,6 +1,6 @@
 use Rattle.std.proofs.Common.{◌≡◌, ℕ, ◌≤◌, true, false, slice_index}
 use Rattle.std.specs.Io.KnownBytes.{Appends}
-use Rattle.bsc_run.specs.Printed.{each_below}
+use Rattle.bsc_printing.specs.Channels.{each_below}
 use Rattle.bsc_station.specs.Arrivals.{AreCounted, MoreArePrinted, AsManyArePrinted, arrivals_of}
 use Rattle.bsc_station.proofs.arrivals.print_arrivals.Given as goal
 

@@ -1,7 +1,7 @@
 use Rattle.std.proofs.Common.{take}
 use Rattle.std.specs.List.{flat_map}
 use Rattle.std.specs.Io.KnownBytes.{Appends}
-use Rattle.bsc_run.specs.Printed.{channel_name}
+use Rattle.bsc_printing.specs.Channels.{channel_name}
 use Rattle.bsc_station.specs.Printed.{arrival_line}
 use Rattle.bsc_station.proofs.arrivals.print_records.Given as goal
 

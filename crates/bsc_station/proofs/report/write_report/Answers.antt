@@ -1,5 +1,5 @@
 use Rattle.bsc_station.specs.Printed.{terminal_lines}
-use Rattle.bsc_run.proofs.Appending.{each_below_more}
+use Rattle.bsc_printing.proofs.Appending.{each_below_more}
 use Rattle.bsc_station.proofs.report.write_report.Goals as goal
 
 pub terminals-preserved : goal.terminals-preserved

@@ -1,5 +1,5 @@
 use Rattle.std.specs.Io.KnownBytes.{Appends}
-use Rattle.bsc_run.specs.Printed.{each_below}
+use Rattle.bsc_printing.specs.Channels.{each_below}
 use Rattle.bsc_station.specs.Printed.{terminal_lines}
 use Rattle.bsc_station.proofs.report.write_report.Given as goal
 

@@ -1,9 +1,9 @@
 use Rattle.std.proofs.Common.{◌≡◌, arith}
 use Rattle.std.proofs.KnownBytes.{Appends-trans}
 use Rattle.bsc_control.specs.declared.way.Way.TheVariants.{FromTerminal, ToTerminal}
-use Rattle.bsc_run.specs.Printed.{each_below}
+use Rattle.bsc_printing.specs.Channels.{each_below}
 use Rattle.bsc_station.specs.Printed.{channel_lines}
-use Rattle.bsc_run.proofs.Appending.{each_below_more}
+use Rattle.bsc_printing.proofs.Appending.{each_below_more}
 use Rattle.bsc_station.proofs.report.write_terminal.Goals as goal
 
 pub selects-preserved : goal.selects-preserved

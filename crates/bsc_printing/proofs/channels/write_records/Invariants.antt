@@ -1,8 +1,8 @@
 use Rattle.std.proofs.Common.{take}
 use Rattle.std.specs.List.{flat_map}
 use Rattle.std.specs.Io.KnownBytes.{Appends}
-use Rattle.bsc_run.specs.Printed.{record_line}
-use Rattle.bsc_run.proofs.report.write_records.Given as goal
+use Rattle.bsc_printing.specs.Channels.{record_line}
+use Rattle.bsc_printing.proofs.channels.write_records.Given as goal
 
 abbrev pub invariant-records : goal.invariant-records
 invariant-records g l =
