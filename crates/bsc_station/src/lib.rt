@@ -43,6 +43,3 @@ pub use standings::station_standing;
 pub use terminal_watch::TerminalWatch;
 pub use timer::Timer;
 pub use watch::{Printing, Watch};
-
-#[cfg(test)]
-mod tests;

@@ -1,7 +1,8 @@
 //! A connection that is scripted, and a clock that counts.
 
-use crate::Timer;
-use bsc_live::{Awaited, LiveError, Wait, Waiter};
+use bsc_live::{Awaited, Connection, LiveError, SocketRecords, Wait, Waiter};
+use bsc_station::Timer;
+use std::alloc::{AllocError, Global};
 use std::io;
 use std::io::{Read, Write};
 
@@ -75,4 +76,14 @@ impl Waiter<Told, Taking> for Scripted {
     }
 
     fn turn_away(&mut self) {}
+}
+
+/// A connection over these octets.
+pub(crate) fn connections(
+    alloc: Global,
+    octets: &'static [u8],
+) -> Result<Vec<Connection<Told, Taking, SocketRecords>>, AllocError> {
+    let mut connections = Vec::new(alloc);
+    connections.push(Connection::new(Told { octets }, Taking))?;
+    Ok(connections)
 }
