@@ -49,6 +49,3 @@ pub use config::Config;
 pub use error::ConfigError;
 pub use key::{Key, Owner, UnknownKey};
 pub use reading::read_config;
-
-#[cfg(test)]
-mod tests;

@@ -32,6 +32,3 @@ mod words;
 pub use action::{Action, Step};
 pub use script::{Script, ScriptError, read_script};
 pub use transmission::Transmission;
-
-#[cfg(test)]
-mod tests;

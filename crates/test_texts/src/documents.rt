@@ -1,0 +1,69 @@
+//! Documents of a configuration that are alike, and what is answered for each.
+
+use bsc_config::read_config;
+use std::alloc::Global;
+use std::process::Abort;
+use std::test::Fail;
+
+/// Two terminals of version 1.
+pub(crate) const TERMINALS: &str = "
+[[terminals]]
+poll = \"A\"
+select = \"a\"
+
+[[terminals]]
+poll = \"B\"
+select = \"b\"
+";
+
+/// Documents that are alike but for one part.
+pub(crate) struct Documents<'a> {
+    /// What stands before that part.
+    pub(crate) before: &'a str,
+
+    /// What stands after it.
+    pub(crate) after: &'a str,
+
+    /// That part of each document, and what is answered: `read` where the document is a
+    /// configuration, else the fault.
+    pub(crate) rows: &'a [(&'a str, &'a str)],
+}
+
+/// Whether this is answered for a document.
+pub(crate) fn is_answer(alloc: Global, document: &str, answer: &str) -> Result<bool, Fail> {
+    match read_config(alloc, document.as_bytes()) {
+        Ok(_) => Ok(answer == "read"),
+        Err(error) => Ok(error.to_string(alloc)?.as_str() == answer),
+    }
+}
+
+/// The first row for which something else is answered.
+fn first_wrong<'a>(
+    alloc: Global,
+    documents: &Documents<'a>,
+) -> Result<Option<(&'a str, &'a str)>, Fail> {
+    let Documents {
+        before,
+        after,
+        rows,
+    } = documents;
+    for (part, answer) in *rows {
+        let document = format!(in alloc; "{before}{part}{after}")?;
+        if !is_answer(alloc, document.as_str(), answer)? {
+            return Ok(Some((part, answer)));
+        }
+    }
+    Ok(None)
+}
+
+/// Asserts that each of these documents has its answer.
+pub(crate) fn are_answered(
+    rt: &impl Abort,
+    alloc: Global,
+    tables: &[Documents<'_>],
+) -> Result<(), Fail> {
+    for documents in tables {
+        assert_eq!(rt; first_wrong(alloc, documents)?, None);
+    }
+    Ok(())
+}

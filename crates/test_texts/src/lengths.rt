@@ -1,0 +1,62 @@
+//! The most terminals and the longest poll list of a configuration, and one more of each.
+
+use crate::documents::{TERMINALS, is_answer};
+use std::alloc::Global;
+use std::test::Fail;
+
+/// A document with this poll list and this many terminals, whose addresses differ.
+fn many_terminals(alloc: Global, poll_list: &str, count: usize) -> Result<String, Fail> {
+    let mut text = format!(in alloc; "version = 1\npoll_list = {poll_list}\n")?;
+    for number in 0..count {
+        write!(
+            text,
+            "[[terminals]]\npoll = \"A{number}\"\nselect = \"a{number}\"\n"
+        )?;
+    }
+    Ok(text)
+}
+
+/// A document with two terminals, and a poll list of this many entries.
+fn long_poll_list(alloc: Global, entries: usize) -> Result<String, Fail> {
+    let mut text = format!(in alloc; "version = 1\npoll_list = [0")?;
+    for _ in 1..entries {
+        text.push_str(", 0")?;
+    }
+    text.push_str("]")?;
+    text.push_str(TERMINALS)?;
+    Ok(text)
+}
+
+/// Whether this many terminals have this answer.
+fn terminals_have(
+    alloc: Global,
+    poll_list: &str,
+    count: usize,
+    answer: &str,
+) -> Result<bool, Fail> {
+    let document = many_terminals(alloc, poll_list, count)?;
+    is_answer(alloc, document.as_str(), answer)
+}
+
+/// Whether a poll list of this many entries has this answer.
+fn entries_have(alloc: Global, entries: usize, answer: &str) -> Result<bool, Fail> {
+    let document = long_poll_list(alloc, entries)?;
+    is_answer(alloc, document.as_str(), answer)
+}
+
+/// 65 terminals are too many, whatever their addresses and the poll list are.
+#[test]
+fn there_are_64_terminals_at_most(rt: HostRuntime) -> Result<(), Fail> {
+    let alloc = rt.alloc();
+    assert!(rt; terminals_have(alloc, "[63]", 64, "read")?);
+    assert!(rt; terminals_have(alloc, "[]", 65, "config: too many terminals")?);
+    Ok(())
+}
+
+#[test]
+fn a_poll_list_has_255_entries_at_most(rt: HostRuntime) -> Result<(), Fail> {
+    let alloc = rt.alloc();
+    assert!(rt; entries_have(alloc, 255, "read")?);
+    assert!(rt; entries_have(alloc, 256, "config: poll list entry 255 is wrong")?);
+    Ok(())
+}
