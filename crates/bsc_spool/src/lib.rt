@@ -7,8 +7,3 @@ mod spool;
 
 pub use queue::{Next, Queue};
 pub use spool::Spool;
-
-#[cfg(test)]
-mod refusal_tests;
-#[cfg(test)]
-mod tests;

@@ -24,6 +24,3 @@ pub use sender::{ReleaseError, Sender};
 pub use setup::{SettingError, Setup};
 pub use station::{Station, transmit};
 pub use terminal::{Terminal, TerminalError};
-
-#[cfg(test)]
-mod tests;

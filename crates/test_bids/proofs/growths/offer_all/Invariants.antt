@@ -1,0 +1,5 @@
+use Rattle.std.proofs.Common.{◌≡◌}
+use Rattle.test_bids.proofs.growths.offer_all.Given as goal
+
+abbrev pub invariant-loop : goal.invariant-loop
+invariant-loop l = l.queue.format ≡ l.fn.queue.format

@@ -1,0 +1,94 @@
+//! Receivers by hand, and each growth of their spools refused.
+
+use bsc_fixtures::octets::{BROKEN_TEXT, ENQ, TEXT_EMPTY, TEXT_LAST_SEVEN};
+use bsc_frame::decode;
+use bsc_spool::Spool;
+use bsc_text::{Receiver, Reply};
+use refusing_alloc::{Refusal, Refusing};
+use std::alloc::Allocator;
+use std::test::Fail;
+
+/// The number from which on no request is refused.
+const NEVER: usize = usize::MAX;
+
+/// The number of the first request for memory that is refused from here on, what the receiver
+/// hears, whether it asks for the line, its reply, and how many records are then spooled.
+type Hearing<'a> = (usize, &'a [u8], bool, Option<Reply>, usize);
+
+/// A text that fails its check is refused, and so is one for which there is no room. Where there is
+/// none for a second text, the acknowledgement is put off. An urgent receiver asks for the line,
+/// but not twice in a row.
+const HEARINGS: &[Hearing<'static>] = &[
+    (NEVER, BROKEN_TEXT, false, Some(Reply::Nak), 0),
+    (1, TEXT_LAST_SEVEN, false, Some(Reply::Nak), 0),
+    (2, TEXT_LAST_SEVEN, false, Some(Reply::Wack), 7),
+    (1, ENQ, false, Some(Reply::Wack), 7),
+    (NEVER, ENQ, false, Some(Reply::Ack1), 7),
+    (NEVER, TEXT_EMPTY, true, Some(Reply::Rvi), 8),
+    (NEVER, TEXT_EMPTY, true, Some(Reply::Ack1), 9),
+    (NEVER, TEXT_EMPTY, true, Some(Reply::Rvi), 10),
+];
+
+/// What a receiver replies to these octets.
+fn reply_to<A: Allocator>(
+    receiver: &mut Receiver,
+    spool: &mut Spool<A>,
+    octets: &[u8],
+    urgent: bool,
+) -> Option<Reply> {
+    receiver.heard(&decode(octets), urgent, spool)
+}
+
+/// The first hearing of a new receiver that goes otherwise.
+fn wrong_hearing(alloc: &Refusing) -> Option<usize> {
+    let mut receiver = Receiver::new();
+    let mut spool = Spool::new(alloc);
+    for (place, (refused, octets, urgent, reply, count)) in HEARINGS.iter().enumerate() {
+        alloc.refuse_from(*refused);
+        let replied = reply_to(&mut receiver, &mut spool, octets, *urgent);
+        if (replied, spool.records().len()) != (*reply, *count) {
+            return Some(place);
+        }
+    }
+    None
+}
+
+#[test]
+fn a_receiver_replies_to_what_it_hears(rt: HostRuntime) {
+    let alloc = Refusing::new(rt.alloc());
+    assert_eq!(rt; wrong_hearing(&alloc), None);
+}
+
+/// A new receiver hears a text this often, or asks again after WACK: how often it replied NAK, how
+/// often WACK, and how many records are spooled.
+fn hear_texts<A: Allocator>(alloc: A, times: usize) -> (usize, usize, usize) {
+    let mut receiver = Receiver::new();
+    let mut spool = Spool::new(alloc);
+    let (mut naks, mut wacks) = (0usize, 0usize);
+    let mut octets = TEXT_EMPTY;
+    for _ in 0..times {
+        let reply = reply_to(&mut receiver, &mut spool, octets, false);
+        octets = TEXT_EMPTY;
+        if reply == Some(Reply::Nak) {
+            naks = naks.wrapping_add(1);
+        }
+        if reply == Some(Reply::Wack) {
+            wacks = wacks.wrapping_add(1);
+            octets = ENQ;
+        }
+    }
+    (naks, wacks, spool.records().len())
+}
+
+#[test]
+fn each_refused_growth_delays_and_loses_nothing(rt: HostRuntime) -> Result<(), Fail> {
+    let alloc = Refusing::new(rt.alloc());
+    for request in alloc.in_turn(Refusal::Nth, 1..99) {
+        let nak = usize::from(request? == 1);
+        let (naks, wacks, records) = hear_texts(&alloc, 300);
+        let delays = alloc.refused();
+        assert_eq!(rt; (naks, naks.wrapping_add(wacks)), (nak, delays));
+        assert_eq!(rt; records.wrapping_add(delays), 300);
+    }
+    Ok(())
+}

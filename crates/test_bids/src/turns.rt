@@ -1,0 +1,102 @@
+//! The calls in the order of a turn, so that what the law of one bid says of turns is said of them.
+
+ghost use Rattle.std.specs.Prelude.{◌≡◌, length, unwrap_or};
+ghost use Rattle.bsc_frame.specs.declared.message.Heard.TheVariants.{Noise};
+ghost use Rattle.bsc_spool.specs.Queue.{waiting};
+ghost use Rattle.bsc_text.specs.Act.{Quiet};
+ghost use Rattle.bsc_text.specs.Bid.{Bid, Turn, after_turn};
+ghost use Rattle.bsc_text.specs.Sender.{Tells};
+ghost use Rattle.bsc_text.specs.Ready.{CountsOn, IsGoing, IsReady};
+ghost use Rattle.bsc_text.specs.Receiver.{Rooms, rooms_left};
+
+use bsc_frame::{Heard, Message};
+use bsc_spool::{Queue, Spool};
+use bsc_text::{Outcome, Receiver, Reply, Sender};
+use std::alloc::Allocator;
+
+/// What one exchange meets.
+#[derive(Drop)]
+pub(crate) struct Hearings {
+    /// What the receiver hears of the sender's transmission; None where it is lost.
+    there: Option<Heard>,
+
+    /// Whether the receiver asks for the line.
+    urgent: bool,
+
+    /// What the sender hears of the reply; None where it is lost.
+    back: Option<Heard>,
+}
+
+/// A turn in which this is heard.
+pub(crate) fn turn<A: Allocator>(
+    sender: &mut Sender,
+    queue: &mut Queue<A>,
+    receiver: &mut Receiver,
+    spool: &mut Spool<A>,
+    hearings: &Hearings,
+    sent: &mut Option<Message>,
+) -> Outcome
+    requires { IsGoing sender.old.phase → CountsOn sender.old.phase (length (waiting queue.old)) }
+    ensures law { let heard = unwrap_or hearings.now.there Noise in
+        let rooms : Rooms = rooms_left heard receiver.new.last spool.new in
+        let t : Turn = record {
+          heard = hearings.now.there;
+          urgent = hearings.now.urgent;
+          rooms = rooms;
+          answer = hearings.now.back;
+        } in
+        let old : Bid = record {
+          sender = sender.old;
+          queue = queue.old;
+          receiver = receiver.old;
+          spool = spool.old;
+          act = Quiet;
+        } in
+        let new : Bid = after_turn old t in
+        Tells sender.new queue.new result sent.new
+        (record { sender = new.sender; queue = new.queue; act = new.act })
+        × (receiver.new ≡ new.receiver) × (spool.new ≡ new.spool) }
+    ensures ready { IsReady sender.old queue.old → IsReady sender.new queue.new }
+{
+    let reply = match &hearings.there {
+        Some(heard) => receiver.heard(heard, hearings.urgent, spool),
+        None => None,
+    };
+    let outcome = match (reply, &hearings.back) {
+        (Some(_), Some(answer)) => sender.reply(answer, queue, sent),
+        _ => Outcome::Quiet,
+    };
+    match outcome {
+        Outcome::Quiet => sender.silence(sent),
+        Outcome::Sends | Outcome::Over => outcome,
+    }
+}
+
+/// What becomes of the sender's transmission on its way.
+pub(crate) enum Fate {
+    /// It arrives.
+    Arrives,
+
+    /// It is a text that fails its check.
+    Fails,
+
+    /// It is lost.
+    Lost,
+}
+
+/// What is heard at both ends where this becomes of the sender's transmission, and the sender hears
+/// this reply.
+pub(crate) fn heard_at_both(sent: Option<Message>, fate: &Fate, reply: Option<Reply>) -> Hearings {
+    Hearings {
+        there: match fate {
+            Fate::Arrives => sent.map(Heard::Whole),
+            Fate::Fails => Some(Heard::Failed),
+            Fate::Lost => None,
+        },
+        urgent: false,
+        back: match reply {
+            Some(reply) => Some(Heard::Whole(reply.message())),
+            None => None,
+        },
+    }
+}
