@@ -79,15 +79,6 @@ impl<R: Read + Drop, W: Write + Drop, F: Framing + Drop> Connection<R, W, F> {
         self.framing.octets()
     }
 
-    /// The direction that is written, while it is open.
-    #[cfg(test)]
-    pub(crate) fn writer(&self) -> Option<&W> {
-        match &self.ends {
-            Some((_, writer)) => Some(writer),
-            None => None,
-        }
-    }
-
     /// Whether a transmission is begun that a gap would end.
     pub(crate) fn awaits_gap(&self) -> bool
         ensures { result ≡ F.awaits self.now.framing }

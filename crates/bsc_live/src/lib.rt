@@ -15,8 +15,6 @@ pub mod laws;
 mod limits;
 mod monitor;
 mod socket_records;
-#[cfg(test)]
-mod tests;
 
 pub use attending::attend;
 pub use awaited::{Awaited, LiveError, Wait, Waiter};

@@ -14,8 +14,6 @@ mod error;
 mod listening;
 mod ready;
 mod sockets;
-#[cfg(test)]
-mod tests;
 mod writable;
 
 pub use begin::{Begun, connect, listen};

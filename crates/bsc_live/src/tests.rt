@@ -1,5 +1,0 @@
-//! Stations over connections in memory.
-
-mod attended;
-mod fixtures;
-mod framings;

@@ -1,0 +1,261 @@
+//! A station is attended over two connections in memory.
+
+use crate::memory::Piece::{Fails, Octets};
+use crate::memory::{Ends, Expecting, Pieces, Told};
+use crate::watching::{Answers, Expects};
+use bsc_carrier::CarrierError;
+use bsc_live::Awaited::{Newcomer, TimeOut};
+use bsc_live::{Awaited, Connection, Framing, Gaps, LiveError, Note, SocketRecords, Wait, attend};
+use std::alloc::Global;
+use std::io::ErrorKind;
+use std::test::Fail;
+
+/// What happens on the connections of a station, and what comes of it.
+struct Attended {
+    /// What it shows.
+    shows: &'static str,
+
+    first: Ends,
+    second: Ends,
+    newcomer: Ends,
+
+    /// Each wait, and how it is answered.
+    waits: &'static [(Wait, Awaited)],
+
+    /// What the monitor is told. It ends the station at the last note, or else the next wait fails.
+    notes: &'static [Note<'static>],
+    result: Result<(), LiveError>,
+
+    /// How often nothing was left at a connection, and how many newcomers were turned away.
+    counts: (u32, u32),
+}
+
+/// The first connection has something to read.
+const FIRST: (Wait, Awaited) = (Wait::TimeOut, Awaited::Octets { connection: 0 });
+
+/// The second connection has something to read.
+const SECOND: (Wait, Awaited) = (Wait::TimeOut, Awaited::Octets { connection: 1 });
+
+const TIME_PASSES: (Wait, Awaited) = (Wait::TimeOut, TimeOut);
+
+const PEER_COMES: (Wait, Awaited) = (Wait::TimeOut, Newcomer);
+
+/// What is sent for EOT and for ACK0.
+const EOT: &[u8] = &[0x16, 0x16, 0x04, 0xff];
+
+const ACK0: &[u8] = &[0x16, 0x16, 0x10, 0xb0, 0xff];
+
+/// The records of EOT and of ACK0.
+const EOT_AND_ACK0: &[u8] = &[
+    0x00, 0x04, 0x16, 0x16, 0x04, 0xff, 0x00, 0x05, 0x16, 0x16, 0x10, 0xb0, 0xff,
+];
+
+/// The octets of ACK0 and of EOT.
+const ACK0_AND_EOT: &[u8] = &[0x16, 0x16, 0x10, 0xb0, 0xff, 0x16, 0x16, 0x04, 0xff];
+
+const NONE: Ends = (&[], &[]);
+
+const OVER_RECORDS: &[Attended] = &[
+    Attended {
+        shows: "a record that is begun is kept over a time-out, and what is sent goes out once",
+        first: (
+            &[
+                Octets(&[0x00]),
+                Octets(&[0x04]),
+                Fails(ErrorKind::Interrupted),
+                Octets(&[0x16, 0x16]),
+                Fails(ErrorKind::WouldBlock),
+                Fails(ErrorKind::TimedOut),
+                Octets(&[0x04, 0xff]),
+            ],
+            EOT_AND_ACK0,
+        ),
+        second: (&[], EOT_AND_ACK0),
+        newcomer: NONE,
+        waits: &[
+            FIRST,
+            FIRST,
+            FIRST,
+            FIRST,
+            FIRST,
+            FIRST,
+            TIME_PASSES,
+            FIRST,
+            FIRST,
+            FIRST,
+            SECOND,
+        ],
+        notes: &[
+            Note::Silence,
+            Note::Sent { octets: EOT },
+            Note::Heard {
+                connection: 0,
+                octets: EOT,
+            },
+            Note::Sent { octets: ACK0 },
+            Note::Closed {
+                connection: 0,
+                why: None,
+            },
+            Note::Closed {
+                connection: 1,
+                why: None,
+            },
+        ],
+        result: Ok(()),
+        counts: (5, 0),
+    },
+    Attended {
+        shows: "what ends a connection is named, and a wait that fails ends all",
+        first: (&[Octets(&[0x00])], &[]),
+        second: (&[Octets(&[0x08, 0x01])], &[]),
+        newcomer: NONE,
+        waits: &[FIRST, FIRST, FIRST, SECOND],
+        notes: &[
+            Note::Closed {
+                connection: 0,
+                why: Some(CarrierError::Short),
+            },
+            Note::Closed {
+                connection: 1,
+                why: Some(CarrierError::Length),
+            },
+        ],
+        result: Err(LiveError::Wait),
+        counts: (3, 0),
+    },
+    Attended {
+        shows: "a write that fails is told by the next read, and then no more",
+        first: (&[], &[0x00, 0x04, 0x16, 0x16, 0x04, 0xff]),
+        second: (&[Octets(&[0x00])], &[]),
+        newcomer: NONE,
+        waits: &[TIME_PASSES, SECOND, SECOND, FIRST],
+        notes: &[
+            Note::Silence,
+            Note::Sent { octets: EOT },
+            Note::Closed {
+                connection: 1,
+                why: Some(CarrierError::Device),
+            },
+            Note::Closed {
+                connection: 0,
+                why: None,
+            },
+        ],
+        result: Ok(()),
+        counts: (3, 0),
+    },
+    Attended {
+        shows: "a peer that comes later takes a place that is free, and else is turned away",
+        first: (&[Octets(&[0x00, 0x00])], &[]),
+        second: NONE,
+        newcomer: (&[Octets(&[0x00, 0x01]), Octets(&[0x55])], &[]),
+        waits: &[PEER_COMES, FIRST, FIRST, PEER_COMES, FIRST, FIRST],
+        notes: &[
+            Note::Closed {
+                connection: 0,
+                why: Some(CarrierError::Length),
+            },
+            Note::Joined { connection: 0 },
+            Note::Heard {
+                connection: 0,
+                octets: &[0x55],
+            },
+        ],
+        result: Ok(()),
+        counts: (2, 1),
+    },
+];
+
+const OVER_GAPS: &[Attended] = &[
+    Attended {
+        shows: "a gap ends what is begun, and then a time-out is a silence",
+        first: (&[], ACK0_AND_EOT),
+        second: (&[Octets(&[0x16, 0x16]), Octets(&[0x04])], ACK0_AND_EOT),
+        newcomer: NONE,
+        waits: &[
+            SECOND,
+            (Wait::Gap, Awaited::Octets { connection: 1 }),
+            (Wait::Gap, TimeOut),
+            TIME_PASSES,
+            SECOND,
+            FIRST,
+        ],
+        notes: &[
+            Note::Heard {
+                connection: 1,
+                octets: &[0x16, 0x16, 0x04],
+            },
+            Note::Sent { octets: ACK0 },
+            Note::Silence,
+            Note::Sent { octets: EOT },
+            Note::Closed {
+                connection: 1,
+                why: None,
+            },
+            Note::Closed {
+                connection: 0,
+                why: None,
+            },
+        ],
+        result: Ok(()),
+        counts: (2, 0),
+    },
+    Attended {
+        shows: "a read that fails ends a connection",
+        first: (&[Fails(ErrorKind::ConnectionReset)], &[]),
+        second: NONE,
+        newcomer: NONE,
+        waits: &[FIRST],
+        notes: &[Note::Closed {
+            connection: 0,
+            why: Some(CarrierError::Device),
+        }],
+        result: Ok(()),
+        counts: (1, 0),
+    },
+];
+
+/// A new connection of these ends.
+fn connection<F: Framing + Drop>(ends: Ends) -> Connection<Pieces, Expecting, F> {
+    let (pieces, rest) = ends;
+    Connection::new(Pieces { pieces }, Expecting { rest })
+}
+
+/// Whether a station is attended as it says, over connections of this framing.
+fn goes<F: Framing + Drop>(alloc: Global, attended: &Attended) -> Result<bool, Fail> {
+    let mut connections: Vec<Connection<_, _, F>> = Vec::new(alloc);
+    connections.push(connection(attended.first))?;
+    connections.push(connection(attended.second))?;
+    let mut waiter = Told {
+        waits: attended.waits,
+        newcomer: attended.newcomer,
+        nothing_left: 0,
+        turned_away: 0,
+    };
+    let mut monitor = Expects::new(attended.notes, attended.result.is_ok());
+    let result = attend(&mut Answers, &mut connections, &mut waiter, &mut monitor);
+    let counts = (waiter.nothing_left, waiter.turned_away);
+    let is_done = waiter.waits.is_empty() && monitor.is_done();
+    Ok(is_done && result == attended.result && counts == attended.counts)
+}
+
+#[test]
+fn a_station_is_attended_over_records(rt: HostRuntime) -> Result<(), Fail> {
+    for attended in OVER_RECORDS {
+        assert!(rt;
+            goes::<SocketRecords>(rt.alloc(), attended)?,
+            "{}",
+            attended.shows
+        );
+    }
+    Ok(())
+}
+
+#[test]
+fn a_station_is_attended_over_gaps(rt: HostRuntime) -> Result<(), Fail> {
+    for attended in OVER_GAPS {
+        assert!(rt; goes::<Gaps>(rt.alloc(), attended)?, "{}", attended.shows);
+    }
+    Ok(())
+}

@@ -1,0 +1,113 @@
+//! A station that answers whatever is a transmission, and a monitor that compares what it is told
+//! with what is expected.
+
+ghost use Rattle.std.specs.Prelude.{◌≡◌};
+
+use bsc_carrier::CarrierError;
+use bsc_frame::{Heard, Message};
+use bsc_live::{LiveError, Monitor, Note};
+use bsc_text::Station;
+
+/// Answers ACK0 to a message and NAK to a text that failed, and sends EOT at a silence.
+#[derive(Drop)]
+pub(crate) struct Answers;
+
+impl Station for Answers {
+    ghost use Rattle.std.specs.Prelude.{◌≡◌, ⊤, None, false, refl};
+    ghost use Rattle.bsc_frame.specs.declared.message.Heard.TheVariants.{Noise};
+
+    ghost hears = { λ old heard new sent. heard ≡ Noise → (new ≡ old) × (sent ≡ None) };
+
+    ghost acts = { λ _ _ _. ⊤ };
+
+    ghost holds = { λ _. false };
+
+    fn answer(&mut self, heard: &Heard, sent: &mut Option<Message>) {
+        match heard {
+            Heard::Noise => *sent = None,
+            Heard::Failed => *sent = Some(Message::Nak),
+            Heard::Whole(_) => *sent = Some(Message::Ack0),
+        }
+    }
+
+    fn act(&mut self, sent: &mut Option<Message>) {
+        *sent = Some(Message::Eot);
+    }
+
+    fn holds_line(&self) -> bool {
+        false
+    }
+
+    ghost ignores_noise = { λ old new sent hears. hears refl };
+}
+
+/// Expects some notes in order, and fails at any other note.
+#[derive(Drop)]
+pub(crate) struct Expects {
+    notes: &'static [Note<'static>],
+    /// How many notes came.
+    taken: usize,
+    ends: bool,
+    has_ended: bool,
+}
+
+/// The octets of a note, the place of its connection, and why that is closed. No two kinds of notes
+/// have the same of these.
+fn parts<'a>(
+    note: &Note<'a>,
+) -> (
+    Option<&'a [u8]>,
+    Option<usize>,
+    Option<Option<CarrierError>>,
+) {
+    match *note {
+        Note::Heard { connection, octets } => (Some(octets), Some(connection), None),
+        Note::Silence => (None, None, None),
+        Note::Sent { octets } => (Some(octets), None, None),
+        Note::Joined { connection } => (None, Some(connection), None),
+        Note::Closed { connection, why } => (None, Some(connection), Some(why)),
+    }
+}
+
+impl Expects {
+    /// Expects these notes, and ends the station at the last of them where it is to.
+    pub(crate) fn new(notes: &'static [Note<'static>], ends: bool) -> Expects {
+        Expects {
+            notes,
+            taken: 0,
+            ends,
+            has_ended: false,
+        }
+    }
+
+    /// Whether this is the note that is expected, after which the next one is.
+    fn is_next(&mut self, note: &Note<'_>) -> bool
+        ensures { self.new.has_ended ≡ self.old.has_ended }
+    {
+        let place = self.taken;
+        self.taken = place.saturating_add(1);
+        match self.notes.get(place) {
+            Some(expected) => parts(expected) == parts(note),
+            None => false,
+        }
+    }
+
+    /// Whether each note came.
+    pub(crate) fn is_done(&self) -> bool {
+        self.taken == self.notes.len()
+    }
+}
+
+impl Monitor<Answers> for Expects {
+    ghost has_ended = { λ expects. expects.has_ended };
+
+    fn note(&mut self, _station: &Answers, note: Note<'_>) -> Result<bool, LiveError> {
+        if !self.is_next(&note) {
+            return Err(LiveError::Output);
+        }
+        if self.ends && self.is_done() {
+            self.has_ended = true;
+        }
+        Ok(!self.has_ended)
+    }
+}
