@@ -246,5 +246,7 @@ fn a_record_that_is_refused_is_named(rt: HostRuntime) -> Result<(), Fail> {
     let error = AttendingError::Offer { path, error };
     let text = "cards.txt line 3: record too long";
     assert!(rt; is_told(rt.alloc(), Fault::Attending { error }, text, 1)?);
+    let memory = OfferError::Memory.to_string(rt.alloc())?;
+    assert_eq!(rt; memory.as_str(), "out of memory");
     Ok(())
 }

@@ -1,0 +1,5 @@
+//! Tests of the code that README.md shows.
+#![tactic(auto)]
+
+#[cfg(test)]
+mod examples;
