@@ -19,6 +19,3 @@ mod trust;
 
 pub use bsc_line_model::{Event, LineError, Speaker, Stopped};
 pub use line::Line;
-
-#[cfg(test)]
-mod tests;

@@ -6,12 +6,8 @@ ghost use Rattle.bsc_line_model.specs.Line.{IsChannel, terminal_count};
 use crate::events::NONE;
 use bsc_control::Way;
 use bsc_fixtures::records::{are_front, are_records};
-use bsc_line::Line;
-use std::alloc::Allocator;
-use std::process::Abort;
-
-/// The channel to the first selection address of a terminal.
-pub(crate) const TO_FIRST: Way = Way::ToTerminal(0);
+use bsc_line::{Line, LineError};
+use refusing_alloc::Refusing;
 
 /// What a channel has: records were offered, the sending end knows of some of them to have arrived,
 /// and records arrived.
@@ -81,7 +77,7 @@ impl<'a> Has<'a> {
 }
 
 /// Whether the line has such a channel.
-pub(crate) fn is_channel<A: Allocator>(line: &Line<A>, terminal: usize, way: Way) -> bool
+pub(crate) fn is_channel(line: &Line<&Refusing>, terminal: usize, way: Way) -> bool
     ensures { IsTrue result → IsChannel line.now terminal way }
 {
     terminal < line.terminals()
@@ -91,8 +87,21 @@ pub(crate) fn is_channel<A: Allocator>(line: &Line<A>, terminal: usize, way: Way
         }
 }
 
+/// Offers a record on a channel.
+pub(crate) fn offer(
+    line: &mut Line<&Refusing>,
+    terminal: usize,
+    way: Way,
+    codes: &[u8],
+) -> Result<(), LineError> {
+    match way {
+        Way::FromTerminal => line.offer_at(terminal, codes),
+        Way::ToTerminal(select) => line.offer_for(terminal, select, codes),
+    }
+}
+
 /// How many records were offered on a channel; 0 where the line has no such channel.
-pub(crate) fn offered_count<A: Allocator>(line: &Line<A>, terminal: usize, way: Way) -> usize {
+pub(crate) fn offered_count(line: &Line<&Refusing>, terminal: usize, way: Way) -> usize {
     if is_channel(line, terminal, way) {
         line.offered(terminal, way).len()
     } else {
@@ -102,8 +111,8 @@ pub(crate) fn offered_count<A: Allocator>(line: &Line<A>, terminal: usize, way: 
 
 /// Whether the line has such a channel, and the records of the first of these characters, and no
 /// others, were offered there.
-pub(crate) fn has_front_of<A: Allocator>(
-    line: &Line<A>,
+pub(crate) fn has_front_of(
+    line: &Line<&Refusing>,
     terminal: usize,
     way: Way,
     expected: &[&[u8]],
@@ -112,8 +121,8 @@ pub(crate) fn has_front_of<A: Allocator>(
 }
 
 /// Whether the line has such a channel, and that has this.
-pub(crate) fn has_left<A: Allocator>(
-    line: &Line<A>,
+pub(crate) fn has_left(
+    line: &Line<&Refusing>,
     terminal: usize,
     way: Way,
     expected: &Has<'_>,
@@ -128,7 +137,7 @@ pub(crate) fn has_left<A: Allocator>(
 
 /// Whether what arrived on a channel is the first of what was offered, in order and each record
 /// once, and what the sending end knows of is among it.
-fn is_sound<A: Allocator>(line: &Line<A>, terminal: usize, way: Way) -> bool
+fn is_sound(line: &Line<&Refusing>, terminal: usize, way: Way) -> bool
     requires { IsChannel line.now terminal way }
 {
     let offered = line.offered(terminal, way);
@@ -142,7 +151,7 @@ fn is_sound<A: Allocator>(line: &Line<A>, terminal: usize, way: Way) -> bool
 }
 
 /// Whether all channels of a terminal are sound.
-fn are_sound_at<A: Allocator>(line: &Line<A>, terminal: usize) -> bool
+fn are_sound_at(line: &Line<&Refusing>, terminal: usize) -> bool
     requires { terminal < terminal_count line.now }
 {
     for select in 0..line.addresses(terminal) {
@@ -154,7 +163,7 @@ fn are_sound_at<A: Allocator>(line: &Line<A>, terminal: usize) -> bool
 }
 
 /// Whether all channels of a line are sound.
-pub(crate) fn are_sound<A: Allocator>(line: &Line<A>) -> bool {
+pub(crate) fn are_sound(line: &Line<&Refusing>) -> bool {
     for terminal in 0..line.terminals() {
         if !are_sound_at(line, terminal) {
             return false;

@@ -1,11 +1,12 @@
 //! The lines of the worked exchanges.
 
 use bsc_control::SetupError;
-use bsc_fixtures::lines::{setup, two_terminals};
+use bsc_fixtures::lines::{setup, two_terminals, two_terminals_by_three};
 use bsc_frame::Address;
 use bsc_line::Line;
 use bsc_text::Terminal;
-use std::alloc::{Allocator, Global};
+use refusing_alloc::Refusing;
+use std::alloc::Global;
 use std::test::Fail;
 
 /// A terminal with this polling address and these selection addresses.
@@ -65,35 +66,92 @@ pub(crate) fn most_terminals() -> Result<[Terminal; 64], Fail> {
     Ok(terminals)
 }
 
+/// The terminals of a line.
+enum Terminals {
+    /// Terminals 0 and 1, of one selection address each.
+    Two,
+
+    /// These, where terminal 0 has a second selection address.
+    TwoByThree,
+
+    /// As many as there may be.
+    Most,
+}
+
+/// A line: its terminals, its poll list, and how many failures in a row are borne.
+pub(crate) struct On<'a> {
+    terminals: Terminals,
+    poll_list: &'a [u8],
+    tries: u8,
+}
+
+/// Terminals 0 and 1 polled in turn, and the default of three tries.
+pub(crate) const TWO: On<'static> = On {
+    terminals: Terminals::Two,
+    poll_list: &[0, 1],
+    tries: 3,
+};
+
+/// These, with one try.
+pub(crate) const TWO_WITH_ONE_TRY: On<'static> = On {
+    terminals: Terminals::Two,
+    poll_list: &[0, 1],
+    tries: 1,
+};
+
+/// These, with one try, where terminal 1 is polled first.
+pub(crate) const SECOND_FIRST: On<'static> = On {
+    terminals: Terminals::Two,
+    poll_list: &[1, 0],
+    tries: 1,
+};
+
+/// Terminals 0 and 1 polled in turn, where terminal 0 has two selection addresses.
+pub(crate) const TWO_BY_THREE: On<'static> = On {
+    terminals: Terminals::TwoByThree,
+    poll_list: &[0, 1],
+    tries: 3,
+};
+
+/// These, where terminal 0 has two entries of the poll list.
+pub(crate) const TWO_BY_THREE_ENTRIES: On<'static> = On {
+    terminals: Terminals::TwoByThree,
+    poll_list: &[0, 0, 1],
+    tries: 3,
+};
+
+/// As many terminals as there may be, of which one is polled.
+pub(crate) const MOST: On<'static> = On {
+    terminals: Terminals::Most,
+    poll_list: &[0],
+    tries: 3,
+};
+
 /// A new line with these terminals and this poll list, on which this many failures in a row are
 /// borne.
-pub(crate) fn line_of<A: Allocator + Copy>(
-    alloc: A,
+pub(crate) fn line_of<'a>(
+    alloc: &'a Refusing,
     terminals: &[Terminal],
     poll_list: &[u8],
     tries: u8,
-) -> Result<Line<A>, Fail> {
+) -> Result<Line<&'a Refusing>, Fail> {
     Ok(Line::new(alloc, setup(tries)?, terminals, poll_list)?)
 }
 
-/// A new line with terminals 0 and 1 polled in turn, and the default of three tries.
-pub(crate) fn line_of_two<A: Allocator + Copy>(alloc: A) -> Result<Line<A>, Fail> {
-    line_of(alloc, &two_terminals(), &[0, 1], 3)
-}
-
-/// A new line, as `line_of_two` makes it; None where it is out of memory.
-pub(crate) fn line_within<A: Allocator + Copy>(alloc: A) -> Result<Option<Line<A>>, Fail> {
-    let (setup, terminals) = (setup(3)?, two_terminals());
-    match Line::new(alloc, setup, &terminals, &[0, 1]) {
-        Ok(line) => Ok(Some(line)),
-        Err(SetupError::Memory) => Ok(None),
-        Err(error) => Err(error.into()),
+/// A new line.
+pub(crate) fn line_on<'a>(alloc: &'a Refusing, on: &On<'_>) -> Result<Line<&'a Refusing>, Fail> {
+    match on.terminals {
+        Terminals::Two => line_of(alloc, &two_terminals(), on.poll_list, on.tries),
+        Terminals::TwoByThree => {
+            line_of(alloc, &two_terminals_by_three(), on.poll_list, on.tries)
+        }
+        Terminals::Most => line_of(alloc, &most_terminals()?, on.poll_list, on.tries),
     }
 }
 
 /// Why there is no line with these terminals and this poll list; None where there is one.
-pub(crate) fn refusal<A: Allocator + Copy>(
-    alloc: A,
+pub(crate) fn refusal(
+    alloc: &Refusing,
     terminals: &[Terminal],
     poll_list: &[u8],
 ) -> Result<Option<SetupError>, Fail> {

@@ -1,9 +1,9 @@
 //! Each growth of whole exchanges refused in turn, all growths from one on, and all above a size.
 
 use crate::channels::Has::Delivered;
-use crate::channels::{are_sound, has_front_of, offered_count};
+use crate::channels::{are_sound, has_front_of, offer, offered_count};
 use crate::events::{EIGHT, HI, NONE, SEVEN};
-use crate::fixtures::{line_of_two, refusal, terminals_of};
+use crate::fixtures::{TWO, line_on, refusal, terminals_of};
 use crate::limits::go_on;
 use crate::play::{Left, wrong_left};
 use crate::refusals::{SETTINGS, Setting};
@@ -13,16 +13,17 @@ use bsc_fixtures::octets::{NAK, WACK};
 use bsc_line::{Line, LineError};
 use bsc_text::Terminal;
 use refusing_alloc::{Refusal, Refusing};
-use std::alloc::{Allocator, Global};
-use std::process::Abort;
+use std::alloc::Global;
 use std::test::Fail;
 
+/// Growths of more octets than a number of units of 512: three records fill one.
+const ABOVE: Refusal = Refusal::Above { octets: 512 };
+
 /// Growths of more octets than a number of units of 64.
-const ABOVE: Refusal = Refusal::Above { octets: 64 };
+const ABOVE_LITTLE: Refusal = Refusal::Above { octets: 64 };
 
 /// An exchange on a line of two terminals: what is offered on each channel, in order, and whether
 /// terminal 0 then asks for the line.
-#[derive(Clone, Copy)]
 struct Exchange<'a> {
     offered: Left<'a>,
     urgent: bool,
@@ -40,8 +41,13 @@ const LETTERS: &[&[u8]] = &[
     b"q", b"r", b"s", b"t",
 ];
 
+const RECORD: &[u8] = b"HI";
+
+/// A record a hundred times.
+const HUNDRED: &[&[u8]] = &[RECORD; 100];
+
 /// A record from terminal 0; one block to it; two blocks to it; two blocks to it, of which it
-/// interrupts the first to send a record; and three blocks each way.
+/// interrupts the first to send a record; three blocks each way; and fifteen blocks each way.
 const EXCHANGES: &[Exchange<'static>] = &[
     Exchange {
         offered: &[
@@ -88,26 +94,20 @@ const EXCHANGES: &[Exchange<'static>] = &[
         ],
         urgent: false,
     },
+    Exchange {
+        offered: &[
+            (0, FromTerminal, Delivered(HUNDRED)),
+            (0, ToTerminal(0), Delivered(HUNDRED)),
+        ],
+        urgent: false,
+    },
 ];
-
-/// Offers a record on this way from or to a terminal.
-fn offer<A: Allocator>(
-    line: &mut Line<A>,
-    terminal: usize,
-    way: Way,
-    codes: &[u8],
-) -> Result<(), LineError> {
-    match way {
-        FromTerminal => line.offer_at(terminal, codes),
-        ToTerminal(select) => line.offer_for(terminal, select, codes),
-    }
-}
 
 /// Offers a record, and says whether the answer was right: out of memory, and nothing more offered,
 /// exactly where a growth was refused.
-fn offers_rightly<A: Allocator>(
+fn offers_rightly(
     alloc: &Refusing,
-    line: &mut Line<A>,
+    line: &mut Line<&Refusing>,
     terminal: usize,
     way: Way,
     codes: &[u8],
@@ -125,9 +125,9 @@ fn offers_rightly<A: Allocator>(
 
 /// Offers those records of a channel that were not yet offered, each again where it is refused, at
 /// most twice as often as there are records: whether each answer was right.
-fn offers_rest<A: Allocator>(
+fn offers_rest(
     alloc: &Refusing,
-    line: &mut Line<A>,
+    line: &mut Line<&Refusing>,
     terminal: usize,
     way: Way,
     records: &[&[u8]],
@@ -144,7 +144,7 @@ fn offers_rest<A: Allocator>(
 }
 
 /// Whether the records that are left are offered rightly on each channel.
-fn offers_all<A: Allocator>(alloc: &Refusing, line: &mut Line<A>, left: Left<'_>) -> bool {
+fn offers_all(alloc: &Refusing, line: &mut Line<&Refusing>, left: Left<'_>) -> bool {
     for (terminal, way, expected) in left {
         if !offers_rest(alloc, line, *terminal, *way, expected.offered()) {
             return false;
@@ -154,7 +154,7 @@ fn offers_all<A: Allocator>(alloc: &Refusing, line: &mut Line<A>, left: Left<'_>
 }
 
 /// Whether the receiver of a text or of a selection puts the sender off.
-fn is_put_off<A: Allocator>(line: &Line<A>) -> bool {
+fn is_put_off(line: &Line<&Refusing>) -> bool {
     match line.pending() {
         Some((_, octets)) => octets == NAK || octets == WACK,
         None => false,
@@ -164,10 +164,7 @@ fn is_put_off<A: Allocator>(line: &Line<A>) -> bool {
 /// Goes on for 80 transmissions and silences, up to the first after which the line is not trusted
 /// or a channel is not sound, or the sender is put off though no growth was refused, or it is not
 /// though one was. The number of that one.
-fn wrong_step<A: Allocator>(
-    alloc: &Refusing,
-    line: &mut Line<A>,
-) -> Result<Option<usize>, LineError> {
+fn wrong_step(alloc: &Refusing, line: &mut Line<&Refusing>) -> Result<Option<usize>, LineError> {
     for number in 0..80usize {
         let refusals = alloc.refused();
         go_on(line, false)?;
@@ -180,7 +177,7 @@ fn wrong_step<A: Allocator>(
 }
 
 /// Whether the first of these records, and nothing else, were offered on each channel.
-fn are_fronts<A: Allocator>(line: &Line<A>, left: Left<'_>) -> bool {
+fn are_fronts(line: &Line<&Refusing>, left: Left<'_>) -> bool {
     for (terminal, way, expected) in left {
         if !has_front_of(line, *terminal, *way, expected.offered()) {
             return false;
@@ -191,9 +188,9 @@ fn are_fronts<A: Allocator>(line: &Line<A>, left: Left<'_>) -> bool {
 
 /// Plays an exchange, growths of which may be refused: how many growths of an offer and of a spool
 /// were; None where something was wrong.
-fn refusals_in<A: Allocator>(
+fn refusals_in(
     alloc: &Refusing,
-    line: &mut Line<A>,
+    line: &mut Line<&Refusing>,
     exchange: &Exchange<'_>,
 ) -> Result<Option<(usize, usize)>, LineError> {
     let before = alloc.refused();
@@ -215,9 +212,9 @@ fn refusals_in<A: Allocator>(
 }
 
 /// Whether all records of an exchange are delivered once memory is there again.
-fn delivers_rest<A: Allocator>(
+fn delivers_rest(
     alloc: &Refusing,
-    line: &mut Line<A>,
+    line: &mut Line<&Refusing>,
     left: Left<'_>,
 ) -> Result<bool, LineError> {
     alloc.refuse_none();
@@ -238,7 +235,7 @@ fn refused_in(
     exchange: &Exchange<'_>,
 ) -> Result<Option<Refused>, Fail> {
     alloc.refuse_none();
-    let mut line = line_of_two(alloc)?;
+    let mut line = line_on(alloc, &TWO)?;
     alloc.refuse(which, number);
     let refusals = refusals_in(alloc, &mut line, exchange)?;
     let is_delivered = delivers_rest(alloc, &mut line, exchange.offered)?;
@@ -264,29 +261,24 @@ fn refused_in_turn(
     Ok((offers, rooms))
 }
 
-/// Asserts that in each exchange an offer and a spool are refused a growth, and that all is as
-/// expected.
-fn passes_each(rt: &(impl Abort + AllocGlobal), which: Refusal) -> Result<(), Fail> {
+/// The first exchange in which no growth of an offer or none of a spool was refused, while growths
+/// are refused in this way.
+fn wrong_exchange(alloc: &Refusing, which: Refusal) -> Result<Option<usize>, Fail> {
+    for (place, exchange) in EXCHANGES.iter().enumerate() {
+        if refused_in_turn(alloc, which, exchange)? != (true, true) {
+            return Ok(Some(place));
+        }
+    }
+    Ok(None)
+}
+
+#[test]
+fn each_growth_of_an_exchange_is_refused(rt: HostRuntime) -> Result<(), Fail> {
     let alloc = Refusing::new(rt.alloc());
-    for exchange in EXCHANGES {
-        assert_eq!(rt; refused_in_turn(&alloc, which, exchange)?, (true, true));
+    for which in [Refusal::Nth, Refusal::From, ABOVE] {
+        assert_eq!(rt; wrong_exchange(&alloc, which)?, None);
     }
     Ok(())
-}
-
-#[test]
-fn each_growth_of_an_exchange_is_refused_in_turn(rt: HostRuntime) -> Result<(), Fail> {
-    passes_each(&rt, Refusal::Nth)
-}
-
-#[test]
-fn all_growths_of_an_exchange_are_refused_from_each_on(rt: HostRuntime) -> Result<(), Fail> {
-    passes_each(&rt, Refusal::From)
-}
-
-#[test]
-fn all_growths_of_an_exchange_are_refused_above_each_size(rt: HostRuntime) -> Result<(), Fail> {
-    passes_each(&rt, ABOVE)
 }
 
 /// Asks for a line: whether it is answered as is due, which is out of memory where a growth is
@@ -321,23 +313,21 @@ fn are_answered(
     Ok(true)
 }
 
-/// Asserts that each setting is answered as is due, whichever growth is refused. The first two are
-/// wrong numbers of terminals, which are told before memory is asked for.
-fn asks_for_each(rt: &(impl Abort + AllocGlobal), which: Refusal) -> Result<(), Fail> {
-    let alloc = Refusing::new(rt.alloc());
-    for (place, setting) in SETTINGS.iter().enumerate().skip(2) {
-        assert!(rt;
-            are_answered(rt.alloc(), &alloc, which, setting)?,
-            "at {place}"
-        );
+/// The first setting that is not answered as is due, while growths are refused in this way.
+fn wrong_setting(global: Global, alloc: &Refusing, which: Refusal) -> Result<Option<usize>, Fail> {
+    for (place, setting) in SETTINGS.iter().enumerate() {
+        if !are_answered(global, alloc, which, setting)? {
+            return Ok(Some(place));
+        }
     }
-    Ok(())
+    Ok(None)
 }
 
 #[test]
 fn each_growth_of_a_new_line_is_refused(rt: HostRuntime) -> Result<(), Fail> {
-    for which in [Refusal::Nth, Refusal::From, ABOVE] {
-        asks_for_each(&rt, which)?;
+    let alloc = Refusing::new(rt.alloc());
+    for which in [Refusal::Nth, Refusal::From, ABOVE_LITTLE] {
+        assert_eq!(rt; wrong_setting(rt.alloc(), &alloc, which)?, None);
     }
     Ok(())
 }

@@ -1,9 +1,10 @@
 //! Exchanges as tables: what happens on a line, what comes of it, and what is left.
 
 use crate::channels::{Has, are_sound, has_left};
+use crate::fixtures::{On, line_on};
 use bsc_control::Way;
 use bsc_line::{Event, Line, LineError, Speaker, Stopped};
-use std::alloc::Allocator;
+use refusing_alloc::{Refusal, Refusing};
 use std::process::Abort;
 use std::test::Fail;
 
@@ -14,7 +15,6 @@ pub(crate) type Pending<'a> = Option<(Speaker, &'a [u8])>;
 pub(crate) type Left<'a> = &'a [(usize, Way, Has<'a>)];
 
 /// What comes of an event.
-#[derive(Clone, Copy)]
 pub(crate) enum Then<'a> {
     /// It is done, and what is pending stays.
     Done,
@@ -49,7 +49,6 @@ impl<'a> Then<'a> {
 }
 
 /// A part of an exchange.
-#[derive(Clone, Copy)]
 pub(crate) struct Part<'a> {
     /// What happens, and what comes of it.
     pub(crate) steps: &'a [(Event<'a>, Then<'a>)],
@@ -61,17 +60,36 @@ pub(crate) struct Part<'a> {
     pub(crate) left: Left<'a>,
 }
 
+/// Growths that are refused: from before the part of this number on, which of them, from or at the
+/// first one, and how many are by the end of the exchange.
+pub(crate) type Starved = (usize, Refusal, usize);
+
+/// An exchange by its name: what happens on a new line.
+pub(crate) struct Exchange<'a> {
+    pub(crate) name: &'static str,
+
+    /// The line.
+    pub(crate) on: On<'a>,
+
+    /// The growths that are refused.
+    pub(crate) starved: Option<Starved>,
+
+    /// What happens, and what comes of it.
+    pub(crate) parts: &'a [Part<'a>],
+}
+
 /// Where an exchange went otherwise than its table says: the part, the step or the channel of it,
 /// all counted from 0, and what was wrong there.
-#[derive(Clone, Copy, Debug, PartialEq, Eq)]
+#[derive(Debug, PartialEq, Drop)]
 pub(crate) struct Wrong {
+    exchange: &'static str,
     part: usize,
     place: usize,
     what: What,
 }
 
 /// What was wrong.
-#[derive(Clone, Copy, Debug, PartialEq, Eq)]
+#[derive(Clone, Copy, Debug, PartialEq)]
 enum What {
     /// The event was answered otherwise.
     Answer,
@@ -88,27 +106,39 @@ enum What {
 
     /// A channel had something else.
     Left,
+
+    /// Another number of growths was refused.
+    Refused,
 }
 
 /// What is wrong with a line on which this should be pending. While the line is trusted each of its
 /// channels is sound.
-fn wrong_now<A: Allocator>(line: &Line<A>, pending: Pending<'_>, trusted: bool) -> Option<What> {
-    let is_sound = !trusted || are_sound(line);
-    for (is_so, what) in [
-        (line.pending() == pending, What::Pending),
-        (line.trusted() == trusted, What::Trust),
-        (is_sound, What::Sound),
-    ] {
-        if !is_so {
-            return Some(what);
+fn wrong_now(line: &Line<&Refusing>, pending: Pending<'_>, trusted: bool) -> Option<What> {
+    if line.pending() != pending {
+        Some(What::Pending)
+    } else if line.trusted() != trusted {
+        Some(What::Trust)
+    } else if trusted && !are_sound(line) {
+        Some(What::Sound)
+    } else {
+        None
+    }
+}
+
+/// The first channel of these that has something else.
+pub(crate) fn wrong_left(line: &Line<&Refusing>, left: Left<'_>) -> Option<usize> {
+    for (place, (terminal, way, expected)) in left.iter().enumerate() {
+        if !has_left(line, *terminal, *way, expected) {
+            return Some(place);
         }
     }
     None
 }
 
-/// The first step that goes wrong, and what is wrong there; else what is pending after the last.
-fn take_steps<'a, A: Allocator>(
-    line: &mut Line<A>,
+/// The first step or channel of a part that goes wrong, and what is wrong there; else what is
+/// pending after the last step.
+fn play_part<'a>(
+    line: &mut Line<&Refusing>,
     part: &Part<'a>,
     before: Pending<'a>,
 ) -> Result<Pending<'a>, (usize, What)> {
@@ -122,42 +152,72 @@ fn take_steps<'a, A: Allocator>(
             return Err((place, what));
         }
     }
-    Ok(pending)
+    match wrong_left(line, part.left) {
+        Some(place) => Err((place, What::Left)),
+        None => Ok(pending),
+    }
 }
 
-/// The first channel of these that has something else.
-pub(crate) fn wrong_left<A: Allocator>(line: &Line<A>, left: Left<'_>) -> Option<usize> {
-    for (place, (terminal, way, expected)) in left.iter().enumerate() {
-        if !has_left(line, *terminal, *way, expected) {
-            return Some(place);
+/// The first part of an exchange that goes wrong on a new line, its step or channel, and what is
+/// wrong there.
+fn wrong_part(
+    alloc: &Refusing,
+    line: &mut Line<&Refusing>,
+    exchange: &Exchange<'_>,
+) -> Option<(usize, usize, What)> {
+    let mut pending = None;
+    for (number, part) in exchange.parts.iter().enumerate() {
+        match exchange.starved {
+            Some((from, refusal, _)) if from == number => alloc.refuse(refusal, 1),
+            _ => {}
+        }
+        match play_part(line, part, pending) {
+            Ok(after) => pending = after,
+            Err((place, what)) => return Some((number, place, what)),
         }
     }
     None
 }
 
-/// Plays an exchange from its first part on a line that is quiet, up to the first difference.
-pub(crate) fn play<A: Allocator>(line: &mut Line<A>, exchange: &[Part<'_>]) -> Result<(), Wrong> {
-    let mut pending = None;
-    for (part, played) in exchange.iter().enumerate() {
-        match take_steps(line, played, pending) {
-            Ok(after) => pending = after,
-            Err((place, what)) => return Err(Wrong { part, place, what }),
-        }
-        if let Some(place) = wrong_left(line, played.left) {
-            let what = What::Left;
-            return Err(Wrong { part, place, what });
-        }
+/// Plays an exchange on a new line, up to the first difference.
+fn wrong_exchange(
+    alloc: &Refusing,
+    exchange: &Exchange<'_>,
+) -> Result<Option<(usize, usize, What)>, Fail> {
+    alloc.refuse_none();
+    let mut line = line_on(alloc, &exchange.on)?;
+    let refused = match exchange.starved {
+        Some((_, _, count)) => count,
+        None => 0,
+    };
+    let wrong = wrong_part(alloc, &mut line, exchange);
+    if wrong.is_none() && alloc.refused() != refused {
+        return Ok(Some((exchange.parts.len(), 0, What::Refused)));
     }
-    Ok(())
+    Ok(wrong)
 }
 
-/// Asserts that an exchange goes as its table says, on this line if it was made.
-pub(crate) fn passes<A: Allocator>(
-    rt: &impl Abort,
-    made: Result<Line<A>, Fail>,
-    exchange: &[Part<'_>],
+/// Plays each of these exchanges, up to the first difference.
+fn first_wrong(alloc: &Refusing, exchanges: &[Exchange<'_>]) -> Result<Option<Wrong>, Fail> {
+    for exchange in exchanges {
+        if let Some((part, place, what)) = wrong_exchange(alloc, exchange)? {
+            return Ok(Some(Wrong {
+                exchange: exchange.name,
+                part,
+                place,
+                what,
+            }));
+        }
+    }
+    Ok(None)
+}
+
+/// Asserts that each of these exchanges goes as its table says.
+pub(crate) fn passes_each(
+    rt: &(impl Abort + AllocGlobal),
+    exchanges: &[Exchange<'_>],
 ) -> Result<(), Fail> {
-    let mut line = made?;
-    assert_eq!(rt; play(&mut line, exchange), Ok(()));
+    let alloc = Refusing::new(rt.alloc());
+    assert_eq!(rt; first_wrong(&alloc, exchanges)?, None);
     Ok(())
 }

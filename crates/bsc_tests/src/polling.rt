@@ -2,9 +2,9 @@
 
 use crate::channels::Has::Delivered;
 use crate::events::{HI, LOSE, NONE, OFFER_AT};
-use crate::fixtures::line_of_two;
+use crate::fixtures::TWO;
 use crate::play::Then::{Done, Quiet, Sent};
-use crate::play::{Left, Part, passes};
+use crate::play::{Exchange, Left, Part, passes_each};
 use bsc_control::Way::{FromTerminal, ToTerminal};
 use bsc_fixtures::octets::{ACK0, ACK1, CALL_POLL_A, CALL_POLL_B, ENQ, EOT, TEXT_HI};
 use bsc_line::Event::{CarrySent, Silence};
@@ -19,60 +19,69 @@ const HI_ALONE: Left<'static> = &[
     (1, ToTerminal(0), Delivered(NONE)),
 ];
 
-#[test]
-fn a_polled_terminal_delivers_its_record(rt: HostRuntime) -> Result<(), Fail> {
-    const EXCHANGE: &[Part<'static>] = &[Part {
-        steps: &[
-            (OFFER_AT, Done),
-            (Silence, Sent(Control, CALL_POLL_A)),
-            (CarrySent, Sent(Terminal(0), TEXT_HI)),
-            (CarrySent, Sent(Control, ACK1)),
-            (CarrySent, Sent(Terminal(0), EOT)),
-            (CarrySent, Sent(Control, CALL_POLL_B)),
-            (CarrySent, Sent(Terminal(1), EOT)),
-            (CarrySent, Sent(Control, CALL_POLL_A)),
-        ],
-        trusted: true,
-        left: HI_ALONE,
-    }];
-    passes(&rt, line_of_two(rt.alloc()), EXCHANGE)
-}
+/// The exchanges, by name.
+const EXCHANGES: &[Exchange<'static>] = &[
+    Exchange {
+        name: "a polled terminal delivers its record",
+        on: TWO,
+        starved: None,
+        parts: &[Part {
+            steps: &[
+                (OFFER_AT, Done),
+                (Silence, Sent(Control, CALL_POLL_A)),
+                (CarrySent, Sent(Terminal(0), TEXT_HI)),
+                (CarrySent, Sent(Control, ACK1)),
+                (CarrySent, Sent(Terminal(0), EOT)),
+                (CarrySent, Sent(Control, CALL_POLL_B)),
+                (CarrySent, Sent(Terminal(1), EOT)),
+                (CarrySent, Sent(Control, CALL_POLL_A)),
+            ],
+            trusted: true,
+            left: HI_ALONE,
+        }],
+    },
+    Exchange {
+        name: "a lost acknowledgement is asked for again",
+        on: TWO,
+        starved: None,
+        parts: &[Part {
+            steps: &[
+                (OFFER_AT, Done),
+                (Silence, Sent(Control, CALL_POLL_A)),
+                (CarrySent, Sent(Terminal(0), TEXT_HI)),
+                (CarrySent, Sent(Control, ACK1)),
+                (LOSE, Quiet),
+                (Silence, Sent(Terminal(0), ENQ)),
+                (CarrySent, Sent(Control, ACK1)),
+                (CarrySent, Sent(Terminal(0), EOT)),
+            ],
+            trusted: true,
+            left: HI_ALONE,
+        }],
+    },
+    Exchange {
+        name: "a lost text is sent again",
+        on: TWO,
+        starved: None,
+        parts: &[Part {
+            steps: &[
+                (OFFER_AT, Done),
+                (Silence, Sent(Control, CALL_POLL_A)),
+                (CarrySent, Sent(Terminal(0), TEXT_HI)),
+                (LOSE, Quiet),
+                (Silence, Sent(Terminal(0), ENQ)),
+                (CarrySent, Sent(Control, ACK0)),
+                (CarrySent, Sent(Terminal(0), TEXT_HI)),
+                (CarrySent, Sent(Control, ACK1)),
+                (CarrySent, Sent(Terminal(0), EOT)),
+            ],
+            trusted: true,
+            left: HI_ALONE,
+        }],
+    },
+];
 
 #[test]
-fn a_lost_acknowledgement_is_asked_for_again(rt: HostRuntime) -> Result<(), Fail> {
-    const EXCHANGE: &[Part<'static>] = &[Part {
-        steps: &[
-            (OFFER_AT, Done),
-            (Silence, Sent(Control, CALL_POLL_A)),
-            (CarrySent, Sent(Terminal(0), TEXT_HI)),
-            (CarrySent, Sent(Control, ACK1)),
-            (LOSE, Quiet),
-            (Silence, Sent(Terminal(0), ENQ)),
-            (CarrySent, Sent(Control, ACK1)),
-            (CarrySent, Sent(Terminal(0), EOT)),
-        ],
-        trusted: true,
-        left: HI_ALONE,
-    }];
-    passes(&rt, line_of_two(rt.alloc()), EXCHANGE)
-}
-
-#[test]
-fn a_lost_text_is_sent_again(rt: HostRuntime) -> Result<(), Fail> {
-    const EXCHANGE: &[Part<'static>] = &[Part {
-        steps: &[
-            (OFFER_AT, Done),
-            (Silence, Sent(Control, CALL_POLL_A)),
-            (CarrySent, Sent(Terminal(0), TEXT_HI)),
-            (LOSE, Quiet),
-            (Silence, Sent(Terminal(0), ENQ)),
-            (CarrySent, Sent(Control, ACK0)),
-            (CarrySent, Sent(Terminal(0), TEXT_HI)),
-            (CarrySent, Sent(Control, ACK1)),
-            (CarrySent, Sent(Terminal(0), EOT)),
-        ],
-        trusted: true,
-        left: HI_ALONE,
-    }];
-    passes(&rt, line_of_two(rt.alloc()), EXCHANGE)
+fn polled_terminals_deliver_their_records(rt: HostRuntime) -> Result<(), Fail> {
+    passes_each(&rt, EXCHANGES)
 }

@@ -2,23 +2,20 @@
 
 use crate::channels::Has::Delivered;
 use crate::events::{LOSE, NONE, OFFER_AT, OFFER_FOR, RELEASE_FROM, RELEASE_TO};
-use crate::fixtures::{
-    Codes, FIRST, SECOND, line_of, line_of_two, most_terminals, refusal, terminals_of,
-};
+use crate::fixtures::{Codes, FIRST, MOST, SECOND, TWO, TWO_BY_THREE, refusal};
 use crate::play::Then::{Done, Refused, Sent};
-use crate::play::{Part, Then, passes};
+use crate::play::{Exchange, Part, Then, passes_each};
 use bsc_block::RecordError;
 use bsc_control::SetupError;
 use bsc_control::Way::{FromTerminal, ToTerminal};
-use bsc_fixtures::lines::{two_terminals, two_terminals_by_three};
+use bsc_fixtures::lines::two_terminals;
 use bsc_fixtures::octets::{CALL_POLL_A, EOT, TEXT_HI};
 use bsc_frame::Address;
 use bsc_line::Event::{CarrySent, Silence};
 use bsc_line::Speaker::{Control, Terminal};
-use bsc_line::{Event, Line, LineError};
+use bsc_line::{Event, LineError};
 use bsc_text::TerminalError;
-use refusing_alloc::Refusing;
-use std::alloc::{Allocator, Global};
+use refusing_alloc::{Refusal, Refusing};
 use std::test::Fail;
 
 /// More codes than a record has.
@@ -28,10 +25,8 @@ const TOO_LONG: &[u8] = &[0x41; 81];
 /// line; None where there is one.
 pub(crate) type Setting<'a> = (&'a [Codes<'a>], &'a [u8], Option<SetupError>);
 
-/// Each refusal, and the longest poll list, which is granted.
+/// Each refusal but those of a wrong number of terminals, and the longest poll list, which is granted.
 pub(crate) const SETTINGS: &[Setting<'static>] = &[
-    (&[], &[], Some(SetupError::NoTerminal)),
-    (&[FIRST; 65], &[], Some(SetupError::TooMany)),
     (
         &[(b"A", &[b"A"]), SECOND],
         &[],
@@ -47,23 +42,6 @@ pub(crate) const SETTINGS: &[Setting<'static>] = &[
     (&[FIRST, SECOND], &[0; 256], Some(SetupError::PollList(255))),
     (&[FIRST, SECOND], &[0; 255], None),
 ];
-
-/// The first setting that is answered otherwise.
-fn wrong_setting(alloc: Global) -> Result<Option<usize>, Fail> {
-    for (number, (codes, poll_list, expected)) in SETTINGS.iter().enumerate() {
-        let terminals = terminals_of(alloc, codes)?;
-        if refusal(alloc, &terminals, poll_list)? != *expected {
-            return Ok(Some(number));
-        }
-    }
-    Ok(None)
-}
-
-#[test]
-fn a_line_is_refused_for_the_first_reason(rt: HostRuntime) -> Result<(), Fail> {
-    assert_eq!(rt; wrong_setting(rt.alloc())?, None);
-    Ok(())
-}
 
 #[test]
 fn a_wrong_number_of_terminals_is_told_without_memory(rt: HostRuntime) -> Result<(), Fail> {
@@ -105,40 +83,6 @@ const NOTHING_HEARD: Event<'static> = Event::CarryEach {
 
 /// The first of two terminals hears nothing, and no more is said.
 const ONE_HEARING: Event<'static> = Event::CarryEach { heard: &[None] };
-
-#[test]
-fn what_is_pending_says_what_may_happen(rt: HostRuntime) -> Result<(), Fail> {
-    const EXCHANGE: &[Part<'static>] = &[Part {
-        steps: &[
-            (OFFER_AT, Done),
-            (LOSE, Refused(LineError::NothingSent)),
-            (
-                Event::Carry { heard: Some(EOT) },
-                Refused(LineError::NothingSent),
-            ),
-            (CarrySent, Refused(LineError::NothingSent)),
-            (
-                Event::CarryEach { heard: &[] },
-                Refused(LineError::NothingSent),
-            ),
-            (NOTHING_HEARD, Refused(LineError::NothingSent)),
-            (Silence, Sent(Control, CALL_POLL_A)),
-            (Silence, Refused(LineError::Pending)),
-            (ONE_HEARING, Refused(LineError::WrongCount)),
-            (
-                Event::CarryEach { heard: &[None; 3] },
-                Refused(LineError::WrongCount),
-            ),
-            (CarrySent, Sent(Terminal(0), TEXT_HI)),
-            (Silence, Refused(LineError::Pending)),
-            (ONE_HEARING, Refused(LineError::NotControl)),
-            (NOTHING_HEARD, Refused(LineError::NotControl)),
-        ],
-        trusted: true,
-        left: &[],
-    }];
-    passes(&rt, line_of_two(rt.alloc()), EXCHANGE)
-}
 
 /// What names terminal 64 of the most terminals, of which each has four selection addresses.
 const AT_NO_TERMINAL: &[(Event<'static>, Then<'static>)] = &[
@@ -216,24 +160,6 @@ const AT_LAST_TERMINAL: &[(Event<'static>, Then<'static>)] = &[
     (Event::UrgentFor { terminal: 63 }, Done),
 ];
 
-#[test]
-fn what_names_no_terminal_is_refused_first(rt: HostRuntime) -> Result<(), Fail> {
-    const EXCHANGE: &[Part<'static>] = &[
-        Part {
-            steps: AT_NO_TERMINAL,
-            trusted: true,
-            left: &[],
-        },
-        Part {
-            steps: AT_LAST_TERMINAL,
-            trusted: true,
-            left: &[],
-        },
-    ];
-    let line = line_of(rt.alloc(), &most_terminals()?, &[0], 3);
-    passes(&rt, line, EXCHANGE)
-}
-
 /// What names a selection address that the terminal does not have: terminal 0 has two of them, and
 /// terminal 1 has one.
 const AT_NO_ADDRESS: &[(Event<'static>, Then<'static>)] = &[
@@ -290,66 +216,56 @@ const NOT_IN_DOUBT: &[(Event<'static>, Then<'static>)] = &[
     ),
 ];
 
-#[test]
-fn what_names_no_address_is_refused_next(rt: HostRuntime) -> Result<(), Fail> {
-    const EXCHANGE: &[Part<'static>] = &[
-        Part {
-            steps: AT_NO_ADDRESS,
-            trusted: true,
-            left: &[],
+/// Codes that are no record, and a record for which there is no memory, at terminal 0 and for it.
+const NO_RECORDS: &[(Event<'static>, Then<'static>)] = &[
+    (
+        Event::OfferAt {
+            terminal: 0,
+            codes: TOO_LONG,
         },
-        Part {
-            steps: NOT_IN_DOUBT,
-            trusted: true,
-            left: &[
-                (0, FromTerminal, Delivered(NONE)),
-                (0, ToTerminal(0), Delivered(NONE)),
-                (0, ToTerminal(1), Delivered(NONE)),
-            ],
+        Refused(LineError::BadRecord(RecordError::TooLong)),
+    ),
+    (
+        Event::OfferFor {
+            terminal: 0,
+            select: 0,
+            codes: TOO_LONG,
         },
-    ];
-    let line = line_of(rt.alloc(), &two_terminals_by_three(), &[0, 1], 3);
-    passes(&rt, line, EXCHANGE)
-}
-
-/// Codes that are no record, and why.
-const NO_RECORDS: &[(&[u8], RecordError)] = &[
-    (TOO_LONG, RecordError::TooLong),
-    (b"H\x19I\x19", RecordError::NotText(1)),
-    (b"HI\x80", RecordError::NotText(2)),
+        Refused(LineError::BadRecord(RecordError::TooLong)),
+    ),
+    (
+        Event::OfferAt {
+            terminal: 0,
+            codes: b"H\x19I\x19",
+        },
+        Refused(LineError::BadRecord(RecordError::NotText(1))),
+    ),
+    (
+        Event::OfferFor {
+            terminal: 0,
+            select: 0,
+            codes: b"H\x19I\x19",
+        },
+        Refused(LineError::BadRecord(RecordError::NotText(1))),
+    ),
+    (
+        Event::OfferAt {
+            terminal: 0,
+            codes: b"HI\x80",
+        },
+        Refused(LineError::BadRecord(RecordError::NotText(2))),
+    ),
+    (
+        Event::OfferFor {
+            terminal: 0,
+            select: 0,
+            codes: b"HI\x80",
+        },
+        Refused(LineError::BadRecord(RecordError::NotText(2))),
+    ),
+    (OFFER_AT, Refused(LineError::Memory)),
+    (OFFER_FOR, Refused(LineError::Memory)),
 ];
-
-/// How often codes that are no record are refused otherwise than for that, at terminal 0 or for it.
-fn wrong_refusals<A: Allocator>(line: &mut Line<A>) -> usize {
-    let mut wrong = 0usize;
-    for (codes, why) in NO_RECORDS {
-        let refused = Err(LineError::BadRecord(*why));
-        if line.offer_at(0, codes) != refused || line.offer_for(0, 0, codes) != refused {
-            wrong = wrong.wrapping_add(1);
-        }
-    }
-    wrong
-}
-
-#[test]
-fn what_is_no_record_is_refused_before_memory_is_asked_for(rt: HostRuntime) -> Result<(), Fail> {
-    const OFFERED: &[Part<'static>] = &[Part {
-        steps: &[
-            (OFFER_AT, Refused(LineError::Memory)),
-            (OFFER_FOR, Refused(LineError::Memory)),
-        ],
-        trusted: true,
-        left: &[
-            (0, FromTerminal, Delivered(NONE)),
-            (0, ToTerminal(0), Delivered(NONE)),
-        ],
-    }];
-    let alloc = Refusing::new(rt.alloc());
-    let mut line = line_of_two(&alloc)?;
-    alloc.refuse_from(1);
-    assert_eq!(rt; (wrong_refusals(&mut line), alloc.requests()), (0, 0));
-    passes(&rt, Ok(line), OFFERED)
-}
 
 /// Each refusal and its text.
 const TEXTS: &[(LineError, &str)] = &[
@@ -379,4 +295,98 @@ fn each_refusal_is_printed(rt: HostRuntime) -> Result<(), Fail> {
         assert_eq!(rt; printed.as_str(), *text);
     }
     Ok(())
+}
+
+/// The exchanges, by name.
+const EXCHANGES: &[Exchange<'static>] = &[
+    Exchange {
+        name: "what is pending says what may happen",
+        on: TWO,
+        starved: None,
+        parts: &[Part {
+            steps: &[
+                (OFFER_AT, Done),
+                (LOSE, Refused(LineError::NothingSent)),
+                (
+                    Event::Carry { heard: Some(EOT) },
+                    Refused(LineError::NothingSent),
+                ),
+                (CarrySent, Refused(LineError::NothingSent)),
+                (
+                    Event::CarryEach { heard: &[] },
+                    Refused(LineError::NothingSent),
+                ),
+                (NOTHING_HEARD, Refused(LineError::NothingSent)),
+                (Silence, Sent(Control, CALL_POLL_A)),
+                (Silence, Refused(LineError::Pending)),
+                (ONE_HEARING, Refused(LineError::WrongCount)),
+                (
+                    Event::CarryEach { heard: &[None; 3] },
+                    Refused(LineError::WrongCount),
+                ),
+                (CarrySent, Sent(Terminal(0), TEXT_HI)),
+                (Silence, Refused(LineError::Pending)),
+                (ONE_HEARING, Refused(LineError::NotControl)),
+                (NOTHING_HEARD, Refused(LineError::NotControl)),
+            ],
+            trusted: true,
+            left: &[],
+        }],
+    },
+    Exchange {
+        name: "what names no terminal is refused first",
+        on: MOST,
+        starved: None,
+        parts: &[
+            Part {
+                steps: AT_NO_TERMINAL,
+                trusted: true,
+                left: &[],
+            },
+            Part {
+                steps: AT_LAST_TERMINAL,
+                trusted: true,
+                left: &[],
+            },
+        ],
+    },
+    Exchange {
+        name: "what names no address is refused next",
+        on: TWO_BY_THREE,
+        starved: None,
+        parts: &[
+            Part {
+                steps: AT_NO_ADDRESS,
+                trusted: true,
+                left: &[],
+            },
+            Part {
+                steps: NOT_IN_DOUBT,
+                trusted: true,
+                left: &[
+                    (0, FromTerminal, Delivered(NONE)),
+                    (0, ToTerminal(0), Delivered(NONE)),
+                    (0, ToTerminal(1), Delivered(NONE)),
+                ],
+            },
+        ],
+    },
+    Exchange {
+        name: "what is no record is refused before memory is asked for",
+        on: TWO,
+        starved: Some((0, Refusal::From, 2)),
+        parts: &[Part {
+            steps: NO_RECORDS,
+            trusted: true,
+            left: &[
+                (0, FromTerminal, Delivered(NONE)),
+                (0, ToTerminal(0), Delivered(NONE)),
+            ],
+        }],
+    },
+];
+
+#[test]
+fn what_may_not_happen_is_refused(rt: HostRuntime) -> Result<(), Fail> {
+    passes_each(&rt, EXCHANGES)
 }

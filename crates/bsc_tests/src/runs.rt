@@ -1,45 +1,26 @@
 //! Lists of events.
 
 use crate::channels::Has::{Delivered, Waiting};
-use crate::events::{HI, LOSE, OFFER_AT, OFFER_FOR, RELEASE_FROM, URGENT_AT, URGENT_FOR};
-use crate::fixtures::line_of_two;
+use crate::events::{HI, LOSE, NONE, OFFER_AT, OFFER_FOR, RELEASE_FROM, URGENT_AT, URGENT_FOR};
+use crate::fixtures::{TWO, line_on};
 use crate::play::{Left, Pending, wrong_left};
 use bsc_control::Way::{FromTerminal, ToTerminal};
-use bsc_fixtures::octets::{CALL_POLL_A, CALL_SELECT_A, ENQ, EOT, RVI, TEXT_HI};
+use bsc_fixtures::octets::{CALL_POLL_A, CALL_SELECT_A, ENQ, EOT, NAK, RVI, TEXT_HI};
 use bsc_line::Event::{CarrySent, Silence};
 use bsc_line::Speaker::{Control, Terminal};
 use bsc_line::{Event, Line, LineError, Stopped};
-use std::alloc::Allocator;
+use refusing_alloc::{Refusal, Refusing};
 use std::test::Fail;
 
-/// A list of events, how it is answered, and what is then pending.
-pub(crate) type Run<'a> = (&'a [Event<'a>], Result<(), Stopped>, Pending<'a>);
-
-/// Whether this list goes as is said.
-fn goes<A: Allocator>(line: &mut Line<A>, (events, answer, pending): &Run<'_>) -> bool {
-    line.run(events) == *answer && line.pending() == *pending
-}
-
-/// Runs each list in turn, up to the first that goes otherwise, whose number this is.
-pub(crate) fn wrong_run<A: Allocator>(line: &mut Line<A>, runs: &[Run<'_>]) -> Option<usize> {
-    for (number, run) in runs.iter().enumerate() {
-        if !goes(line, run) {
-            return Some(number);
-        }
-    }
-    None
-}
-
-/// Runs each list in turn on this line: the first list that goes otherwise, the first channel that
-/// has something else, and whether the line is trusted.
-fn ran<A: Allocator>(
-    mut line: Line<A>,
-    runs: &[Run<'_>],
-    left: Left<'_>,
-) -> (Option<usize>, Option<usize>, bool) {
-    let wrong = wrong_run(&mut line, runs);
-    (wrong, wrong_left(&line, left), line.trusted())
-}
+/// Which growths are refused, if any, a list of events, how it is answered, what is then pending,
+/// and what channels then have.
+type Run<'a> = (
+    Option<Refusal>,
+    &'a [Event<'a>],
+    Result<(), Stopped>,
+    Pending<'a>,
+    Left<'a>,
+);
 
 /// Terminal 0 is selected while it takes no selection; then it hears the call, but its ACK0 is
 /// lost.
@@ -68,48 +49,124 @@ const SELECTED: &[Event<'static>] = &[
     Silence,
 ];
 
-#[test]
-fn a_run_does_its_events_in_order(rt: HostRuntime) -> Result<(), Fail> {
+/// Lists that run one after the other on a new line, which stays trusted, by name.
+const RUNS: &[(&str, &[Run<'static>])] = &[
     // After the ENQ the terminal repeats its ACK0, gets the text again, and asks for the line.
-    const RUNS: &[Run<'static>] = &[
-        (SELECTED, Ok(()), Some((Control, ENQ))),
-        (&[CarrySent; 4], Ok(()), Some((Control, CALL_POLL_A))),
-        (
-            &[CarrySent, URGENT_FOR, CarrySent],
-            Ok(()),
-            Some((Control, RVI)),
-        ),
-        (&[CarrySent], Ok(()), Some((Terminal(0), EOT))),
-    ];
-    const LEFT: Left<'static> = &[
-        (0, FromTerminal, Delivered(HI)),
-        (0, ToTerminal(0), Delivered(HI)),
-    ];
-    let line = line_of_two(rt.alloc())?;
-    assert_eq!(rt; ran(line, RUNS, LEFT), (None, None, true));
-    Ok(())
+    (
+        "a run does its events in order",
+        &[
+            (None, SELECTED, Ok(()), Some((Control, ENQ)), &[]),
+            (
+                None,
+                &[CarrySent; 4],
+                Ok(()),
+                Some((Control, CALL_POLL_A)),
+                &[],
+            ),
+            (
+                None,
+                &[CarrySent, URGENT_FOR, CarrySent],
+                Ok(()),
+                Some((Control, RVI)),
+                &[],
+            ),
+            (
+                None,
+                &[CarrySent],
+                Ok(()),
+                Some((Terminal(0), EOT)),
+                &[
+                    (0, FromTerminal, Delivered(HI)),
+                    (0, ToTerminal(0), Delivered(HI)),
+                ],
+            ),
+        ],
+    ),
+    (
+        "a run stops at the first refused event",
+        &[
+            (
+                None,
+                &[
+                    OFFER_AT,
+                    Silence,
+                    CarrySent,
+                    RELEASE_FROM,
+                    CarrySent,
+                    Silence,
+                ],
+                Err(Stopped {
+                    at: 3,
+                    why: LineError::NotInDoubt,
+                }),
+                Some((Terminal(0), TEXT_HI)),
+                &[(0, FromTerminal, Waiting(HI))],
+            ),
+            (None, &[], Ok(()), Some((Terminal(0), TEXT_HI)), &[]),
+        ],
+    ),
+    // Then there is memory, and the offer takes it.
+    (
+        "a run is out of memory at an offer only",
+        &[
+            (
+                Some(Refusal::From),
+                &[Silence, OFFER_AT, CarrySent, CarrySent],
+                Err(Stopped {
+                    at: 1,
+                    why: LineError::Memory,
+                }),
+                Some((Control, CALL_POLL_A)),
+                &[(0, FromTerminal, Delivered(NONE))],
+            ),
+            (
+                None,
+                &[OFFER_AT],
+                Ok(()),
+                Some((Control, CALL_POLL_A)),
+                &[(0, FromTerminal, Waiting(HI))],
+            ),
+            (
+                Some(Refusal::Nth),
+                &[CarrySent, CarrySent],
+                Ok(()),
+                Some((Control, NAK)),
+                &[(0, FromTerminal, Waiting(HI))],
+            ),
+        ],
+    ),
+];
+
+/// Whether this list goes as is said.
+fn goes(alloc: &Refusing, line: &mut Line<&Refusing>, run: &Run<'_>) -> bool {
+    let (refusal, events, answer, pending, left) = run;
+    match refusal {
+        Some(refusal) => alloc.refuse(*refusal, 1),
+        None => alloc.refuse_none(),
+    }
+    line.run(events) == *answer
+        && line.pending() == *pending
+        && line.trusted()
+        && wrong_left(line, left).is_none()
+}
+
+/// The first of these lists that goes otherwise on a new line.
+fn wrong_run(alloc: &Refusing, runs: &[Run<'_>]) -> Result<Option<usize>, Fail> {
+    alloc.refuse_none();
+    let mut line = line_on(alloc, &TWO)?;
+    for (place, run) in runs.iter().enumerate() {
+        if !goes(alloc, &mut line, run) {
+            return Ok(Some(place));
+        }
+    }
+    Ok(None)
 }
 
 #[test]
-fn a_run_stops_at_the_first_refused_event(rt: HostRuntime) -> Result<(), Fail> {
-    const EVENTS: &[Event<'static>] = &[
-        OFFER_AT,
-        Silence,
-        CarrySent,
-        RELEASE_FROM,
-        CarrySent,
-        Silence,
-    ];
-    const STOPPED: Stopped = Stopped {
-        at: 3,
-        why: LineError::NotInDoubt,
-    };
-    const RUNS: &[Run<'static>] = &[
-        (EVENTS, Err(STOPPED), Some((Terminal(0), TEXT_HI))),
-        (&[], Ok(()), Some((Terminal(0), TEXT_HI))),
-    ];
-    const LEFT: Left<'static> = &[(0, FromTerminal, Waiting(HI))];
-    let line = line_of_two(rt.alloc())?;
-    assert_eq!(rt; ran(line, RUNS, LEFT), (None, None, true));
+fn each_run_goes_as_its_table_says(rt: HostRuntime) -> Result<(), Fail> {
+    let alloc = Refusing::new(rt.alloc());
+    for (name, runs) in RUNS {
+        assert_eq!(rt; wrong_run(&alloc, runs)?, None, "{name}");
+    }
     Ok(())
 }

@@ -2,9 +2,9 @@
 //! records, and the longest text. The largest lines are in `limits.rt`.
 
 use crate::channels::Has::{Arrived, Delivered};
-use crate::channels::{has_left, is_channel};
+use crate::channels::{has_left, is_channel, offer};
 use crate::events::{HI, NONE};
-use crate::fixtures::line_of_two;
+use crate::fixtures::{TWO, line_on};
 use crate::limits::carry_on;
 use bsc_block::Record;
 use bsc_control::Way;
@@ -14,7 +14,8 @@ use bsc_fixtures::octets::{ACK0, ACK1, CALL_POLL_A, CALL_POLL_B, CALL_SELECT_A};
 use bsc_line::Speaker::{Control, Terminal};
 use bsc_line::{Line, LineError, Speaker};
 use bsc_text::Setup;
-use std::alloc::{AllocError, Allocator, Global};
+use refusing_alloc::Refusing;
+use std::alloc::{AllocError, Global};
 use std::test::Fail;
 
 /// How many records are offered on a channel.
@@ -33,7 +34,7 @@ fn digits(number: u32) -> [u8; 5] {
 }
 
 /// Offers a record for each number below `COUNT` at terminal 0, and for it.
-fn offer_all<A: Allocator>(line: &mut Line<A>) -> Result<(), LineError> {
+fn offer_all(line: &mut Line<&Refusing>) -> Result<(), LineError> {
     for number in 0..COUNT {
         let codes = digits(number);
         line.offer_at(0, &codes)?;
@@ -53,7 +54,7 @@ fn are_all(records: &[Record]) -> bool {
 }
 
 /// Whether they were offered on this way of terminal 0, and arrived, and are known to have.
-fn has_all<A: Allocator>(line: &Line<A>, way: Way) -> bool {
+fn has_all(line: &Line<&Refusing>, way: Way) -> bool {
     is_channel(line, 0, way)
         && are_all(line.offered(0, way))
         && are_all(line.spooled(0, way))
@@ -61,7 +62,7 @@ fn has_all<A: Allocator>(line: &Line<A>, way: Way) -> bool {
 }
 
 /// Offers the records, and carries as many transmissions as deliver them.
-fn deliver_all<A: Allocator>(line: &mut Line<A>) -> Result<(), LineError> {
+fn deliver_all(line: &mut Line<&Refusing>) -> Result<(), LineError> {
     offer_all(line)?;
     line.silence()?;
 
@@ -71,7 +72,8 @@ fn deliver_all<A: Allocator>(line: &mut Line<A>) -> Result<(), LineError> {
 
 #[test]
 fn a_hundred_thousand_records_arrive_each_way(rt: HostRuntime) -> Result<(), Fail> {
-    let mut line = line_of_two(rt.alloc())?;
+    let alloc = Refusing::new(rt.alloc());
+    let mut line = line_on(&alloc, &TWO)?;
     deliver_all(&mut line)?;
     let ways = (has_all(&line, FromTerminal), has_all(&line, ToTerminal(0)));
     assert_eq!(rt; ways, (true, true));
@@ -104,11 +106,7 @@ fn longest_text(alloc: Global) -> Result<Vec<u8>, AllocError> {
 
 /// The pending text of HI is heard as this one: whether the other end of this channel of terminal 0
 /// stored seven records of 144 characters.
-fn stores_longest<A: Allocator>(
-    line: &mut Line<A>,
-    way: Way,
-    text: &[u8],
-) -> Result<bool, LineError> {
+fn stores_longest(line: &mut Line<&Refusing>, way: Way, text: &[u8]) -> Result<bool, LineError> {
     line.carry(Some(text))?;
     let arrived = Arrived {
         offered: HI,
@@ -118,32 +116,30 @@ fn stores_longest<A: Allocator>(
     Ok(has_left(line, 0, way, &arrived))
 }
 
-/// A poll in which the text of terminal 0 is heard as this one: whether it is stored.
-fn polls_longest<A: Allocator>(line: &mut Line<A>, text: &[u8]) -> Result<bool, LineError> {
-    line.offer_at(0, b"HI")?;
+/// HI is offered on this channel of terminal 0, and this many transmissions after the first call
+/// its text is heard as this one: whether that is stored and acknowledged.
+fn takes_longest(
+    line: &mut Line<&Refusing>,
+    way: Way,
+    count: usize,
+    text: &[u8],
+) -> Result<bool, LineError> {
+    offer(line, 0, way, b"HI")?;
     line.silence()?;
-    line.carry_sent()?;
-    let is_stored = stores_longest(line, FromTerminal, text)?;
-    Ok(is_stored && line.pending() == Some((Control, ACK1)))
-}
-
-/// A selection of terminal 0, in which it hears the text as this one: whether it is stored.
-fn selects_longest<A: Allocator>(line: &mut Line<A>, text: &[u8]) -> Result<bool, LineError> {
-    line.offer_for(0, 0, b"HI")?;
-    line.silence()?;
-    carry_on(line, 2)?;
-    let is_stored = stores_longest(line, ToTerminal(0), text)?;
-    Ok(is_stored && line.pending() == Some((Terminal(0), ACK1)))
+    carry_on(line, count)?;
+    let is_stored = stores_longest(line, way, text)?;
+    Ok(is_stored && matches!(line.pending(), Some((_, octets)) if octets == ACK1))
 }
 
 #[test]
 fn the_longest_text_is_stored_whole(rt: HostRuntime) -> Result<(), Fail> {
     let text = longest_text(rt.alloc())?;
     assert_eq!(rt; text.len(), 1033);
-    let mut polled = line_of_two(rt.alloc())?;
-    assert_eq!(rt; polls_longest(&mut polled, &text), Ok(true));
-    let mut selected = line_of_two(rt.alloc())?;
-    assert_eq!(rt; selects_longest(&mut selected, &text), Ok(true));
+    let alloc = Refusing::new(rt.alloc());
+    for (way, count) in [(FromTerminal, 1), (ToTerminal(0), 2)] {
+        let mut line = line_on(&alloc, &TWO)?;
+        assert_eq!(rt; takes_longest(&mut line, way, count, &text), Ok(true));
+    }
     Ok(())
 }
 
@@ -179,16 +175,8 @@ const SELECTED: Moments<'static> = &[
     (Terminal(0), ACK1),
 ];
 
-/// Offers a record on this way of terminal 0.
-fn offer_on<A: Allocator>(line: &mut Line<A>, way: Way, codes: &[u8]) -> Result<(), LineError> {
-    match way {
-        FromTerminal => line.offer_at(0, codes),
-        ToTerminal(select) => line.offer_for(0, select, codes),
-    }
-}
-
 /// Whether this station sent what is pending, and that begins with these octets.
-fn is_pending<A: Allocator>(line: &Line<A>, speaker: Speaker, front: &[u8]) -> bool {
+fn is_pending(line: &Line<&Refusing>, speaker: Speaker, front: &[u8]) -> bool {
     match line.pending() {
         Some((sender, octets)) => sender == speaker && octets.starts_with(front),
         None => false,
@@ -197,27 +185,27 @@ fn is_pending<A: Allocator>(line: &Line<A>, speaker: Speaker, front: &[u8]) -> b
 
 /// Offers two long records on this way of terminal 0, lets a silence pass, and offers one of the
 /// others at each of these moments: whether each of them came.
-fn offer_within<A: Allocator>(
-    line: &mut Line<A>,
+fn offer_within(
+    line: &mut Line<&Refusing>,
     way: Way,
     moments: Moments<'_>,
 ) -> Result<bool, LineError> {
-    offer_on(line, way, LONG[0])?;
-    offer_on(line, way, LONG[1])?;
+    offer(line, 0, way, LONG[0])?;
+    offer(line, 0, way, LONG[1])?;
     line.silence()?;
     for ((speaker, front), record) in moments.iter().zip(&LONG[2..]) {
         if !is_pending(line, *speaker, front) {
             return Ok(false);
         }
-        offer_on(line, way, record)?;
+        offer(line, 0, way, record)?;
         line.carry_sent()?;
     }
     Ok(true)
 }
 
 /// Offers these, and carries this many further transmissions: whether each record was delivered.
-fn delivers_long<A: Allocator>(
-    line: &mut Line<A>,
+fn delivers_long(
+    line: &mut Line<&Refusing>,
     way: Way,
     moments: Moments<'_>,
     further: usize,
@@ -230,19 +218,21 @@ fn delivers_long<A: Allocator>(
 
 /// A new line of two terminals on which records are of up to 144 characters, and blocks count up to
 /// 400: two records go in one block.
-fn line_of_longest(alloc: Global) -> Result<Line<Global>, Fail> {
+fn line_of_longest(alloc: &Refusing) -> Result<Line<&Refusing>, Fail> {
     let setup = Setup::new(144, 400, 3, 10)?;
     Ok(Line::new(alloc, setup, &two_terminals(), &[0, 1])?)
 }
 
 #[test]
 fn the_longest_records_are_taken_while_a_bid_goes_on(rt: HostRuntime) -> Result<(), Fail> {
+    let alloc = Refusing::new(rt.alloc());
+
     // After the second text come ACK0, the third text, ACK1, at a poll EOT, and the next call.
     for (way, moments, further, call) in [
         (FromTerminal, POLLED, 5, CALL_POLL_B),
         (ToTerminal(0), SELECTED, 4, CALL_POLL_A),
     ] {
-        let mut line = line_of_longest(rt.alloc())?;
+        let mut line = line_of_longest(&alloc)?;
         assert_eq!(rt; delivers_long(&mut line, way, moments, further), Ok(true));
         assert_eq!(rt;
             (line.trusted(), line.pending()),
