@@ -25,7 +25,8 @@ const TOO_LONG: &[u8] = &[0x41; 81];
 /// line; None where there is one.
 pub(crate) type Setting<'a> = (&'a [Codes<'a>], &'a [u8], Option<SetupError>);
 
-/// Each refusal but those of a wrong number of terminals, and the longest poll list, which is granted.
+/// Each refusal but those of a wrong number of terminals, and the longest poll list, which is
+/// granted.
 pub(crate) const SETTINGS: &[Setting<'static>] = &[
     (
         &[(b"A", &[b"A"]), SECOND],
