@@ -15,6 +15,3 @@ pub use error::RunError;
 pub use play::run_on;
 pub use report::write_report;
 pub use run::run_line;
-
-#[cfg(test)]
-mod tests;

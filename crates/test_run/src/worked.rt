@@ -2,19 +2,18 @@
 
 ghost use Rattle.std.specs.Prelude.{◌≡◌, None};
 ghost use Rattle.bsc_line_model.specs.Kept.{IsLine};
-ghost use Rattle.bsc_line_model.specs.Line.{terminal_count};
+ghost use Rattle.bsc_line_model.specs.Line.{IsChannel, terminal_count};
 
-use super::runs::{COUNTED_TWICE, COUNTED_TWICE_PRINTED, HEARD_PRINTED, POLLED, POLLED_PRINTED};
-use super::watched::{Pipes, Watch, watched_cable, watched_writer};
-use crate::{RunError, run_line, run_on};
+use crate::runs::{COUNTED_TWICE, COUNTED_TWICE_PRINTED, HEARD_PRINTED, POLLED, POLLED_PRINTED};
+use crate::watched::{Connections, Watch, Watched, watched_writer};
 use bsc_config::{Config, read_config};
 use bsc_control::Way;
 use bsc_fixtures::configurations::TWO_TERMINALS;
 use bsc_fixtures::records::are_front;
 use bsc_line::{Line, LineError};
+use bsc_run::{RunError, run_line, run_on};
 use bsc_script::{Script, read_script};
-use std::alloc::{Allocator, Global};
-use std::process::Abort;
+use std::alloc::{AllocError, Allocator, Global};
 use std::test::Fail;
 
 /// A script, and what it does where nothing goes wrong.
@@ -48,7 +47,7 @@ heard-each 161602C84919839BFF 161602C84919839BFF
 
 /// A record of a polled terminal; one that is selected, heard at each terminal otherwise; one that
 /// arrives twice, and a release that is refused.
-pub(crate) const WORKED: [Worked<'static>; 3] = [
+pub(crate) const WORKED: &[Worked<'static>] = &[
     Worked {
         script: POLLED,
         printed: POLLED_PRINTED,
@@ -107,36 +106,62 @@ impl<'a> Case<'a> {
         })
     }
 
-    /// Runs the script over watched connections and a watched writer: what is printed, and the
-    /// answer. The line and what is printed ask `stations` for memory.
+    /// Runs the script over watched connections, and prints to a watched writer. The line and what
+    /// is printed ask `stations` for memory.
     pub(crate) fn run<E: Allocator + Copy>(
         &self,
-        rt: &impl Abort,
         alloc: Global,
         stations: E,
         watch: &Watch,
-    ) -> Result<(Vec<u8>, Result<(), RunError>), Fail> {
-        let pipes = Pipes::new(alloc);
-        let mut cable = watched_cable(rt, alloc, &pipes, watch)?;
-        let mut out = watched_writer(alloc, watch);
-        assert_eq!(rt; self.config.terminals(), 2);
-        let answer = run_line(stations, &self.config, &self.script, &mut cable, &mut out);
-        Ok((out.inner, answer))
+        out: &mut Watched<'_, Vec<u8>>,
+    ) -> Result<Result<(), RunError>, Fail> {
+        let connections = Connections::new(alloc);
+        self.run_over(alloc, stations, &connections, watch, out)
+    }
+
+    /// The same where both terminals read these octets before what is sent to them.
+    pub(crate) fn run_after(
+        &self,
+        alloc: Global,
+        octets: &[u8],
+        watch: &Watch,
+        out: &mut Watched<'_, Vec<u8>>,
+    ) -> Result<Result<(), RunError>, Fail> {
+        let connections = Connections::new(alloc);
+        connections.put_down(octets)?;
+        self.run_over(alloc, alloc, &connections, watch, out)
+    }
+
+    /// Runs the script over these connections.
+    fn run_over<E: Allocator + Copy>(
+        &self,
+        alloc: Global,
+        stations: E,
+        connections: &Connections,
+        watch: &Watch,
+        out: &mut Watched<'_, Vec<u8>>,
+    ) -> Result<Result<(), RunError>, Fail> {
+        let mut cable = connections.cable(alloc, watch)?;
+        if self.config.terminals() != 2 {
+            return Err(Fail::new("not two terminals"));
+        }
+        Ok(run_line(stations, &self.config, &self.script, &mut cable, out))
     }
 
     /// Does the same, and tells whether what then has arrived is in order.
     pub(crate) fn is_in_order<E: Allocator + Copy>(
         &self,
-        rt: &impl Abort,
         alloc: Global,
         stations: E,
         watch: &Watch,
     ) -> Result<bool, Fail> {
+        if self.config.terminals() != 2 {
+            return Err(Fail::new("not two terminals"));
+        }
         let (terminals, poll_list) = (self.config.terminal_list(), self.config.poll_list());
-        assert_eq!(rt; self.config.terminals(), 2);
         match Line::new(stations, self.config.setup(), terminals, poll_list) {
             Ok(mut line) => {
-                self.run_on(rt, alloc, stations, &mut line, watch)?;
+                self.run_on(alloc, stations, &mut line, watch)?;
                 Ok(has_arrived_in_order(&line, self.worked))
             }
             // Nothing arrived, since there is no line.
@@ -145,20 +170,19 @@ impl<'a> Case<'a> {
     }
 
     /// Runs the script on this new line of two terminals.
-    fn run_on<A: Allocator, E: Allocator + Copy>(
+    fn run_on<E: Allocator + Copy>(
         &self,
-        rt: &impl Abort,
         alloc: Global,
         stations: E,
-        line: &mut Line<A>,
+        line: &mut Line<E>,
         watch: &Watch,
-    ) -> Result<(), Fail>
+    ) -> Result<(), AllocError>
         requires line { IsLine line.old }
         requires count { terminal_count line.old ≡ 2 }
         requires quiet { line.old.pending ≡ None }
     {
-        let pipes = Pipes::new(alloc);
-        let mut cable = watched_cable(rt, alloc, &pipes, watch)?;
+        let connections = Connections::new(alloc);
+        let mut cable = connections.cable(alloc, watch)?;
         let mut out = watched_writer(alloc, watch);
         // What it answers is compared by those who call `run`.
         let _ = run_on(stations, line, self.script.steps(), &mut cable, &mut out);
@@ -166,23 +190,27 @@ impl<'a> Case<'a> {
     }
 }
 
+/// Whether what arrived on a channel is the first of what arrives where nothing goes wrong.
+fn is_front<A: Allocator>(line: &Line<A>, worked: &Worked<'_>, terminal: usize, way: Way) -> bool
+    requires { IsChannel line.now terminal way }
+{
+    let arrived = line.spooled(terminal, way);
+    if terminal == 0 && way == worked.way {
+        are_front(arrived, worked.arrived)
+    } else {
+        arrived.is_empty()
+    }
+}
+
 /// Whether what arrived on each channel of two terminals is the first of what arrives where nothing
 /// goes wrong, in order and each record once.
 fn has_arrived_in_order<A: Allocator>(line: &Line<A>, worked: &Worked<'_>) -> bool {
     for terminal in 0..line.terminals() {
-        if line.addresses(terminal) != 1 {
+        if line.addresses(terminal) != 1
+            || !is_front(line, worked, terminal, Way::FromTerminal)
+            || !is_front(line, worked, terminal, Way::ToTerminal(0))
+        {
             return false;
-        }
-        for way in [Way::FromTerminal, Way::ToTerminal(0)] {
-            let arrived = line.spooled(terminal, way);
-            let is_right = if terminal == 0 && way == worked.way {
-                are_front(arrived, worked.arrived)
-            } else {
-                arrived.is_empty()
-            };
-            if !is_right {
-                return false;
-            }
         }
     }
     true

@@ -1,25 +1,16 @@
 //! Each growth of a whole run is refused: one in turn, each from one on, and each above a size.
 
-use super::refusals::REPORT;
-use super::watched::{Part, Plan, Trouble, Watch, When};
-use super::worked::{Case, WORKED, Worked};
-use crate::RunError;
+use crate::runs::REPORT;
+use crate::watched::{NO_TROUBLE, Watch, watched_writer};
+use crate::worked::{Case, WORKED, Worked};
 use bsc_line::LineError;
+use bsc_run::RunError;
 use refusing_alloc::{Refusal, Refusing};
 use std::alloc::Global;
-use std::process::Abort;
 use std::test::Fail;
 
-/// No call of a stream or of the writer goes wrong.
-const NO_TROUBLE: Plan = Plan {
-    part: Part::Writer,
-    trouble: Trouble::Failed,
-    when: When::At { call: 0 },
-    most: usize::MAX,
-};
-
 /// What a run does where a growth was refused.
-#[derive(Clone, Copy, Debug, PartialEq, Eq)]
+#[derive(Clone, Copy, PartialEq, Eq)]
 enum Told {
     /// Out of memory, and no report.
     Memory,
@@ -74,22 +65,19 @@ fn is_delayed(worked: &Worked<'_>, printed: &[u8]) -> bool {
 
 /// Runs the script while the growths of this number are refused: what is told.
 fn try_refusal(
-    rt: &impl Abort,
     alloc: Global,
     refusing: &Refusing,
     case: &Case<'_>,
     refusal: Refusal,
-    number: usize,
 ) -> Result<Told, Fail> {
     let watch = Watch::new(NO_TROUBLE);
-    let (printed, answer) = case.run(rt, alloc, refusing, &watch)?;
-    let refused = refusing.refused();
+    let mut out = watched_writer(alloc, &watch);
+    let answer = case.run(alloc, refusing, &watch, &mut out)?;
     let is_one = refusal == Refusal::Nth;
-    let Some(told) = what_is_told(case.worked, &printed, answer, is_one) else {
-        return Err(Fail::new(format_args!("{refusal:?} {number}")));
-    };
-    assert!(rt; refused > 0 || told == Told::Whole, "{refusal:?} {number}");
-    Ok(told)
+    match what_is_told(case.worked, &out.inner, answer, is_one) {
+        Some(told) if refusing.refused() > 0 || told == Told::Whole => Ok(told),
+        _ => Err(Fail::new("something else is told")),
+    }
 }
 
 /// How often a run was out of memory, refused the offer, and took a text later.
@@ -108,18 +96,13 @@ fn add(counts: Counts, told: Told) -> Counts {
 
 /// Runs the script under the refusal by each number in turn, until no growth is refused: how often
 /// each was told.
-fn count_told(
-    rt: &impl Abort,
-    alloc: Global,
-    worked: &Worked<'_>,
-    refusal: Refusal,
-) -> Result<Counts, Fail> {
+fn count_told(alloc: Global, worked: &Worked<'_>, refusal: Refusal) -> Result<Counts, Fail> {
     let case = Case::read(alloc, worked)?;
     let refusing = Refusing::new(alloc);
     let mut counts = (0, 0, 0);
     for number in refusing.in_turn(refusal, 1..99_999) {
-        let told = try_refusal(rt, alloc, &refusing, &case, refusal, number?)?;
-        counts = add(counts, told);
+        number?;
+        counts = add(counts, try_refusal(alloc, &refusing, &case, refusal)?);
     }
     Ok(counts)
 }
@@ -128,18 +111,17 @@ fn count_told(
 /// after it was stored.
 #[test]
 fn each_growth_of_a_run_is_refused_in_turn(rt: HostRuntime) -> Result<(), Fail> {
-    for worked in &WORKED {
-        let (memory, offers, delays) = count_told(&rt, rt.alloc(), worked, Refusal::Nth)?;
-        assert!(rt; memory > 3);
-        assert_eq!(rt; (offers, delays), (1, 2));
+    for worked in WORKED {
+        let (memory, offers, delays) = count_told(rt.alloc(), worked, Refusal::Nth)?;
+        assert!(rt; memory > 3 && offers == 1 && delays == 2);
     }
     Ok(())
 }
 
 #[test]
 fn all_growths_of_a_run_from_each_on_are_refused(rt: HostRuntime) -> Result<(), Fail> {
-    for worked in &WORKED {
-        let (memory, offers, _) = count_told(&rt, rt.alloc(), worked, Refusal::From)?;
+    for worked in WORKED {
+        let (memory, offers, _) = count_told(rt.alloc(), worked, Refusal::From)?;
         assert!(rt; memory > 3 && offers == 1);
     }
     Ok(())
@@ -147,29 +129,33 @@ fn all_growths_of_a_run_from_each_on_are_refused(rt: HostRuntime) -> Result<(), 
 
 #[test]
 fn growths_of_a_run_above_each_size_are_refused(rt: HostRuntime) -> Result<(), Fail> {
-    for worked in &WORKED {
-        let (memory, _, _) = count_told(&rt, rt.alloc(), worked, Refusal::Above { octets: 8 })?;
+    for worked in WORKED {
+        let (memory, _, _) = count_told(rt.alloc(), worked, Refusal::Above { octets: 8 })?;
         assert!(rt; memory > 3);
     }
     Ok(())
 }
 
+/// Whether what arrived is in order under the refusal by each number in turn.
+fn is_each_in_order(alloc: Global, worked: &Worked<'_>, refusal: Refusal) -> Result<bool, Fail> {
+    let case = Case::read(alloc, worked)?;
+    let refusing = Refusing::new(alloc);
+    let watch = Watch::new(NO_TROUBLE);
+    for number in refusing.in_turn(refusal, 1..59) {
+        number?;
+        if !case.is_in_order(alloc, &refusing, &watch)? {
+            return Ok(false);
+        }
+    }
+    Ok(true)
+}
+
 /// What arrived while growths were refused is the first of what arrives otherwise.
 #[test]
 fn what_arrived_without_memory_is_in_order(rt: HostRuntime) -> Result<(), Fail> {
-    let refusing = Refusing::new(rt.alloc());
-    let watch = Watch::new(NO_TROUBLE);
-    for worked in &WORKED {
-        let case = Case::read(rt.alloc(), worked)?;
-        for refusal in [Refusal::Nth, Refusal::From] {
-            for number in refusing.in_turn(refusal, 1..59) {
-                let number = number?;
-                assert!(rt;
-                    case.is_in_order(&rt, rt.alloc(), &refusing, &watch)?,
-                    "{refusal:?} {number}"
-                );
-            }
-        }
+    for worked in WORKED {
+        assert!(rt; is_each_in_order(rt.alloc(), worked, Refusal::Nth)?);
+        assert!(rt; is_each_in_order(rt.alloc(), worked, Refusal::From)?);
     }
     Ok(())
 }

@@ -5,16 +5,14 @@ ghost use Rattle.std.specs.Prelude.{◌≡◌, ◌≤◌, IfOk};
 ghost use Rattle.bsc_run.specs.Crossing.{connection_count};
 
 use bsc_carrier::Cable;
-use std::alloc::Global;
+use std::alloc::{AllocError, Global};
 use std::cell::{Cell, RefCell};
 use std::collections::VecDeque;
 use std::io;
 use std::io::{Error, ErrorKind, Read, Write};
-use std::process::Abort;
-use std::test::Fail;
 
 /// What makes calls: an end of the connection of a terminal, or the writer.
-#[derive(Clone, Copy, Debug, PartialEq, Eq)]
+#[derive(Clone, Copy, PartialEq, Eq)]
 pub(crate) enum Part {
     ControlEnd { terminal: usize },
     TerminalEnd { terminal: usize },
@@ -22,7 +20,7 @@ pub(crate) enum Part {
 }
 
 /// What a call answers that goes wrong.
-#[derive(Clone, Copy, Debug, PartialEq, Eq)]
+#[derive(Clone, Copy, PartialEq, Eq)]
 pub(crate) enum Trouble {
     /// It fails.
     Failed,
@@ -35,11 +33,19 @@ pub(crate) enum Trouble {
 }
 
 /// Which calls go wrong, counted from 1.
-#[derive(Clone, Copy, Debug, PartialEq, Eq)]
+#[derive(Clone, Copy)]
 pub(crate) enum When {
     At { call: usize },
     EverySecond,
 }
+
+/// No call goes wrong.
+pub(crate) const NO_TROUBLE: Plan = Plan {
+    part: Part::Writer,
+    trouble: Trouble::Failed,
+    when: When::At { call: 0 },
+    most: usize::MAX,
+};
 
 impl When {
     fn is_at(self, number: usize) -> bool {
@@ -52,7 +58,7 @@ impl When {
 
 /// What goes wrong in a run: which calls of which part, and how. No call moves more octets than
 /// these.
-#[derive(Clone, Copy, Debug)]
+#[derive(Clone, Copy)]
 pub(crate) struct Plan {
     pub(crate) part: Part,
     pub(crate) trouble: Trouble,
@@ -154,21 +160,87 @@ impl<S: Write + Drop> Write for Watched<'_, S> {
 /// Octets that one end wrote and the other has not read yet.
 type Pipe = RefCell<VecDeque<u8>>;
 
-/// Two connections, each of two pipes: down to its terminal, and up from it.
+/// A connection of two pipes: down to its terminal, and up from it.
 #[derive(Drop)]
-pub(crate) struct Pipes {
-    down: [Pipe; 2],
-    up: [Pipe; 2],
+pub(crate) struct Connection {
+    down: Pipe,
+    up: Pipe,
 }
 
-impl Pipes {
-    pub(crate) fn new(alloc: Global) -> Pipes {
-        let (first, second) = (VecDeque::new(alloc), VecDeque::new(alloc));
-        let (third, fourth) = (VecDeque::new(alloc), VecDeque::new(alloc));
-        Pipes {
-            down: [RefCell::new(first), RefCell::new(second)],
-            up: [RefCell::new(third), RefCell::new(fourth)],
+impl Connection {
+    fn new(alloc: Global) -> Connection {
+        let (down, up) = (VecDeque::new(alloc), VecDeque::new(alloc));
+        Connection {
+            down: RefCell::new(down),
+            up: RefCell::new(up),
         }
+    }
+
+    /// The end at the control station, which has this terminal at its other end.
+    fn control_end<'a>(&'a self, terminal: usize, watch: &'a Watch) -> Watched<'a, End<'a>> {
+        let (reads, writes) = (&self.up, &self.down);
+        Watched {
+            inner: End { reads, writes },
+            part: Part::ControlEnd { terminal },
+            watch,
+        }
+    }
+
+    /// The end at this terminal.
+    fn terminal_end<'a>(&'a self, terminal: usize, watch: &'a Watch) -> Watched<'a, End<'a>> {
+        let (reads, writes) = (&self.down, &self.up);
+        Watched {
+            inner: End { reads, writes },
+            part: Part::TerminalEnd { terminal },
+            watch,
+        }
+    }
+}
+
+/// The connections of two terminals.
+#[derive(Drop)]
+pub(crate) struct Connections {
+    first: Connection,
+    second: Connection,
+}
+
+impl Connections {
+    pub(crate) fn new(alloc: Global) -> Connections {
+        Connections {
+            first: Connection::new(alloc),
+            second: Connection::new(alloc),
+        }
+    }
+
+    /// Puts octets where both terminals read.
+    pub(crate) fn put_down(&self, octets: &[u8]) -> io::Result<()> {
+        self.first.down.try_borrow_mut()?.write_all(octets)?;
+        self.second.down.try_borrow_mut()?.write_all(octets)
+    }
+
+    /// A cable of both, whose calls are watched.
+    pub(crate) fn cable<'a>(
+        &'a self,
+        alloc: Global,
+        watch: &'a Watch,
+    ) -> Result<Cable<Watched<'a, End<'a>>>, AllocError>
+        ensures { IfOk result (λ cable. connection_count cable ≡ 2) }
+    {
+        let control_ends = Vec::from_array(
+            alloc,
+            [
+                self.first.control_end(0, watch),
+                self.second.control_end(1, watch),
+            ],
+        )?;
+        let terminal_ends = Vec::from_array(
+            alloc,
+            [
+                self.first.terminal_end(0, watch),
+                self.second.terminal_end(1, watch),
+            ],
+        )?;
+        Ok(Cable::new(control_ends, terminal_ends))
     }
 }
 
@@ -194,36 +266,6 @@ impl Write for End<'_> {
     fn flush(&mut self) -> io::Result<()> {
         Ok(())
     }
-}
-
-/// A cable of both connections, whose calls are watched.
-pub(crate) fn watched_cable<'a>(
-    rt: &impl Abort,
-    alloc: Global,
-    pipes: &'a Pipes,
-    watch: &'a Watch,
-) -> Result<Cable<Watched<'a, End<'a>>>, Fail>
-    ensures { IfOk result (λ cable. connection_count cable ≡ 2) }
-{
-    let mut control_ends = Vec::new(alloc);
-    let mut terminal_ends = Vec::new(alloc);
-    for (terminal, (down, up)) in pipes.down.iter().zip(&pipes.up).enumerate() {
-        let (reads, writes) = (up, down);
-        control_ends.push(Watched {
-            inner: End { reads, writes },
-            part: Part::ControlEnd { terminal },
-            watch,
-        })?;
-        let (reads, writes) = (down, up);
-        terminal_ends.push(Watched {
-            inner: End { reads, writes },
-            part: Part::TerminalEnd { terminal },
-            watch,
-        })?;
-    }
-    assert_eq!(rt; control_ends.len(), 2);
-    assert_eq!(rt; terminal_ends.len(), 2);
-    Ok(Cable::new(control_ends, terminal_ends))
 }
 
 /// A writer into memory whose calls are watched.

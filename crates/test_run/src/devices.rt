@@ -1,15 +1,15 @@
 //! Each call of each stream and of the writer goes wrong in turn: it fails, is interrupted, or
 //! moves nothing; and all that with calls that move one octet at most.
 
-use super::watched::{Part, Plan, Seen, Trouble, Watch, When};
-use super::worked::{Case, WORKED, Worked};
-use crate::RunError;
+use crate::watched::{NO_TROUBLE, Part, Plan, Seen, Trouble, Watch, When, watched_writer};
+use crate::worked::{Case, WORKED, Worked};
+use bsc_control::Way;
+use bsc_run::RunError;
 use std::alloc::Global;
-use std::process::Abort;
 use std::test::Fail;
 
 /// The ends of both connections.
-const ENDS: [Part; 4] = [
+const ENDS: &[Part] = &[
     Part::ControlEnd { terminal: 0 },
     Part::ControlEnd { terminal: 1 },
     Part::TerminalEnd { terminal: 0 },
@@ -71,20 +71,19 @@ fn is_right(
 }
 
 /// Runs by this plan, and compares what is told: how many calls went wrong.
-fn try_plan(rt: &impl Abort, alloc: Global, case: &Case<'_>, plan: Plan) -> Result<usize, Fail> {
+fn try_plan(alloc: Global, case: &Case<'_>, plan: Plan) -> Result<usize, Fail> {
     let watch = Watch::new(plan);
-    let (printed, answer) = case.run(rt, alloc, alloc, &watch)?;
+    let mut out = watched_writer(alloc, &watch);
+    let answer = case.run(alloc, alloc, &watch, &mut out)?;
     let seen = watch.seen();
-    assert!(rt;
-        is_right(case.worked, plan, &printed, answer, seen),
-        "{plan:?}"
-    );
+    if !is_right(case.worked, plan, &out.inner, answer, seen) {
+        return Err(Fail::new(format_args!("at call {}", seen.calls)));
+    }
     Ok(seen.troubles)
 }
 
 /// Each call of a part goes wrong in turn, until a run has no such call: how many there are.
 fn try_calls(
-    rt: &impl Abort,
     alloc: Global,
     case: &Case<'_>,
     (part, trouble, most): (Part, Trouble, usize),
@@ -96,102 +95,139 @@ fn try_calls(
             when: When::At { call },
             most,
         };
-        if try_plan(rt, alloc, case, plan)? == 0 {
+        if try_plan(alloc, case, plan)? == 0 {
             return Ok(call - 1);
         }
     }
-    Err("no end of calls".into())
+    Err(Fail::new("no end of calls"))
 }
 
 /// Each call of a part goes wrong in turn, in each run, with calls that move all that they are
 /// asked to and with calls that move one octet.
-fn try_part(rt: &impl Abort, alloc: Global, part: Part, trouble: Trouble) -> Result<(), Fail> {
-    for worked in &WORKED {
+fn try_part(alloc: Global, part: Part, trouble: Trouble) -> Result<(), Fail> {
+    for worked in WORKED {
         let case = Case::read(alloc, worked)?;
-        let wide = try_calls(rt, alloc, &case, (part, trouble, usize::MAX))?;
-        let narrow = try_calls(rt, alloc, &case, (part, trouble, 1))?;
-        assert!(rt; 0 < wide && wide < narrow);
+        let wide = try_calls(alloc, &case, (part, trouble, usize::MAX))?;
+        let narrow = try_calls(alloc, &case, (part, trouble, 1))?;
+        if wide == 0 || narrow <= wide {
+            return Err(Fail::new("too few calls"));
+        }
     }
     Ok(())
 }
 
-/// Each call of a part fails in turn, until a run has no such call. What arrived is in order.
-fn try_records(rt: &impl Abort, alloc: Global, case: &Case<'_>, part: Part) -> Result<(), Fail> {
-    for call in 1..5000usize {
-        let watch = Watch::new(Plan {
-            part,
-            trouble: Trouble::Failed,
-            when: When::At { call },
-            most: usize::MAX,
-        });
-        assert!(rt;
-            case.is_in_order(rt, alloc, alloc, &watch)?,
-            "{part:?} {call}"
-        );
-        if watch.seen().troubles == 0 {
-            return Ok(());
-        }
+/// Each call of an end of a connection goes wrong in turn.
+fn try_ends(alloc: Global, trouble: Trouble) -> Result<(), Fail> {
+    for part in ENDS {
+        try_part(alloc, *part, trouble)?;
     }
-    Err("no end of calls".into())
+    Ok(())
 }
 
 #[test]
 fn each_call_of_a_stream_fails_in_turn(rt: HostRuntime) -> Result<(), Fail> {
-    for part in ENDS {
-        try_part(&rt, rt.alloc(), part, Trouble::Failed)?;
-    }
-    Ok(())
+    try_ends(rt.alloc(), Trouble::Failed)
 }
 
 /// An interrupted call of a stream is one that failed.
 #[test]
 fn each_call_of_a_stream_is_interrupted_in_turn(rt: HostRuntime) -> Result<(), Fail> {
-    for part in ENDS {
-        try_part(&rt, rt.alloc(), part, Trouble::Interrupted)?;
-    }
-    Ok(())
+    try_ends(rt.alloc(), Trouble::Interrupted)
 }
 
 #[test]
 fn each_call_of_a_stream_moves_nothing_in_turn(rt: HostRuntime) -> Result<(), Fail> {
-    for part in ENDS {
-        try_part(&rt, rt.alloc(), part, Trouble::Nothing)?;
-    }
-    Ok(())
+    try_ends(rt.alloc(), Trouble::Nothing)
 }
 
 #[test]
 fn each_write_of_the_text_goes_wrong_in_turn(rt: HostRuntime) -> Result<(), Fail> {
-    try_part(&rt, rt.alloc(), Part::Writer, Trouble::Failed)?;
-    try_part(&rt, rt.alloc(), Part::Writer, Trouble::Nothing)
+    try_part(rt.alloc(), Part::Writer, Trouble::Failed)?;
+    try_part(rt.alloc(), Part::Writer, Trouble::Nothing)
+}
+
+/// Every second write of one octet is interrupted, in each run.
+fn try_interruptions(alloc: Global) -> Result<(), Fail> {
+    let plan = Plan {
+        part: Part::Writer,
+        trouble: Trouble::Interrupted,
+        when: When::EverySecond,
+        most: 1,
+    };
+    for worked in WORKED {
+        let case = Case::read(alloc, worked)?;
+        if try_plan(alloc, &case, plan)? <= 1 {
+            return Err(Fail::new("too few interruptions"));
+        }
+    }
+    Ok(())
 }
 
 #[test]
 fn an_interrupted_write_of_the_text_is_made_again(rt: HostRuntime) -> Result<(), Fail> {
-    try_part(&rt, rt.alloc(), Part::Writer, Trouble::Interrupted)?;
-    for worked in &WORKED {
-        let case = Case::read(rt.alloc(), worked)?;
-        let plan = Plan {
-            part: Part::Writer,
-            trouble: Trouble::Interrupted,
-            when: When::EverySecond,
-            most: 1,
-        };
-        assert!(rt; try_plan(&rt, rt.alloc(), &case, plan)? > 1);
+    try_part(rt.alloc(), Part::Writer, Trouble::Interrupted)?;
+    try_interruptions(rt.alloc())
+}
+
+/// Each call of a part fails in turn, until a run has no such call. What arrived is in order.
+fn try_records(alloc: Global, case: &Case<'_>, part: Part) -> Result<(), Fail> {
+    for call in 1..5000usize {
+        let watch = Watch::new(Plan {
+            part,
+            when: When::At { call },
+            ..NO_TROUBLE
+        });
+        if !case.is_in_order(alloc, alloc, &watch)? {
+            return Err(Fail::new(format_args!("at call {call}")));
+        }
+        if watch.seen().troubles == 0 {
+            return Ok(());
+        }
     }
-    Ok(())
+    Err(Fail::new("no end of calls"))
 }
 
 /// The records that arrived before a stream or the writer failed are the first of those that arrive
 /// where none fails.
 #[test]
 fn what_arrived_before_a_fault_is_in_order(rt: HostRuntime) -> Result<(), Fail> {
-    for worked in &WORKED {
+    for worked in WORKED {
         let case = Case::read(rt.alloc(), worked)?;
         for part in ENDS {
-            try_records(&rt, rt.alloc(), &case, part)?;
+            try_records(rt.alloc(), &case, *part)?;
         }
-        try_records(&rt, rt.alloc(), &case, Part::Writer)?;
+        try_records(rt.alloc(), &case, Part::Writer)?;
     }
+    Ok(())
+}
+
+/// What both terminals read before what is sent to them.
+const NOISE: &[u8] = &[0x00, 0x01, 0x16];
+
+/// A terminal is polled, and hears noise.
+const UNHEARD: Worked<'static> = Worked {
+    script: "silence\ncarry\n",
+    printed: "control CALL A
+quiet
+from 0: offered 0, known 0, spooled 0
+to 0: offered 0, known 0, spooled 0
+from 1: offered 0, known 0, spooled 0
+to 1: offered 0, known 0, spooled 0
+trusted
+",
+    lines: &[1, 2],
+    answer: Ok(()),
+    way: Way::FromTerminal,
+    arrived: &[],
+};
+
+/// The far ends hear what they read, and not what was sent.
+#[test]
+fn what_is_read_is_heard(rt: HostRuntime) -> Result<(), Fail> {
+    let case = Case::read(rt.alloc(), &UNHEARD)?;
+    let watch = Watch::new(NO_TROUBLE);
+    let mut out = watched_writer(rt.alloc(), &watch);
+    let answer = case.run_after(rt.alloc(), NOISE, &watch, &mut out)?;
+    assert!(rt; UNHEARD.is_whole(&out.inner, answer));
     Ok(())
 }

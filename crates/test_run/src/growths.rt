@@ -1,0 +1,87 @@
+//! What a refused growth of a spool changes in the trace of a run, before a text is stored and
+//! after.
+
+use crate::runs::POLLED;
+use crate::watched::{Connections, NO_TROUBLE, Watch};
+use bsc_config::{Config, read_config};
+use bsc_fixtures::configurations::TWO_TERMINALS;
+use bsc_line::Line;
+use bsc_run::run_on;
+use bsc_script::{Script, read_script};
+use refusing_alloc::Refusing;
+use std::alloc::Global;
+use std::test::Fail;
+
+/// What is printed where the control station has no room for the text at first.
+const NO_ROOM_FOR_IT: &str = "control CALL A
+terminal 0 TEXT ETX 1
+control NAK
+terminal 0 TEXT ETX 1
+control ACK1
+terminal 0 EOT
+control CALL B
+from 0: offered 1, known 1, spooled 1
+  4849
+to 0: offered 0, known 0, spooled 0
+from 1: offered 0, known 0, spooled 0
+to 1: offered 0, known 0, spooled 0
+trusted
+";
+
+/// What is printed where the control station has no room for another text at first.
+const NO_ROOM_FOR_ANOTHER: &str = "control CALL A
+terminal 0 TEXT ETX 1
+control WACK
+terminal 0 ENQ
+control ACK1
+terminal 0 EOT
+control CALL B
+from 0: offered 1, known 1, spooled 1
+  4849
+to 0: offered 0, known 0, spooled 0
+from 1: offered 0, known 0, spooled 0
+to 1: offered 0, known 0, spooled 0
+trusted
+";
+
+/// Runs a script on a new line of two terminals of which the growth of this number is refused,
+/// counted from the first after the line was made.
+fn run_without(
+    alloc: Global,
+    refusing: &Refusing,
+    growth: usize,
+    config: &Config,
+    script: &Script<'_, Global>,
+    out: &mut Vec<u8>,
+) -> Result<(), Fail> {
+    let connections = Connections::new(alloc);
+    let watch = Watch::new(NO_TROUBLE);
+    let mut cable = connections.cable(alloc, &watch)?;
+    if config.terminals() != 2 {
+        return Err(Fail::new("not two terminals"));
+    }
+    let (terminals, poll_list) = (config.terminal_list(), config.poll_list());
+    let mut line = Line::new(refusing, config.setup(), terminals, poll_list)?;
+    refusing.refuse_nth(growth);
+    Ok(run_on(alloc, &mut line, script.steps(), &mut cable, out)?)
+}
+
+/// Whether this is printed where a record is offered at terminal 0, which is then polled, and one
+/// growth is refused, that of this number.
+fn is_printed_without(alloc: Global, growth: usize, printed: &str) -> Result<bool, Fail> {
+    let refusing = Refusing::new(alloc);
+    let config = read_config(alloc, TWO_TERMINALS.as_bytes())?;
+    let script = read_script(alloc, POLLED.as_bytes())?;
+    let mut out = Vec::new(alloc);
+    run_without(alloc, &refusing, growth, &config, &script, &mut out)?;
+    Ok(out.as_slice() == printed.as_bytes() && refusing.refused() == 1)
+}
+
+/// The first growth is that of the offer, and the next two are those for which the control
+/// station's spool is asked, before the text is stored and after.
+#[test]
+fn a_text_is_put_off_until_there_is_room(rt: HostRuntime) -> Result<(), Fail> {
+    assert!(rt; is_printed_without(rt.alloc(), 2, NO_ROOM_FOR_IT)?);
+    assert!(rt; is_printed_without(rt.alloc(), 3, NO_ROOM_FOR_ANOTHER)?);
+    Ok(())
+}
