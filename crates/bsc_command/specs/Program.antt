@@ -25,7 +25,8 @@ module _ {S : Type 0} (contents remaining : S → Option (List ℕ)) where
   IsDone (station words) input old new = Unit {0}
 
 -- The work stopped at the line with this number.
-abbrev pub StopsAtLine : AskedValue → ℕ → Option (List ℕ) → Option (List ℕ) → Option (List ℕ) → Type 0
+abbrev pub StopsAtLine : AskedValue → ℕ → Option (List ℕ) → Option (List ℕ) → Option (List ℕ)
+    → Type 0
 StopsAtLine names number input old new =
     IfSome input (λ octets. StopsAt name_line number octets old new)
 StopsAtLine (name text) number input old new = ⊥

@@ -6,8 +6,8 @@ use Rattle.bsc_words.specs.Options.{flag, is_true_text, option, required, value_
 use Rattle.bsc_words.specs.Options.{with_rules}
 use Rattle.bsc_asked.specs.StationWords.{AskedWords}
 
--- the command `station CONFIG`, with the options that say which station it is, where its connections
--- are, how long it waits and when it ends, what is offered, and what is printed
+-- the command `station CONFIG`, with the options that say which station it is, where its
+-- connections are, how long it waits and when it ends, what is offered, and what is printed
 abbrev pub station_app : App
 station_app =
     with_rules (new_app (codes "station"))

@@ -108,7 +108,8 @@ const DIFFERENT: &[Connection<'static>] = &[(SYN, SYN), (SYN, EOT)];
 
 const UNEQUAL: Answer = Err(CarrierError::Unequal);
 
-/// Calls of a cable of these connections, and what they answer: the first error is that from then on.
+/// Calls of a cable of these connections, and what they answer: the first error is the answer from
+/// then on.
 const CALLS_WHEN_DIFFERENT: &[(Call, Answer)] = &[
     (Call::Down, UNEQUAL),
     (Call::Up(0), UNEQUAL),

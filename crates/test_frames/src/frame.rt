@@ -11,7 +11,7 @@ use bsc_frame::{
 /// The characters of a unit, and whether EM follows them.
 type UnitRow<'a> = (&'a [u8], bool);
 
-/// A unit of EM alone.
+/// A unit that has only EM.
 const EM_ALONE: UnitRow = (b"", true);
 
 /// The longest unit: 144 characters A and EM.
@@ -80,7 +80,7 @@ const LONGEST_CALL: &[u8] = &[
 /// The text of the one unit HI with EM.
 const HI: &[u8] = &[0x16, 0x16, 0x02, 0xc8, 0x49, 0x19, 0x83, 0x9b, 0xff];
 
-/// The text of HI with EM, and of a unit of EM alone.
+/// The text of HI with EM, and of a unit that has only EM.
 const TWO_UNITS: &[u8] = &[
     0x16, 0x16, 0x02, 0xc8, 0x49, 0x19, 0x1f, 0x07, 0x19, 0x83, 0x1a, 0xff,
 ];
