@@ -4,6 +4,8 @@
 #[cfg(test)]
 mod block;
 #[cfg(test)]
+mod definitions;
+#[cfg(test)]
 mod frame;
 #[cfg(test)]
 mod octet;
