@@ -2,7 +2,7 @@
 use Rattle.std.specs.Prelude.{◌≡◌, ℕ, List, Some, Result, Ok, Err, IsUtf8}
 use Rattle.toml.specs.Data.{Members}
 use Rattle.toml.specs.Parse.{parse_document}
-use Rattle.bsc_control.specs.Refusals.{IsAccepted}
+use Rattle.bsc_directory.specs.Refusals.{IsAccepted}
 use Rattle.bsc_config.specs.declared.error.ConfigError.{ConfigError}
 use Rattle.bsc_config.specs.declared.error.ConfigError.TheVariants.{NotToml, Memory}
 use Rattle.bsc_config.specs.Faults.{Fault, Reports}

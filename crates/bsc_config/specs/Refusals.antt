@@ -1,8 +1,8 @@
 -- When a line of what a document says is refused (own).
 use Rattle.std.specs.Prelude.{◌≡◌}
-use Rattle.bsc_control.specs.declared.refusal.SetupError.{SetupError}
-use Rattle.bsc_control.specs.declared.refusal.SetupError.TheVariants as setup
-use Rattle.bsc_control.specs.Refusals.{IsRefused}
+use Rattle.bsc_directory.specs.declared.refusal.SetupError.{SetupError}
+use Rattle.bsc_directory.specs.declared.refusal.SetupError.TheVariants as setup
+use Rattle.bsc_directory.specs.Refusals.{IsRefused}
 use Rattle.bsc_config.specs.declared.error.ConfigError.{ConfigError}
 use Rattle.bsc_config.specs.declared.error.ConfigError.TheVariants.{NoTerminal, TooManyTerminals}
 use Rattle.bsc_config.specs.declared.error.ConfigError.TheVariants.{SameAddresses, EmptyPollList}

@@ -6,7 +6,7 @@ ghost use Rattle.bsc_config.specs.Refusals.{IsRefusal};
 
 use crate::error::ConfigError;
 use crate::settings::Settings;
-use bsc_control::Control;
+use bsc_directory::Directory;
 use bsc_text::{Setup, Terminal};
 use std::alloc::Global;
 use std::marker::Model;
@@ -36,7 +36,7 @@ impl Model for Config {
 impl Config {
     ghost use Rattle.bsc_config.specs.SettingsValues.{settings_value};
 
-    /// The configuration with these settings, or the refusal of a control station that has them.
+    /// The configuration with these settings, or why a line of them is refused.
     pub(crate) fn new(alloc: Global, settings: Settings) -> Result<Config, ConfigError>
         ensures value { IfOk result (λ c. c ≡ settings_value settings) }
         ensures config { IfOk result IsConfig }
@@ -47,8 +47,8 @@ impl Config {
             terminals,
             poll_list,
         } = settings;
-        let control = Control::new(alloc, setup, &terminals, &poll_list)?;
-        drop(control);
+        let directory = Directory::new(alloc, &terminals, &poll_list)?;
+        drop(directory);
         Ok(Config {
             setup,
             terminals,

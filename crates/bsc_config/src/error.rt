@@ -1,7 +1,7 @@
 //! Why a configuration is refused.
 
 use crate::key::{Key, UnknownKey};
-use bsc_control::SetupError;
+use bsc_directory::SetupError;
 use std::alloc::{AllocError, AllocFailed};
 use thiserror::Error;
 

@@ -8,7 +8,4 @@ pub mod Replacing
 pub mod Noise
 pub mod Controls
 pub mod Reached
-pub mod EachTerminal
-pub mod Owners
-pub mod Repeats
 pub mod NewControls

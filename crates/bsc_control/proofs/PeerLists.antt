@@ -1,16 +1,6 @@
--- What a change of one element keeps of a list, and the front of a list up to an element.
-use Rattle.std.proofs.Common.{◌≡◌, ◌≢◌, ℕ, zero, suc, ◌+◌, ◌≤◌, List, [], ◌∷◌, ◌++◌, length, map}
-use Rattle.std.proofs.Common.{get_or, set, take, Some, refl, ◌∙◌, ap, arith}
-use Rattle.std.proofs.lemmas.List.{take_more}
-use Rattle.std.proofs.lemmas.Option.{slice_get_within, get_or_from_slice_get}
-use Rattle.std.specs.List.{slice_get}
-
--- the front that ends with the element at this place
-pub take_with : {X : Type 0} (xs : List X) (i : ℕ) (x : X) → slice_get xs i ≡ Some x
-    → take (i + 1) xs ≡ take i xs ++ x ∷ []
-take_with xs i x there =
-    take_more xs i x (slice_get_within xs i x there)
-    ∙ ap (λ y. take i xs ++ y ∷ []) (get_or_from_slice_get xs i x x there)
+-- What a change of one element keeps of a list.
+use Rattle.std.proofs.Common.{◌≡◌, ◌≢◌, ℕ, zero, suc, ◌≤◌, List, [], ◌∷◌, length, map}
+use Rattle.std.proofs.Common.{get_or, set, refl, ap, arith}
 
 -- an element is replaced by one at which the function has the same value: it has so at each place
 pub same_at : {X B : Type 0} (f : X → B) (xs : List X) (i j : ℕ) (y d : X) → f y ≡ f (get_or xs i d)

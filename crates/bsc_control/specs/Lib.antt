@@ -1,6 +1,3 @@
-pub mod Ways
-pub mod Addresses
-pub mod Refusals
 pub mod Peer
 pub mod Control
 pub mod CallOrder

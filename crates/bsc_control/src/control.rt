@@ -3,20 +3,17 @@
 ghost use Rattle.std.specs.Prelude.{◌≡◌, ◌≤◌, ◌<◌, ◌↔◌, ℕ, length, true, false, Some, OnOk, OnErr};
 ghost use Rattle.std.specs.Prelude.{IfOk, IfErr};
 ghost use Rattle.bsc_text.specs.Sender.{is_in_doubt, release_step};
-ghost use Rattle.bsc_control.specs.declared.way.Way.{Way as WayValue};
-ghost use Rattle.bsc_control.specs.Addresses.{IsAddressOf};
+ghost use Rattle.bsc_directory.specs.declared.way.Way.{Way as WayValue};
+ghost use Rattle.bsc_directory.specs.Addresses.{IsAddressOf};
 ghost use Rattle.bsc_control.specs.Control.{ControlValue, terminals, peer_at, with_peer};
 ghost use Rattle.bsc_control.specs.Kept.{IsControl, IsNewControl, outbound_of};
-ghost use Rattle.bsc_control.specs.Refusals.{IsAccepted, IsRefused};
+ghost use Rattle.bsc_directory.specs.Refusals.{IsAccepted, IsRefused};
 ghost use Rattle.bsc_control.specs.Peer.{with_outbound, outbound_released, offered_to};
-ghost use Rattle.bsc_control.specs.Ways.{IsSelection, select_of};
+ghost use Rattle.bsc_directory.specs.Ways.{IsSelection, select_of};
 
-use crate::directory::Directory;
-use crate::limits::MAX_TERMINALS;
 use crate::procedure::Procedure;
-use crate::refusal::{SetupError, wrong_entry};
-use crate::way::Way;
 use bsc_block::Record;
+use bsc_directory::{Directory, SetupError, Way};
 use bsc_frame::{Address, Heard, Message};
 use bsc_spool::{Queue, Spool};
 use bsc_text::{ReleaseError, Setup, Station, Terminal};
@@ -35,7 +32,7 @@ pub struct Control<A: Allocator> {
 
 impl<A: Allocator> Model for Control<A> {
     ghost use Rattle.std.specs.Prelude.{◌≡◌};
-    ghost use Rattle.bsc_control.specs.Addresses.{numbered};
+    ghost use Rattle.bsc_directory.specs.Addresses.{numbered};
     ghost use Rattle.bsc_control.specs.Control.{ControlValue, terminals};
     ghost use Rattle.bsc_control.specs.Kept.{IsControl};
 
@@ -66,19 +63,7 @@ impl<A: Allocator> Control<A> {
         ensures value { IfOk result (λ c. IsNewControl setup terminals.now poll_list.now c) }
         ensures control { IfOk result IsControl }
     {
-        if terminals.is_empty() {
-            return Err(SetupError::NoTerminal);
-        }
-        if terminals.len() > MAX_TERMINALS {
-            return Err(SetupError::TooMany);
-        }
-        let directory = Directory::new(alloc, terminals)?;
-        if poll_list.is_empty() {
-            return Err(SetupError::EmptyPollList);
-        }
-        if let Some(place) = wrong_entry(poll_list, terminals.len()) {
-            return Err(SetupError::PollList(place));
-        }
+        let directory = Directory::new(alloc, terminals, poll_list)?;
         let procedure = Procedure::new(alloc, setup, terminals, poll_list)?;
         Ok(Control {
             directory,

@@ -7,16 +7,10 @@
 #![tactic(auto)]
 
 mod control;
-mod directory;
-pub mod laws;
-pub mod limits;
 mod outbound;
 mod peer;
 mod procedure;
-mod refusal;
 mod task;
-mod way;
 
+pub use bsc_directory::{SetupError, Way};
 pub use control::Control;
-pub use refusal::SetupError;
-pub use way::Way;

@@ -1,6 +1,6 @@
 -- What a watch tells of a line, and what it keeps as events are played (own).
 use Rattle.std.specs.Prelude.{◌≡◌, ℕ, List, [], ◌∷◌, Option, None, Some, Result, if◌then◌else◌}
-use Rattle.bsc_control.specs.declared.way.Way.{Way}
+use Rattle.bsc_directory.specs.declared.way.Way.{Way}
 use Rattle.bsc_line_model.specs.declared.error.LineError.{LineError}
 use Rattle.bsc_line_model.specs.Line.{LineValue}
 use Rattle.bsc_hostile.specs.declared.channel.Channel.{Channel}

@@ -23,7 +23,7 @@ use crate::taking::take;
 use crate::tally::Tally;
 use arrayvec::ArrayVec;
 use bsc_control::Way;
-use bsc_control::limits::MAX_TERMINALS;
+use bsc_directory::limits::MAX_TERMINALS;
 use bsc_frame::Address;
 use bsc_line::{Event, Line, LineError, Speaker};
 use bsc_text::{Setup, Terminal};

@@ -18,8 +18,8 @@ use Rattle.bsc_text.specs.declared.phase.Phase.TheVariants.{Idle, Unanswered}
 use Rattle.bsc_text.specs.Ready.{AreWaiting, CountsOn}
 use Rattle.bsc_text.specs.Reply.{message_of, ack}
 use Rattle.bsc_text.specs.Sender.{text_of}
-use Rattle.bsc_control.specs.declared.way.Way.{Way}
-use Rattle.bsc_control.specs.declared.way.Way.TheVariants.{ToTerminal}
+use Rattle.bsc_directory.specs.declared.way.Way.{Way}
+use Rattle.bsc_directory.specs.declared.way.Way.TheVariants.{ToTerminal}
 use Rattle.bsc_control.specs.Peer.{OutboundValue, IsPeer, IsOutbound, no_peer, no_outbound}
 use Rattle.bsc_control.specs.Peer.{outbound_at}
 use Rattle.bsc_control.specs.Control.{ControlValue, peer, current}

@@ -2,8 +2,8 @@
 use Rattle.std.specs.Prelude.{ℕ, zero, suc, Bool, nat_eq, if◌then◌else◌, List, [], ◌++◌, codes}
 use Rattle.std.specs.Fmt.{decimal}
 use Rattle.bsc_names.specs.Names.{chars_shown}
-use Rattle.bsc_control.specs.declared.way.Way.{Way}
-use Rattle.bsc_control.specs.declared.way.Way.TheVariants.{FromTerminal, ToTerminal}
+use Rattle.bsc_directory.specs.declared.way.Way.{Way}
+use Rattle.bsc_directory.specs.declared.way.Way.TheVariants.{FromTerminal, ToTerminal}
 
 -- a selection address is named where its terminal has more than this one
 abbrev pub address_name : ℕ → ℕ → List ℕ

@@ -6,7 +6,7 @@ ghost use Rattle.std.specs.Io.KnownBytes.{Appends};
 ghost use Rattle.bsc_printing.specs.Channels.{channel_name, doubt_shown, record_line};
 
 use bsc_block::Record;
-use bsc_control::Way;
+use bsc_directory::Way;
 use bsc_names::{PrintError, write_chars};
 use std::alloc::Allocator;
 use std::io::Write;

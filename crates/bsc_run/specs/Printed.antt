@@ -8,8 +8,8 @@ use Rattle.bsc_names.specs.Names.{name_line}
 use Rattle.bsc_printing.specs.Channels.{channel_name, doubt_shown, record_line, each_below}
 use Rattle.bsc_text.specs.Channel.{Channel}
 use Rattle.bsc_text.specs.Sender.{is_in_doubt}
-use Rattle.bsc_control.specs.declared.way.Way.{Way}
-use Rattle.bsc_control.specs.declared.way.Way.TheVariants.{FromTerminal, ToTerminal}
+use Rattle.bsc_directory.specs.declared.way.Way.{Way}
+use Rattle.bsc_directory.specs.declared.way.Way.TheVariants.{FromTerminal, ToTerminal}
 use Rattle.bsc_line_model.specs.declared.transmission.Speaker.{Speaker}
 use Rattle.bsc_line_model.specs.declared.transmission.Speaker.TheVariants.{Control, Terminal}
 use Rattle.bsc_line_model.specs.declared.transmission.Transmission.{Transmission}

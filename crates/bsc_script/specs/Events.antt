@@ -3,8 +3,8 @@ use Rattle.std.specs.Prelude.{ℕ, Bool, true, false, List, [], codes, Option, S
 use Rattle.std.specs.Prelude.{unwrap_or, if◌then◌else◌}
 use Rattle.std.specs.Option.{option_and_then}
 use Rattle.std.specs.Str.{bytes_eq}
-use Rattle.bsc_control.specs.declared.way.Way.{Way}
-use Rattle.bsc_control.specs.declared.way.Way.TheVariants.{FromTerminal, ToTerminal}
+use Rattle.bsc_directory.specs.declared.way.Way.{Way}
+use Rattle.bsc_directory.specs.declared.way.Way.TheVariants.{FromTerminal, ToTerminal}
 use Rattle.bsc_script.specs.declared.keyword.Keyword.{Keyword}
 use Rattle.bsc_script.specs.declared.keyword.Keyword.TheVariants.{OfferAt, OfferFor, OfferTo, Carry}
 use Rattle.bsc_script.specs.declared.keyword.Keyword.TheVariants.{Lose, Heard, HeardEach, Silence}

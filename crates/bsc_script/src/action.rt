@@ -1,7 +1,7 @@
 //! What the lines of a script ask for.
 
 use crate::Transmission;
-use bsc_control::Way;
+use bsc_directory::Way;
 use std::alloc::Allocator;
 
 /// What one line of a script asks for (own). Terminals are counted from 0, and so are the selection

@@ -14,7 +14,7 @@ use crate::number::{select, terminal};
 use crate::transmission::read_transmission;
 use crate::words::split_word;
 use crate::{Action, Transmission};
-use bsc_control::Way;
+use bsc_directory::Way;
 use std::alloc::{AllocError, Allocator};
 
 /// What the line asks for. None where it is no event.

@@ -1,6 +1,6 @@
 -- The records that arrive at a station are printed, each once (own).
 use Rattle.std.specs.Prelude.{◌≡◌, ℕ, ◌<◌, List, length, max, slice_index}
-use Rattle.bsc_control.specs.declared.way.Way.{Way}
+use Rattle.bsc_directory.specs.declared.way.Way.{Way}
 use Rattle.bsc_printing.specs.Channels.{channel_name}
 use Rattle.bsc_station.specs.Ends.{End}
 use Rattle.bsc_station.specs.Printed.{arrival_lines, records_at}

@@ -2,8 +2,8 @@
 use Rattle.std.specs.Prelude.{ℕ, List, [], ◌++◌, length, drop, codes}
 use Rattle.std.specs.List.{flat_map}
 use Rattle.std.specs.Fmt.{decimal}
-use Rattle.bsc_control.specs.declared.way.Way.{Way}
-use Rattle.bsc_control.specs.declared.way.Way.TheVariants.{FromTerminal, ToTerminal}
+use Rattle.bsc_directory.specs.declared.way.Way.{Way}
+use Rattle.bsc_directory.specs.declared.way.Way.TheVariants.{FromTerminal, ToTerminal}
 use Rattle.bsc_names.specs.Names.{chars_shown}
 use Rattle.bsc_printing.specs.Channels.{channel_name, doubt_shown, each_below, record_line}
 use Rattle.bsc_station.specs.Ends.{End, sending, receiving}

@@ -112,7 +112,7 @@ impl<A: Allocator> Station for LineTerminal<A> {
 
 impl<A: Allocator> Party for LineTerminal<A> {
     ghost use Rattle.std.specs.Prelude.{length};
-    ghost use Rattle.bsc_control.specs.declared.way.Way.TheVariants.{ToTerminal};
+    ghost use Rattle.bsc_directory.specs.declared.way.Way.TheVariants.{ToTerminal};
     ghost use Rattle.bsc_station.specs.Ends.{terminal_end};
 
     ghost count = { λ _. 1 };

@@ -8,7 +8,7 @@ ghost use Rattle.bsc_tributary.specs.Kept.{IsNewTerminal};
 use crate::LineTerminal;
 use bsc_config::Config;
 use bsc_control::Control;
-use bsc_control::laws::distinct_addresses;
+use bsc_directory::laws::distinct_addresses;
 use std::alloc::{AllocError, Allocator};
 
 /// The control station of the line, with nothing to send. The error comes only where a growth is

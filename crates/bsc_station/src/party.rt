@@ -1,7 +1,7 @@
 //! A station as it stands at its ends of channels.
 
 ghost use Rattle.std.specs.Prelude.{◌≡◌, ◌<◌, ℕ};
-ghost use Rattle.bsc_control.specs.declared.way.Way.{Way as WayValue};
+ghost use Rattle.bsc_directory.specs.declared.way.Way.{Way as WayValue};
 ghost use Rattle.bsc_station.specs.Ends.{End, IsWay, receiving};
 ghost use Rattle.bsc_station.specs.EndValues.{end_of};
 

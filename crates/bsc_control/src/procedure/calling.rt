@@ -8,7 +8,7 @@ ghost use Rattle.bsc_control.specs.Table.{next_call_step};
 
 use crate::procedure::Procedure;
 use crate::task::{Replied, Task};
-use crate::way::Way;
+use bsc_directory::Way;
 use bsc_frame::Message;
 use std::alloc::Allocator;
 

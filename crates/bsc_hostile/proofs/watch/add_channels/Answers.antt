@@ -3,7 +3,7 @@ use Rattle.std.proofs.Common.{add-one, Some, slice_index_or}
 use Rattle.std.proofs.lemmas.Grind.{common_steps}
 use Rattle.std.proofs.lemmas.Option.{get_or_from_slice_get}
 use Rattle.bsc_text.specs.Terminal.{TerminalValue}
-use Rattle.bsc_control.specs.declared.way.Way.TheVariants.{ToTerminal}
+use Rattle.bsc_directory.specs.declared.way.Way.TheVariants.{ToTerminal}
 use Rattle.std.specs.List.{slice_get}
 use Rattle.bsc_hostile.specs.declared.channel.Channel.{Channel}
 use Rattle.bsc_hostile.specs.NewWatches.{new_channel, channels_of}

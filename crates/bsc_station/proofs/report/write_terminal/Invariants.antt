@@ -1,5 +1,5 @@
 use Rattle.std.specs.Io.KnownBytes.{Appends}
-use Rattle.bsc_control.specs.declared.way.Way.TheVariants.{ToTerminal}
+use Rattle.bsc_directory.specs.declared.way.Way.TheVariants.{ToTerminal}
 use Rattle.bsc_printing.specs.Channels.{each_below}
 use Rattle.bsc_station.specs.Printed.{channel_lines}
 use Rattle.bsc_station.proofs.report.write_terminal.Given as goal

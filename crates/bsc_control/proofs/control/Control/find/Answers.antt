@@ -1,8 +1,8 @@
 use Rattle.std.proofs.Common.{List, sym, ◌∙◌, ap, subst}
 use Rattle.std.specs.List.{Contains}
-use Rattle.bsc_control.specs.Addresses.{numbered}
+use Rattle.bsc_directory.specs.Addresses.{numbered}
 use Rattle.bsc_control.specs.Control.{ControlValue, terminals}
-use Rattle.bsc_control.proofs.Owners.{Owner, owner_iff}
+use Rattle.bsc_directory.proofs.Owners.{Owner, owner_iff}
 use Rattle.bsc_control.proofs.control.Control.find.Goals as goal
 
 pub returns-clause-exact : goal.returns-clause-exact

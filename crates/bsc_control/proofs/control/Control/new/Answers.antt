@@ -1,24 +1,13 @@
-use Rattle.std.proofs.Common.{refl, sym, ◌∙◌, ap, rules}
-use Rattle.bsc_control.specs.Addresses.{numbered}
+use Rattle.std.proofs.Common.{sym, ◌∙◌, ap}
+use Rattle.bsc_directory.specs.Addresses.{numbered}
 use Rattle.bsc_control.specs.Kept.{IsControl}
-use Rattle.bsc_control.specs.Refusals.{IsAccepted}
 use Rattle.bsc_control.proofs.NewControls.{new_control}
 use Rattle.bsc_control.proofs.control.Control.new.Given as given
 use Rattle.bsc_control.proofs.control.Control.new.Goals as goal
 
-accepted : (g : given.Over) (c : goal.In_ok-procedure g)
-    → IsAccepted c.args.terminals.now c.args.poll_list.now
-accepted g c =
-    record {
-      number = record { some = search rules; few = c.if-terminals-gt-MAX_TERMINALS.false };
-      distinct = c.in_ok-directory.ensures.distinct;
-      some = search rules;
-      right = c.in_default.ensures.right refl;
-    }
-
 is_control : (g : given.Over) (c : goal.In_ok-procedure g) → IsControl c.in_ok-procedure.procedure
 is_control g c =
-    let a = accepted g c in
+    let a = c.in_ok-directory.ensures.accepted in
     new_control c.args.setup c.args.terminals.now c.args.poll_list.now c.in_ok-procedure.procedure
     a.number a.distinct a.right c.in_ok-procedure.ensures.entries
     c.in_ok-procedure.ensures.value
@@ -29,9 +18,6 @@ invariant_of-result g c = (
   c.in_ok-directory.ensures.entries
       ∙ ap (numbered 0) (sym c.in_ok-procedure.ensures.value.terminals_given),
 )
-
-pub returns-clause-accepted : goal.returns-clause-accepted
-returns-clause-accepted g c = accepted g c
 
 pub returns-clause-control : goal.returns-clause-control
 returns-clause-control g c = is_control g c

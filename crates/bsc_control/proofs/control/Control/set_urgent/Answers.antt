@@ -1,5 +1,5 @@
 use Rattle.std.proofs.Common.{◌<◌, length, sym, ◌∙◌, ap}
-use Rattle.bsc_control.specs.Addresses.{numbered}
+use Rattle.bsc_directory.specs.Addresses.{numbered}
 use Rattle.bsc_control.proofs.Reached.{peer_reached, stays_flag}
 use Rattle.bsc_control.proofs.control.Control.set_urgent.Goals as goal
 

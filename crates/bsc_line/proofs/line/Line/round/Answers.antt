@@ -1,7 +1,7 @@
 use Rattle.std.proofs.Common.{◌≡◌, ◌<◌, ◌≤◌, ◌+◌, ℕ, List, length, drop, get_or, false, true, refl}
 use Rattle.std.proofs.Common.{sym, ◌∙◌, ap, subst, arith}
 use Rattle.std.proofs.lemmas.List.{drop_all, length-set, get_or-replicate}
-use Rattle.bsc_control.specs.declared.limits.TheConstants.{MAX_TERMINALS}
+use Rattle.bsc_directory.specs.declared.limits.TheConstants.{MAX_TERMINALS}
 use Rattle.bsc_control.specs.Kept.{IsControl}
 use Rattle.bsc_line_model.specs.Line.{LineValue}
 use Rattle.bsc_line_model.specs.Rounds.{entries_length, round_length}

@@ -1,5 +1,5 @@
 use Rattle.std.proofs.Common.{◌≡◌, ◌<◌, ◌+◌, ◌^◌, ℕ, drop, false, length, get_or}
-use Rattle.bsc_control.specs.declared.limits.TheConstants.{MAX_TERMINALS}
+use Rattle.bsc_directory.specs.declared.limits.TheConstants.{MAX_TERMINALS}
 use Rattle.bsc_line_model.specs.Rounds.{entries_length, round_length, is_seen}
 use Rattle.bsc_line.specs.Counts.{in_u64}
 use Rattle.bsc_line.proofs.Lengths.{seen_before}

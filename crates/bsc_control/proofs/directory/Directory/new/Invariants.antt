@@ -1,7 +1,0 @@
--- The addresses of this many terminals were entered.
-use Rattle.std.proofs.Common.{◌≡◌, take}
-use Rattle.bsc_control.specs.Addresses.{numbered}
-use Rattle.bsc_control.proofs.directory.Directory.new.Given as goal
-
-abbrev pub invariant-loop-number : goal.invariant-loop-number
-invariant-loop-number g l = l.directory ≡ numbered 0 (take l.number l.terminals)

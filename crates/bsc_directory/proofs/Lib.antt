@@ -1,0 +1,4 @@
+pub mod Fronts
+pub mod Owners
+pub mod Repeats
+pub mod EachTerminal

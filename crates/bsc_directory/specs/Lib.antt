@@ -1,0 +1,3 @@
+pub mod Ways
+pub mod Addresses
+pub mod Refusals
