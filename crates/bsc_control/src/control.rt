@@ -23,7 +23,7 @@ use std::marker::Model;
 /// The control station of a line (GA27-3004, centralised multipoint operation).
 #[derive(Drop)]
 pub struct Control<A: Allocator> {
-    /// Whose each address of the line is.
+    /// The terminal and the way to which each address of the line belongs.
     directory: Directory<A>,
 
     /// The settings, the poll list and what is kept for each terminal.

@@ -1,4 +1,4 @@
-//! Whose each address of a line is.
+//! The terminal and the way to which each address of a line belongs.
 
 ghost use Rattle.std.specs.Prelude.{◌≡◌, ◌++◌, ◌↔◌, [], ◌∷◌, ℕ, IfOk, IfErr, OnOk, Some};
 ghost use Rattle.std.specs.List.{Contains};

@@ -1,8 +1,8 @@
-//! The addresses of a line: whose each one is, and what is refused of a line's terminals and of its
-//! poll list.
+//! The addresses of a line: the terminal to which each one belongs, and why the terminals and the
+//! poll list of a line are refused.
 //!
-//! A configuration is checked by a [`Directory`], and a control station finds in one to whom a call
-//! goes.
+//! A configuration is checked by making a [`Directory`]; a control station keeps one, and finds in
+//! it the terminal that an address calls.
 #![tactic(auto)]
 
 mod directory;
