@@ -5,3 +5,4 @@ pub mod Streams
 pub mod Places
 pub mod Explained
 pub mod Splitting
+pub mod Reading

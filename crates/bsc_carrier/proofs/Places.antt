@@ -2,11 +2,13 @@
 use Rattle.std.proofs.Common.{◌≡◌, ℕ, zero, suc, ◌-◌, ◌<◌, ◌≤◌, List, [], ◌∷◌, ◌++◌, length, get_or}
 use Rattle.std.proofs.Common.{take, drop, set, refl, sym, ap, ◌∙◌, subst, append-nil, arith}
 use Rattle.std.proofs.lemmas.List.{take_rest, drop_all}
+use Rattle.std.proofs.Math.Seq.{take-append_seam}
 use Rattle.std.proofs.lemmas.Result.{IfOk-from_err}
 use Rattle.std.specs.List.{AllZip, Any}
 use Rattle.std.specs.Prelude.{Result, IsErr, OnOk}
 use borrow.Rule.Slice.PartMut.{put_mid}
 use Rattle.bsc_carrier.specs.Cable.{ChangesAt}
+use Rattle.bsc_carrier.specs.declared.limits.TheConstants.{MAX_CONNECTIONS}
 
 module _ {S : Type 0} where
   -- an end that stays as it is
@@ -56,6 +58,37 @@ module _ {S : Type 0} where
       let none : drop (length (first ∷ old) - 1) old ≡ [] =
       drop_all (length (first ∷ old) - 1) old (omega arith) in
       (one, subst (AllZip R old) (sym (append-nil later) ∙ ap (λ l. later ++ l) (sym none)) more)
+
+  -- ends that were all written back are those that were written
+  pub written_back : (n : ℕ) (new rest : List S) → length new ≡ n → take n (new ++ rest) ≡ new
+  written_back n new rest long = ap (λ k. take k (new ++ rest)) (sym long)
+      ∙ take-append_seam new rest
+
+  pub written_back_length : (n : ℕ) (new rest : List S) → length new ≡ n
+      → length (take n (new ++ rest)) ≡ n
+  written_back_length n new rest long = ap length (written_back n new rest long) ∙ long
+
+  -- both sides of a cable have as many ends as before they were written back
+  pub counts_written_back : (n m : ℕ) (left right left_new right_new left_rest right_rest : List S)
+      → length left ≡ n → length right ≡ m → length left_new ≡ n → length right_new ≡ m
+      → (length left ≡ length right) × (1 ≤ length left) × (length left ≤ MAX_CONNECTIONS)
+      → (length (take n (left_new ++ left_rest)) ≡ length (take m (right_new ++ right_rest)))
+      × (1 ≤ length (take n (left_new ++ left_rest)))
+      × (length (take n (left_new ++ left_rest)) ≤ MAX_CONNECTIONS)
+  counts_written_back n m left right left_new right_new left_rest right_rest l r l_new r_new counts =
+      let l_back = written_back_length n left_new left_rest l_new in
+      let r_back = written_back_length m right_new right_rest r_new in (
+        l_back ∙ sym l ∙ counts.0 ∙ r ∙ sym r_back,
+        omega (arith, l_back, l, counts.1),
+        omega (arith, l_back, l, counts.2),
+      )
+
+  -- what changed at a place of ends that were lent, and written back
+  pub changes_back : (P : S → S → Type 0) (t n : ℕ) (old lent new rest : List S) → lent ≡ old
+      → length new ≡ n → ChangesAt t P lent new → ChangesAt t P old (take n (new ++ rest))
+  changes_back P t n old lent new rest same long changes =
+      subst (ChangesAt t P old) (sym (written_back n new rest long))
+      (subst (λ l. ChangesAt t P l new) same changes)
 
   -- where a call failed, the end stays as it is
   pub stays_after_error : {T E : Type 0} (result : Result T E) (P : S → S → Type 0) (ends : List S)
