@@ -9,3 +9,5 @@ pub mod Noise
 pub mod Controls
 pub mod Reached
 pub mod NewControls
+pub mod Present
+pub mod Receiving

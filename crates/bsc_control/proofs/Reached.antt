@@ -6,7 +6,7 @@ use Rattle.std.specs.Result.{OnErr}
 use Rattle.bsc_control.specs.Control.{ControlValue, peer_at, with_peer}
 use Rattle.bsc_control.specs.Kept.{IsControl, outbound_of}
 use Rattle.bsc_control.specs.Peer.{OutboundValue, PeerValue, IsOutbound, no_outbound, no_peer}
-use Rattle.bsc_control.specs.Peer.{outbound_at, with_outbound}
+use Rattle.bsc_control.specs.Peer.{outbound_at, with_outbound, outbound_released}
 use Rattle.bsc_control.proofs.Controls.{KeepsOutbound, StaysControl, stays_set_urgent}
 use Rattle.bsc_control.proofs.Controls.{stays_replaced}
 use Rattle.bsc_control.proofs.Replacing.{replaced}
@@ -93,3 +93,23 @@ unchanged_reached (Ok u) x reached err = err
 unchanged_reached {E} {c} {d} {t} {s} {p} {o} (Err e) x reached err =
     replaced_is c d t s p x reached.reached ∙ ap (replaced c t s) (err ∙ reached.outbound)
     ∙ same_replaced c t s
+
+-- what the contracts of the calls say of what is left, where the fields e are the station's
+pub urgent_left : (c d e : ControlValue) (t : ℕ) (p : PeerValue) → IsPeerReached c d t p → c ≡ e
+    → with_peer d t (record p { urgent = true })
+    ≡ with_peer e t (record (peer_at e t) { urgent = true })
+urgent_left c d e t p reached same = cc (reached.station, reached.peer, same)
+
+pub released_left : (c d e : ControlValue) (t s k : ℕ) (p : PeerValue) (o x : OutboundValue)
+    (count : ℕ) → IsReached c d t s p o → c ≡ e → s ≡ k → x ≡ outbound_released o count
+    → with_peer d t (with_outbound p s x)
+    ≡ with_peer e t (with_outbound (peer_at e t) k (outbound_released (outbound_of e t k) count))
+released_left c d e t s k p o x count reached same select is =
+    cc (reached.reached.station, reached.reached.peer, reached.outbound, same, select, is)
+
+pub read_left : {B : Type 0} (f : OutboundValue → B) (c d e : ControlValue) (t s k : ℕ)
+    (p : PeerValue) (o : OutboundValue) (b : B) → IsReached c d t s p o → c ≡ e → s ≡ k → b ≡ f o
+    → b ≡ f (outbound_of e t k)
+read_left f c d e t s k p o b reached same select is =
+    is ∙ ap f (reached.outbound ∙ ap (λ (x : ControlValue). outbound_of x t s) same
+    ∙ ap (outbound_of e t) select)

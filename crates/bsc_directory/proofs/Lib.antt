@@ -2,3 +2,4 @@ pub mod Fronts
 pub mod Owners
 pub mod Repeats
 pub mod EachTerminal
+pub mod Refusing

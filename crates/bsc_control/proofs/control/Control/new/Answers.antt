@@ -1,5 +1,6 @@
-use Rattle.std.proofs.Common.{sym, ◌∙◌, ap}
+use Rattle.std.proofs.Common.{length, sym, ◌∙◌, ap}
 use Rattle.bsc_directory.specs.Addresses.{numbered}
+use Rattle.bsc_directory.proofs.Refusing.{right_entries}
 use Rattle.bsc_control.specs.Kept.{IsControl}
 use Rattle.bsc_control.proofs.NewControls.{new_control}
 use Rattle.bsc_control.proofs.control.Control.new.Given as given
@@ -21,3 +22,14 @@ invariant_of-result g c = (
 
 pub returns-clause-control : goal.returns-clause-control
 returns-clause-control g c = is_control g c
+
+pub returns-clause-value : goal.returns-clause-value
+returns-clause-value g c = c.in_ok-procedure.ensures.value
+
+pub new-requires-2-clause-some : goal.new-requires-2-clause-some
+new-requires-2-clause-some g c = c.in_ok-directory.ensures.accepted.some
+
+pub new-requires-2-clause-entries : goal.new-requires-2-clause-entries
+new-requires-2-clause-entries g c =
+    right_entries (length c.args.terminals.now) c.args.poll_list.now
+    c.in_ok-directory.ensures.accepted.right

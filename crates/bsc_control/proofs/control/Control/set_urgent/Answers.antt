@@ -1,6 +1,7 @@
-use Rattle.std.proofs.Common.{◌<◌, length, sym, ◌∙◌, ap}
+use Rattle.std.proofs.Common.{true, ◌<◌, length, sym, ◌∙◌, ap}
 use Rattle.bsc_directory.specs.Addresses.{numbered}
-use Rattle.bsc_control.proofs.Reached.{peer_reached, stays_flag}
+use Rattle.bsc_control.proofs.Entries.{peer_with_flag, entries_with_peer}
+use Rattle.bsc_control.proofs.Reached.{peer_reached, stays_flag, urgent_left}
 use Rattle.bsc_control.proofs.control.Control.set_urgent.Goals as goal
 
 pub invariant_of-self : goal.invariant_of-self
@@ -14,3 +15,19 @@ invariant_of-self g c =
 
 pub returns-clause-control : goal.returns-clause-control
 returns-clause-control g c = (invariant_of-self g c).0
+
+pub invariant_of-peer : goal.invariant_of-peer
+invariant_of-peer g c = peer_with_flag _ true c.peer.invariant
+
+pub invariant_of-procedure : goal.invariant_of-procedure
+invariant_of-procedure g c =
+    entries_with_peer _ c.args.terminal _ (peer_with_flag _ true c.peer.invariant)
+    c.procedure.invariant
+
+pub returns-clause-state : goal.returns-clause-state
+returns-clause-state g c =
+    let within : c.args.terminal < length c.self.inside.procedure.peers =
+    rw c.self.view_is c.requires in
+    let reached =
+    peer_reached c.procedure.view_is within c.peer.view_is c.index_mut-peer.ensures.value in
+    urgent_left _ _ _ c.args.terminal _ reached c.self.view_is

@@ -1,6 +1,8 @@
 use Rattle.std.proofs.Common.{◌<◌, length, sym, subst}
 use Rattle.bsc_control.specs.Control.{ControlValue}
 use Rattle.bsc_control.proofs.Entries.{peer_with_receiver, entries_with_peer}
+use Rattle.bsc_control.proofs.Present.{polled}
+use Rattle.bsc_control.proofs.Reached.{peer_reached}
 use Rattle.bsc_control.proofs.procedure.Procedure.poll.Goals as goal
 
 pub invariant_of-peer : goal.invariant_of-peer
@@ -13,3 +15,14 @@ invariant_of-self g c =
     let place =
     subst (λ (x : ControlValue). c.args.place < length x.poll_list) (sym c.self.view_is) c.requires in
     record { place = place; entries = entries.entries; peers = entries.peers }
+
+pub returns-clause-row : goal.returns-clause-row
+returns-clause-row g c =
+    let terminal = c.terminal_of-terminal.ensures in
+    let reached =
+    peer_reached c.self.view_is terminal.there c.peer.view_is c.index_mut-peer.ensures.value in
+    polled _ _ _ c.args.place c.args.failures _ c.begin.new.self c.poll.result reached
+    terminal.value c.begin.ensures.state c.poll.ensures
+
+pub returns-clause-entries : goal.returns-clause-entries
+returns-clause-entries g c = invariant_of-self g c
