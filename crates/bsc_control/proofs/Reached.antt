@@ -1,12 +1,12 @@
 -- What is reached through the peers of a control station, and what is left where it is replaced.
-use Rattle.std.proofs.Common.{◌≡◌, ℕ, ◌<◌, true, length, sym, ◌∙◌, ap, subst}
+use Rattle.std.proofs.Common.{◌≡◌, ℕ, ◌<◌, true, List, length, sym, ◌∙◌, ap, subst}
 use Rattle.std.proofs.lemmas.List.{set-get_or, get_or_read}
 use Rattle.std.specs.Prelude.{slice_index_or, Result, Ok, Err}
-use Rattle.std.specs.Result.{OnErr}
+use Rattle.std.specs.Result.{OnOk, OnErr}
 use Rattle.bsc_control.specs.Control.{ControlValue, peer_at, with_peer}
 use Rattle.bsc_control.specs.Kept.{IsControl, outbound_of}
 use Rattle.bsc_control.specs.Peer.{OutboundValue, PeerValue, IsOutbound, no_outbound, no_peer}
-use Rattle.bsc_control.specs.Peer.{outbound_at, with_outbound, outbound_released}
+use Rattle.bsc_control.specs.Peer.{outbound_at, with_outbound, outbound_released, offered, offered_to}
 use Rattle.bsc_control.proofs.Controls.{KeepsOutbound, StaysControl, stays_set_urgent}
 use Rattle.bsc_control.proofs.Controls.{stays_replaced}
 use Rattle.bsc_control.proofs.Replacing.{replaced}
@@ -106,6 +106,15 @@ pub released_left : (c d e : ControlValue) (t s k : ℕ) (p : PeerValue) (o x : 
     ≡ with_peer e t (with_outbound (peer_at e t) k (outbound_released (outbound_of e t k) count))
 released_left c d e t s k p o x count reached same select is =
     cc (reached.reached.station, reached.reached.peer, reached.outbound, same, select, is)
+
+pub offered_left : {E : Type 0} (answer : Result (Unit {0}) E) (c d e : ControlValue) (t s : ℕ)
+    (p : PeerValue) (o x : OutboundValue) (r : List ℕ) → IsReached c d t s p o → c ≡ e
+    → OnOk answer (x ≡ offered o r)
+    → OnOk answer (with_peer d t (with_outbound p s x)
+    ≡ with_peer e t (offered_to (peer_at e t) s r))
+offered_left (Ok u) c d e t s p o x r reached same is =
+    cc (reached.reached.station, reached.reached.peer, reached.outbound, same, is)
+offered_left (Err f) c d e t s p o x r reached same is = tt
 
 pub read_left : {B : Type 0} (f : OutboundValue → B) (c d e : ControlValue) (t s k : ℕ)
     (p : PeerValue) (o : OutboundValue) (b : B) → IsReached c d t s p o → c ≡ e → s ≡ k → b ≡ f o

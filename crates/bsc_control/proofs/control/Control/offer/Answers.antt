@@ -4,7 +4,7 @@ use Rattle.bsc_control.specs.Control.{peer_at}
 use Rattle.bsc_control.proofs.Controls.{keeps_outbound_offer}
 use Rattle.bsc_control.proofs.Entries.{peer_with_outbound, entries_with_peer}
 use Rattle.bsc_control.proofs.Reached.{peer_reached, outbound_reached, stays_reached}
-use Rattle.bsc_control.proofs.Reached.{unchanged_reached}
+use Rattle.bsc_control.proofs.Reached.{unchanged_reached, offered_left}
 use Rattle.bsc_control.proofs.control.Control.offer.Goals as goal
 
 pub invariant_of-peer : goal.invariant_of-peer
@@ -47,3 +47,15 @@ returns-clause-err g c =
 
 pub returns-clause-control : goal.returns-clause-control
 returns-clause-control g c = (invariant_of-self g c).0
+
+pub returns-clause-ok : goal.returns-clause-ok
+returns-clause-ok g c =
+    let within : c.args.terminal < length c.self.inside.procedure.peers =
+    rw c.self.view_is c.requires.terminal in
+    let there : c.args.select < length (peer_at c.self.inside.procedure c.args.terminal).outbounds =
+    rw c.self.view_is c.requires.select in
+    let peer =
+    peer_reached c.procedure.view_is within c.peer.view_is c.index_mut-peer.ensures.value in
+    let reached = outbound_reached peer there c.index_mut-outbound.ensures.value in
+    offered_left c.offer.result _ _ _ c.args.terminal c.args.select _ _ c.offer.new.self
+    c.args.record reached c.self.view_is c.offer.ensures.ok
