@@ -6,3 +6,4 @@ pub mod Places
 pub mod Explained
 pub mod Splitting
 pub mod Reading
+pub mod Answered
