@@ -16,7 +16,7 @@ use std::alloc::Global;
 use toml::Table;
 
 /// What a document says, before it is known that a line can be made of it.
-#[derive(Debug, Drop)]
+#[derive(Drop)]
 pub(crate) struct Settings {
     pub(crate) setup: Setup,
     pub(crate) terminals: Vec<Terminal>,

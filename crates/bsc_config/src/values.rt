@@ -9,7 +9,7 @@ use bsc_frame::Address;
 use toml::Value;
 
 /// The form of a configuration.
-#[derive(Clone, Copy, Debug, PartialEq, Eq)]
+#[derive(Clone, Copy)]
 pub(crate) enum Version {
     /// Each terminal has one selection address, written as a text.
     One,
