@@ -6,7 +6,7 @@ ghost use Rattle.bsc_control.specs.Table.{replied_after, has_rvi};
 use bsc_text::Reply;
 
 /// What was replied in a poll (own).
-#[derive(Clone, Copy, Debug, PartialEq, Eq)]
+#[derive(Clone, Copy)]
 pub enum Replied {
     /// Nothing yet.
     Nothing,
@@ -39,7 +39,7 @@ impl Replied {
 }
 
 /// What the control station does at present (GA27-3004, polling and selection).
-#[derive(Clone, Copy, Debug, PartialEq, Eq)]
+#[derive(Clone, Copy)]
 pub enum Task {
     /// It has called nobody yet.
     AtRest,
