@@ -2,6 +2,7 @@
 use Rattle.std.proofs.Common.{◌≡◌, ◌≤◌, Bool, true, false, List, [], ℕ, length, Option, Some, None}
 use Rattle.std.proofs.Common.{Result, Ok, Err, refl, sym, ap, ◌∙◌, subst, append-nil, arith, ◌++◌}
 use Rattle.bsc_carrier.specs.Front.{BeginsRecord, EndsWithin, HasWrongLength}
+use Rattle.bsc_carrier.specs.Cable.{AnswersFor}
 use Rattle.bsc_carrier.specs.KnownOctets.{ReadsRecord, IsExactly}
 use Rattle.bsc_carrier.specs.declared.error.CarrierError.{CarrierError}
 use Rattle.bsc_carrier.specs.declared.error.CarrierError.TheVariants.{Length, Short, Device}
@@ -102,3 +103,16 @@ failed_read old new Length octets others read = read
 failed_read old new Short octets others read = read
 failed_read old new Device octets others read = read
 failed_read old new Unequal octets others read = read
+
+-- a call that failed answers nothing of the stream
+pub device_answers : {T : Type 0} (result : Result T CarrierError) (stream : Option (List ℕ))
+    → result ≡ Err Device → AnswersFor result stream
+device_answers result None failed =
+    record { whole = tt; wrong = tt; short = tt; equal = λ e. absurd (cc) }
+device_answers result (Some all) failed =
+    record {
+      whole = λ heard. absurd (heard failed);
+      wrong = λ heard. absurd (heard failed);
+      short = λ heard. absurd (heard failed);
+      equal = λ e. absurd (cc);
+    }

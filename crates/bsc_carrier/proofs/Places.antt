@@ -90,6 +90,14 @@ module _ {S : Type 0} where
       subst (ChangesAt t P old) (sym (written_back n new rest long))
       (subst (λ l. ChangesAt t P l new) same changes)
 
+  -- what holds of all ends that were lent, and written back
+  pub all_written_back : {T E : Type 0} (result : Result T E) (R : S → S → Type 0) (n : ℕ)
+      (old lent new rest : List S) → lent ≡ old → length new ≡ n → OnOk result (AllZip R lent new)
+      → OnOk result (AllZip R old (take n (new ++ rest)))
+  all_written_back result R n old lent new rest same long all =
+      subst (λ l. OnOk result (AllZip R old l)) (sym (written_back n new rest long))
+      (subst (λ l. OnOk result (AllZip R l new)) same all)
+
   -- where a call failed, the end stays as it is
   pub stays_after_error : {T E : Type 0} (result : Result T E) (P : S → S → Type 0) (ends : List S)
       (t : ℕ) → t < length ends → IsErr result

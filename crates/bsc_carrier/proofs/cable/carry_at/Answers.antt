@@ -1,9 +1,11 @@
-use Rattle.std.proofs.Common.{ℕ, List, refl, subst, Option, Result, Ok, Err}
+use Rattle.std.proofs.Common.{ℕ, List, refl, ap, ◌∙◌, subst, Option, Result, Ok, Err}
 use Rattle.std.specs.Result.{OnOk}
 use Rattle.std.specs.Io.KnownBytes.{Appends}
 use Rattle.std.proofs.lemmas.Option.{slice_get-get_or, get_or_from_slice_get}
+use Rattle.std.proofs.lemmas.Result.{err_from_is_err_and, IfOk-from_err}
 use Rattle.bsc_carrier.specs.Cable.{Gives, AnswersFor}
 use Rattle.bsc_carrier.proofs.Places.{stays_after_error}
+use Rattle.bsc_carrier.proofs.Answered.{device_answers}
 use Rattle.bsc_carrier.proofs.cable.carry_at.Goals as goal
 
 on_ok_appends : {T E : Type 0} (r : Result T E) (old new : Option (List ℕ)) (octets : List ℕ)
@@ -39,3 +41,20 @@ pub returns-clause-exact : goal.returns-clause-exact
 returns-clause-exact g c = λ end here.
     subst (λ e. AnswersFor c.expect_record.result (g.S.Read.remaining e))
     (get_or_from_slice_get c.args.far.now c.args.place end _ here) c.expect_record.ensures.exact
+
+pub returns-in_err-write_record-clause-wrote : goal.returns-in_err-write_record-clause-wrote
+returns-in_err-write_record-clause-wrote g c =
+    let here =
+    slice_get-get_or c.args.near.now c.args.place c.index-near-place.result
+    c.requires.near_there in (
+      _,
+      c.write_record.new.writer,
+      here,
+      refl,
+      IfOk-from_err c.from_residual.result _ c.from_residual.ensures.0,
+    )
+
+pub returns-in_err-write_record-clause-exact : goal.returns-in_err-write_record-clause-exact
+returns-in_err-write_record-clause-exact g c =
+    let p = err_from_is_err_and c.from_residual.result c.from_residual.ensures.1 in
+    λ end here. device_answers _ _ (p.1 ∙ ap Err (p.2 ∙ c.in_err-write_record.ensures.err))
