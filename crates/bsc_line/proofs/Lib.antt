@@ -6,3 +6,4 @@ pub mod Offering
 pub mod Running
 pub mod Alike
 pub mod Lengths
+pub mod WrittenBack
