@@ -44,7 +44,7 @@ impl From<PrintError> for RunError {
 }
 
 /// Why a step was not taken.
-#[derive(Clone, Copy, Debug, PartialEq, Eq)]
+#[derive(Clone, Copy)]
 pub(crate) enum StepError {
     /// The writer did not take what was printed.
     Output,
