@@ -1,11 +1,12 @@
 -- Why a call that reads at every end answers an error.
-use Rattle.std.proofs.Common.{ℕ, ◌≤◌, List, length, get_or, drop, Option, Some, None, Err, refl}
-use Rattle.std.specs.Prelude.{IfSome, IsErrOf}
+use Rattle.std.proofs.Common.{◌≡◌, ℕ, ◌≤◌, List, length, get_or, drop, Option, Some, None, Err, refl}
+use Rattle.std.specs.Prelude.{Result, IfSome, IsErrOf}
 use Rattle.std.specs.List.{Any}
 use Rattle.std.specs.Io.KnownBytes.{Consumes}
 use Rattle.bsc_carrier.specs.Record.{IsCarried, socket_record}
 use Rattle.bsc_carrier.specs.Front.{IsPartial, HasWrongLength}
-use Rattle.bsc_carrier.specs.Cable.{BeginsWith, BeginsOther, Explains}
+use Rattle.bsc_carrier.specs.KnownOctets.{IsExactly}
+use Rattle.bsc_carrier.specs.Cable.{AnswersFor, BeginsWith, BeginsOther, Explains}
 use Rattle.bsc_carrier.specs.declared.error.CarrierError.{CarrierError}
 use Rattle.bsc_carrier.specs.declared.error.CarrierError.TheVariants.{Length, Short, Device}
 use Rattle.bsc_carrier.specs.declared.error.CarrierError.TheVariants.{Unequal}
@@ -39,3 +40,23 @@ explains_later remaining ends octets d Unequal some first wrong short unequal =
       Any-first (λ end. BeginsWith octets (remaining end)) ends d some first,
       (other, differs, Any-later (λ end. BeginsWith other (remaining end)) ends found),
     )
+
+-- what the first end's answer says of the octets that it had left
+told_first : (result : Result (Unit {0}) CarrierError) (e : CarrierError) (P : List ℕ → Type 0)
+    (stream : Option (List ℕ)) → result ≡ Err e → (result ≡ Err Device → ⊥)
+    → IsExactly result (result ≡ Err e) P stream → IfSome stream P
+told_first result e P None is heard exact = tt
+told_first result e P (Some all) is heard exact = (exact heard).0 is
+
+-- the first end gave no record
+pub explains_first : {S : Type 0} (remaining : S → Option (List ℕ)) (ends : List S) (d : S)
+    (e : CarrierError) → 1 ≤ length ends
+    → AnswersFor {T = Unit {0}} (Err e) (remaining (get_or ends 0 d)) → Explains remaining e ends
+explains_first remaining ends d Length some answers =
+    Any-first (λ end. IfSome (remaining end) HasWrongLength) ends d some
+    (told_first (Err Length) Length HasWrongLength _ refl (λ e. absurd (cc)) answers.wrong)
+explains_first remaining ends d Short some answers =
+    Any-first (λ end. IfSome (remaining end) IsPartial) ends d some
+    (told_first (Err Short) Short IsPartial _ refl (λ e. absurd (cc)) answers.short)
+explains_first remaining ends d Device some answers = tt
+explains_first remaining ends d Unequal some answers = absurd (answers.equal refl)

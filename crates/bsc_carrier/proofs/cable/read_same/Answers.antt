@@ -5,8 +5,16 @@ use Rattle.std.specs.Prelude.{IfSome}
 use Rattle.bsc_carrier.specs.Front.{IsPartial, HasWrongLength}
 use Rattle.bsc_carrier.specs.Cable.{Gives, BeginsOther}
 use Rattle.bsc_carrier.proofs.Places.{ends_after, AllZip-first_and_later}
-use Rattle.bsc_carrier.proofs.Explained.{begins_with_given, explains_later}
+use Rattle.bsc_carrier.proofs.Explained.{begins_with_given, explains_first, explains_later}
 use Rattle.bsc_carrier.proofs.cable.read_same.Goals as goal
+
+pub returns-in_err-expect_record-clause-why : goal.returns-in_err-expect_record-clause-why
+returns-in_err-expect_record-clause-why g c =
+    let p =
+    err_from_is_err_and c.from_residual.result
+    c.from_residual.ensures.1 in
+    rw (p.1, p.2) (explains_first g.S.Read.remaining c.args.ends.now _ _ c.requires
+    c.in_err-expect_record.ensures.exact)
 
 pub returns-in_err-expect_same-clause-why : goal.returns-in_err-expect_same-clause-why
 returns-in_err-expect_same-clause-why g c =
