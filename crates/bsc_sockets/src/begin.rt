@@ -1,13 +1,11 @@
 //! How connections begin.
 
-ghost use Rattle.std.specs.Prelude.{◌≡◌, ◌<◌, ◌^◌, false, length, IfOk, IsNone};
+ghost use Rattle.std.specs.Prelude.{◌≡◌, ◌<◌, ◌^◌, ◌+◌, [], false, length, IfOk, IsNone, OnOk};
 
 use crate::directions::{Reading, Writing};
 use crate::listening::addresses;
-use crate::sockets::Sought;
 use crate::writable::Writable;
 use crate::{Listening, Settings, Sockets, SocketsError};
-use bsc_live::{Awaited, LiveError};
 use mio::net::TcpStream;
 use std::alloc::Allocator;
 use std::io;
@@ -39,13 +37,9 @@ pub fn connect<'a, N: Net + Clock, A: Allocator + Copy>(
     ensures { IfOk result (λ begun. length begun.connections.items ≡ 1) }
 {
     let stream = first_answer(runtime, alloc, address, patience)?;
-    let mut sockets = Sockets::new(runtime, alloc, 1, settings)?;
-    let mut connections = Vec::new(alloc);
-    connections.push(sockets.open(0, stream)?)?;
-    Ok(Begun {
-        sockets,
-        connections,
-    })
+    let mut begun = Begun::new(runtime, alloc, 1, settings)?;
+    begun.add(0, stream)?;
+    Ok(begun)
 }
 
 /// A stream to the first of the addresses that answers.
@@ -98,39 +92,69 @@ pub fn listen<'a, N: Net + Clock, A: Allocator + Copy>(
     ensures refuses { keeps_listening ≡ false
         → IfOk result (λ begun. IsNone begun.sockets.listener) }
 {
-    let mut sockets = Sockets::new(runtime, alloc, peers, settings)?;
-    sockets.take_peers_of(listening)?;
-    let mut connections = Vec::new(alloc);
-    'peers: for place in 0..peers {
-        connections.push(next_peer(&mut sockets, place, patience)?)?;
-    }
-    if keeps_listening {
-        return Ok(Begun {
-            sockets,
-            connections,
-        });
-    }
-    sockets.stop_listening();
-    Ok(Begun {
-        sockets,
-        connections,
-    })
+    let mut begun = Begun::new(runtime, alloc, peers, settings)?;
+    begun.take_peers(listening, peers, patience, keeps_listening)?;
+    Ok(begun)
 }
 
-/// The next peer that connects, at this place.
-fn next_peer<'a, N: Net + Clock, A: Allocator + Copy>(
-    sockets: &mut Sockets<'a, N, A>,
-    place: usize,
-    patience: Duration,
-) -> Result<(Reading, Writing<'a, N, A>), SocketsError> {
-    match sockets.within(patience, Sought::Newcomer) {
-        Ok(Awaited::Newcomer) => {}
-        Ok(_) => return Err(SocketsError::NobodyConnected),
-        Err(LiveError::Memory) => return Err(SocketsError::Memory),
-        Err(_) => return Err(SocketsError::Sockets),
+impl<'a, N: Net + Clock, A: Allocator + Copy> Begun<'a, N, A> {
+    /// This many places, at none of which there is a connection yet.
+    fn new(
+        runtime: &'a N,
+        alloc: A,
+        places: usize,
+        settings: Settings,
+    ) -> Result<Begun<'a, N, A>, SocketsError>
+        requires { places < 2 ^ 16 }
+        ensures { IfOk result (λ begun. begun.connections.items ≡ []) }
+    {
+        let sockets = Sockets::new(runtime, alloc, places, settings)?;
+        Ok(Begun {
+            sockets,
+            connections: Vec::new(alloc),
+        })
     }
-    match sockets.open_newcomer(place)? {
-        Some(directions) => Ok(directions),
-        None => Err(SocketsError::Sockets),
+
+    /// Makes this stream the connection at this place, which is the next one.
+    fn add(&mut self, place: usize, stream: TcpStream) -> Result<(), SocketsError>
+        ensures { OnOk result
+            (length self.new.connections.items ≡ length self.old.connections.items + 1) }
+    {
+        let directions = self.sockets.open(place, stream)?;
+        self.connections.push(directions)?;
+        Ok(())
+    }
+
+    /// Makes each of this many peers a connection, and keeps listening or not.
+    fn take_peers(
+        &mut self,
+        listening: Listening,
+        peers: usize,
+        patience: Duration,
+        keeps_listening: bool,
+    ) -> Result<(), SocketsError>
+        requires { self.old.connections.items ≡ [] }
+        ensures count { OnOk result (length self.new.connections.items ≡ peers) }
+        ensures refuses { keeps_listening ≡ false
+            → OnOk result (IsNone self.new.sockets.listener) }
+    {
+        self.sockets.take_peers_of(listening)?;
+        self.add_peers(peers, patience)?;
+        if !keeps_listening {
+            self.sockets.stop_listening();
+        }
+        Ok(())
+    }
+
+    /// Makes each of the next peers that connect, up to this many, a connection.
+    fn add_peers(&mut self, peers: usize, patience: Duration) -> Result<(), SocketsError>
+        requires { self.old.connections.items ≡ [] }
+        ensures { OnOk result (length self.new.connections.items ≡ peers) }
+    {
+        'peers: for place in 0..peers {
+            let stream = self.sockets.next_peer(patience)?;
+            self.add(place, stream)?;
+        }
+        Ok(())
     }
 }

@@ -2,12 +2,15 @@
 
 ghost use Rattle.std.specs.Io.{WritesAtMost};
 
+use crate::SocketsError;
+use crate::time_limit::TimeLimit;
 use crate::writable::Writable;
 use mio::net::TcpStream;
 use std::alloc::Allocator;
-use std::io;
 use std::io::{ErrorKind, Read, Write};
-use std::time::{Clock, Duration, Instant};
+use std::net::Net;
+use std::time::{Clock, Duration};
+use std::{io, net};
 
 /// What arrives on a connection. A read waits for nothing: it answers `WouldBlock` where nothing is
 /// there, and 0 where the peer has ended the connection.
@@ -50,7 +53,7 @@ impl<'a, C: Clock, A: Allocator> Writing<'a, C, A> {
     fn write_in_time(&mut self, octets: &[u8]) -> io::Result<usize>
         ensures { WritesAtMost result octets.now }
     {
-        let begun = Instant::now(self.clock)?;
+        let limit = TimeLimit::begin(self.clock, self.time_out)?;
         let mut left = self.time_out;
         for _ in 0..u64::MAX {
             self.writable.wait(self.clock, &mut self.stream, left)?;
@@ -58,8 +61,34 @@ impl<'a, C: Clock, A: Allocator> Writing<'a, C, A> {
                 Err(error) if error.kind() == ErrorKind::WouldBlock => {}
                 written => return written,
             }
-            left = self.time_out.saturating_sub(begun.elapsed(self.clock)?);
+            left = limit.left(self.clock)?;
         }
         Err(io::Error::from(ErrorKind::TimedOut))
     }
+}
+
+/// The two directions of the connection that this stream is.
+pub(crate) fn directions<'a, N: Net + Clock, A: Allocator + Copy>(
+    runtime: &'a N,
+    alloc: A,
+    stream: TcpStream,
+    time_out: Duration,
+) -> Result<(Reading, Writing<'a, N, A>), SocketsError> {
+    let (arriving, leaving) = twice(stream)?;
+    let writable = Writable::new(runtime, alloc)?;
+    let writing = Writing {
+        stream: leaving,
+        writable,
+        clock: runtime,
+        time_out,
+    };
+    Ok((Reading { stream: arriving }, writing))
+}
+
+/// The stream twice, so that each direction has one.
+fn twice(stream: TcpStream) -> io::Result<(TcpStream, TcpStream)> {
+    stream.set_nodelay(true)?;
+    let stream = net::TcpStream::from(stream);
+    let other = stream.try_clone()?;
+    Ok((TcpStream::from_std(other), TcpStream::from_std(stream)))
 }

@@ -1,40 +1,50 @@
 //! Why there are no connections.
 
 use std::alloc::{AllocError, AllocFailed};
-use std::io;
-use thiserror::Error;
+use std::error::Error;
+use std::fmt::{Display, Formatter, Write};
+use std::{fmt, io};
 
 /// Why there are no connections (own).
-#[derive(Clone, Copy, Debug, PartialEq, Eq, Error)]
+#[derive(Clone, Copy, Debug, PartialEq, Eq)]
 pub enum SocketsError {
     /// The text is no address of a host and a port, or the host's name is not known.
-    #[error("cannot read the address")]
     Address,
 
     /// Another process listens at this address.
-    #[error("address in use")]
     AddressInUse,
 
     /// The system does not let this process listen at this address.
-    #[error("cannot listen at this address")]
     CannotListen,
 
     /// No peer listens at this address: it refused, cannot be reached, or did not answer in time.
-    #[error("nobody is there")]
     NobodyThere,
 
     /// Fewer peers than are wanted have connected in time.
-    #[error("nobody has connected")]
     NobodyConnected,
 
     /// The system refused a socket or a setting of it.
-    #[error("cannot make the sockets")]
     Sockets,
 
     /// A growth was refused.
-    #[error("out of memory")]
     Memory,
 }
+
+impl Display for SocketsError {
+    fn fmt<W: Write>(&self, f: &mut Formatter<W>) -> fmt::Result {
+        f.write_str(match self {
+            SocketsError::Address => "cannot read the address",
+            SocketsError::AddressInUse => "address in use",
+            SocketsError::CannotListen => "cannot listen at this address",
+            SocketsError::NobodyThere => "nobody is there",
+            SocketsError::NobodyConnected => "nobody has connected",
+            SocketsError::Sockets => "cannot make the sockets",
+            SocketsError::Memory => "out of memory",
+        })
+    }
+}
+
+impl Error for SocketsError {}
 
 impl From<io::Error> for SocketsError {
     ghost use Rattle.std.specs.Prelude.{◌≡◌};

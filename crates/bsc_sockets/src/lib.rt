@@ -14,6 +14,7 @@ mod error;
 mod listening;
 mod ready;
 mod sockets;
+mod time_limit;
 mod writable;
 
 pub use begin::{Begun, connect, listen};

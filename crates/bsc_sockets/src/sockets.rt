@@ -4,18 +4,17 @@ ghost use Rattle.std.specs.Prelude.{◌≡◌, ◌<◌, ◌^◌, ◌↔◌, IfOk
 ghost use Rattle.bsc_sockets.specs.Answers.{IsAnswer};
 ghost use Rattle.bsc_sockets.specs.Ready.{without_place};
 
-use crate::directions::{Reading, Writing};
+use crate::directions::{Reading, Writing, directions};
 use crate::ready::Ready;
-use crate::writable::Writable;
+use crate::time_limit::TimeLimit;
 use crate::{Listening, SocketsError};
 use bsc_live::{Awaited, LiveError, Wait, Waiter};
 use mio::net::{TcpListener, TcpStream};
 use mio::{Events, Interest, Poll, Token};
-use std::alloc::Allocator;
+use std::alloc::{AllocError, Allocator};
 use std::io::ErrorKind;
-use std::net;
 use std::net::Net;
-use std::time::{Clock, Duration, Instant};
+use std::time::{Clock, Duration};
 
 /// How many answers are given in turn before the system is asked what else has arrived, so that a
 /// peer that never stops does not hide another one. (Own.)
@@ -55,7 +54,7 @@ pub struct Sockets<'a, N: Net + Clock, A: Allocator> {
 }
 
 /// What is looked for among what is ready.
-#[derive(Clone, Copy, PartialEq, Eq)]
+#[derive(Clone, Copy)]
 pub(crate) enum Sought {
     /// A peer, or octets.
     Anything,
@@ -116,20 +115,13 @@ impl<'a, N: Net + Clock, A: Allocator + Copy> Sockets<'a, N, A> {
     ) -> Result<(Reading, Writing<'a, N, A>), SocketsError>
         ensures newcomer { self.new.newcomer ≡ self.old.newcomer }
     {
-        stream.set_nodelay(true)?;
-        let stream = net::TcpStream::from(stream);
-        let mut arriving = TcpStream::from_std(stream.try_clone()?);
-        let writing = Writing {
-            stream: TcpStream::from_std(stream),
-            writable: Writable::new(self.runtime, self.alloc)?,
-            clock: self.runtime,
-            time_out: self.settings.time_out,
-        };
+        let (runtime, alloc) = (self.runtime, self.alloc);
+        let (mut reading, writing) = directions(runtime, alloc, stream, self.settings.time_out)?;
         self.ready.clear(place);
         self.poll
             .registry()
-            .register(&mut arriving, Token(place), Interest::READABLE)?;
-        Ok((Reading { stream: arriving }, writing))
+            .register(&mut reading.stream, Token(place), Interest::READABLE)?;
+        Ok((reading, writing))
     }
 
     /// What is sought and happens first, within this time.
@@ -139,22 +131,39 @@ impl<'a, N: Net + Clock, A: Allocator + Copy> Sockets<'a, N, A> {
         if self.unasked >= MAX_ANSWERS_UNASKED {
             self.ask(Duration::ZERO)?;
         }
-        if let Some(awaited) = self.found(sought) {
-            return Ok(awaited);
+        match self.found(sought) {
+            Some(awaited) => Ok(awaited),
+            None => self.asked_within(time, sought),
         }
-        let begun = self.now()?;
+    }
+
+    /// What is sought and happens first, within this time, once the system was asked again.
+    fn asked_within(&mut self, time: Duration, sought: Sought) -> Result<Awaited, LiveError>
+        ensures { IfOk result (IsAnswer self.new.places self.new.newcomer) }
+    {
+        let Ok(limit) = TimeLimit::begin(self.runtime, time) else {
+            return Err(LiveError::Wait);
+        };
         let mut left = time;
         for _ in 0..u64::MAX {
             self.ask(left)?;
             if let Some(awaited) = self.found(sought) {
                 return Ok(awaited);
             }
-            left = time.saturating_sub(self.now()?.duration_since(begun));
+            left = self.left(limit)?;
             if left.is_zero() {
                 break;
             }
         }
         Ok(Awaited::TimeOut)
+    }
+
+    /// What is left of a time.
+    fn left(&self, limit: TimeLimit) -> Result<Duration, LiveError> {
+        match limit.left(self.runtime) {
+            Ok(left) => Ok(left),
+            Err(_) => Err(LiveError::Wait),
+        }
     }
 
     /// What is sought among what is ready.
@@ -216,18 +225,21 @@ impl<'a, N: Net + Clock, A: Allocator + Copy> Sockets<'a, N, A> {
         if self.poll.poll(&mut self.events, Some(time)).is_err() {
             return Err(LiveError::Wait);
         }
-        for event in &self.events {
-            if self.ready.set(event.token().0).is_err() {
-                return Err(LiveError::Memory);
-            }
+        match set_all(&mut self.ready, &self.events) {
+            Ok(()) => Ok(()),
+            Err(_) => Err(LiveError::Memory),
         }
-        Ok(())
     }
 
-    fn now(&self) -> Result<Instant, LiveError> {
-        match Instant::now(self.runtime) {
-            Ok(now) => Ok(now),
-            Err(_) => Err(LiveError::Wait),
+    /// The next peer that connects, within this time.
+    pub(crate) fn next_peer(&mut self, patience: Duration) -> Result<TcpStream, SocketsError> {
+        match self.within(patience, Sought::Newcomer) {
+            Ok(_) => match self.newcomer.take() {
+                Some(stream) => Ok(stream),
+                None => Err(SocketsError::NobodyConnected),
+            },
+            Err(LiveError::Memory) => Err(SocketsError::Memory),
+            Err(_) => Err(SocketsError::Sockets),
         }
     }
 
@@ -244,6 +256,17 @@ impl<'a, N: Net + Clock, A: Allocator + Copy> Sockets<'a, N, A> {
             _ => Ok(None),
         }
     }
+}
+
+/// Something has arrived at the place of each event.
+fn set_all<A: Allocator, B: Allocator>(
+    ready: &mut Ready<A>,
+    events: &Events<B>,
+) -> Result<(), AllocError> {
+    for event in events {
+        ready.set(event.token().0)?;
+    }
+    Ok(())
 }
 
 impl<'a, N: Net + Clock, A: Allocator + Copy> Waiter<Reading, Writing<'a, N, A>>

@@ -1,13 +1,14 @@
 //! The wait for one socket that octets can be written to.
 
 use crate::SocketsError;
+use crate::time_limit::TimeLimit;
 use mio::net::TcpStream;
 use mio::{Events, Interest, Poll, Token};
 use std::alloc::Allocator;
 use std::io;
 use std::io::ErrorKind;
 use std::net::Net;
-use std::time::{Clock, Duration, Instant};
+use std::time::{Clock, Duration};
 
 /// Waits until a socket is connected, or has room for octets. Its set of sockets is a set of its
 /// own, so that no report of what arrives is taken from the waiting for all connections.
@@ -44,14 +45,14 @@ impl<A: Allocator> Writable<A> {
 
     /// Waits for the socket that is registered. A wait that a signal has ended goes on.
     fn wait_registered<C: Clock>(&mut self, clock: &C, time: Duration) -> io::Result<()> {
-        let begun = Instant::now(clock)?;
+        let limit = TimeLimit::begin(clock, time)?;
         let mut left = time;
         for _ in 0..u64::MAX {
             self.poll.poll(&mut self.events, Some(left))?;
             if !self.events.is_empty() {
                 return Ok(());
             }
-            left = time.saturating_sub(begun.elapsed(clock)?);
+            left = limit.left(clock)?;
             if left.is_zero() {
                 break;
             }
