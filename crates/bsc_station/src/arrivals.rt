@@ -17,7 +17,7 @@ use std::alloc::Allocator;
 use std::io::Write;
 
 /// How the characters of a record that arrives are printed (own).
-#[derive(Clone, Copy, Debug, PartialEq, Eq)]
+#[derive(Clone, Copy)]
 pub enum Form {
     /// In hexadecimal text, as the report has them.
     Hexadecimal,
@@ -27,7 +27,7 @@ pub enum Form {
 }
 
 /// A channel by what its name is made of.
-#[derive(Clone, Copy, Debug, PartialEq, Eq)]
+#[derive(Clone, Copy)]
 struct Channel {
     addresses: usize,
     number: usize,

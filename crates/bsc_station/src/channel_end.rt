@@ -9,7 +9,7 @@ use bsc_spool::Queue;
 use std::alloc::Allocator;
 
 /// What a station knows of a channel that ends at it (own).
-#[derive(Clone, Copy, Debug)]
+#[derive(Clone, Copy)]
 pub enum ChannelEnd<'a> {
     /// It sends on the channel: how many records were offered, how many of them are known to have
     /// arrived, and whether this is in doubt of the last block.

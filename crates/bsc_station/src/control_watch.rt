@@ -1,15 +1,11 @@
 //! Who watches a control station, and says when it ends.
 
-ghost use Rattle.std.specs.Prelude.{◌≡◌};
-
 use crate::ended::LastWatch;
-use crate::rounds::{Limits, Rounds};
+use crate::progress::Progress;
 use crate::trace::Who;
-use crate::visits::{Sent, Visits};
 use crate::watch::Watch;
-use crate::{Timer, station_standing};
-use bsc_control::{Control, Way};
-use bsc_frame::{Heard, Message, decode};
+use crate::{Limits, Timer};
+use bsc_control::Control;
 use bsc_live::{LiveError, Monitor, Note};
 use std::alloc::Allocator;
 use std::io::Write;
@@ -21,23 +17,8 @@ pub struct ControlWatch<'a, A: Allocator, T: Drop, W, D> {
     /// What prints.
     watch: Watch<'a, A, T, W, D>,
 
-    /// When it ends.
-    limits: Limits,
-
-    /// The visits of the poll list that were made.
-    visits: Visits,
-
-    /// The rounds of the poll list that were made.
-    rounds: Rounds,
-
-    /// Whether other peers may connect later.
-    listens: bool,
-
-    /// Whether it ends since a connection was closed.
-    closed: bool,
-
-    /// Whether it has ended.
-    ended: bool,
+    /// How far it has come.
+    progress: Progress,
 }
 
 impl<'a, A: Allocator + Copy, T: Timer + Drop, W: Write, D: Write> ControlWatch<'a, A, T, W, D> {
@@ -50,18 +31,13 @@ impl<'a, A: Allocator + Copy, T: Timer + Drop, W: Write, D: Write> ControlWatch<
     ) -> ControlWatch<'a, A, T, W, D> {
         ControlWatch {
             watch,
-            limits,
-            visits: Visits::new(control.setup().tries()),
-            rounds: Rounds::new(control.poll_list().len()),
-            listens,
-            closed: false,
-            ended: false,
+            progress: Progress::new(control, limits, listens),
         }
     }
 
     /// Whether it ended because a connection was closed, where no other peer can connect.
     pub fn is_closed(&self) -> bool {
-        self.closed
+        self.progress.is_closed()
     }
 
     /// What watches the connections until the last call is answered.
@@ -72,65 +48,14 @@ impl<'a, A: Allocator + Copy, T: Timer + Drop, W: Write, D: Write> ControlWatch<
             ended: false,
         }
     }
-
-    /// Counts what the control station sent. True where it has made enough rounds.
-    fn count_sent<B: Allocator>(&mut self, control: &Control<B>, octets: &[u8]) -> bool
-        ensures { self.new.ended ≡ self.old.ended }
-    {
-        if self.visits.sent(sent_as(control, octets)) {
-            self.rounds.visited(station_standing(control).waiting);
-            return self.rounds.are_enough(self.limits);
-        }
-        false
-    }
-
-    /// Counts what happened. True where the control station ends with it.
-    fn count<B: Allocator>(&mut self, control: &Control<B>, note: &Note<'_>) -> bool
-        ensures { self.new.ended ≡ self.old.ended }
-    {
-        match note {
-            Note::Heard { .. } => {
-                self.visits.heard();
-                false
-            }
-            Note::Silence => {
-                self.visits.silence();
-                false
-            }
-            Note::Sent { octets } => self.count_sent(control, octets),
-            Note::Closed { .. } => {
-                self.closed = !self.listens;
-                self.closed
-            }
-            Note::Joined { .. } => false,
-        }
-    }
-}
-
-/// What a control station sends, as far as visits are told by it.
-fn sent_as<B: Allocator>(control: &Control<B>, octets: &[u8]) -> Sent {
-    let heard = decode(octets);
-    match &heard {
-        Heard::Whole(Message::Call(address)) => match control.find(address) {
-            Some((_, Way::FromTerminal)) => Sent::Poll,
-            Some((_, Way::ToTerminal(_))) => Sent::Selection,
-            None => Sent::Other,
-        },
-        _ => Sent::Other,
-    }
 }
 
 impl<'a, A: Allocator + Copy, T: Timer + Drop, W: Write, D: Write, B: Allocator> Monitor<Control<B>>
     for ControlWatch<'a, A, T, W, D> {
-    ghost has_ended = { λ w. w.ended };
+    ghost has_ended = { λ w. w.progress.ended };
 
     fn note(&mut self, station: &Control<B>, note: Note<'_>) -> Result<bool, LiveError> {
-        if self.watch.see(station, Who::Control, &note)? {
-            self.rounds.found();
-        }
-        if self.count(station, &note) {
-            self.ended = true;
-        }
-        Ok(!self.ended)
+        let found = self.watch.see(station, Who::Control, &note)?;
+        Ok(self.progress.note(station, &note, found))
     }
 }

@@ -14,7 +14,7 @@ use std::io::Write;
 /// A station that hears and sends nothing (own). It stands in the place of a control station that
 /// has ended, so that the answer to its last call is read before its connections are closed; else a
 /// terminal would be told of a connection that failed.
-#[derive(Clone, Copy, Debug, PartialEq, Eq)]
+#[derive(Clone, Copy)]
 pub struct Ended;
 
 impl Station for Ended {

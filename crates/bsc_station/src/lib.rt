@@ -17,6 +17,7 @@ mod making;
 mod offering;
 mod offers;
 mod party;
+mod progress;
 mod report;
 mod rounds;
 mod standing;

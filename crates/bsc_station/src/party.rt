@@ -10,7 +10,7 @@ use bsc_block::Record;
 use bsc_control::Way;
 
 /// A channel that a station receives on, and the records that arrived on it.
-#[derive(Clone, Copy, Debug)]
+#[derive(Clone, Copy)]
 pub struct Received<'a> {
     /// The terminal of the channel, counted from 0 among those whose channels the station knows.
     pub terminal: usize,

@@ -4,7 +4,7 @@ ghost use Rattle.std.specs.Prelude.{◌≡◌, true, false};
 ghost use Rattle.bsc_station.specs.Rounds.{rounds_of, after_visit, are_enough};
 
 /// When a control station ends (own).
-#[derive(Clone, Copy, Debug, PartialEq, Eq)]
+#[derive(Clone, Copy)]
 pub struct Limits {
     /// After this many rounds; None where it ends only with nothing more to send.
     pub rounds: Option<u64>,
@@ -15,7 +15,7 @@ pub struct Limits {
 
 /// The rounds of a poll list. A round is one visit of each of its entries. It is idle where no
 /// record arrived in it and nothing more is to be sent at its end. (Own.)
-#[derive(Clone, Copy, Debug, PartialEq, Eq)]
+#[derive(Clone, Copy)]
 pub(crate) struct Rounds {
     /// The entries of the poll list.
     entries: usize,

@@ -11,13 +11,14 @@ ghost use Rattle.bsc_station.specs.Traces.{who_shown};
 use bsc_carrier::CarrierError;
 use bsc_frame::laws::{one_reading, reading};
 use bsc_frame::{Heard, decode};
+use bsc_live::Note;
 use bsc_names::{PrintError, write_chars, write_name};
 use bsc_printing::put;
 use std::alloc::Allocator;
 use std::io::Write;
 
 /// Who sent a transmission, as far as the station knows.
-#[derive(Clone, Copy, Debug, PartialEq, Eq)]
+#[derive(Clone, Copy)]
 pub(crate) enum Who {
     /// The control station.
     Control,
@@ -30,8 +31,8 @@ pub(crate) enum Who {
 }
 
 /// What a station did with a transmission.
-#[derive(Clone, Copy, Debug, PartialEq, Eq)]
-pub(crate) enum Deed {
+#[derive(Clone, Copy)]
+enum Deed {
     /// It sent it.
     Sent,
 
@@ -89,7 +90,7 @@ fn write_heard<W: Write>(heard: &Heard, out: &mut W) -> Result<(), PrintError>
 
 /// Writes the line of a transmission: the time in milliseconds, who sent it, what the station did
 /// with it, its name, and its octets in hexadecimal text. (Own.)
-pub(crate) fn write_transmission<A: Allocator, W: Write>(
+fn write_transmission<A: Allocator, W: Write>(
     alloc: A,
     time: u64,
     who: Who,
@@ -100,11 +101,23 @@ pub(crate) fn write_transmission<A: Allocator, W: Write>(
     ensures { OnOk result (Appends (W.contents out.old) (W.contents out.new)
         (transmission_line time who deed (heard octets.now) octets.now)) }
 {
-    one_reading();
-    reading();
     write_time(time, out)?;
     write_who(who, out)?;
     put(deed_text(deed), out)?;
+    write_content(alloc, octets, out)
+}
+
+/// Writes the name of what is heard of a transmission, and the end of its line.
+fn write_content<A: Allocator, W: Write>(
+    alloc: A,
+    octets: &[u8],
+    out: &mut W,
+) -> Result<(), PrintError>
+    ensures { OnOk result (Appends (W.contents out.old) (W.contents out.new)
+        (name_of (heard octets.now) ++ octets_shown octets.now)) }
+{
+    one_reading();
+    reading();
     write_heard(&decode(octets), out)?;
     write_octets(alloc, octets, out)
 }
@@ -123,8 +136,51 @@ fn write_octets<A: Allocator, W: Write>(
     put(b"\n", out)
 }
 
+/// Writes the line of what happened: the time in milliseconds, and then what the station that `me`
+/// names sent or heard, or what became of a connection. (Own.)
+pub(crate) fn write_note<A: Allocator, W: Write>(
+    alloc: A,
+    time: u64,
+    me: Who,
+    note: &Note<'_>,
+    out: &mut W,
+) -> Result<(), PrintError> {
+    match note {
+        Note::Heard { connection, octets } => {
+            let who = heard_from(me, *connection);
+            write_transmission(alloc, time, who, Deed::Heard, octets, out)
+        }
+        Note::Sent { octets } => write_transmission(alloc, time, me, Deed::Sent, octets, out),
+        Note::Silence => write_silence(time, out),
+        Note::Joined { connection } => write_joined(time, *connection, out),
+        Note::Closed { connection, why } => {
+            write_time(time, out)?;
+            write_closed(*connection, *why, out)
+        }
+    }
+}
+
+/// Who sent what a station heard on a connection.
+fn heard_from(me: Who, connection: usize) -> Who {
+    match me {
+        Who::Control => Who::Connection(connection),
+        Who::Terminal(_) | Who::Connection(_) => Who::Control,
+    }
+}
+
+/// Writes the line of a connection that was closed by a fault, which is none of a trace.
+pub(crate) fn write_fault<W: Write>(note: &Note<'_>, out: &mut W) -> Result<(), PrintError> {
+    match note {
+        Note::Closed {
+            connection,
+            why: Some(why),
+        } => write_closed(*connection, Some(*why), out),
+        _ => Ok(()),
+    }
+}
+
 /// Writes the line of a time-out.
-pub(crate) fn write_silence<W: Write>(time: u64, out: &mut W) -> Result<(), PrintError>
+fn write_silence<W: Write>(time: u64, out: &mut W) -> Result<(), PrintError>
     ensures { OnOk result (Appends (W.contents out.old) (W.contents out.new)
         (codes "+" ++ decimal time ++ codes " silence\n")) }
 {
@@ -135,11 +191,7 @@ pub(crate) fn write_silence<W: Write>(time: u64, out: &mut W) -> Result<(), Prin
 }
 
 /// Writes the line of a peer that took the connection at a place.
-pub(crate) fn write_joined<W: Write>(
-    time: u64,
-    connection: usize,
-    out: &mut W,
-) -> Result<(), PrintError>
+fn write_joined<W: Write>(time: u64, connection: usize, out: &mut W) -> Result<(), PrintError>
     ensures { OnOk result (Appends (W.contents out.old) (W.contents out.new)
         (codes "+" ++ decimal time ++ codes " connection " ++ decimal connection
         ++ codes " joined\n")) }
@@ -151,21 +203,8 @@ pub(crate) fn write_joined<W: Write>(
 }
 
 /// Writes that the connection at a place is closed, and why; its peer closed it between
-/// transmissions where no reason is given. Without a time the line is none of a trace.
-pub(crate) fn write_closed<W: Write>(
-    time: Option<u64>,
-    connection: usize,
-    why: Option<CarrierError>,
-    out: &mut W,
-) -> Result<(), PrintError> {
-    if let Some(time) = time {
-        write_time(time, out)?;
-    }
-    write_end(connection, why, out)
-}
-
-/// Writes that the connection at a place is closed.
-fn write_end<W: Write>(
+/// transmissions where no reason is given.
+fn write_closed<W: Write>(
     connection: usize,
     why: Option<CarrierError>,
     out: &mut W,

@@ -5,7 +5,7 @@ ghost use Rattle.bsc_station.specs.Visits.{visits_of, after_sent, ends_visit};
 
 /// What a control station sends, as far as visits are told by it (GA27-3004, polling and
 /// selection).
-#[derive(Clone, Copy, Debug, PartialEq, Eq)]
+#[derive(Clone, Copy)]
 pub(crate) enum Sent {
     /// The call of a polling address.
     Poll,
@@ -18,7 +18,7 @@ pub(crate) enum Sent {
 }
 
 /// What was sent of the poll that ends a visit.
-#[derive(Clone, Copy, Debug, PartialEq, Eq)]
+#[derive(Clone, Copy)]
 pub(crate) enum Polled {
     /// The entry was not polled yet.
     NotYet,
@@ -33,7 +33,7 @@ pub(crate) enum Polled {
 /// The visit of an entry: the selections of its terminal for which records wait, and then its poll.
 /// It ends where a call is sent after the poll that does not repeat it. A poll is repeated after a
 /// silence, as often as failures in a row are borne, while nothing else is sent. (Own.)
-#[derive(Clone, Copy, Debug, PartialEq, Eq)]
+#[derive(Clone, Copy)]
 pub(crate) struct Visits {
     /// How many failures in a row are borne.
     tries: u8,

@@ -1,16 +1,15 @@
 //! What is printed while a station is attended.
 
 use crate::arrivals::print_arrivals;
-use crate::trace::{Deed, Who, write_closed, write_joined, write_silence, write_transmission};
+use crate::trace::{Who, write_fault, write_note};
 use crate::{Form, Party, Timer};
-use bsc_carrier::CarrierError;
 use bsc_live::{LiveError, Note};
 use bsc_names::PrintError;
 use std::alloc::{AllocError, Allocator};
 use std::io::Write;
 
 /// How a station is printed (own).
-#[derive(Clone, Copy, Debug, PartialEq, Eq)]
+#[derive(Clone, Copy)]
 pub struct Printing {
     /// How the characters of records that arrive are printed.
     pub form: Form,
@@ -96,56 +95,13 @@ impl<'a, A: Allocator + Copy, T: Timer + Drop, W: Write, D: Write> Watch<'a, A, 
         )
     }
 
-    /// Prints the lines of the trace for this.
+    /// Prints the line of this, where there is one.
     pub(crate) fn tell(&mut self, me: Who, note: &Note<'_>) -> Result<(), PrintError> {
-        match note {
-            Note::Heard { connection, octets } => {
-                self.tell_transmission(heard_from(me, *connection), Deed::Heard, octets)
-            }
-            Note::Sent { octets } => self.tell_transmission(me, Deed::Sent, octets),
-            Note::Silence if self.printing.trace => {
-                write_silence(self.timer.milliseconds(), self.errors)
-            }
-            Note::Joined { connection } if self.printing.trace => {
-                write_joined(self.timer.milliseconds(), *connection, self.errors)
-            }
-            Note::Closed { connection, why } => self.tell_closed(*connection, *why),
-            _ => Ok(()),
+        if self.printing.trace {
+            let time = self.timer.milliseconds();
+            return write_note(self.alloc, time, me, note, self.errors);
         }
-    }
-
-    /// Prints the line of a transmission.
-    fn tell_transmission(&mut self, who: Who, deed: Deed, octets: &[u8]) -> Result<(), PrintError> {
-        if !self.printing.trace {
-            return Ok(());
-        }
-        let time = self.timer.milliseconds();
-        write_transmission(self.alloc, time, who, deed, octets, self.errors)
-    }
-
-    /// Prints the line of a connection that is closed: in the trace, or where it has a reason.
-    fn tell_closed(
-        &mut self,
-        connection: usize,
-        why: Option<CarrierError>,
-    ) -> Result<(), PrintError> {
-        let time = if self.printing.trace {
-            Some(self.timer.milliseconds())
-        } else {
-            None
-        };
-        if time.is_none() && why.is_none() {
-            return Ok(());
-        }
-        write_closed(time, connection, why, self.errors)
-    }
-}
-
-/// Who sent what a station heard on a connection.
-fn heard_from(me: Who, connection: usize) -> Who {
-    match me {
-        Who::Control => Who::Connection(connection),
-        Who::Terminal(_) | Who::Connection(_) => Who::Control,
+        write_fault(note, self.errors)
     }
 }
 
