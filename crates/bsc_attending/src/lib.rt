@@ -2,6 +2,7 @@
 //! one station of the line is attended over connections that the machine makes, until it ends.
 #![tactic(auto)]
 
+mod connections;
 mod error;
 mod network;
 mod offering;

@@ -6,7 +6,7 @@ use bsc_station::Timer;
 use std::io::{Read, Write};
 
 /// Where the connections of a station are.
-#[derive(Clone, Copy, Debug, PartialEq, Eq)]
+#[derive(Clone, Copy)]
 pub enum Place<'a> {
     /// Peers connect at this address.
     Listen { address: &'a str },
@@ -16,7 +16,7 @@ pub enum Place<'a> {
 }
 
 /// The connections that a station asks for.
-#[derive(Clone, Copy, Debug, PartialEq, Eq)]
+#[derive(Clone, Copy)]
 pub struct Wanted<'a> {
     /// Where they are.
     pub place: Place<'a>,

@@ -21,7 +21,7 @@ const IDLE_ROUNDS: u64 = 2;
 const MAX_TIME: u64 = 3_600_000;
 
 /// Which station of the line it is.
-#[derive(Clone, Copy, Debug, PartialEq, Eq)]
+#[derive(Clone, Copy)]
 pub(crate) enum Role {
     /// The control station.
     Control,
@@ -31,7 +31,7 @@ pub(crate) enum Role {
 }
 
 /// What the words of `station` say.
-#[derive(Clone, Copy, Debug, PartialEq, Eq)]
+#[derive(Clone, Copy)]
 pub(crate) struct StationSettings<'a> {
     pub(crate) role: Role,
     pub(crate) place: Place<'a>,
@@ -138,13 +138,16 @@ fn check_together(words: &StationWords, role: Role) -> Result<(), AttendingError
     ensures { IfErr result IsWordsError }
 {
     let counts = words.rounds.is_some() || words.idle_rounds.is_some();
-    if role != Role::Control && (words.shared || counts) {
-        let why = "--shared, --rounds and --idle-rounds need --control";
-        return Err(WrongTogether { why });
-    }
-    if role == Role::Control && words.connect.is_some() && !words.shared {
-        let why = "--control with --connect needs --shared";
-        return Err(WrongTogether { why });
+    match role {
+        Role::Control if words.connect.is_some() && !words.shared => {
+            let why = "--control with --connect needs --shared";
+            return Err(WrongTogether { why });
+        }
+        Role::Terminal { .. } if words.shared || counts => {
+            let why = "--shared, --rounds and --idle-rounds need --control";
+            return Err(WrongTogether { why });
+        }
+        _ => {}
     }
     if words.gap.is_some() && !words.raw {
         return Err(WrongTogether {

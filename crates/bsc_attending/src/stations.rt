@@ -4,16 +4,17 @@
 ghost use Rattle.std.specs.Prelude.{◌≡◌, IfErr};
 ghost use Rattle.bsc_attending.specs.Errors.{IsEarly, IsLate, outcome_of};
 
+use crate::connections::{Connections, connect};
 use crate::preparing::{Prepared, prepare};
 use crate::settings::{StationSettings, read_settings};
-use crate::{AttendingError, Network, Opened, Place, Wanted};
+use crate::{AttendingError, Network, Place, Wanted};
 use bsc_asked::StationWords;
 use bsc_carrier::CarrierError;
 use bsc_control::Control;
 use bsc_input::Files;
-use bsc_live::{Connection, Framing, Gaps, SocketRecords, attend};
+use bsc_live::{LiveError, Waiter};
 use bsc_station::{
-    ControlWatch, Ended, LastWatch, LineTerminal, Standing, TerminalWatch, Watch, station_standing,
+    ControlWatch, Ended, LineTerminal, Standing, TerminalWatch, Timer, Watch, station_standing,
     write_report,
 };
 use std::alloc::Global;
@@ -33,13 +34,23 @@ pub fn station<R: Read, H: Files + Network, W: Write>(
     ensures early { IfErr result (λ error. IsEarly error → out.new ≡ out.old) }
 {
     let settings = read_settings(words)?;
-    match prepare(alloc, words, settings.role, input, machine)? {
-        Prepared::Control { mut control } => {
-            run_control(alloc, &settings, &mut control, machine, out)
-        }
-        Prepared::Terminal { mut terminal } => {
-            run_terminal(alloc, &settings, &mut terminal, machine, out)
-        }
+    let mut prepared = prepare(alloc, words, settings.role, input, machine)?;
+    run(alloc, &settings, &mut prepared, machine, out)
+}
+
+/// Runs a station that has its records.
+fn run<H: Network, W: Write>(
+    alloc: Global,
+    settings: &StationSettings<'_>,
+    prepared: &mut Prepared,
+    machine: &mut H,
+    out: &mut W,
+) -> Result<(), AttendingError>
+    ensures { IfErr result IsLate }
+{
+    match prepared {
+        Prepared::Control { control } => run_control(alloc, settings, control, machine, out),
+        Prepared::Terminal { terminal } => run_terminal(alloc, settings, terminal, machine, out),
     }
 }
 
@@ -76,21 +87,7 @@ fn listens(place: Place<'_>) -> bool {
     }
 }
 
-/// The connections over their two directions.
-fn connections_of<R: Read + Drop, W: Write + Drop, F: Framing + Drop>(
-    alloc: Global,
-    directions: Vec<(R, W)>,
-) -> Result<Vec<Connection<R, W, F>>, AttendingError>
-    ensures { IfErr result IsLate }
-{
-    let mut connections = Vec::new(alloc);
-    for (reader, writer) in directions {
-        connections.push(Connection::new(reader, writer))?;
-    }
-    Ok(connections)
-}
-
-/// Makes the connections of the control station, attends it, and prints its report.
+/// Attends the control station until it ends, and prints its report.
 fn run_control<H: Network, W: Write>(
     alloc: Global,
     settings: &StationSettings<'_>,
@@ -100,58 +97,81 @@ fn run_control<H: Network, W: Write>(
 ) -> Result<(), AttendingError>
     ensures { IfErr result IsLate }
 {
-    let opened = machine.open(&wanted_by_control(settings, control.terminals()))?;
-    if settings.raw {
-        attend_control::<Gaps, H, W>(alloc, settings, control, opened, machine, out)?;
-    } else {
-        attend_control::<SocketRecords, H, W>(alloc, settings, control, opened, machine, out)?;
-    }
+    open_for_control(alloc, settings, control, machine, out)?;
     write_report(alloc, control, out)?;
     outcome(station_standing(control))
 }
 
-/// Attends the control station until it ends.
-fn attend_control<F: Framing + Drop, H: Network, W: Write>(
+/// Makes the connections of the control station, and attends it.
+fn open_for_control<H: Network, W: Write>(
     alloc: Global,
     settings: &StationSettings<'_>,
     control: &mut Control<Global>,
-    opened: Opened<H::Reader, H::Writer, H::Waiter>,
     machine: &mut H,
     out: &mut W,
 ) -> Result<(), AttendingError>
     ensures { IfErr result IsLate }
 {
-    let Opened {
-        mut waiter,
-        connections,
-    } = opened;
-    let mut connections: Vec<Connection<H::Reader, H::Writer, F>> = connections_of(
-        alloc,
-        connections,
-    )?;
+    let wanted = wanted_by_control(settings, control.terminals());
+    let mut connections = connect(alloc, settings.raw, &wanted, machine)?;
     let (timer, mut trace) = (machine.timer(), machine.trace());
-    let watch = Watch::new(alloc, control, settings.printing, timer, out, &mut trace)?;
-    let mut watch = ControlWatch::new(control, watch, settings.limits, listens(settings.place));
-    attend(control, &mut connections, &mut waiter, &mut watch)?;
-    if watch.is_closed() {
-        return Ok(());
-    }
-    attend_ended::<F, H, W>(&mut connections, &mut waiter, &mut watch.into_last())
+    attend_control(
+        alloc,
+        settings,
+        control,
+        &mut connections,
+        timer,
+        out,
+        &mut trace,
+    )
 }
 
-/// Attends connections whose control station has ended, until its last call is answered.
-fn attend_ended<F: Framing + Drop, H: Network, W: Write>(
-    connections: &mut [Connection<H::Reader, H::Writer, F>],
-    waiter: &mut H::Waiter,
-    watch: &mut LastWatch<'_, Global, H::Timer, W, H::Trace>,
+/// Attends the control station until it ends.
+fn attend_control<
+    R: Read + Drop,
+    W: Write + Drop,
+    Q: Waiter<R, W> + Drop,
+    T: Timer + Drop,
+    O: Write,
+    D: Write,
+>(
+    alloc: Global,
+    settings: &StationSettings<'_>,
+    control: &mut Control<Global>,
+    connections: &mut Connections<R, W, Q>,
+    timer: T,
+    out: &mut O,
+    trace: &mut D,
 ) -> Result<(), AttendingError>
     ensures { IfErr result IsLate }
 {
-    attend(&mut Ended, connections, waiter, watch)?;
-    Ok(())
+    let watch = Watch::new(alloc, control, settings.printing, timer, out, trace)?;
+    let watch = ControlWatch::new(control, watch, settings.limits, listens(settings.place));
+    Ok(attend_until_answered(control, connections, watch)?)
 }
 
-/// Makes the connection of a terminal, attends it, and prints its report.
+/// Attends the control station until it ends, and then its connections until its last call is
+/// answered.
+fn attend_until_answered<
+    R: Read + Drop,
+    W: Write + Drop,
+    Q: Waiter<R, W> + Drop,
+    T: Timer + Drop,
+    O: Write,
+    D: Write,
+>(
+    control: &mut Control<Global>,
+    connections: &mut Connections<R, W, Q>,
+    mut watch: ControlWatch<'_, Global, T, O, D>,
+) -> Result<(), LiveError> {
+    connections.attend(control, &mut watch)?;
+    if watch.is_closed() {
+        return Ok(());
+    }
+    connections.attend(&mut Ended, &mut watch.into_last())
+}
+
+/// Attends a terminal until its connection is closed, and prints its report.
 fn run_terminal<H: Network, W: Write>(
     alloc: Global,
     settings: &StationSettings<'_>,
@@ -161,12 +181,7 @@ fn run_terminal<H: Network, W: Write>(
 ) -> Result<(), AttendingError>
     ensures { IfErr result IsLate }
 {
-    let opened = machine.open(&wanted_by_terminal(settings))?;
-    let closed = if settings.raw {
-        attend_terminal::<Gaps, H, W>(alloc, settings, terminal, opened, machine, out)?
-    } else {
-        attend_terminal::<SocketRecords, H, W>(alloc, settings, terminal, opened, machine, out)?
-    };
+    let closed = open_for_terminal(alloc, settings, terminal, machine, out)?;
     write_report(alloc, terminal, out)?;
     match closed {
         Some(error) => Err(AttendingError::Closed { error }),
@@ -174,29 +189,53 @@ fn run_terminal<H: Network, W: Write>(
     }
 }
 
-/// Attends a terminal until its connection is closed, and gives why, where that was a fault.
-fn attend_terminal<F: Framing + Drop, H: Network, W: Write>(
+/// Makes the connection of a terminal, attends it until it is closed, and gives why, where that was
+/// a fault.
+fn open_for_terminal<H: Network, W: Write>(
     alloc: Global,
     settings: &StationSettings<'_>,
     terminal: &mut LineTerminal<Global>,
-    opened: Opened<H::Reader, H::Writer, H::Waiter>,
     machine: &mut H,
     out: &mut W,
 ) -> Result<Option<CarrierError>, AttendingError>
     ensures { IfErr result IsLate }
 {
-    let Opened {
-        mut waiter,
-        connections,
-    } = opened;
-    let mut connections: Vec<Connection<H::Reader, H::Writer, F>> = connections_of(
-        alloc,
-        connections,
-    )?;
+    let wanted = wanted_by_terminal(settings);
+    let mut connections = connect(alloc, settings.raw, &wanted, machine)?;
     let (timer, mut trace) = (machine.timer(), machine.trace());
-    let watch = Watch::new(alloc, terminal, settings.printing, timer, out, &mut trace)?;
+    attend_terminal(
+        alloc,
+        settings,
+        terminal,
+        &mut connections,
+        timer,
+        out,
+        &mut trace,
+    )
+}
+
+/// Attends a terminal until its connection is closed, and gives why, where that was a fault.
+fn attend_terminal<
+    R: Read + Drop,
+    W: Write + Drop,
+    Q: Waiter<R, W> + Drop,
+    T: Timer + Drop,
+    O: Write,
+    D: Write,
+>(
+    alloc: Global,
+    settings: &StationSettings<'_>,
+    terminal: &mut LineTerminal<Global>,
+    connections: &mut Connections<R, W, Q>,
+    timer: T,
+    out: &mut O,
+    trace: &mut D,
+) -> Result<Option<CarrierError>, AttendingError>
+    ensures { IfErr result IsLate }
+{
+    let watch = Watch::new(alloc, terminal, settings.printing, timer, out, trace)?;
     let mut watch = TerminalWatch::new(watch);
-    attend(terminal, &mut connections, &mut waiter, &mut watch)?;
+    connections.attend(terminal, &mut watch)?;
     Ok(watch.closed())
 }
 

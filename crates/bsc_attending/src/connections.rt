@@ -1,0 +1,96 @@
+//! The connections of a station, and its attending over them.
+
+ghost use Rattle.std.specs.Prelude.{IfErr};
+ghost use Rattle.bsc_attending.specs.Errors.{IsLate};
+
+use crate::{AttendingError, Network, Opened, Wanted};
+use bsc_live::{Connection, Framing, Gaps, LiveError, Monitor, SocketRecords, Waiter, attend};
+use bsc_text::Station;
+use std::alloc::Global;
+use std::io::{Read, Write};
+
+/// The connections of a station, by place, in the framing that its words ask for.
+#[derive(Drop)]
+pub(crate) enum Framed<R: Drop, W: Drop> {
+    /// A transmission is a socket record.
+    Records {
+        connections: Vec<Connection<R, W, SocketRecords>>,
+    },
+
+    /// A transmission ends at a gap.
+    Raw {
+        connections: Vec<Connection<R, W, Gaps>>,
+    },
+}
+
+/// The connections of a station, and what waits for them.
+#[derive(Drop)]
+pub(crate) struct Connections<R: Drop, W: Drop, Q: Drop> {
+    waiter: Q,
+    framed: Framed<R, W>,
+}
+
+/// The connections that are asked for.
+pub(crate) fn connect<H: Network>(
+    alloc: Global,
+    raw: bool,
+    wanted: &Wanted<'_>,
+    machine: &mut H,
+) -> Result<Connections<H::Reader, H::Writer, H::Waiter>, AttendingError>
+    ensures { IfErr result IsLate }
+{
+    let Opened {
+        waiter,
+        connections,
+    } = machine.open(wanted)?;
+    let framed = in_framing(alloc, raw, connections)?;
+    Ok(Connections { waiter, framed })
+}
+
+/// The connections over their two directions.
+fn in_framing<R: Read + Drop, W: Write + Drop>(
+    alloc: Global,
+    raw: bool,
+    directions: Vec<(R, W)>,
+) -> Result<Framed<R, W>, AttendingError>
+    ensures { IfErr result IsLate }
+{
+    if raw {
+        let connections = connections_of(alloc, directions)?;
+        return Ok(Framed::Raw { connections });
+    }
+    let connections = connections_of(alloc, directions)?;
+    Ok(Framed::Records { connections })
+}
+
+/// The connections over their two directions, in one framing.
+fn connections_of<R: Read + Drop, W: Write + Drop, F: Framing + Drop>(
+    alloc: Global,
+    directions: Vec<(R, W)>,
+) -> Result<Vec<Connection<R, W, F>>, AttendingError>
+    ensures { IfErr result IsLate }
+{
+    let mut connections = Vec::new(alloc);
+    for (reader, writer) in directions {
+        connections.push(Connection::new(reader, writer))?;
+    }
+    Ok(connections)
+}
+
+impl<R: Read + Drop, W: Write + Drop, Q: Waiter<R, W> + Drop> Connections<R, W, Q> {
+    /// Attends a station over them until the monitor ends it.
+    pub(crate) fn attend<S: Station, M: Monitor<S>>(
+        &mut self,
+        station: &mut S,
+        monitor: &mut M,
+    ) -> Result<(), LiveError> {
+        match &mut self.framed {
+            Framed::Records { connections } => {
+                attend(station, connections, &mut self.waiter, monitor)
+            }
+            Framed::Raw { connections } => {
+                attend(station, connections, &mut self.waiter, monitor)
+            }
+        }
+    }
+}
