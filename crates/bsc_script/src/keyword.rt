@@ -3,7 +3,7 @@ ghost use Rattle.std.specs.Prelude.{◌≡◌};
 ghost use Rattle.bsc_script.specs.Events.{keyword_of};
 
 /// The first word of a line that is an event.
-#[derive(Clone, Copy, Debug, PartialEq, Eq)]
+#[derive(Clone, Copy)]
 pub(crate) enum Keyword {
     OfferAt,
     OfferFor,
