@@ -222,11 +222,11 @@ fn connection<F: Framing + Drop>(ends: Ends) -> Connection<Pieces, Expecting, F>
     Connection::new(Pieces { pieces }, Expecting { rest })
 }
 
-/// Whether a station is attended as it says, over connections of this framing.
-fn goes<F: Framing + Drop>(alloc: Global, attended: &Attended) -> Result<bool, Fail> {
-    let mut connections: Vec<Connection<_, _, F>> = Vec::new(alloc);
-    connections.push(connection(attended.first))?;
-    connections.push(connection(attended.second))?;
+/// Whether a station is attended over these new connections as it says.
+fn goes_over<F: Framing + Drop>(
+    connections: &mut [Connection<Pieces, Expecting, F>],
+    attended: &Attended,
+) -> bool {
     let mut waiter = Told {
         waits: attended.waits,
         newcomer: attended.newcomer,
@@ -234,28 +234,36 @@ fn goes<F: Framing + Drop>(alloc: Global, attended: &Attended) -> Result<bool, F
         turned_away: 0,
     };
     let mut monitor = Expects::new(attended.notes, attended.result.is_ok());
-    let result = attend(&mut Answers, &mut connections, &mut waiter, &mut monitor);
+    let result = attend(&mut Answers, connections, &mut waiter, &mut monitor);
     let counts = (waiter.nothing_left, waiter.turned_away);
     let is_done = waiter.waits.is_empty() && monitor.is_done();
-    Ok(is_done && result == attended.result && counts == attended.counts)
+    is_done && result == attended.result && counts == attended.counts
+}
+
+/// Whether a station is attended as it says, over connections of this framing.
+fn goes<F: Framing + Drop>(alloc: Global, attended: &Attended) -> Result<bool, Fail> {
+    let mut connections: Vec<Connection<_, _, F>> = Vec::new(alloc);
+    connections.push(connection(attended.first))?;
+    connections.push(connection(attended.second))?;
+    Ok(goes_over(&mut connections, attended))
+}
+
+/// Fails unless a station is attended as each of these says.
+fn play<F: Framing + Drop>(alloc: Global, table: &[Attended]) -> Result<(), Fail> {
+    for attended in table {
+        if !goes::<F>(alloc, attended)? {
+            return Err(Fail::new(attended.shows));
+        }
+    }
+    Ok(())
 }
 
 #[test]
 fn a_station_is_attended_over_records(rt: HostRuntime) -> Result<(), Fail> {
-    for attended in OVER_RECORDS {
-        assert!(rt;
-            goes::<SocketRecords>(rt.alloc(), attended)?,
-            "{}",
-            attended.shows
-        );
-    }
-    Ok(())
+    play::<SocketRecords>(rt.alloc(), OVER_RECORDS)
 }
 
 #[test]
 fn a_station_is_attended_over_gaps(rt: HostRuntime) -> Result<(), Fail> {
-    for attended in OVER_GAPS {
-        assert!(rt; goes::<Gaps>(rt.alloc(), attended)?, "{}", attended.shows);
-    }
-    Ok(())
+    play::<Gaps>(rt.alloc(), OVER_GAPS)
 }

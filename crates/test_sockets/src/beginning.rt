@@ -1,21 +1,55 @@
 //! How connections begin, and why they do not.
 
+use crate::acts::{reads_at, writes_at};
 use crate::meeting::{bound, patience, peer, settings};
 use bsc_live::{Awaited, Wait, Waiter};
 use bsc_sockets::{Begun, Listening, SocketsError, connect, listen};
-use std::alloc::Global;
+use std::alloc::{AllocError, Allocator, Global};
 use std::io::{Read, Write};
 use std::net::SocketAddr;
 use std::test::Fail;
 use std::time::{Duration, Instant};
 
 /// How many connections there are to what listens at this address.
-fn connections_to(rt: &HostRuntime, alloc: Global, address: &str) -> Result<usize, SocketsError> {
-    Ok(
-        connect(rt, alloc, address, patience(), settings())?
-            .connections
-            .len(),
-    )
+pub(crate) fn connections_to<A: Allocator + Copy>(
+    rt: &HostRuntime,
+    alloc: A,
+    address: &str,
+) -> Result<usize, SocketsError> {
+    let begun = connect(rt, alloc, address, patience(), settings())?;
+    Ok(begun.connections.len())
+}
+
+/// How many connections there are where this many peers may connect to this listener, each in this
+/// time.
+pub(crate) fn connections_at<A: Allocator + Copy>(
+    rt: &HostRuntime,
+    alloc: A,
+    listening: Listening,
+    peers: u16,
+    patience: Duration,
+) -> Result<usize, SocketsError> {
+    let peers = usize::from(peers);
+    let begun = listen(rt, alloc, listening, peers, patience, true, settings())?;
+    Ok(begun.connections.len())
+}
+
+/// Fails where another fault is told than this one, or none.
+fn is_told<T: Drop>(told: Result<T, SocketsError>, fault: SocketsError) -> Result<(), Fail> {
+    match told.err() {
+        Some(told) if told == fault => Ok(()),
+        told => Err(Fail::new(format_args!("{told:?}, and not {fault:?}"))),
+    }
+}
+
+/// Fails where less than this many milliseconds have passed since then, or a second.
+fn has_passed(rt: &HostRuntime, start: Instant, least: u128) -> Result<(), Fail> {
+    let passed = start.elapsed(rt)?.as_millis();
+    if least <= passed && passed < 1_000 {
+        Ok(())
+    } else {
+        Err(Fail::new(format_args!("after {passed} ms")))
+    }
 }
 
 /// Addresses at which none can listen, and why. No interface of this machine has the first one,
@@ -28,25 +62,29 @@ const NO_ADDRESSES: &[(&str, SocketsError)] = &[
 ];
 
 #[test]
-fn what_is_no_address_here_is_named(rt: HostRuntime) {
+fn what_is_no_address_here_is_named(rt: HostRuntime) -> Result<(), Fail> {
     for (address, fault) in NO_ADDRESSES {
-        assert_eq!(rt;
-            Listening::bind(&rt, *address).err(),
-            Some(*fault),
-            "{address}"
-        );
+        is_told(Listening::bind(&rt, *address), *fault)?;
     }
-    let fault = connections_to(&rt, rt.alloc(), "nothing").err();
-    assert_eq!(rt; fault, Some(SocketsError::Address));
+    is_told(
+        connections_to(&rt, rt.alloc(), "nothing"),
+        SocketsError::Address,
+    )
+}
+
+/// This address as text.
+pub(crate) fn text(alloc: Global, address: SocketAddr) -> Result<String, AllocError> {
+    format!(in alloc; "{address}")
 }
 
 #[test]
 fn an_address_in_use_is_named(rt: HostRuntime) -> Result<(), Fail> {
     let (_listening, address) = bound(&rt)?;
-    let text = format!(in rt.alloc(); "{address}")?;
-    let fault = Listening::bind(&rt, text.as_str()).err();
-    assert_eq!(rt; fault, Some(SocketsError::AddressInUse));
-    Ok(())
+    let text = text(rt.alloc(), address)?;
+    is_told(
+        Listening::bind(&rt, text.as_str()),
+        SocketsError::AddressInUse,
+    )
 }
 
 /// The address at which one listened that listens no more.
@@ -58,71 +96,69 @@ fn left(rt: &HostRuntime) -> Result<SocketAddr, SocketsError> {
 
 #[test]
 fn nobody_there_is_told_at_once(rt: HostRuntime) -> Result<(), Fail> {
-    let address = left(&rt)?;
-    let text = format!(in rt.alloc(); "{address}")?;
+    let text = text(rt.alloc(), left(&rt)?)?;
     let start = Instant::now(&rt)?;
-    let fault = connections_to(&rt, rt.alloc(), text.as_str()).err();
-    assert_eq!(rt; fault, Some(SocketsError::NobodyThere));
-    assert!(rt; start.elapsed(&rt)? < Duration::from_secs(1));
-    Ok(())
+    let begun = connections_to(&rt, rt.alloc(), text.as_str());
+    is_told(begun, SocketsError::NobodyThere)?;
+    has_passed(&rt, start, 0)
 }
 
-/// Why one does not begin that waits 40 milliseconds for two peers, of which one has connected.
-fn fault_of_one_peer(rt: &HostRuntime, alloc: Global) -> Result<Option<SocketsError>, Fail> {
+/// How many connections there are where one waits 40 milliseconds for two peers, of which one has
+/// connected.
+fn connections_of_one_peer(rt: &HostRuntime, alloc: Global) -> Result<usize, SocketsError> {
     let (listening, address) = bound(rt)?;
     let _first = peer(rt, address)?;
-    let patience = Duration::from_millis(40);
-    Ok(listen(rt, alloc, listening, 2, patience, true, settings()).err())
+    connections_at(rt, alloc, listening, 2, Duration::from_millis(40))
 }
 
 #[test]
 fn peers_that_are_missing_are_told_in_time(rt: HostRuntime) -> Result<(), Fail> {
     let start = Instant::now(&rt)?;
-    let fault = fault_of_one_peer(&rt, rt.alloc())?;
-    let passed = start.elapsed(&rt)?.as_millis();
-    assert_eq!(rt; fault, Some(SocketsError::NobodyConnected));
-    assert!(rt; 40 <= passed && passed < 1_000, "after {passed} ms");
-    Ok(())
+    let begun = connections_of_one_peer(&rt, rt.alloc());
+    is_told(begun, SocketsError::NobodyConnected)?;
+    has_passed(&rt, start, 40)
 }
 
-/// Whether an octet is sent on the first connection.
-fn sends(begun: &mut Begun<'_, HostRuntime, Global>) -> bool {
-    match begun.connections.first_mut() {
-        Some((_, writing)) => writing.write_all(&[0x16]).is_ok(),
-        None => false,
-    }
-}
-
-/// Whether one octet has arrived on the first connection.
-fn hears(begun: &mut Begun<'_, HostRuntime, Global>) -> bool {
+/// Whether one is told of an octet that arrives on its first connection.
+fn hears<R: Read, W, S: Waiter<R, W>>(sockets: &mut S, connections: &mut [(R, W)]) -> bool {
     let first = Awaited::Octets { connection: 0 };
-    let is_told = begun.sockets.wait(Wait::TimeOut) == Ok(first);
-    match begun.connections.first_mut() {
-        Some((reading, _)) => is_told && reading.read(&mut [0; 4]).is_ok_and(|count| count == 1),
-        None => false,
-    }
+    sockets.wait(Wait::TimeOut) == Ok(first) && reads_at(connections, 0, Ok(&[0x16]))
 }
 
-/// Whether one that connects and one that listens exchange octets, and why a third one does not
-/// connect after them.
+/// Whether one that listens hears an octet of one that has connected to it with these connections,
+/// and then nobody is there for a third one.
+fn listens_to<P, Q: Write>(
+    rt: &HostRuntime,
+    alloc: Global,
+    listening: Listening,
+    near: &mut [(P, Q)],
+    address: &str,
+) -> Result<bool, SocketsError> {
+    let Begun {
+        mut sockets,
+        mut connections,
+    } = listen(rt, alloc, listening, 1, patience(), false, settings())?;
+    let meets = writes_at(near, 0, &[0x16]) && hears(&mut sockets, &mut connections);
+    let third = connections_to(rt, alloc, address);
+    Ok(meets && third == Err(SocketsError::NobodyThere))
+}
+
+/// Whether one that connects and one that listens exchange an octet, and a third one is refused.
 fn meet(
     rt: &HostRuntime,
     alloc: Global,
     listening: Listening,
     address: &str,
-) -> Result<(bool, Option<SocketsError>), SocketsError> {
+) -> Result<bool, SocketsError> {
     let mut near = connect(rt, alloc, address, patience(), settings())?;
-    let mut far = listen(rt, alloc, listening, 1, patience(), false, settings())?;
-    let meets = sends(&mut near) && hears(&mut far);
-    Ok((meets, connections_to(rt, alloc, address).err()))
+    listens_to(rt, alloc, listening, &mut near.connections, address)
 }
 
 #[test]
 fn two_of_ours_meet_and_a_third_is_refused(rt: HostRuntime) -> Result<(), Fail> {
     let (listening, address) = bound(&rt)?;
-    let text = format!(in rt.alloc(); "{address}")?;
-    let met = meet(&rt, rt.alloc(), listening, text.as_str())?;
-    assert_eq!(rt; met, (true, Some(SocketsError::NobodyThere)));
+    let text = text(rt.alloc(), address)?;
+    assert!(rt; meet(&rt, rt.alloc(), listening, text.as_str())?);
     Ok(())
 }
 
@@ -137,10 +173,17 @@ const PRINTED: &[(SocketsError, &str)] = &[
     (SocketsError::Memory, "out of memory"),
 ];
 
+/// Whether this fault is printed as this text.
+fn is_printed(alloc: Global, fault: SocketsError, text: &str) -> Result<bool, AllocError> {
+    Ok(fault.to_string(alloc)?.as_str() == text)
+}
+
 #[test]
 fn faults_are_printed(rt: HostRuntime) -> Result<(), Fail> {
     for (fault, text) in PRINTED {
-        assert_eq!(rt; fault.to_string(rt.alloc())?.as_str(), *text);
+        if !is_printed(rt.alloc(), *fault, *text)? {
+            return Err(Fail::new(*text));
+        }
     }
     Ok(())
 }

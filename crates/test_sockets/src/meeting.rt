@@ -1,10 +1,10 @@
 //! A station that listens, and the peers that have connected to it.
 
-use bsc_live::{Awaited, Wait, Waiter};
+use crate::acts::{Act, Read4, reads, station_goes};
 use bsc_sockets::{Begun, Listening, Settings, SocketsError, listen};
 use std::alloc::Global;
 use std::io;
-use std::io::{ErrorKind, Read, Write};
+use std::io::{Read, Write};
 use std::net::{Shutdown, SocketAddr, TcpStream};
 use std::test::Fail;
 use std::time::Duration;
@@ -37,85 +37,26 @@ pub(crate) fn peer(rt: &HostRuntime, address: SocketAddr) -> io::Result<TcpStrea
     Ok(stream)
 }
 
-/// What a read answers.
-pub(crate) type Read4 = Result<&'static [u8], ErrorKind>;
-
-/// Whether a read of at most four octets answers this.
-fn reads<R: Read>(reader: &mut R, expected: Read4) -> bool {
-    let mut buffer = [0u8; 4];
-    match reader.read(&mut buffer) {
-        Ok(count) => buffer.get(..count) == expected.ok(),
-        Err(error) => expected.err() == Some(error.kind()),
-    }
-}
-
-/// What is done with the peer or the connection at a place.
-#[derive(Clone, Copy)]
-pub(crate) enum Act {
-    /// A peer sends these octets.
-    Sends(usize, &'static [u8]),
-
-    /// A read of a peer answers this.
-    Hears(usize, Read4),
-
-    /// A peer ends its connection.
-    Ends(usize),
-
-    /// The station writes these octets on a connection.
-    Writes(usize, &'static [u8]),
-
-    /// A read of a connection answers this.
-    Reads(usize, Read4),
-
-    /// The station lets a connection go.
-    LetsGo(usize),
-
-    /// A wait answers this.
-    Waits(Wait, Awaited),
-
-    /// Nothing is left at a connection.
-    NothingLeft(usize),
-
-    /// Another peer connects.
-    Comes,
-
-    /// The peer that came takes this place; false where there is none.
-    Joins(usize, bool),
-
-    /// The peer that came is turned away.
-    TurnsAway,
-}
-
 /// A station, and its peers in the order in which they came.
 #[derive(Drop)]
 pub(crate) struct Meeting<'a> {
     rt: &'a HostRuntime,
     address: SocketAddr,
-    pub(crate) begun: Begun<'a, HostRuntime, Global>,
-    pub(crate) peers: Vec<TcpStream>,
+    begun: Begun<'a, HostRuntime, Global>,
+    peers: Vec<TcpStream>,
 }
 
 /// A station that has listened until this many peers had connected, and listens on.
-pub(crate) fn meet<'a>(
+fn meet<'a>(
     rt: &'a HostRuntime,
     alloc: Global,
     count: u16,
     settings: Settings,
 ) -> Result<Meeting<'a>, Fail> {
     let (listening, address) = bound(rt)?;
-    let mut peers = Vec::new(alloc);
-    for _ in 0..count {
-        peers.push(peer(rt, address)?)?;
-    }
-    let begun = listen(
-        rt,
-        alloc,
-        listening,
-        usize::from(count),
-        patience(),
-        true,
-        settings,
-    )?;
+    let peers = peers_of(rt, alloc, address, count)?;
+    let count = usize::from(count);
+    let begun = listen(rt, alloc, listening, count, patience(), true, settings)?;
     Ok(Meeting {
         rt,
         address,
@@ -124,24 +65,77 @@ pub(crate) fn meet<'a>(
     })
 }
 
+/// This many peers that have connected there.
+fn peers_of(
+    rt: &HostRuntime,
+    alloc: Global,
+    address: SocketAddr,
+    count: u16,
+) -> Result<Vec<TcpStream>, Fail> {
+    let mut peers = Vec::new(alloc);
+    for _ in 0..count {
+        peers.push(peer(rt, address)?)?;
+    }
+    Ok(peers)
+}
+
+/// How a station and its peers meet, and what is done then.
+pub(crate) struct Encounter {
+    /// What it shows.
+    pub(crate) shows: &'static str,
+
+    /// How many peers connect.
+    pub(crate) peers: u16,
+
+    /// Whether the station begins without delay.
+    pub(crate) begins: bool,
+
+    pub(crate) acts: &'static [Act],
+}
+
+/// Plays each of these with a new station.
+pub(crate) fn play(rt: &HostRuntime, alloc: Global, encounters: &[Encounter]) -> Result<(), Fail> {
+    for encounter in encounters {
+        if let Some(place) = first_wrong(rt, alloc, encounter)? {
+            let shows = encounter.shows;
+            return Err(Fail::new(format_args!("{shows}: not so at {place}")));
+        }
+    }
+    Ok(())
+}
+
+/// The place of the first act that goes otherwise.
+fn first_wrong(
+    rt: &HostRuntime,
+    alloc: Global,
+    encounter: &Encounter,
+) -> Result<Option<usize>, Fail> {
+    let mut settings = settings();
+    settings.begins = encounter.begins;
+    let mut meeting = meet(rt, alloc, encounter.peers, settings)?;
+    Ok(meeting.first_wrong(encounter.acts))
+}
+
 impl<'a> Meeting<'a> {
     /// Whether this goes as it says.
     fn goes(&mut self, act: &Act) -> bool {
         match *act {
-            Act::Sends(peer, octets) => sends_at(&mut self.peers, peer, octets),
-            Act::Hears(peer, expected) => hears_at(&mut self.peers, peer, expected),
-            Act::Ends(peer) => ends_at(&self.peers, peer),
             Act::Comes => self.comes(),
-            Act::Writes(place, octets) => self.writes(place, octets),
-            Act::Reads(place, expected) => self.reads(place, expected),
-            Act::LetsGo(place) => self.lets_go(place),
-            Act::Joins(place, joins) => self.joins(place) == joins,
-            _ => self.waits(act),
+            Act::Sends(..) | Act::Hears(..) | Act::Ends(_) | Act::Empties(_) => {
+                peer_goes(&mut self.peers, act)
+            }
+            _ => {
+                let Begun {
+                    sockets,
+                    connections,
+                } = &mut self.begun;
+                station_goes(self.rt, sockets, connections, act)
+            }
         }
     }
 
     /// The place of the first of these that goes otherwise.
-    pub(crate) fn first_wrong(&mut self, acts: &[Act]) -> Option<usize> {
+    fn first_wrong(&mut self, acts: &[Act]) -> Option<usize> {
         for (place, act) in acts.iter().enumerate() {
             if !self.goes(act) {
                 return Some(place);
@@ -150,57 +144,22 @@ impl<'a> Meeting<'a> {
         None
     }
 
-    fn waits(&mut self, act: &Act) -> bool {
-        match *act {
-            Act::Waits(wait, awaited) => self.begun.sockets.wait(wait) == Ok(awaited),
-            Act::NothingLeft(place) => {
-                self.begun.sockets.nothing_left(place);
-                true
-            }
-            Act::TurnsAway => {
-                self.begun.sockets.turn_away();
-                true
-            }
-            _ => false,
-        }
-    }
-
     fn comes(&mut self) -> bool {
         match peer(self.rt, self.address) {
             Ok(peer) => self.peers.push(peer).is_ok(),
             Err(_) => false,
         }
     }
+}
 
-    fn writes(&mut self, place: usize, octets: &[u8]) -> bool {
-        match self.begun.connections.get_mut(place) {
-            Some((_, writing)) => writing.write_all(octets).is_ok(),
-            None => false,
-        }
-    }
-
-    fn reads(&mut self, place: usize, expected: Read4) -> bool {
-        match self.begun.connections.get_mut(place) {
-            Some((reading, _)) => reads(reading, expected),
-            None => false,
-        }
-    }
-
-    fn lets_go(&mut self, place: usize) -> bool {
-        let is_there = place < self.begun.connections.len();
-        if is_there {
-            drop(self.begun.connections.remove(place));
-        }
-        is_there
-    }
-
-    fn joins(&mut self, place: usize) -> bool {
-        match self.begun.sockets.join(place) {
-            Some(joined) if place <= self.begun.connections.len() => {
-                self.begun.connections.insert(place, joined).is_ok()
-            }
-            _ => false,
-        }
+/// Whether what is done with a peer goes as it says.
+fn peer_goes(peers: &mut [TcpStream], act: &Act) -> bool {
+    match *act {
+        Act::Sends(peer, octets) => sends_at(peers, peer, octets),
+        Act::Hears(peer, expected) => hears_at(peers, peer, expected),
+        Act::Ends(peer) => ends_at(peers, peer),
+        Act::Empties(peer) => empties_at(peers, peer),
+        _ => false,
     }
 }
 
@@ -223,4 +182,22 @@ fn ends_at(peers: &[TcpStream], peer: usize) -> bool {
         Some(peer) => peer.shutdown(Shutdown::Both).is_ok(),
         None => false,
     }
+}
+
+fn empties_at(peers: &mut [TcpStream], peer: usize) -> bool {
+    match peers.get_mut(peer) {
+        Some(peer) => peer.set_nonblocking(true).is_ok() && empties(peer),
+        None => false,
+    }
+}
+
+/// Reads until nothing is there: whether it ends.
+fn empties<R: Read>(reader: &mut R) -> bool {
+    let mut buffer = [0u8; 4_096];
+    for _ in 0..100_000u32 {
+        if reader.read(&mut buffer).is_err() {
+            return true;
+        }
+    }
+    false
 }

@@ -1,31 +1,29 @@
 //! Each growth is refused in turn.
 
+use crate::beginning::{connections_at, connections_to, text};
 use crate::meeting::{bound, patience, peer, settings};
 use bsc_live::{Awaited, Wait, Waiter};
-use bsc_sockets::{Listening, Sockets, SocketsError, connect, listen};
+use bsc_sockets::{Sockets, SocketsError, listen};
 use refusing_alloc::{Refusal, Refusing};
-use std::alloc::Global;
+use std::alloc::{Allocator, Global};
 use std::io::Read;
 use std::net::SocketAddr;
 use std::test::Fail;
 
-/// How many connections begin where one peer connects to this listener.
-fn begun_by_listening(
-    rt: &HostRuntime,
-    alloc: &Refusing<Global>,
-    listening: Listening,
-) -> Result<usize, SocketsError> {
-    let begun = listen(rt, alloc, listening, 1, patience(), true, settings())?;
-    Ok(begun.connections.len())
+/// Fails unless one connection is told, or a refused growth where there was one.
+fn is_told(alloc: &Refusing<Global>, begun: Result<usize, SocketsError>) -> Result<(), Fail> {
+    match begun {
+        Ok(1) if alloc.refused() == 0 => Ok(()),
+        Err(SocketsError::Memory) if alloc.refused() > 0 => Ok(()),
+        other => Err(Fail::new(format_args!("{other:?}"))),
+    }
 }
 
-/// What one connection, or a refused growth, is told as.
-fn expected(alloc: &Refusing<Global>) -> Result<usize, SocketsError> {
-    if alloc.refused() == 0 {
-        Ok(1)
-    } else {
-        Err(SocketsError::Memory)
-    }
+/// A peer connects to one that listens, and each growth at it may be refused.
+fn listen_to_one(rt: &HostRuntime, alloc: &Refusing<Global>) -> Result<(), Fail> {
+    let (listening, address) = bound(rt)?;
+    let _far = peer(rt, address)?;
+    is_told(alloc, connections_at(rt, alloc, listening, 1, patience()))
 }
 
 #[test]
@@ -33,50 +31,45 @@ fn each_growth_at_the_one_that_listens(rt: HostRuntime) -> Result<(), Fail> {
     let alloc = Refusing::new(rt.alloc());
     for request in alloc.in_turn(Refusal::Nth, 5..11) {
         request?;
-        let (listening, address) = bound(&rt)?;
-        let _far = peer(&rt, address)?;
-        let begun = begun_by_listening(&rt, &alloc, listening);
-        assert_eq!(rt; begun, expected(&alloc));
+        listen_to_one(&rt, &alloc)?;
     }
     Ok(())
 }
 
-/// How many connections begin to what listens at this address.
-fn begun_by_connecting(
-    rt: &HostRuntime,
-    alloc: &Refusing<Global>,
-    address: &str,
-) -> Result<usize, SocketsError> {
-    Ok(
-        connect(rt, alloc, address, patience(), settings())?
-            .connections
-            .len(),
-    )
+/// Each growth at one that connects there is refused in turn.
+fn connect_in_turn(rt: &HostRuntime, alloc: &Refusing<Global>, address: &str) -> Result<(), Fail> {
+    for request in alloc.in_turn(Refusal::Nth, 7..15) {
+        request?;
+        is_told(alloc, connections_to(rt, alloc, address))?;
+    }
+    Ok(())
 }
 
 #[test]
 fn each_growth_at_the_one_that_connects(rt: HostRuntime) -> Result<(), Fail> {
     let (_listening, address) = bound(&rt)?;
-    let text = format!(in rt.alloc(); "{address}")?;
-    let alloc = Refusing::new(rt.alloc());
-    for request in alloc.in_turn(Refusal::Nth, 7..15) {
-        request?;
-        let begun = begun_by_connecting(&rt, &alloc, text.as_str());
-        assert_eq!(rt; begun, expected(&alloc));
-    }
-    Ok(())
+    let text = text(rt.alloc(), address)?;
+    connect_in_turn(&rt, &Refusing::new(rt.alloc()), text.as_str())
 }
 
-/// Whether a newcomer joins; where it does not, it has been turned away. Each growth from now on
-/// may be refused.
-fn joins(
-    rt: &HostRuntime,
+/// A station with one place, whose peer has gone, and the address at which it listens.
+fn without_peer<'a, A: Allocator + Copy>(
+    rt: &'a HostRuntime,
+    alloc: A,
+) -> Result<(Sockets<'a, HostRuntime, A>, SocketAddr), Fail> {
+    let (listening, address) = bound(rt)?;
+    let _first = peer(rt, address)?;
+    let begun = listen(rt, alloc, listening, 1, patience(), true, settings())?;
+    Ok((begun.sockets, address))
+}
+
+/// Whether a newcomer that is there joins, and reads an end then: what joined was let go at once,
+/// and what did not has been turned away. The next growth may be refused.
+fn joins<R: Drop, W: Drop, S: Waiter<R, W>>(
     alloc: &Refusing<Global>,
-    sockets: &mut Sockets<'_, HostRuntime, &Refusing<Global>>,
-    address: SocketAddr,
+    sockets: &mut S,
     is_refused: bool,
 ) -> Result<bool, Fail> {
-    let mut far = peer(rt, address)?;
     if sockets.wait(Wait::TimeOut)? != Awaited::Newcomer {
         return Err("no newcomer".into());
     }
@@ -84,26 +77,41 @@ fn joins(
     if is_refused {
         alloc.refuse_nth(1);
     }
-    let joined = sockets.join(0).is_some();
-    // What joined was let go at once.
+    Ok(sockets.join(0).is_some())
+}
+
+/// A newcomer for whom a growth is refused, or not.
+fn newcomer<R: Drop, W: Drop, S: Waiter<R, W>>(
+    rt: &HostRuntime,
+    alloc: &Refusing<Global>,
+    sockets: &mut S,
+    address: SocketAddr,
+    is_refused: bool,
+) -> Result<(), Fail> {
+    let mut far = peer(rt, address)?;
+    if joins(alloc, sockets, is_refused)? == is_refused {
+        return Err("otherwise".into());
+    }
     if far.read(&mut [0u8; 1])? != 0 {
         return Err("not ended".into());
     }
-    Ok(joined)
+    Ok(())
 }
 
-// A newcomer for whom a growth is refused is turned away, and the next one joins.
+/// A newcomer for whom a growth is refused is turned away, and the next one joins.
+fn two_newcomers<R: Drop, W: Drop, S: Waiter<R, W>>(
+    rt: &HostRuntime,
+    alloc: &Refusing<Global>,
+    sockets: &mut S,
+    address: SocketAddr,
+) -> Result<(), Fail> {
+    newcomer(rt, alloc, sockets, address, true)?;
+    newcomer(rt, alloc, sockets, address, false)
+}
+
 #[test]
 fn a_growth_for_a_newcomer(rt: HostRuntime) -> Result<(), Fail> {
     let alloc = Refusing::new(rt.alloc());
-    let (listening, address) = bound(&rt)?;
-    let first = peer(&rt, address)?;
-    let mut begun = listen(&rt, &alloc, listening, 1, patience(), true, settings())?;
-    drop(first);
-    begun.connections.clear();
-    for is_refused in [true, false] {
-        let joined = joins(&rt, &alloc, &mut begun.sockets, address, is_refused)?;
-        assert_eq!(rt; joined, !is_refused);
-    }
-    Ok(())
+    let (mut sockets, address) = without_peer(&rt, &alloc)?;
+    two_newcomers(&rt, &alloc, &mut sockets, address)
 }

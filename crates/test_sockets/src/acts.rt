@@ -1,0 +1,206 @@
+//! What is done with a station and its peers, and how it goes at the station.
+
+use bsc_live::{Awaited, Wait, Waiter};
+use std::io;
+use std::io::{ErrorKind, Read, Write};
+use std::time::Instant;
+
+/// What a read answers.
+pub(crate) type Read4 = Result<&'static [u8], ErrorKind>;
+
+/// What is done with the peer or the connection at a place.
+#[derive(Clone, Copy)]
+pub(crate) enum Act {
+    /// A peer sends these octets.
+    Sends(usize, &'static [u8]),
+
+    /// A read of a peer answers this.
+    Hears(usize, Read4),
+
+    /// A peer ends its connection.
+    Ends(usize),
+
+    /// A peer reads all that has come.
+    Empties(usize),
+
+    /// The station writes these octets on a connection.
+    Writes(usize, &'static [u8]),
+
+    /// The station writes on a connection until there is no room. The write that fails does so
+    /// after at least as many milliseconds as the first, and fewer than the second.
+    Fills(usize, u128, u128),
+
+    /// A read of a connection answers this.
+    Reads(usize, Read4),
+
+    /// The station lets a connection go.
+    LetsGo(usize),
+
+    /// A wait answers this.
+    Waits(Wait, Awaited),
+
+    /// A wait answers that the time has passed, after at least as many milliseconds as the first,
+    /// and fewer than the second.
+    Passes(Wait, u128, u128),
+
+    /// Of 90 waits each of two connections and a newcomer is told at least this often.
+    Shares(usize),
+
+    /// Nothing is left at a connection.
+    NothingLeft(usize),
+
+    /// Another peer connects.
+    Comes,
+
+    /// The peer that came takes this place; false where there is none.
+    Joins(usize, bool),
+
+    /// The peer that came is turned away.
+    TurnsAway,
+}
+
+/// Whether what a station does goes as it says.
+pub(crate) fn station_goes<R: Read + Drop, W: Write + Drop, S: Waiter<R, W>>(
+    rt: &HostRuntime,
+    sockets: &mut S,
+    connections: &mut Vec<(R, W)>,
+    act: &Act,
+) -> bool {
+    match *act {
+        Act::Reads(..) | Act::Writes(..) | Act::Fills(..) => {
+            connection_goes(rt, connections, act)
+        }
+        Act::LetsGo(place) => lets_go(connections, place),
+        Act::Joins(place, joins) => joins_at(sockets, connections, place) == joins,
+        Act::Waits(wait, awaited) => sockets.wait(wait) == Ok(awaited),
+        Act::Passes(wait, least, most) => { is_between(passed(rt, sockets, wait), least, most) }
+        Act::Shares(least) => shares(sockets, least),
+        Act::NothingLeft(place) => {
+            sockets.nothing_left(place);
+            true
+        }
+        Act::TurnsAway => {
+            sockets.turn_away();
+            true
+        }
+        _ => false,
+    }
+}
+
+/// Whether a read of at most four octets answers this.
+pub(crate) fn reads<R: Read>(reader: &mut R, expected: Read4) -> bool {
+    let mut buffer = [0u8; 4];
+    match reader.read(&mut buffer) {
+        Ok(count) => buffer.get(..count) == expected.ok(),
+        Err(error) => expected.err() == Some(error.kind()),
+    }
+}
+
+/// Whether this is a time between these, in milliseconds.
+fn is_between(passed: Option<u128>, least: u128, most: u128) -> bool {
+    passed.is_some_and(|passed| least <= passed && passed < most)
+}
+
+/// Whether what is done with a connection goes as it says.
+fn connection_goes<R: Read, W: Write>(
+    rt: &HostRuntime,
+    connections: &mut [(R, W)],
+    act: &Act,
+) -> bool {
+    match *act {
+        Act::Reads(place, expected) => reads_at(connections, place, expected),
+        Act::Writes(place, octets) => writes_at(connections, place, octets),
+        Act::Fills(place, least, most) => is_between(fills_at(rt, connections, place), least, most),
+        _ => false,
+    }
+}
+
+/// Whether a read of the connection at this place answers this.
+pub(crate) fn reads_at<R: Read, W>(
+    connections: &mut [(R, W)],
+    place: usize,
+    expected: Read4,
+) -> bool {
+    match connections.get_mut(place) {
+        Some((reading, _)) => reads(reading, expected),
+        None => false,
+    }
+}
+
+/// Whether the connection at this place takes these octets.
+pub(crate) fn writes_at<R, W: Write>(
+    connections: &mut [(R, W)],
+    place: usize,
+    octets: &[u8],
+) -> bool {
+    match connections.get_mut(place) {
+        Some((_, writing)) => writing.write_all(octets).is_ok(),
+        None => false,
+    }
+}
+
+fn fills_at<R, W: Write>(
+    rt: &HostRuntime,
+    connections: &mut [(R, W)],
+    place: usize,
+) -> Option<u128> {
+    let (_, writing) = connections.get_mut(place)?;
+    fills(rt, writing)
+}
+
+/// Writes until there is no room: after how many milliseconds the last write failed for a time-out.
+fn fills<W: Write>(rt: &HostRuntime, writing: &mut W) -> Option<u128> {
+    let octets = [0x55; 4_096];
+    for _ in 0..100_000u32 {
+        let start = Instant::now(rt).ok()?;
+        if let Err(error) = writing.write(&octets) {
+            let passed = start.elapsed(rt).ok()?.as_millis();
+            return (error.kind() == ErrorKind::TimedOut).then_some(passed);
+        }
+    }
+    None
+}
+
+fn lets_go<R: Drop, W: Drop>(connections: &mut Vec<(R, W)>, place: usize) -> bool {
+    let is_there = place < connections.len();
+    if is_there {
+        drop(connections.remove(place));
+    }
+    is_there
+}
+
+fn joins_at<R: Drop, W: Drop, S: Waiter<R, W>>(
+    sockets: &mut S,
+    connections: &mut Vec<(R, W)>,
+    place: usize,
+) -> bool {
+    match sockets.join(place) {
+        Some(joined) if place <= connections.len() => connections.insert(place, joined).is_ok(),
+        _ => false,
+    }
+}
+
+/// After how many milliseconds a wait answers that the time has passed.
+fn passed<R, W, S: Waiter<R, W>>(rt: &HostRuntime, sockets: &mut S, wait: Wait) -> Option<u128> {
+    let start = Instant::now(rt).ok()?;
+    let awaited = sockets.wait(wait);
+    let passed = start.elapsed(rt).ok()?.as_millis();
+    (awaited == Ok(Awaited::TimeOut)).then_some(passed)
+}
+
+/// Whether of 90 waits each of two connections and a newcomer is told at least this often.
+fn shares<R, W, S: Waiter<R, W>>(sockets: &mut S, least: usize) -> bool {
+    let mut told = [0usize; 3];
+    for _ in 0..90 {
+        let place = match sockets.wait(Wait::TimeOut) {
+            Ok(Awaited::Octets { connection }) => connection,
+            Ok(Awaited::Newcomer) => 2,
+            _ => return false,
+        };
+        let Some(count) = told.get_mut(place) else {
+            return false;
+        };
+        *count = count.saturating_add(1);
+    }
+    told.iter().all(|count| *count >= least)
+}
