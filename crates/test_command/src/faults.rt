@@ -15,181 +15,42 @@ use bsc_running::RunningError;
 use bsc_script::ScriptError;
 use bsc_sockets::SocketsError;
 use bsc_station::OfferError;
-use std::alloc::Global;
+use std::alloc::{AllocError, Global};
 use std::test::Fail;
 
-/// Whether a fault has this text and this exit status.
-fn is_told(alloc: Global, fault: Fault, text: &str, exit: u8) -> Result<bool, Fail> {
-    Ok(fault.to_string(alloc)?.as_str() == text && status(&fault) == exit)
-}
-
-/// Errors of naming.
-const NAMING: [(NamingError, &str); 4] = [
-    (NamingError::NotHexadecimal, "not hexadecimal"),
-    (
-        NamingError::NotHexadecimalAt { line: 7 },
-        "line 7: not hexadecimal",
-    ),
-    (NamingError::Output, "output fault"),
-    (NamingError::Memory, "out of memory"),
-];
-
-#[test]
-fn faults_of_naming(rt: HostRuntime) -> Result<(), Fail> {
-    for (error, text) in NAMING {
-        assert!(rt; is_told(rt.alloc(), Fault::from(error), text, 1)?, "{text}");
-    }
-    Ok(())
-}
-
-/// Errors of standard input.
-const INPUTS: [(InputError, &str); 3] = [
-    (InputError::TooLong, "input too long"),
-    (InputError::Device, "input fault"),
-    (InputError::Memory, "out of memory"),
-];
-
-#[test]
-fn faults_of_standard_input(rt: HostRuntime) -> Result<(), Fail> {
-    for (error, text) in INPUTS {
-        assert!(rt; is_told(rt.alloc(), Fault::from(error), text, 1)?, "{text}");
-    }
-    Ok(())
-}
-
-#[test]
-fn faults_of_words_and_of_standard_output(rt: HostRuntime) -> Result<(), Fail> {
-    let text = "error: a word is not UTF-8\n\nUsage: bscline [COMMAND]\n\n\
-        For more information, try '--help'.\n";
-    assert!(rt; is_told(rt.alloc(), not_text(rt.alloc()), text, 2)?);
-    assert!(rt; is_told(rt.alloc(), Fault::Output, "output fault", 1)?);
-    assert!(rt; is_told(rt.alloc(), Fault::OutOfMemory, "out of memory", 1)?);
-    Ok(())
+/// What a fault of the command comes of.
+#[derive(Clone, Copy)]
+enum Cause {
+    /// A word that is no text.
+    Words,
+    Input(InputError),
+    Naming(NamingError),
+    Output,
+    OutOfMemory,
+    Running(Ends),
+    Attending(Stops),
 }
 
 /// An error that ends a run.
 #[derive(Clone, Copy)]
 enum Ends {
+    /// A file that is not read.
+    File(&'static str),
+    NotToml,
+    ConfigMemory,
     Script(ScriptError),
     Loopback(LoopbackError),
     Run(RunError),
-}
 
-/// The error of the run.
-fn running(error: Ends) -> RunningError {
-    match error {
-        Ends::Script(error) => RunningError::from(error),
-        Ends::Loopback(error) => RunningError::from(error),
-        Ends::Run(error) => RunningError::from(error),
-    }
-}
-
-/// Errors that end a run before its events, or in their course.
-const RUNS: [(Ends, &str); 7] = [
-    (
-        Ends::Script(ScriptError::NotAnEvent { line: 3 }),
-        "script line 3: not an event",
-    ),
-    (Ends::Script(ScriptError::Memory), "out of memory"),
-    (
-        Ends::Loopback(LoopbackError::Sockets),
-        "cannot make the sockets",
-    ),
-    (Ends::Loopback(LoopbackError::Memory), "out of memory"),
-    (
-        Ends::Run(RunError::Socket { line: 4 }),
-        "script line 4: socket fault",
-    ),
-    (Ends::Run(RunError::Output), "output fault"),
-    (Ends::Run(RunError::Memory), "out of memory"),
-];
-
-#[test]
-fn faults_of_a_run(rt: HostRuntime) -> Result<(), Fail> {
-    for (error, text) in RUNS {
-        let error = running(error);
-        let is_told = is_told(rt.alloc(), Fault::Running { error }, text, 1)?;
-        assert!(rt; is_told, "{text}");
-    }
-    Ok(())
-}
-
-#[test]
-fn faults_of_a_configuration(rt: HostRuntime) -> Result<(), Fail> {
-    let error = RunningError::from(ConfigError::NotToml);
-    assert!(rt; is_told(rt.alloc(), Fault::Running { error }, "config: not toml", 1)?);
-    let error = RunningError::from(ConfigError::Memory);
-    assert!(rt; is_told(rt.alloc(), Fault::Running { error }, "out of memory", 1)?);
-    Ok(())
-}
-
-#[test]
-fn a_file_that_is_not_read_is_named(rt: HostRuntime) -> Result<(), Fail> {
-    let path = String::from_str(rt.alloc(), "line.toml")?;
-    let error = RunningError::from(TextError::CannotRead { path });
-    let text = "cannot read line.toml";
-    assert!(rt; is_told(rt.alloc(), Fault::Running { error }, text, 1)?);
-    Ok(())
-}
-
-/// Each refusal of the line, by its text after the number of the line of the script.
-const REFUSALS: [(LineError, &str); 11] = [
-    (
-        LineError::NothingSent,
-        "script line 9: refused: nothing sent",
-    ),
-    (
-        LineError::NotControl,
-        "script line 9: refused: control is not sending",
-    ),
-    (
-        LineError::WrongCount,
-        "script line 9: refused: wrong number of hearings",
-    ),
-    (
-        LineError::Pending,
-        "script line 9: refused: a transmission is pending",
-    ),
-    (
-        LineError::NoSuchTerminal,
-        "script line 9: refused: no such terminal",
-    ),
-    (
-        LineError::NoSuchAddress,
-        "script line 9: refused: no such address",
-    ),
-    (
-        LineError::BadRecord(RecordError::TooLong),
-        "script line 9: refused: record too long",
-    ),
-    (
-        LineError::BadRecord(RecordError::NotText(3)),
-        "script line 9: refused: wrong character at 3",
-    ),
-    (LineError::Memory, "script line 9: refused: out of memory"),
-    (
-        LineError::NotInDoubt,
-        "script line 9: refused: not in doubt",
-    ),
-    (
-        LineError::CountMismatch,
-        "script line 9: refused: count mismatch",
-    ),
-];
-
-#[test]
-fn refused_events_have_status_three(rt: HostRuntime) -> Result<(), Fail> {
-    for (why, text) in REFUSALS {
-        let error = RunningError::from(RunError::Refused { line: 9, why });
-        let is_told = is_told(rt.alloc(), Fault::Running { error }, text, 3)?;
-        assert!(rt; is_told, "{text}");
-    }
-    Ok(())
+    /// The event of line 9 is refused.
+    Refused(LineError),
 }
 
 /// An error that ends a station.
 #[derive(Clone, Copy)]
 enum Stops {
+    /// A record of this file that is refused.
+    Offer(&'static str, OfferError),
     Sockets(SocketsError),
     Live(LiveError),
     Closed(CarrierError),
@@ -197,55 +58,279 @@ enum Stops {
     Undelivered,
 }
 
+/// The error of the run.
+fn running(alloc: Global, error: Ends) -> Result<RunningError, AllocError> {
+    Ok(match error {
+        Ends::File(path) => RunningError::from(TextError::CannotRead {
+            path: String::from_str(alloc, path)?,
+        }),
+        Ends::NotToml => RunningError::from(ConfigError::NotToml),
+        Ends::ConfigMemory => RunningError::from(ConfigError::Memory),
+        Ends::Script(error) => RunningError::from(error),
+        Ends::Loopback(error) => RunningError::from(error),
+        Ends::Run(error) => RunningError::from(error),
+        Ends::Refused(why) => RunningError::from(RunError::Refused { line: 9, why }),
+    })
+}
+
 /// The error of the station.
-fn attending(error: Stops) -> AttendingError {
-    match error {
+fn attending(alloc: Global, error: Stops) -> Result<AttendingError, AllocError> {
+    Ok(match error {
+        Stops::Offer(path, error) => AttendingError::Offer {
+            path: String::from_str(alloc, path)?,
+            error,
+        },
         Stops::Sockets(error) => AttendingError::from(error),
         Stops::Live(error) => AttendingError::from(error),
         Stops::Closed(error) => AttendingError::Closed { error },
         Stops::InDoubt => AttendingError::InDoubt,
         Stops::Undelivered => AttendingError::Undelivered,
+    })
+}
+
+/// The fault that comes of this.
+fn fault(alloc: Global, cause: Cause) -> Result<Fault, AllocError> {
+    Ok(match cause {
+        Cause::Words => not_text(alloc),
+        Cause::Input(error) => Fault::from(error),
+        Cause::Naming(error) => Fault::from(error),
+        Cause::Output => Fault::Output,
+        Cause::OutOfMemory => Fault::OutOfMemory,
+        Cause::Running(error) => Fault::Running {
+            error: running(alloc, error)?,
+        },
+        Cause::Attending(error) => Fault::Attending {
+            error: attending(alloc, error)?,
+        },
+    })
+}
+
+/// A cause, the text of its fault, and its exit status.
+type Row = (Cause, &'static str, u8);
+
+/// Whether the fault has this text and this exit status.
+fn is_told(alloc: Global, fault: &Fault, text: &str, exit: u8) -> bool {
+    match fault.to_string(alloc) {
+        Ok(told) => told.as_str() == text && status(fault) == exit,
+        Err(_) => false,
     }
 }
 
-/// Errors that end a station, and their exit statuses.
-const STATIONS: [(Stops, &str, u8); 8] = [
+/// The first cause whose fault has another text or another exit status.
+fn first_wrong(alloc: Global, rows: &[Row]) -> Result<Option<usize>, AllocError> {
+    for (place, (cause, text, exit)) in rows.iter().enumerate() {
+        let fault = fault(alloc, *cause)?;
+        if !is_told(alloc, &fault, text, *exit) {
+            return Ok(Some(place));
+        }
+    }
+    Ok(None)
+}
+
+/// Faults of words, of standard input, of naming and of standard output.
+const STREAMS: &[Row] = &[
     (
-        Stops::Sockets(SocketsError::AddressInUse),
+        Cause::Words,
+        "error: a word is not UTF-8\n\nUsage: bscline [COMMAND]\n\n\
+        For more information, try '--help'.\n",
+        2,
+    ),
+    (Cause::Output, "output fault", 1),
+    (Cause::OutOfMemory, "out of memory", 1),
+    (Cause::Input(InputError::TooLong), "input too long", 1),
+    (Cause::Input(InputError::Device), "input fault", 1),
+    (Cause::Input(InputError::Memory), "out of memory", 1),
+    (
+        Cause::Naming(NamingError::NotHexadecimal),
+        "not hexadecimal",
+        1,
+    ),
+    (
+        Cause::Naming(NamingError::NotHexadecimalAt { line: 7 }),
+        "line 7: not hexadecimal",
+        1,
+    ),
+    (Cause::Naming(NamingError::Output), "output fault", 1),
+    (Cause::Naming(NamingError::Memory), "out of memory", 1),
+];
+
+#[test]
+fn faults_of_words_and_streams(rt: HostRuntime) -> Result<(), Fail> {
+    assert_eq!(rt; first_wrong(rt.alloc(), STREAMS)?, None);
+    Ok(())
+}
+
+/// Faults of a run, before its events and in their course.
+const RUNS: &[Row] = &[
+    (
+        Cause::Running(Ends::File("line.toml")),
+        "cannot read line.toml",
+        1,
+    ),
+    (Cause::Running(Ends::NotToml), "config: not toml", 1),
+    (Cause::Running(Ends::ConfigMemory), "out of memory", 1),
+    (
+        Cause::Running(Ends::Script(ScriptError::NotAnEvent { line: 3 })),
+        "script line 3: not an event",
+        1,
+    ),
+    (
+        Cause::Running(Ends::Script(ScriptError::Memory)),
+        "out of memory",
+        1,
+    ),
+    (
+        Cause::Running(Ends::Loopback(LoopbackError::Sockets)),
+        "cannot make the sockets",
+        1,
+    ),
+    (
+        Cause::Running(Ends::Loopback(LoopbackError::Memory)),
+        "out of memory",
+        1,
+    ),
+    (
+        Cause::Running(Ends::Run(RunError::Socket { line: 4 })),
+        "script line 4: socket fault",
+        1,
+    ),
+    (
+        Cause::Running(Ends::Run(RunError::Output)),
+        "output fault",
+        1,
+    ),
+    (
+        Cause::Running(Ends::Run(RunError::Memory)),
+        "out of memory",
+        1,
+    ),
+];
+
+#[test]
+fn faults_of_a_run(rt: HostRuntime) -> Result<(), Fail> {
+    assert_eq!(rt; first_wrong(rt.alloc(), RUNS)?, None);
+    Ok(())
+}
+
+/// Each refusal of the line, by its text after the number of the line of the script.
+const REFUSALS: &[Row] = &[
+    (
+        Cause::Running(Ends::Refused(LineError::NothingSent)),
+        "script line 9: refused: nothing sent",
+        3,
+    ),
+    (
+        Cause::Running(Ends::Refused(LineError::NotControl)),
+        "script line 9: refused: control is not sending",
+        3,
+    ),
+    (
+        Cause::Running(Ends::Refused(LineError::WrongCount)),
+        "script line 9: refused: wrong number of hearings",
+        3,
+    ),
+    (
+        Cause::Running(Ends::Refused(LineError::Pending)),
+        "script line 9: refused: a transmission is pending",
+        3,
+    ),
+    (
+        Cause::Running(Ends::Refused(LineError::NoSuchTerminal)),
+        "script line 9: refused: no such terminal",
+        3,
+    ),
+    (
+        Cause::Running(Ends::Refused(LineError::NoSuchAddress)),
+        "script line 9: refused: no such address",
+        3,
+    ),
+    (
+        Cause::Running(Ends::Refused(LineError::BadRecord(RecordError::TooLong))),
+        "script line 9: refused: record too long",
+        3,
+    ),
+    (
+        Cause::Running(Ends::Refused(LineError::BadRecord(RecordError::NotText(3)))),
+        "script line 9: refused: wrong character at 3",
+        3,
+    ),
+    (
+        Cause::Running(Ends::Refused(LineError::Memory)),
+        "script line 9: refused: out of memory",
+        3,
+    ),
+    (
+        Cause::Running(Ends::Refused(LineError::NotInDoubt)),
+        "script line 9: refused: not in doubt",
+        3,
+    ),
+    (
+        Cause::Running(Ends::Refused(LineError::CountMismatch)),
+        "script line 9: refused: count mismatch",
+        3,
+    ),
+];
+
+#[test]
+fn refused_events_have_status_three(rt: HostRuntime) -> Result<(), Fail> {
+    assert_eq!(rt; first_wrong(rt.alloc(), REFUSALS)?, None);
+    Ok(())
+}
+
+/// Errors that end a station, and their exit statuses.
+const STATIONS: &[Row] = &[
+    (
+        Cause::Attending(Stops::Offer(
+            "cards.txt",
+            OfferError::Refused {
+                line: 3,
+                why: RecordError::TooLong,
+            },
+        )),
+        "cards.txt line 3: record too long",
+        1,
+    ),
+    (
+        Cause::Attending(Stops::Sockets(SocketsError::AddressInUse)),
         "address in use",
         1,
     ),
-    (Stops::Sockets(SocketsError::Memory), "out of memory", 1),
-    (Stops::Live(LiveError::Wait), "cannot make the sockets", 1),
-    (Stops::Live(LiveError::Output), "output fault", 1),
-    (Stops::Live(LiveError::Memory), "out of memory", 1),
     (
-        Stops::Closed(CarrierError::Short),
+        Cause::Attending(Stops::Sockets(SocketsError::Memory)),
+        "out of memory",
+        1,
+    ),
+    (
+        Cause::Attending(Stops::Live(LiveError::Wait)),
+        "cannot make the sockets",
+        1,
+    ),
+    (
+        Cause::Attending(Stops::Live(LiveError::Output)),
+        "output fault",
+        1,
+    ),
+    (
+        Cause::Attending(Stops::Live(LiveError::Memory)),
+        "out of memory",
+        1,
+    ),
+    (
+        Cause::Attending(Stops::Closed(CarrierError::Short)),
         "connection closed: the input ended within a record",
         1,
     ),
-    (Stops::InDoubt, "records in doubt", 3),
-    (Stops::Undelivered, "records not delivered", 4),
+    (Cause::Attending(Stops::InDoubt), "records in doubt", 3),
+    (
+        Cause::Attending(Stops::Undelivered),
+        "records not delivered",
+        4,
+    ),
 ];
 
 #[test]
 fn faults_of_a_station(rt: HostRuntime) -> Result<(), Fail> {
-    for (error, text, exit) in STATIONS {
-        let error = attending(error);
-        let is_told = is_told(rt.alloc(), Fault::Attending { error }, text, exit)?;
-        assert!(rt; is_told, "{text}");
-    }
-    Ok(())
-}
-
-#[test]
-fn a_record_that_is_refused_is_named(rt: HostRuntime) -> Result<(), Fail> {
-    let path = String::from_str(rt.alloc(), "cards.txt")?;
-    let (line, why) = (3, RecordError::TooLong);
-    let error = OfferError::Refused { line, why };
-    let error = AttendingError::Offer { path, error };
-    let text = "cards.txt line 3: record too long";
-    assert!(rt; is_told(rt.alloc(), Fault::Attending { error }, text, 1)?);
+    assert_eq!(rt; first_wrong(rt.alloc(), STATIONS)?, None);
     let memory = OfferError::Memory.to_string(rt.alloc())?;
     assert_eq!(rt; memory.as_str(), "out of memory");
     Ok(())

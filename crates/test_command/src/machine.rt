@@ -1,9 +1,9 @@
-//! A machine that is made for tests: one file, one connection that is scripted, and no sockets.
+//! A machine that is made for tests: one file, one connection that is scripted, and no sockets; and
+//! commands that are played on it.
 
 use bsc_attending::{Network, Opened, Place, Wanted};
 use bsc_carrier::Cable;
 use bsc_command::{Fault, command};
-use bsc_fixtures::Full;
 use bsc_fixtures::configurations::TWO_TERMINALS;
 use bsc_input::{Files, InputError};
 use bsc_live::{Awaited, LiveError, Wait, Waiter};
@@ -11,10 +11,9 @@ use bsc_loopback::LoopbackError;
 use bsc_running::Cables;
 use bsc_sockets::SocketsError;
 use bsc_station::Timer;
-use std::alloc::Global;
+use std::alloc::{AllocError, Global};
 use std::io;
-use std::io::{BufWriter, Read, Write};
-use std::test::Fail;
+use std::io::{BufWriter, Error, ErrorKind, Read, Write};
 
 /// An end of a connection that nobody holds.
 #[derive(Drop)]
@@ -46,17 +45,23 @@ impl Timer for NoTimer {
     }
 }
 
-/// Gives these pieces, at most one a read, and then the end.
+/// Gives these pieces, at most one a read, and then the end, or a fault.
 #[derive(Drop)]
 pub(crate) struct Pieces {
     left: &'static [&'static [u8]],
     piece: &'static [u8],
+
+    /// Whether a fault comes in place of the end.
+    fails: bool,
 }
 
 impl Read for Pieces {
     fn read(&mut self, buffer: &mut [u8]) -> io::Result<usize> {
         if self.piece.is_empty() {
             let Some(&piece) = self.left.first() else {
+                if self.fails {
+                    return Err(Error::from(ErrorKind::Interrupted));
+                }
                 return Ok(0);
             };
             self.left = &self.left[1..];
@@ -174,6 +179,7 @@ impl Network for Machine {
         let reader = Pieces {
             left: self.scene.pieces,
             piece: b"",
+            fails: false,
         };
         let mut connections = Vec::new(self.alloc);
         if connections.push((reader, Vec::new(self.alloc))).is_err() {
@@ -196,16 +202,30 @@ impl Network for Machine {
     }
 }
 
-/// What comes of a command.
+/// Standard output.
 #[derive(Drop)]
-pub(crate) struct Outcome {
-    status: u8,
-    out: Vec<u8>,
-    errors: Vec<u8>,
-    asking: Option<Asking>,
+struct Output {
+    octets: Vec<u8>,
+
+    /// Whether it takes what is printed.
+    takes: bool,
 }
 
-/// What a command is to print, to tell on standard error, and to end with.
+impl Write for Output {
+    fn write(&mut self, octets: &[u8]) -> io::Result<usize> {
+        if !self.takes {
+            return Err(Error::from(ErrorKind::StorageFull));
+        }
+        self.octets.write(octets)
+    }
+
+    fn flush(&mut self) -> io::Result<()> {
+        Ok(())
+    }
+}
+
+/// What a command is to print, to tell on standard error, and to end with, and what it is to ask
+/// for.
 #[derive(Clone, Copy)]
 pub(crate) struct Due {
     pub(crate) out: &'static str,
@@ -214,95 +234,110 @@ pub(crate) struct Due {
     pub(crate) asking: Option<Asking>,
 }
 
-impl Outcome {
+impl Due {
     /// What is otherwise than it is to be.
-    fn difference(&self, due: &Due) -> Option<&'static str> {
-        if self.errors.as_slice() != due.errors.as_bytes() {
+    fn difference(
+        &self,
+        status: u8,
+        out: &[u8],
+        errors: &[u8],
+        asking: Option<Asking>,
+    ) -> Option<&'static str> {
+        if errors != self.errors.as_bytes() {
             return Some("standard error");
         }
-        if self.out.as_slice() != due.out.as_bytes() {
+        if out != self.out.as_bytes() {
             return Some("standard output");
         }
-        if self.asking != due.asking {
+        if asking != self.asking {
             return Some("what is asked of the machine");
         }
-        if self.status != due.status {
+        if status != self.status {
             return Some("the exit status");
         }
         None
     }
 }
 
-/// Words of their own: those of the front, and then the others.
-pub(crate) fn owned(alloc: Global, front: &[&str], rest: &[&str]) -> Result<Vec<String>, Fail> {
-    let mut words = Vec::new(alloc);
-    for word in front {
-        words.push(String::from_str(alloc, word)?)?;
-    }
-    for word in rest {
-        words.push(String::from_str(alloc, word)?)?;
-    }
-    Ok(words)
+/// A command, and what is to come of it.
+pub(crate) struct Case {
+    /// The words after the program's name; none where they could not be had.
+    pub(crate) words: Option<&'static [&'static str]>,
+
+    /// Standard input; none where it fails.
+    pub(crate) input: Option<&'static str>,
+
+    /// Whether standard output takes what is printed.
+    pub(crate) takes: bool,
+
+    /// The connection.
+    pub(crate) scene: Scene,
+
+    /// What is to come of it.
+    pub(crate) due: Due,
 }
 
-/// Gives the words to the command over a machine with this connection.
-fn obeyed(
-    alloc: Global,
-    words: Vec<String>,
-    mut input: &'static [u8],
-    scene: Scene,
-) -> Result<Outcome, Fail> {
-    let asking = None;
+/// The words of the command, the program's name first.
+fn owned(alloc: Global, words: &[&str]) -> Result<Vec<String>, AllocError> {
+    let mut owned = Vec::new(alloc);
+    owned.push(String::from_str(alloc, "bscline")?)?;
+    for word in words {
+        owned.push(String::from_str(alloc, word)?)?;
+    }
+    Ok(owned)
+}
+
+/// The words that the command is given.
+fn given(alloc: Global, case: &Case) -> Result<Vec<String>, Fault> {
+    match case.words {
+        Some(words) => Ok(owned(alloc, words)?),
+        None => Err(Fault::OutOfMemory),
+    }
+}
+
+/// The standard input of the command.
+fn input(case: &Case) -> Pieces {
+    Pieces {
+        left: &[],
+        piece: case.input.unwrap_or("").as_bytes(),
+        fails: case.input.is_none(),
+    }
+}
+
+/// What comes of the command otherwise than is due.
+fn difference(alloc: Global, case: &Case) -> Option<&'static str> {
     let mut machine = Machine {
         alloc,
-        scene,
-        asking,
+        scene: case.scene,
+        asking: None,
     };
-    let mut out = BufWriter::new(alloc, Vec::new(alloc))?;
+    let output = Output {
+        octets: Vec::new(alloc),
+        takes: case.takes,
+    };
+    let Ok(mut out) = BufWriter::new(alloc, output) else {
+        return Some("the buffer of standard output");
+    };
+    let (words, mut input) = (given(alloc, case), input(case));
     let mut errors = Vec::new(alloc);
     let status = command(
         alloc,
-        Ok(words),
+        words,
         &mut input,
         &mut machine,
         &mut out,
         &mut errors,
     );
-    Ok(Outcome {
-        status,
-        out: Vec::from_slice(alloc, out.get_ref().as_slice())?,
-        errors,
-        asking: machine.asking,
-    })
+    case.due
+        .difference(status, &out.get_ref().octets, &errors, machine.asking)
 }
 
-/// What comes of these words otherwise than is due.
-pub(crate) fn wrong(
-    alloc: Global,
-    words: (&[&str], &[&str]),
-    input: &'static [u8],
-    scene: Scene,
-    due: &Due,
-) -> Result<Option<&'static str>, Fail> {
-    let words = owned(alloc, words.0, words.1)?;
-    Ok(obeyed(alloc, words, input, scene)?.difference(due))
-}
-
-/// The exit status and what is told on standard error, over a machine on which nothing comes and a
-/// standard output that takes nothing.
-pub(crate) fn told<R: Read>(
-    alloc: Global,
-    words: Result<Vec<String>, Fault>,
-    input: &mut R,
-) -> Result<(u8, Vec<u8>), Fail> {
-    let (scene, asking) = (SILENT, None);
-    let mut machine = Machine {
-        alloc,
-        scene,
-        asking,
-    };
-    let mut out = BufWriter::new(alloc, Full { left: 0 })?;
-    let mut errors = Vec::new(alloc);
-    let status = command(alloc, words, input, &mut machine, &mut out, &mut errors);
-    Ok((status, errors))
+/// The first command of which something else comes than is due, and what that is.
+pub(crate) fn first_wrong(alloc: Global, cases: &[Case]) -> Option<(usize, &'static str)> {
+    for (place, case) in cases.iter().enumerate() {
+        if let Some(what) = difference(alloc, case) {
+            return Some((place, what));
+        }
+    }
+    None
 }

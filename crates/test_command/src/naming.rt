@@ -29,20 +29,25 @@ pub(crate) fn print<A: Allocator + Copy, W: Write>(
     }
 }
 
-/// An input, what is printed of it, and the error after that.
-type Row = (&'static str, &'static str, Option<NamingError>);
-
-/// Whether this comes of the input.
-fn is_due(alloc: Global, call: Call, row: &Row) -> bool {
-    let (input, printed, error) = *row;
+/// Whether this is printed of the input, and this error comes after it.
+pub(crate) fn is_due(
+    alloc: Global,
+    call: Call,
+    input: &str,
+    printed: &str,
+    error: Option<NamingError>,
+) -> bool {
     let mut out = Vec::new(alloc);
     print(alloc, call, input, &mut out).err() == error && out.as_slice() == printed.as_bytes()
 }
 
+/// An input, what is printed of it, and the error after that.
+type Row = (&'static str, &'static str, Option<NamingError>);
+
 /// The first row of which something else comes.
 fn first_wrong(alloc: Global, call: Call, rows: &[Row]) -> Option<usize> {
-    for (place, row) in rows.iter().enumerate() {
-        if !is_due(alloc, call, row) {
+    for (place, (input, printed, error)) in rows.iter().enumerate() {
+        if !is_due(alloc, call, input, printed, *error) {
             return Some(place);
         }
     }
@@ -51,7 +56,7 @@ fn first_wrong(alloc: Global, call: Call, rows: &[Row]) -> Option<usize> {
 
 /// Transmissions with their names; and text that is not hexadecimal: another character, an odd
 /// number of digits, a letter past F.
-const NAMED: [Row; 25] = [
+const NAMED: &[Row] = &[
     ("16 16 10 B0 FF", "ACK0\n", None),
     ("161610b0ff", "ACK0\n", None),
     ("16 16 10 31 FF", "ACK1\n", None),
@@ -93,7 +98,7 @@ const NAMED: [Row; 25] = [
 
 #[test]
 fn worked_transmissions(rt: HostRuntime) -> Result<(), Fail> {
-    assert_eq!(rt; first_wrong(rt.alloc(), Call::Name, &NAMED), None);
+    assert_eq!(rt; first_wrong(rt.alloc(), Call::Name, NAMED), None);
     Ok(())
 }
 
@@ -103,7 +108,7 @@ const WRONG: Option<NamingError> = Some(NamingError::NotHexadecimalAt { line: 4 
 /// Names in the order of the lines; blank lines give none, and the last line feed may be missing.
 /// The lines before a wrong one are printed, and those after it are not. Blank lines are counted.
 /// Of two carriage returns one belongs to the line.
-const LINES: [Row; 4] = [
+const LINES: &[Row] = &[
     (
         "16 16 10 B0 FF\n\n16 16 10 30 FF\r\n   \n \r\n16 16 04 FF 16 16 C1 85 FF\n16 04\r",
         "ACK0\nNOISE\nCALL A\nEOT\n",
@@ -116,7 +121,7 @@ const LINES: [Row; 4] = [
 
 #[test]
 fn names_of_standard_input(rt: HostRuntime) -> Result<(), Fail> {
-    assert_eq!(rt; first_wrong(rt.alloc(), Call::Names, &LINES), None);
+    assert_eq!(rt; first_wrong(rt.alloc(), Call::Names, LINES), None);
     Ok(())
 }
 
@@ -135,7 +140,7 @@ const TRACE: &str = "+1 control heard CALL A 161604ff1616c185ff
 
 /// The units of texts, some without characters and some without EM among them; and traces, of
 /// which a line without the sign is still hexadecimal text or a fault.
-const SHOWN: [Row; 4] = [
+const SHOWN: &[Row] = &[
     (
         "16 16 02 C8 49 19 1F 07 19 83 1A FF",
         "TEXT ETX 2\nunit 4849 EM\nunit - EM\n",
@@ -156,7 +161,7 @@ const SHOWN: [Row; 4] = [
 
 #[test]
 fn units_of_texts_and_traces(rt: HostRuntime) -> Result<(), Fail> {
-    assert_eq!(rt; first_wrong(rt.alloc(), Call::Show, &SHOWN), None);
+    assert_eq!(rt; first_wrong(rt.alloc(), Call::Show, SHOWN), None);
     Ok(())
 }
 

@@ -1,7 +1,7 @@
 //! Whole stations by their words, over a connection that is scripted. The octets are those of
 //! docs/PROTOCOL.md.
 
-use crate::machine::{Due, Scene, wrong};
+use crate::machine::{Case, Due, Scene, first_wrong};
 use std::test::Fail;
 
 /// What terminal 0 hears: a poll, which it answers by a text; ACK1; a selection; a text; EOT.
@@ -42,17 +42,11 @@ const ANSWERS: &[&[u8]] = &[
 /// What terminal 0 prints that hears this and has a record to send.
 const TERMINAL: &str = "to 0: HI\nfrom 0: offered 1, known 1\nto 0: spooled 1\n  4849\n";
 
-/// A station: its words after `bscline station line.toml`, what its connection gives and when, and
-/// what comes of it.
-struct Case {
-    words: &'static [&'static str],
-    scene: Scene,
-    due: Due,
-}
-
-const CASES: [Case; 6] = [
+const CASES: &[Case] = &[
     Case {
-        words: &[
+        words: Some(&[
+            "station",
+            "line.toml",
             "--terminal",
             "0",
             "--connect",
@@ -60,7 +54,9 @@ const CASES: [Case; 6] = [
             "--offer",
             "-",
             "--text",
-        ],
+        ]),
+        input: Some("HI\n"),
+        takes: true,
         scene: Scene {
             pieces: RECORDS,
             steps: b"",
@@ -73,7 +69,9 @@ const CASES: [Case; 6] = [
         },
     },
     Case {
-        words: &[
+        words: Some(&[
+            "station",
+            "line.toml",
             "--terminal",
             "0",
             "--listen",
@@ -86,7 +84,9 @@ const CASES: [Case; 6] = [
             "--offer",
             "-",
             "--text",
-        ],
+        ]),
+        input: Some("HI\n"),
+        takes: true,
         scene: Scene {
             pieces: HEARD,
             steps: b"rtrtrtrtrt",
@@ -99,7 +99,16 @@ const CASES: [Case; 6] = [
         },
     },
     Case {
-        words: &["--terminal", "1", "--connect", "h:1"],
+        words: Some(&[
+            "station",
+            "line.toml",
+            "--terminal",
+            "1",
+            "--connect",
+            "h:1",
+        ]),
+        input: Some("HI\n"),
+        takes: true,
         scene: Scene {
             pieces: CUT,
             steps: b"",
@@ -112,7 +121,16 @@ const CASES: [Case; 6] = [
         },
     },
     Case {
-        words: &["--terminal", "1", "--connect", "h:1"],
+        words: Some(&[
+            "station",
+            "line.toml",
+            "--terminal",
+            "1",
+            "--connect",
+            "h:1",
+        ]),
+        input: Some("HI\n"),
+        takes: true,
         scene: Scene {
             pieces: WRONG,
             steps: b"",
@@ -125,7 +143,9 @@ const CASES: [Case; 6] = [
         },
     },
     Case {
-        words: &[
+        words: Some(&[
+            "station",
+            "line.toml",
             "--control",
             "--listen",
             "h:1",
@@ -133,7 +153,9 @@ const CASES: [Case; 6] = [
             "0=-",
             "--idle-rounds",
             "1",
-        ],
+        ]),
+        input: Some("HI\n"),
+        takes: true,
         scene: Scene {
             pieces: ANSWERS,
             steps: b"trrrrrr",
@@ -147,7 +169,9 @@ const CASES: [Case; 6] = [
         },
     },
     Case {
-        words: &[
+        words: Some(&[
+            "station",
+            "line.toml",
             "--control",
             "--connect",
             "h:1",
@@ -156,7 +180,9 @@ const CASES: [Case; 6] = [
             "0=-",
             "--time-out",
             "40",
-        ],
+        ]),
+        input: Some("HI\n"),
+        takes: true,
         scene: Scene {
             pieces: &[],
             steps: b"t",
@@ -174,10 +200,6 @@ const CASES: [Case; 6] = [
 /// What each asks for of its machine, prints, tells on standard error, and ends with.
 #[test]
 fn stations_end_as_their_connections_do(rt: HostRuntime) -> Result<(), Fail> {
-    for case in &CASES {
-        let words = (["bscline", "station", "line.toml"].as_slice(), case.words);
-        let different = wrong(rt.alloc(), words, b"HI\n", case.scene, &case.due)?;
-        assert_eq!(rt; different, None);
-    }
+    assert_eq!(rt; first_wrong(rt.alloc(), CASES), None);
     Ok(())
 }

@@ -8,28 +8,28 @@ use std::test::Fail;
 /// Words, and what is read of them or printed for them.
 type Row = (&'static [&'static str], &'static str);
 
-/// What the words ask for, or what `clap` prints for them.
-fn answer(alloc: Global, words: &[&str]) -> Result<Vec<u8>, Fail> {
+/// Whether this is what the words ask for, or what `clap` prints for them.
+fn is_answered(alloc: Global, words: &[&str], text: &str) -> bool {
     let mut out = Vec::new(alloc);
-    match read_words(alloc, words) {
-        Ok(asked) => write!(out, "{asked:?}")?,
-        Err(error) => write!(out, "{error}")?,
-    }
-    Ok(out)
+    let written = match read_words(alloc, words) {
+        Ok(asked) => write!(out, "{asked:?}"),
+        Err(error) => write!(out, "{error}"),
+    };
+    written.is_ok() && out.as_slice() == text.as_bytes()
 }
 
 /// The first row of a table that is answered otherwise.
-fn first_wrong(alloc: Global, rows: &[Row]) -> Result<Option<usize>, Fail> {
+fn first_wrong(alloc: Global, rows: &[Row]) -> Option<usize> {
     for (place, (words, text)) in rows.iter().enumerate() {
-        if answer(alloc, words)?.as_slice() != text.as_bytes() {
-            return Ok(Some(place));
+        if !is_answered(alloc, words, text) {
+            return Some(place);
         }
     }
-    Ok(None)
+    None
 }
 
 /// What is asked for.
-const ASKED: [Row; 11] = [
+const ASKED: &[Row] = &[
     (
         &[
             "bscline",
@@ -116,14 +116,14 @@ Options:
   -h, --help  Print help
 ";
 
-const HELPED: [Row; 3] = [
+const HELPED: &[Row] = &[
     (&["bscline", "--help"], HELP),
     (&["bscline", "help"], HELP),
     (&["bscline", "name", "-h"], NAME_HELP),
 ];
 
 /// A word that is no command, one too many and one too few.
-const WRONG: [Row; 5] = [
+const WRONG: &[Row] = &[
     (
         &["bscline", "poll", "c", "s"],
         "error: unrecognized subcommand 'poll'
@@ -175,18 +175,18 @@ For more information, try '--help'.
 
 #[test]
 fn words_ask_for_their_work(rt: HostRuntime) -> Result<(), Fail> {
-    assert_eq!(rt; first_wrong(rt.alloc(), &ASKED)?, None);
+    assert_eq!(rt; first_wrong(rt.alloc(), ASKED), None);
     Ok(())
 }
 
 #[test]
 fn help_is_printed(rt: HostRuntime) -> Result<(), Fail> {
-    assert_eq!(rt; first_wrong(rt.alloc(), &HELPED)?, None);
+    assert_eq!(rt; first_wrong(rt.alloc(), HELPED), None);
     Ok(())
 }
 
 #[test]
 fn wrong_usage_is_told(rt: HostRuntime) -> Result<(), Fail> {
-    assert_eq!(rt; first_wrong(rt.alloc(), &WRONG)?, None);
+    assert_eq!(rt; first_wrong(rt.alloc(), WRONG), None);
     Ok(())
 }
