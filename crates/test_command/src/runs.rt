@@ -1,9 +1,10 @@
 //! The examples of the repository, with the texts of their files, run over loopback connections.
 
+use crate::faults::has_text;
 use bsc_carrier::Cable;
 use bsc_input::{Files, InputError};
 use bsc_loopback::{LoopbackError, connect};
-use bsc_running::{Cables, RunningError, run};
+use bsc_running::{Cables, run};
 use std::alloc::Global;
 use std::net::Net;
 use std::test::Fail;
@@ -239,17 +240,6 @@ struct Case {
     error: &'static str,
 }
 
-/// Whether this is the text of the error; none has no text.
-fn is_told(alloc: Global, answer: &Result<(), RunningError>, text: &str) -> bool {
-    match answer {
-        Ok(()) => text.is_empty(),
-        Err(error) => match error.to_string(alloc) {
-            Ok(told) => told.as_str() == text,
-            Err(_) => false,
-        },
-    }
-}
-
 /// Whether what is to come of a run comes of it.
 fn is_due<R: Net>(runtime: &R, alloc: Global, case: &Case) -> bool {
     let (line, script) = (case.line, case.script);
@@ -274,7 +264,11 @@ fn is_due<R: Net>(runtime: &R, alloc: Global, case: &Case) -> bool {
         Some(text) => out.as_slice() == text.as_bytes(),
         None => true,
     };
-    is_printed && is_told(alloc, &answer, case.error)
+    is_printed
+        && match &answer {
+            Ok(()) => case.error.is_empty(),
+            Err(error) => has_text(alloc, error, case.error),
+        }
 }
 
 /// The first of these runs of which something else comes.

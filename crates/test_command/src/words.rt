@@ -11,7 +11,8 @@ type Row = (&'static [&'static str], &'static str);
 /// Whether this is what the words ask for, or what `clap` prints for them.
 fn is_answered(alloc: Global, words: &[&str], text: &str) -> bool {
     let mut out = Vec::new(alloc);
-    let written = match read_words(alloc, words) {
+    let answer = read_words(alloc, words);
+    let written = match &answer {
         Ok(asked) => write!(out, "{asked:?}"),
         Err(error) => write!(out, "{error}"),
     };
