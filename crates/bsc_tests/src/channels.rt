@@ -4,10 +4,11 @@ ghost use Rattle.std.specs.Prelude.{◌<◌, IsTrue};
 ghost use Rattle.bsc_line_model.specs.Line.{IsChannel, terminal_count};
 
 use crate::events::NONE;
+use bsc_block::Record;
 use bsc_control::Way;
 use bsc_fixtures::records::{are_front, are_records};
 use bsc_line::{Line, LineError};
-use refusing_alloc::Refusing;
+use std::alloc::Allocator;
 
 /// What a channel has: records were offered, the sending end knows of some of them to have arrived,
 /// and records arrived.
@@ -77,7 +78,7 @@ impl<'a> Has<'a> {
 }
 
 /// Whether the line has such a channel.
-pub(crate) fn is_channel(line: &Line<&Refusing>, terminal: usize, way: Way) -> bool
+pub(crate) fn is_channel<A: Allocator>(line: &Line<A>, terminal: usize, way: Way) -> bool
     ensures { IsTrue result → IsChannel line.now terminal way }
 {
     terminal < line.terminals()
@@ -88,8 +89,8 @@ pub(crate) fn is_channel(line: &Line<&Refusing>, terminal: usize, way: Way) -> b
 }
 
 /// Offers a record on a channel.
-pub(crate) fn offer(
-    line: &mut Line<&Refusing>,
+pub(crate) fn offer<A: Allocator>(
+    line: &mut Line<A>,
     terminal: usize,
     way: Way,
     codes: &[u8],
@@ -101,7 +102,7 @@ pub(crate) fn offer(
 }
 
 /// How many records were offered on a channel; 0 where the line has no such channel.
-pub(crate) fn offered_count(line: &Line<&Refusing>, terminal: usize, way: Way) -> usize {
+pub(crate) fn offered_count<A: Allocator>(line: &Line<A>, terminal: usize, way: Way) -> usize {
     if is_channel(line, terminal, way) {
         line.offered(terminal, way).len()
     } else {
@@ -111,8 +112,8 @@ pub(crate) fn offered_count(line: &Line<&Refusing>, terminal: usize, way: Way) -
 
 /// Whether the line has such a channel, and the records of the first of these characters, and no
 /// others, were offered there.
-pub(crate) fn has_front_of(
-    line: &Line<&Refusing>,
+pub(crate) fn has_front_of<A: Allocator>(
+    line: &Line<A>,
     terminal: usize,
     way: Way,
     expected: &[&[u8]],
@@ -121,8 +122,8 @@ pub(crate) fn has_front_of(
 }
 
 /// Whether the line has such a channel, and that has this.
-pub(crate) fn has_left(
-    line: &Line<&Refusing>,
+pub(crate) fn has_left<A: Allocator>(
+    line: &Line<A>,
     terminal: usize,
     way: Way,
     expected: &Has<'_>,
@@ -135,23 +136,28 @@ pub(crate) fn has_left(
         && line.in_doubt(terminal, way) == ends.in_doubt
 }
 
+/// Whether the first records are the first of the others, in order.
+fn is_front(first: &[Record], records: &[Record]) -> bool {
+    for (one, other) in first.iter().zip(records) {
+        if one.chars() != other.chars() {
+            return false;
+        }
+    }
+    first.len() <= records.len()
+}
+
 /// Whether what arrived on a channel is the first of what was offered, in order and each record
 /// once, and what the sending end knows of is among it.
-fn is_sound(line: &Line<&Refusing>, terminal: usize, way: Way) -> bool
+fn is_sound<A: Allocator>(line: &Line<A>, terminal: usize, way: Way) -> bool
     requires { IsChannel line.now terminal way }
 {
     let offered = line.offered(terminal, way);
     let spooled = line.spooled(terminal, way);
-    line.known(terminal, way) <= spooled.len()
-        && spooled.len() <= offered.len()
-        && spooled
-            .iter()
-            .zip(offered)
-            .all(|(arrived, record)| arrived.chars() == record.chars())
+    line.known(terminal, way) <= spooled.len() && is_front(spooled, offered)
 }
 
 /// Whether all channels of a terminal are sound.
-fn are_sound_at(line: &Line<&Refusing>, terminal: usize) -> bool
+fn are_sound_at<A: Allocator>(line: &Line<A>, terminal: usize) -> bool
     requires { terminal < terminal_count line.now }
 {
     for select in 0..line.addresses(terminal) {
@@ -163,7 +169,7 @@ fn are_sound_at(line: &Line<&Refusing>, terminal: usize) -> bool
 }
 
 /// Whether all channels of a line are sound.
-pub(crate) fn are_sound(line: &Line<&Refusing>) -> bool {
+pub(crate) fn are_sound<A: Allocator>(line: &Line<A>) -> bool {
     for terminal in 0..line.terminals() {
         if !are_sound_at(line, terminal) {
             return false;

@@ -6,7 +6,7 @@ use bsc_frame::Address;
 use bsc_line::Line;
 use bsc_text::Terminal;
 use refusing_alloc::Refusing;
-use std::alloc::Global;
+use std::alloc::{Allocator, Global};
 use std::test::Fail;
 
 /// A terminal with this polling address and these selection addresses.
@@ -129,17 +129,17 @@ pub(crate) const MOST: On<'static> = On {
 
 /// A new line with these terminals and this poll list, on which this many failures in a row are
 /// borne.
-pub(crate) fn line_of<'a>(
-    alloc: &'a Refusing,
+pub(crate) fn line_of<A: Allocator + Copy>(
+    alloc: A,
     terminals: &[Terminal],
     poll_list: &[u8],
     tries: u8,
-) -> Result<Line<&'a Refusing>, Fail> {
+) -> Result<Line<A>, Fail> {
     Ok(Line::new(alloc, setup(tries)?, terminals, poll_list)?)
 }
 
 /// A new line.
-pub(crate) fn line_on<'a>(alloc: &'a Refusing, on: &On<'_>) -> Result<Line<&'a Refusing>, Fail> {
+pub(crate) fn line_on<A: Allocator + Copy>(alloc: A, on: &On<'_>) -> Result<Line<A>, Fail> {
     match on.terminals {
         Terminals::Two => line_of(alloc, &two_terminals(), on.poll_list, on.tries),
         Terminals::TwoByThree => {

@@ -13,7 +13,7 @@ use bsc_fixtures::octets::{NAK, WACK};
 use bsc_line::{Line, LineError};
 use bsc_text::Terminal;
 use refusing_alloc::{Refusal, Refusing};
-use std::alloc::Global;
+use std::alloc::{Allocator, Global};
 use std::test::Fail;
 
 /// Growths of more octets than a number of units of 512: three records fill one.
@@ -105,9 +105,9 @@ const EXCHANGES: &[Exchange<'static>] = &[
 
 /// Offers a record, and says whether the answer was right: out of memory, and nothing more offered,
 /// exactly where a growth was refused.
-fn offers_rightly(
+fn offers_rightly<A: Allocator>(
     alloc: &Refusing,
-    line: &mut Line<&Refusing>,
+    line: &mut Line<A>,
     terminal: usize,
     way: Way,
     codes: &[u8],
@@ -125,9 +125,9 @@ fn offers_rightly(
 
 /// Offers those records of a channel that were not yet offered, each again where it is refused, at
 /// most twice as often as there are records: whether each answer was right.
-fn offers_rest(
+fn offers_rest<A: Allocator>(
     alloc: &Refusing,
-    line: &mut Line<&Refusing>,
+    line: &mut Line<A>,
     terminal: usize,
     way: Way,
     records: &[&[u8]],
@@ -144,7 +144,7 @@ fn offers_rest(
 }
 
 /// Whether the records that are left are offered rightly on each channel.
-fn offers_all(alloc: &Refusing, line: &mut Line<&Refusing>, left: Left<'_>) -> bool {
+fn offers_all<A: Allocator>(alloc: &Refusing, line: &mut Line<A>, left: Left<'_>) -> bool {
     for (terminal, way, expected) in left {
         if !offers_rest(alloc, line, *terminal, *way, expected.offered()) {
             return false;
@@ -154,7 +154,7 @@ fn offers_all(alloc: &Refusing, line: &mut Line<&Refusing>, left: Left<'_>) -> b
 }
 
 /// Whether the receiver of a text or of a selection puts the sender off.
-fn is_put_off(line: &Line<&Refusing>) -> bool {
+fn is_put_off<A: Allocator>(line: &Line<A>) -> bool {
     match line.pending() {
         Some((_, octets)) => octets == NAK || octets == WACK,
         None => false,
@@ -164,7 +164,10 @@ fn is_put_off(line: &Line<&Refusing>) -> bool {
 /// Goes on for 80 transmissions and silences, up to the first after which the line is not trusted
 /// or a channel is not sound, or the sender is put off though no growth was refused, or it is not
 /// though one was. The number of that one.
-fn wrong_step(alloc: &Refusing, line: &mut Line<&Refusing>) -> Result<Option<usize>, LineError> {
+fn wrong_step<A: Allocator>(
+    alloc: &Refusing,
+    line: &mut Line<A>,
+) -> Result<Option<usize>, LineError> {
     for number in 0..80usize {
         let refusals = alloc.refused();
         go_on(line, false)?;
@@ -177,7 +180,7 @@ fn wrong_step(alloc: &Refusing, line: &mut Line<&Refusing>) -> Result<Option<usi
 }
 
 /// Whether the first of these records, and nothing else, were offered on each channel.
-fn are_fronts(line: &Line<&Refusing>, left: Left<'_>) -> bool {
+fn are_fronts<A: Allocator>(line: &Line<A>, left: Left<'_>) -> bool {
     for (terminal, way, expected) in left {
         if !has_front_of(line, *terminal, *way, expected.offered()) {
             return false;
@@ -186,13 +189,15 @@ fn are_fronts(line: &Line<&Refusing>, left: Left<'_>) -> bool {
     true
 }
 
-/// Plays an exchange, growths of which may be refused: how many growths of an offer and of a spool
-/// were; None where something was wrong.
-fn refusals_in(
+/// What was refused a growth in an exchange: an offer, a spool.
+type Refused = (bool, bool);
+
+/// Plays an exchange, growths of which may be refused: what was; None where something was wrong.
+fn refusals_in<A: Allocator>(
     alloc: &Refusing,
-    line: &mut Line<&Refusing>,
+    line: &mut Line<A>,
     exchange: &Exchange<'_>,
-) -> Result<Option<(usize, usize)>, LineError> {
+) -> Result<Option<Refused>, LineError> {
     let before = alloc.refused();
     if !offers_all(alloc, line, exchange.offered) {
         return Ok(None);
@@ -205,16 +210,13 @@ fn refusals_in(
         return Ok(None);
     }
     let after = alloc.refused();
-    Ok(Some((
-        offered.saturating_sub(before),
-        after.saturating_sub(offered),
-    )))
+    Ok(Some((offered != before, after != offered)))
 }
 
 /// Whether all records of an exchange are delivered once memory is there again.
-fn delivers_rest(
+fn delivers_rest<A: Allocator>(
     alloc: &Refusing,
-    line: &mut Line<&Refusing>,
+    line: &mut Line<A>,
     left: Left<'_>,
 ) -> Result<bool, LineError> {
     alloc.refuse_none();
@@ -223,26 +225,33 @@ fn delivers_rest(
     Ok(is_offered && wrong.is_none() && wrong_left(line, left).is_none())
 }
 
-/// What was refused a growth in an exchange: an offer, a spool.
-type Refused = (bool, bool);
+/// Plays an exchange while growths are refused by this number, and then the rest of it: what was
+/// refused; None where something was wrong.
+fn refused_on<A: Allocator>(
+    alloc: &Refusing,
+    line: &mut Line<A>,
+    (which, number): (Refusal, usize),
+    exchange: &Exchange<'_>,
+) -> Result<Option<Refused>, LineError> {
+    alloc.refuse(which, number);
+    let refused = refusals_in(alloc, line, exchange)?;
+    if delivers_rest(alloc, line, exchange.offered)? {
+        Ok(refused)
+    } else {
+        Ok(None)
+    }
+}
 
 /// Plays an exchange on a new line, while growths are refused by this number: what was refused;
 /// None where something was wrong.
 fn refused_in(
     alloc: &Refusing,
-    which: Refusal,
-    number: usize,
+    by: (Refusal, usize),
     exchange: &Exchange<'_>,
 ) -> Result<Option<Refused>, Fail> {
     alloc.refuse_none();
     let mut line = line_on(alloc, &TWO)?;
-    alloc.refuse(which, number);
-    let refusals = refusals_in(alloc, &mut line, exchange)?;
-    let is_delivered = delivers_rest(alloc, &mut line, exchange.offered)?;
-    match refusals {
-        Some((offers, rooms)) if is_delivered => Ok(Some((offers > 0, rooms > 0))),
-        _ => Ok(None),
-    }
+    Ok(refused_on(alloc, &mut line, by, exchange).ok().flatten())
 }
 
 /// Plays an exchange until nothing is refused a growth: what was.
@@ -253,7 +262,7 @@ fn refused_in_turn(
 ) -> Result<Refused, Fail> {
     let (mut offers, mut rooms) = (false, false);
     for number in alloc.in_turn(which, 1..999) {
-        let refused = refused_in(alloc, which, number?, exchange)?;
+        let refused = refused_in(alloc, (which, number?), exchange)?;
         let (offer, room) = refused.ok_or("not as expected")?;
         offers |= offer;
         rooms |= room;

@@ -13,7 +13,7 @@ use bsc_line::Speaker::Control;
 use bsc_line::{Line, LineError};
 use bsc_text::Terminal;
 use refusing_alloc::Refusing;
-use std::alloc::{AllocError, Global};
+use std::alloc::{AllocError, Allocator, Global};
 use std::test::Fail;
 
 /// The call that polls the first of the most terminals.
@@ -40,7 +40,7 @@ fn channel(number: usize) -> (usize, Way) {
 }
 
 /// Offers HI on each channel.
-fn offer_everywhere(line: &mut Line<&Refusing>) -> Result<(), LineError> {
+fn offer_everywhere<A: Allocator>(line: &mut Line<A>) -> Result<(), LineError> {
     for number in 0..CHANNELS {
         let (terminal, way) = channel(number);
         offer(line, terminal, way, b"HI")?;
@@ -48,27 +48,30 @@ fn offer_everywhere(line: &mut Line<&Refusing>) -> Result<(), LineError> {
     Ok(())
 }
 
+/// Whether a line did as it should, or which of its calls was refused.
+pub(crate) type Answer = Result<bool, LineError>;
+
 /// Carries this many transmissions.
-pub(crate) fn carry_on(line: &mut Line<&Refusing>, count: usize) -> Result<(), LineError> {
+pub(crate) fn carry_on<A: Allocator>(line: &mut Line<A>, count: u64) -> Result<(), LineError> {
     for _ in 0..count {
         line.carry_sent()?;
     }
     Ok(())
 }
 
-/// The first channel on which HI was not delivered.
-fn wrong_channel(line: &Line<&Refusing>) -> Option<usize> {
+/// Whether HI was delivered on each channel.
+fn is_everywhere<A: Allocator>(line: &Line<A>) -> bool {
     for number in 0..CHANNELS {
         let (terminal, way) = channel(number);
         if !has_left(line, terminal, way, &Delivered(HI)) {
-            return Some(number);
+            return false;
         }
     }
-    None
+    true
 }
 
 /// Offers HI everywhere, and carries as many transmissions as deliver it.
-fn play_round(line: &mut Line<&Refusing>) -> Result<(), LineError> {
+fn play_round<A: Allocator>(line: &mut Line<A>) -> Result<(), LineError> {
     offer_everywhere(line)?;
     line.silence()?;
 
@@ -77,21 +80,29 @@ fn play_round(line: &mut Line<&Refusing>) -> Result<(), LineError> {
     carry_on(line, 64 * 5 * 4 + 191 * 2)
 }
 
+/// Plays a round: whether each record arrived, and the first terminal is polled again.
+fn delivers_round<A: Allocator>(line: &mut Line<A>) -> Answer {
+    play_round(line)?;
+    let is_polling = line.pending() == Some((Control, CALL_POLL_FIRST));
+    Ok(is_polling && line.trusted() && is_everywhere(line))
+}
+
+/// Plays a round on a new line of the most terminals with this poll list.
+fn delivers_on_new<A: Allocator + Copy>(alloc: A, poll_list: &[u8]) -> Result<Answer, Fail> {
+    let mut line = line_of(alloc, &most_terminals()?, poll_list, 3)?;
+    Ok(delivers_round(&mut line))
+}
+
 #[test]
 fn a_record_each_way_of_each_address_arrives_in_one_round(rt: HostRuntime) -> Result<(), Fail> {
     let alloc = Refusing::new(rt.alloc());
     let poll_list = longest_poll_list(rt.alloc())?;
-    let mut line = line_of(&alloc, &most_terminals()?, &poll_list, 3)?;
-    play_round(&mut line)?;
-    assert_eq!(rt;
-        (wrong_channel(&line), line.trusted(), line.pending()),
-        (None, true, Some((Control, CALL_POLL_FIRST)))
-    );
+    assert_eq!(rt; delivers_on_new(&alloc, &poll_list)?, Ok(true));
     Ok(())
 }
 
 /// How many terminals a new line has that is made with these, of which it polls only the last.
-fn terminals_on(alloc: &Refusing, terminals: &[Terminal]) -> Result<usize, Fail> {
+fn terminals_on<A: Allocator + Copy>(alloc: A, terminals: &[Terminal]) -> Result<usize, Fail> {
     let last = u8::try_from(terminals.len())?.saturating_sub(1);
     let line = line_of(alloc, terminals, &[last], 3)?;
     Ok(line.terminals())
@@ -122,7 +133,7 @@ fn hundred_records(alloc: Global) -> Result<Vec<&'static [u8]>, AllocError> {
 }
 
 /// Offers these records at terminal 0 and for it.
-fn offer_each_way(line: &mut Line<&Refusing>, records: &[&[u8]]) -> Result<(), LineError> {
+fn offer_each_way<A: Allocator>(line: &mut Line<A>, records: &[&[u8]]) -> Result<(), LineError> {
     for record in records {
         line.offer_at(0, record)?;
         line.offer_for(0, 0, record)?;
@@ -131,7 +142,7 @@ fn offer_each_way(line: &mut Line<&Refusing>, records: &[&[u8]]) -> Result<(), L
 }
 
 /// A silence passes where nothing is pending; else what is pending is carried, or it is lost.
-pub(crate) fn go_on(line: &mut Line<&Refusing>, is_lost: bool) -> Result<(), LineError> {
+pub(crate) fn go_on<A: Allocator>(line: &mut Line<A>, is_lost: bool) -> Result<(), LineError> {
     match line.pending() {
         None => line.silence(),
         Some(_) if is_lost => line.carry(None),
@@ -141,7 +152,10 @@ pub(crate) fn go_on(line: &mut Line<&Refusing>, is_lost: bool) -> Result<(), Lin
 
 /// Goes on 999 times on a line that loses each transmission whose number is a multiple of `period`,
 /// which is not 0, up to the first after which the line is not trusted or a channel is not sound.
-fn first_unsound(line: &mut Line<&Refusing>, period: usize) -> Result<Option<usize>, LineError>
+fn first_unsound<A: Allocator>(
+    line: &mut Line<A>,
+    period: usize,
+) -> Result<Option<usize>, LineError>
     requires { 0 < period }
 {
     for number in 1..1000usize {
@@ -155,11 +169,7 @@ fn first_unsound(line: &mut Line<&Refusing>, period: usize) -> Result<Option<usi
 
 /// Offers these records each way on a line that loses each transmission whose number is a multiple
 /// of `period`, which is not 0: whether it stays sound, and each was delivered.
-fn delivers_each(
-    line: &mut Line<&Refusing>,
-    records: &[&[u8]],
-    period: usize,
-) -> Result<bool, LineError>
+fn delivers_each<A: Allocator>(line: &mut Line<A>, records: &[&[u8]], period: usize) -> Answer
     requires { 0 < period }
 {
     offer_each_way(line, records)?;
@@ -171,13 +181,24 @@ fn delivers_each(
     Ok(unsound.is_none() && wrong_left(line, &left).is_none())
 }
 
+/// Delivers these records each way of a new line that loses transmissions of this period.
+fn delivers_each_on_new<A: Allocator + Copy>(
+    alloc: A,
+    records: &[&[u8]],
+    period: usize,
+) -> Result<Answer, Fail>
+    requires { 0 < period }
+{
+    let mut line = line_on(alloc, &TWO)?;
+    Ok(delivers_each(&mut line, records, period))
+}
+
 #[test]
 fn a_hundred_records_arrive_whole_over_a_bad_line(rt: HostRuntime) -> Result<(), Fail> {
     let alloc = Refusing::new(rt.alloc());
     let records = hundred_records(rt.alloc())?;
     for period in [1000, 5, 7, 11] {
-        let mut line = line_on(&alloc, &TWO)?;
-        assert_eq!(rt; delivers_each(&mut line, &records, period), Ok(true));
+        assert_eq!(rt; delivers_each_on_new(&alloc, &records, period)?, Ok(true));
     }
     Ok(())
 }

@@ -5,6 +5,7 @@ use crate::fixtures::{On, line_on};
 use bsc_control::Way;
 use bsc_line::{Event, Line, LineError, Speaker, Stopped};
 use refusing_alloc::{Refusal, Refusing};
+use std::alloc::Allocator;
 use std::process::Abort;
 use std::test::Fail;
 
@@ -113,7 +114,7 @@ enum What {
 
 /// What is wrong with a line on which this should be pending. While the line is trusted each of its
 /// channels is sound.
-fn wrong_now(line: &Line<&Refusing>, pending: Pending<'_>, trusted: bool) -> Option<What> {
+fn wrong_now<A: Allocator>(line: &Line<A>, pending: Pending<'_>, trusted: bool) -> Option<What> {
     if line.pending() != pending {
         Some(What::Pending)
     } else if line.trusted() != trusted {
@@ -126,7 +127,7 @@ fn wrong_now(line: &Line<&Refusing>, pending: Pending<'_>, trusted: bool) -> Opt
 }
 
 /// The first channel of these that has something else.
-pub(crate) fn wrong_left(line: &Line<&Refusing>, left: Left<'_>) -> Option<usize> {
+pub(crate) fn wrong_left<A: Allocator>(line: &Line<A>, left: Left<'_>) -> Option<usize> {
     for (place, (terminal, way, expected)) in left.iter().enumerate() {
         if !has_left(line, *terminal, *way, expected) {
             return Some(place);
@@ -137,8 +138,8 @@ pub(crate) fn wrong_left(line: &Line<&Refusing>, left: Left<'_>) -> Option<usize
 
 /// The first step or channel of a part that goes wrong, and what is wrong there; else what is
 /// pending after the last step.
-fn play_part<'a>(
-    line: &mut Line<&Refusing>,
+fn play_part<'a, A: Allocator>(
+    line: &mut Line<A>,
     part: &Part<'a>,
     before: Pending<'a>,
 ) -> Result<Pending<'a>, (usize, What)> {
@@ -158,11 +159,20 @@ fn play_part<'a>(
     }
 }
 
+/// Whether as many growths were refused as an exchange has refused.
+fn is_starved(alloc: &Refusing, exchange: &Exchange<'_>) -> bool {
+    let refused = match exchange.starved {
+        Some((_, _, count)) => count,
+        None => 0,
+    };
+    alloc.refused() == refused
+}
+
 /// The first part of an exchange that goes wrong on a new line, its step or channel, and what is
 /// wrong there.
-fn wrong_part(
+fn wrong_part<A: Allocator>(
     alloc: &Refusing,
-    line: &mut Line<&Refusing>,
+    line: &mut Line<A>,
     exchange: &Exchange<'_>,
 ) -> Option<(usize, usize, What)> {
     let mut pending = None;
@@ -176,7 +186,11 @@ fn wrong_part(
             Err((place, what)) => return Some((number, place, what)),
         }
     }
-    None
+    if is_starved(alloc, exchange) {
+        None
+    } else {
+        Some((exchange.parts.len(), 0, What::Refused))
+    }
 }
 
 /// Plays an exchange on a new line, up to the first difference.
@@ -186,15 +200,7 @@ fn wrong_exchange(
 ) -> Result<Option<(usize, usize, What)>, Fail> {
     alloc.refuse_none();
     let mut line = line_on(alloc, &exchange.on)?;
-    let refused = match exchange.starved {
-        Some((_, _, count)) => count,
-        None => 0,
-    };
-    let wrong = wrong_part(alloc, &mut line, exchange);
-    if wrong.is_none() && alloc.refused() != refused {
-        return Ok(Some((exchange.parts.len(), 0, What::Refused)));
-    }
-    Ok(wrong)
+    Ok(wrong_part(alloc, &mut line, exchange))
 }
 
 /// Plays each of these exchanges, up to the first difference.

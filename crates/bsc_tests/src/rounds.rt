@@ -2,13 +2,14 @@
 
 use crate::channels::{is_channel, offer};
 use crate::fixtures::{On, TWO_BY_THREE, TWO_BY_THREE_ENTRIES, line_on};
-use crate::limits::carry_on;
+use crate::limits::{Answer, carry_on};
 use bsc_control::Way;
 use bsc_control::Way::{FromTerminal, ToTerminal};
 use bsc_fixtures::octets::CALL_POLL_A;
 use bsc_line::Line;
 use bsc_line::Speaker::Control;
 use refusing_alloc::Refusing;
+use std::alloc::Allocator;
 use std::test::Fail;
 
 /// A line, how many empty records are offered on these channels, how many transmissions a visit of
@@ -46,7 +47,7 @@ const ROWS: &[Row<'static>] = &[
 ];
 
 /// Offers this many empty records on a channel: whether each was taken.
-fn offers(line: &mut Line<&Refusing>, terminal: usize, way: Way, count: usize) -> bool {
+fn offers<A: Allocator>(line: &mut Line<A>, terminal: usize, way: Way, count: usize) -> bool {
     for _ in 0..count {
         if offer(line, terminal, way, b"").is_err() {
             return false;
@@ -56,30 +57,30 @@ fn offers(line: &mut Line<&Refusing>, terminal: usize, way: Way, count: usize) -
 }
 
 /// Whether this many records are known to have arrived on a channel, and arrived.
-fn arrived(line: &Line<&Refusing>, terminal: usize, way: Way, count: usize) -> bool {
+fn arrived<A: Allocator>(line: &Line<A>, terminal: usize, way: Way, count: usize) -> bool {
     is_channel(line, terminal, way)
         && line.known(terminal, way) == count
         && line.spooled(terminal, way).len() == count
 }
 
 /// Whether a line of two terminals has these visits.
-fn has_visits(line: &Line<&Refusing>, visits: &[u64; 2]) -> bool {
+fn has_visits<A: Allocator>(line: &Line<A>, visits: &[u64; 2]) -> bool {
     line.terminals() == 2 && [line.visit(0), line.visit(1)] == *visits
 }
 
 /// Whether a round of this many transmissions, after which terminal 0 is polled, is as long as the
 /// line says before and in it.
-fn is_round(line: &mut Line<&Refusing>, round: u64) -> Result<bool, Fail> {
+fn is_round<A: Allocator>(line: &mut Line<A>, round: u64) -> Answer {
     let before = line.round();
     line.silence()?;
     let within = line.round();
-    carry_on(line, usize::try_from(round)?)?;
+    carry_on(line, round)?;
     let is_polling = line.pending() == Some((Control, CALL_POLL_A));
-    Ok(is_polling && (before, within) == (round, round))
+    Ok(is_polling && [before, within] == [round, round])
 }
 
 /// Whether a row holds.
-fn holds(line: &mut Line<&Refusing>, row: &Row<'_>) -> Result<bool, Fail> {
+fn holds<A: Allocator>(line: &mut Line<A>, row: &Row<'_>) -> Answer {
     let (_, channels, visits, round) = row;
     for (terminal, way, count) in *channels {
         if !offers(line, *terminal, *way, *count) {
@@ -97,12 +98,17 @@ fn holds(line: &mut Line<&Refusing>, row: &Row<'_>) -> Result<bool, Fail> {
     Ok(true)
 }
 
+/// Whether a row holds on a new line.
+fn holds_on_new<A: Allocator + Copy>(alloc: A, row: &Row<'_>) -> Result<Answer, Fail> {
+    let mut line = line_on(alloc, &row.0)?;
+    Ok(holds(&mut line, row))
+}
+
 #[test]
 fn a_round_delivers_what_waits(rt: HostRuntime) -> Result<(), Fail> {
     let alloc = Refusing::new(rt.alloc());
     for (place, row) in ROWS.iter().enumerate() {
-        let mut line = line_on(&alloc, &row.0)?;
-        assert!(rt; holds(&mut line, row)?, "at {place}");
+        assert_eq!(rt; holds_on_new(&alloc, row)?, Ok(true), "at {place}");
     }
     Ok(())
 }

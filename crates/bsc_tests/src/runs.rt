@@ -10,6 +10,7 @@ use bsc_line::Event::{CarrySent, Silence};
 use bsc_line::Speaker::{Control, Terminal};
 use bsc_line::{Event, Line, LineError, Stopped};
 use refusing_alloc::{Refusal, Refusing};
+use std::alloc::Allocator;
 use std::test::Fail;
 
 /// Which growths are refused, if any, a list of events, how it is answered, what is then pending,
@@ -138,7 +139,7 @@ const RUNS: &[(&str, &[Run<'static>])] = &[
 ];
 
 /// Whether this list goes as is said.
-fn goes(alloc: &Refusing, line: &mut Line<&Refusing>, run: &Run<'_>) -> bool {
+fn goes<A: Allocator>(alloc: &Refusing, line: &mut Line<A>, run: &Run<'_>) -> bool {
     let (refusal, events, answer, pending, left) = run;
     match refusal {
         Some(refusal) => alloc.refuse(*refusal, 1),
@@ -150,23 +151,32 @@ fn goes(alloc: &Refusing, line: &mut Line<&Refusing>, run: &Run<'_>) -> bool {
         && wrong_left(line, left).is_none()
 }
 
-/// The first of these lists that goes otherwise on a new line.
-fn wrong_run(alloc: &Refusing, runs: &[Run<'_>]) -> Result<Option<usize>, Fail> {
-    alloc.refuse_none();
-    let mut line = line_on(alloc, &TWO)?;
+/// The first of these lists that goes otherwise.
+fn wrong_run<A: Allocator>(
+    alloc: &Refusing,
+    line: &mut Line<A>,
+    runs: &[Run<'_>],
+) -> Option<usize> {
     for (place, run) in runs.iter().enumerate() {
-        if !goes(alloc, &mut line, run) {
-            return Ok(Some(place));
+        if !goes(alloc, line, run) {
+            return Some(place);
         }
     }
-    Ok(None)
+    None
+}
+
+/// The first of these lists that goes otherwise on a new line.
+fn wrong_on_new(alloc: &Refusing, runs: &[Run<'_>]) -> Result<Option<usize>, Fail> {
+    alloc.refuse_none();
+    let mut line = line_on(alloc, &TWO)?;
+    Ok(wrong_run(alloc, &mut line, runs))
 }
 
 #[test]
 fn each_run_goes_as_its_table_says(rt: HostRuntime) -> Result<(), Fail> {
     let alloc = Refusing::new(rt.alloc());
     for (name, runs) in RUNS {
-        assert_eq!(rt; wrong_run(&alloc, runs)?, None, "{name}");
+        assert_eq!(rt; wrong_on_new(&alloc, runs)?, None, "{name}");
     }
     Ok(())
 }

@@ -5,7 +5,7 @@ use crate::channels::Has::{Arrived, Delivered};
 use crate::channels::{has_left, is_channel, offer};
 use crate::events::{HI, NONE};
 use crate::fixtures::{TWO, line_on};
-use crate::limits::carry_on;
+use crate::limits::{Answer, carry_on};
 use bsc_block::Record;
 use bsc_control::Way;
 use bsc_control::Way::{FromTerminal, ToTerminal};
@@ -15,7 +15,7 @@ use bsc_line::Speaker::{Control, Terminal};
 use bsc_line::{Line, LineError, Speaker};
 use bsc_text::Setup;
 use refusing_alloc::Refusing;
-use std::alloc::{AllocError, Global};
+use std::alloc::{AllocError, Allocator, Global};
 use std::test::Fail;
 
 /// How many records are offered on a channel.
@@ -34,7 +34,7 @@ fn digits(number: u32) -> [u8; 5] {
 }
 
 /// Offers a record for each number below `COUNT` at terminal 0, and for it.
-fn offer_all(line: &mut Line<&Refusing>) -> Result<(), LineError> {
+fn offer_all<A: Allocator>(line: &mut Line<A>) -> Result<(), LineError> {
     for number in 0..COUNT {
         let codes = digits(number);
         line.offer_at(0, &codes)?;
@@ -54,33 +54,34 @@ fn are_all(records: &[Record]) -> bool {
 }
 
 /// Whether they were offered on this way of terminal 0, and arrived, and are known to have.
-fn has_all(line: &Line<&Refusing>, way: Way) -> bool {
+fn has_all<A: Allocator>(line: &Line<A>, way: Way) -> bool {
     is_channel(line, 0, way)
         && are_all(line.offered(0, way))
         && are_all(line.spooled(0, way))
         && line.known(0, way) == COUNT as usize
 }
 
-/// Offers the records, and carries as many transmissions as deliver them.
-fn deliver_all(line: &mut Line<&Refusing>) -> Result<(), LineError> {
+/// Offers the records, and carries as many transmissions as deliver them: whether they arrived.
+fn delivers_all<A: Allocator>(line: &mut Line<A>) -> Answer {
     offer_all(line)?;
     line.silence()?;
 
     // A selection and a poll, of two transmissions each and two for each of 14,286 blocks of seven.
-    carry_on(line, 2 * (2 + 2 * 14_286))
+    carry_on(line, 2 * (2 + 2 * 14_286))?;
+    let is_polling = line.pending() == Some((Control, CALL_POLL_B));
+    Ok(is_polling && line.trusted() && has_all(line, FromTerminal) && has_all(line, ToTerminal(0)))
+}
+
+/// Delivers the records on a new line.
+fn delivers_all_on_new<A: Allocator + Copy>(alloc: A) -> Result<Answer, Fail> {
+    let mut line = line_on(alloc, &TWO)?;
+    Ok(delivers_all(&mut line))
 }
 
 #[test]
 fn a_hundred_thousand_records_arrive_each_way(rt: HostRuntime) -> Result<(), Fail> {
     let alloc = Refusing::new(rt.alloc());
-    let mut line = line_on(&alloc, &TWO)?;
-    deliver_all(&mut line)?;
-    let ways = (has_all(&line, FromTerminal), has_all(&line, ToTerminal(0)));
-    assert_eq!(rt; ways, (true, true));
-    assert_eq!(rt;
-        (line.trusted(), line.pending()),
-        (true, Some((Control, CALL_POLL_B)))
-    );
+    assert_eq!(rt; delivers_all_on_new(&alloc)?, Ok(true));
     Ok(())
 }
 
@@ -106,7 +107,7 @@ fn longest_text(alloc: Global) -> Result<Vec<u8>, AllocError> {
 
 /// The pending text of HI is heard as this one: whether the other end of this channel of terminal 0
 /// stored seven records of 144 characters.
-fn stores_longest(line: &mut Line<&Refusing>, way: Way, text: &[u8]) -> Result<bool, LineError> {
+fn stores_longest<A: Allocator>(line: &mut Line<A>, way: Way, text: &[u8]) -> Answer {
     line.carry(Some(text))?;
     let arrived = Arrived {
         offered: HI,
@@ -118,17 +119,23 @@ fn stores_longest(line: &mut Line<&Refusing>, way: Way, text: &[u8]) -> Result<b
 
 /// HI is offered on this channel of terminal 0, and this many transmissions after the first call
 /// its text is heard as this one: whether that is stored and acknowledged.
-fn takes_longest(
-    line: &mut Line<&Refusing>,
-    way: Way,
-    count: usize,
-    text: &[u8],
-) -> Result<bool, LineError> {
+fn takes_longest<A: Allocator>(line: &mut Line<A>, way: Way, count: u64, text: &[u8]) -> Answer {
     offer(line, 0, way, b"HI")?;
     line.silence()?;
     carry_on(line, count)?;
     let is_stored = stores_longest(line, way, text)?;
     Ok(is_stored && matches!(line.pending(), Some((_, octets)) if octets == ACK1))
+}
+
+/// Takes the longest text on a new line.
+fn takes_longest_on_new<A: Allocator + Copy>(
+    alloc: A,
+    way: Way,
+    count: u64,
+    text: &[u8],
+) -> Result<Answer, Fail> {
+    let mut line = line_on(alloc, &TWO)?;
+    Ok(takes_longest(&mut line, way, count, text))
 }
 
 #[test]
@@ -137,8 +144,7 @@ fn the_longest_text_is_stored_whole(rt: HostRuntime) -> Result<(), Fail> {
     assert_eq!(rt; text.len(), 1033);
     let alloc = Refusing::new(rt.alloc());
     for (way, count) in [(FromTerminal, 1), (ToTerminal(0), 2)] {
-        let mut line = line_on(&alloc, &TWO)?;
-        assert_eq!(rt; takes_longest(&mut line, way, count, &text), Ok(true));
+        assert_eq!(rt; takes_longest_on_new(&alloc, way, count, &text)?, Ok(true));
     }
     Ok(())
 }
@@ -175,8 +181,18 @@ const SELECTED: Moments<'static> = &[
     (Terminal(0), ACK1),
 ];
 
+/// A way of terminal 0, the moments of a bid of it, how many transmissions follow, and the call
+/// that is then pending.
+type Row<'a> = (Way, Moments<'a>, u64, &'a [u8]);
+
+/// After the second text come ACK0, the third text, ACK1, at a poll EOT, and the next call.
+const ROWS: &[Row<'static>] = &[
+    (FromTerminal, POLLED, 5, CALL_POLL_B),
+    (ToTerminal(0), SELECTED, 4, CALL_POLL_A),
+];
+
 /// Whether this station sent what is pending, and that begins with these octets.
-fn is_pending(line: &Line<&Refusing>, speaker: Speaker, front: &[u8]) -> bool {
+fn is_pending<A: Allocator>(line: &Line<A>, speaker: Speaker, front: &[u8]) -> bool {
     match line.pending() {
         Some((sender, octets)) => sender == speaker && octets.starts_with(front),
         None => false,
@@ -185,11 +201,7 @@ fn is_pending(line: &Line<&Refusing>, speaker: Speaker, front: &[u8]) -> bool {
 
 /// Offers two long records on this way of terminal 0, lets a silence pass, and offers one of the
 /// others at each of these moments: whether each of them came.
-fn offer_within(
-    line: &mut Line<&Refusing>,
-    way: Way,
-    moments: Moments<'_>,
-) -> Result<bool, LineError> {
+fn offer_within<A: Allocator>(line: &mut Line<A>, way: Way, moments: Moments<'_>) -> Answer {
     offer(line, 0, way, LONG[0])?;
     offer(line, 0, way, LONG[1])?;
     line.silence()?;
@@ -203,41 +215,30 @@ fn offer_within(
     Ok(true)
 }
 
-/// Offers these, and carries this many further transmissions: whether each record was delivered.
-fn delivers_long(
-    line: &mut Line<&Refusing>,
-    way: Way,
-    moments: Moments<'_>,
-    further: usize,
-) -> Result<bool, LineError> {
+/// Offers these, and carries this many further transmissions: whether each record was delivered,
+/// and this call is made.
+fn delivers_long<A: Allocator>(line: &mut Line<A>, row: &Row<'_>) -> Answer {
+    let (way, moments, further, call) = *row;
     let came = offer_within(line, way, moments)?;
     carry_on(line, further)?;
+    let is_calling = line.pending() == Some((Control, call));
     let records = LONG.get(..moments.len().saturating_add(2)).unwrap_or(NONE);
-    Ok(came && has_left(line, 0, way, &Delivered(records)))
+    Ok(came && is_calling && line.trusted() && has_left(line, 0, way, &Delivered(records)))
 }
 
-/// A new line of two terminals on which records are of up to 144 characters, and blocks count up to
-/// 400: two records go in one block.
-fn line_of_longest(alloc: &Refusing) -> Result<Line<&Refusing>, Fail> {
+/// Delivers such records on a new line of two terminals on which records are of up to 144
+/// characters, and blocks count up to 400: two records go in one block.
+fn delivers_long_on_new<A: Allocator + Copy>(alloc: A, row: &Row<'_>) -> Result<Answer, Fail> {
     let setup = Setup::new(144, 400, 3, 10)?;
-    Ok(Line::new(alloc, setup, &two_terminals(), &[0, 1])?)
+    let mut line = Line::new(alloc, setup, &two_terminals(), &[0, 1])?;
+    Ok(delivers_long(&mut line, row))
 }
 
 #[test]
 fn the_longest_records_are_taken_while_a_bid_goes_on(rt: HostRuntime) -> Result<(), Fail> {
     let alloc = Refusing::new(rt.alloc());
-
-    // After the second text come ACK0, the third text, ACK1, at a poll EOT, and the next call.
-    for (way, moments, further, call) in [
-        (FromTerminal, POLLED, 5, CALL_POLL_B),
-        (ToTerminal(0), SELECTED, 4, CALL_POLL_A),
-    ] {
-        let mut line = line_of_longest(&alloc)?;
-        assert_eq!(rt; delivers_long(&mut line, way, moments, further), Ok(true));
-        assert_eq!(rt;
-            (line.trusted(), line.pending()),
-            (true, Some((Control, call)))
-        );
+    for row in ROWS {
+        assert_eq!(rt; delivers_long_on_new(&alloc, row)?, Ok(true));
     }
     Ok(())
 }
