@@ -19,24 +19,33 @@ fn main(rt: HostRuntime) -> Result<()> {
 
 /// Plays the workload of the command line, or small ones where there is none.
 fn run<R: AllocGlobal + Clock + Env + Eprint + Files + Print>(rt: &R) -> Result<()> {
-    let words = words(rt)?;
+    let mut words = Vec::new(rt.alloc());
+    read_words(rt, &mut words)?;
     let mut out = BufWriter::new(rt.alloc(), io::writer(rt))?;
-    if words.is_empty() {
-        play_small(rt, &mut out)?;
-    } else {
-        play(rt, &mut out, &words)?;
-    }
-    out.flush()?;
-    Ok(())
+    play_to(rt, &mut out, &words)
 }
 
-/// The words of the command line.
-fn words<R: AllocGlobal + Env>(rt: &R) -> Result<Vec<String>> {
-    let mut words = Vec::new(rt.alloc());
+/// Adds the words of the command line.
+fn read_words<R: AllocGlobal + Env>(rt: &R, words: &mut Vec<String>) -> Result<()> {
     for word in env::args(rt)?.skip(1) {
         words.push(word)?;
     }
-    Ok(words)
+    Ok(())
+}
+
+/// Plays the workload of these words, or small ones where there is none, and writes it all.
+fn play_to<R: AllocGlobal + Clock + Eprint + Files, W: Write>(
+    rt: &R,
+    out: &mut W,
+    words: &[String],
+) -> Result<()> {
+    if words.is_empty() {
+        play_small(rt, out)?;
+    } else {
+        play(rt, out, words)?;
+    }
+    out.flush()?;
+    Ok(())
 }
 
 /// Plays a small workload of each kind.

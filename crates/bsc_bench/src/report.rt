@@ -1,6 +1,7 @@
 //! What was left on a line, in a line of text that is the same here and in bench/line_plain.
 
-ghost use Rattle.bsc_line_model.specs.Line.{IsChannel};
+ghost use Rattle.std.specs.Prelude.{◌<◌};
+ghost use Rattle.bsc_line_model.specs.Line.{IsChannel, terminal_count};
 
 use bsc_block::RecordError;
 use bsc_control::Way;
@@ -85,6 +86,30 @@ struct Left {
 }
 
 impl Left {
+    /// What is left on this line after a history with this digest.
+    fn on(line: &Line<Global>, digest: Digest) -> Left {
+        let mut left = Left {
+            digest,
+            offered: 0,
+            known: 0,
+            spooled: 0,
+            doubts: 0,
+        };
+        for terminal in 0..line.terminals() {
+            left.terminal(line, terminal);
+        }
+        left
+    }
+
+    fn terminal(&mut self, line: &Line<Global>, terminal: usize)
+        requires { terminal < terminal_count line.now }
+    {
+        self.channel(line, terminal, Way::FromTerminal);
+        for select in 0..line.addresses(terminal) {
+            self.channel(line, terminal, Way::ToTerminal(select));
+        }
+    }
+
     fn channel(&mut self, line: &Line<Global>, terminal: usize, way: Way)
         requires { IsChannel line.now terminal way }
     {
@@ -107,35 +132,14 @@ impl Left {
 }
 
 /// Prints what is left on the line after a history with this digest.
-pub fn print<W: Write>(
-    out: &mut W,
-    name: &str,
-    digest: Digest,
-    line: &Line<Global>,
-) -> io::Result<()> {
-    let mut left = Left {
-        digest,
-        offered: 0,
-        known: 0,
-        spooled: 0,
-        doubts: 0,
-    };
-    for terminal in 0..line.terminals() {
-        left.channel(line, terminal, Way::FromTerminal);
-        for select in 0..line.addresses(terminal) {
-            left.channel(line, terminal, Way::ToTerminal(select));
-        }
-    }
+pub fn print<W: Write>(out: &mut W, digest: Digest, line: &Line<Global>) -> io::Result<()> {
+    let left = Left::on(line, digest);
     let (offered, known, spooled, doubts) = (left.offered, left.known, left.spooled, left.doubts);
-    let trusted = if line.trusted() {
-        "trusted"
-    } else {
-        "not trusted"
-    };
+    let trust = if line.trusted() { "" } else { "not " };
     let sum = left.digest.sum;
-    write!(
+    writeln!(
         out,
-        "{name}: offered {offered}, known {known}, spooled {spooled}, in doubt {doubts}, "
-    )?;
-    writeln!(out, "{trusted}, {sum:016x}")
+        "offered {offered}, known {known}, spooled {spooled}, in doubt {doubts}, \
+         {trust}trusted, {sum:016x}"
+    )
 }

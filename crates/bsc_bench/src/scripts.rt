@@ -27,6 +27,9 @@ struct Script {
     /// How many ways of spoiling there are.
     ways: usize,
 
+    /// The record that is offered next.
+    record: Vec<u8>,
+
     /// What is pending, and what was pending some time before.
     octets: Vec<u8>,
     earlier: Vec<u8>,
@@ -44,22 +47,21 @@ pub fn play<W: Write>(
     events: usize,
 ) -> anyhow::Result<()> {
     for number in 0..scripts {
-        let number = seed.wrapping_add(number);
-        let mut script = Script::new(alloc, number)?;
-        let digest = script.steps(events)?;
-        script.tell(out, number, digest)?;
+        play_one(alloc, out, seed.wrapping_add(number), events)?;
     }
     Ok(())
+}
+
+/// Plays the script of this seed, and tells what it leaves.
+fn play_one<W: Write>(alloc: Global, out: &mut W, seed: u64, events: usize) -> anyhow::Result<()> {
+    let mut script = Script::new(alloc, seed)?;
+    script.play(out, seed, events)
 }
 
 /// Plays one script, and tells after each event what is left.
 pub fn trace<W: Write>(alloc: Global, out: &mut W, seed: u64, events: u64) -> anyhow::Result<()> {
     let mut script = Script::new(alloc, seed)?;
-    for number in 0..events {
-        let digest = script.steps(1)?;
-        script.tell(out, number, digest)?;
-    }
-    Ok(())
+    script.trace(out, events)
 }
 
 impl Script {
@@ -73,10 +75,27 @@ impl Script {
             full,
             spoiled: random.below(8),
             ways: ways(random.below(3)),
+            record: Vec::new(alloc),
             octets: Vec::new(alloc),
             earlier: Vec::new(alloc),
             random,
         })
+    }
+
+    /// Plays this many events, and tells under this number what they leave.
+    fn play<W: Write>(&mut self, out: &mut W, number: u64, events: usize) -> anyhow::Result<()> {
+        let digest = self.steps(events)?;
+        write!(out, "{number}: ")?;
+        report::print(out, digest, &self.line)?;
+        Ok(())
+    }
+
+    /// Plays this many events one by one.
+    fn trace<W: Write>(&mut self, out: &mut W, events: u64) -> anyhow::Result<()> {
+        for number in 0..events {
+            self.play(out, number, 1)?;
+        }
+        Ok(())
     }
 
     /// This many events, and what came of them.
@@ -89,26 +108,19 @@ impl Script {
         Ok(digest)
     }
 
-    /// Tells under this number what is left.
-    fn tell<W: Write>(&self, out: &mut W, number: u64, digest: Digest) -> anyhow::Result<()> {
-        let name = format!(in self.alloc; "{number}")?;
-        report::print(out, name.as_str(), digest, &self.line)?;
-        Ok(())
-    }
-
     /// One event.
     fn step(&mut self) -> Answer {
         let count = self.line.terminals();
         let terminal = self.one_of(count);
         match self.random.below(16) {
             0 | 1 => {
-                let record = self.record()?;
-                Ok(self.line.offer_at(terminal, &record))
+                self.make_record()?;
+                Ok(self.line.offer_at(terminal, &self.record))
             }
             2 | 3 => {
                 let select = self.select(terminal);
-                let record = self.record()?;
-                Ok(self.line.offer_for(terminal, select, &record))
+                self.make_record()?;
+                Ok(self.line.offer_for(terminal, select, &self.record))
             }
             4 => Ok(self.flag(terminal)),
             5 => Ok(self.release(terminal)),
@@ -142,24 +154,21 @@ impl Script {
         self.one_of(selects)
     }
 
-    fn record(&mut self) -> Result<Vec<u8>, AllocError> {
+    fn make_record(&mut self) -> Result<(), AllocError> {
         let len = if self.random.one_in(2) {
             self.random.below(self.full.wrapping_add(2))
         } else {
             self.random.below(4)
         };
-        let mut record = Vec::new(self.alloc);
+        self.record.clear();
         for _ in 0..len {
-            record.push(0x20 + self.random.below(0x5f) as u8)?;
+            self.record.push(0x20 + self.random.below(0x5f) as u8)?;
         }
         if self.random.one_in(32) && len > 0 {
             let place = self.random.below(len);
-            let octet = self.random.octet();
-            if let Some(char) = record.get_mut(place) {
-                *char = octet;
-            }
+            put(&mut self.random, &mut self.record, place);
         }
-        Ok(record)
+        Ok(())
     }
 
     fn flag(&mut self, terminal: usize) -> Result<(), LineError> {
@@ -195,26 +204,37 @@ impl Script {
 
     /// What is pending is carried or lost; where nothing is, a silence passes.
     fn turn(&mut self) -> Answer {
-        let Some((speaker, octets)) = self.line.pending() else {
+        let Some(speaker) = self.copy_pending()? else {
             return Ok(self.line.silence());
         };
-        let by_control = matches!(speaker, Speaker::Control);
-        if self.random.one_in(4) {
-            mem::swap(&mut self.octets, &mut self.earlier);
-        }
-        self.octets.clear();
-        self.octets.extend_from_slice(octets)?;
         if self.random.below(8) >= self.spoiled {
             return Ok(self.line.carry_sent());
         }
         match self.random.below(4) {
             0 => Ok(self.line.carry(None)),
-            1 if by_control => self.carry_each(),
-            _ => {
-                let heard = self.spoil()?;
-                Ok(self.line.carry(Some(heard.as_slice())))
-            }
+            1 if speaker == Speaker::Control => self.carry_each(),
+            _ => self.carry_spoiled(),
         }
+    }
+
+    /// Copies what is pending, and sometimes keeps what was before it: who sent it, or None where
+    /// nothing is pending.
+    fn copy_pending(&mut self) -> Result<Option<Speaker>, AllocError> {
+        let Some((speaker, octets)) = self.line.pending() else {
+            return Ok(None);
+        };
+        if self.random.one_in(4) {
+            mem::swap(&mut self.octets, &mut self.earlier);
+        }
+        self.octets.clear();
+        self.octets.extend_from_slice(octets)?;
+        Ok(Some(speaker))
+    }
+
+    /// What is pending is heard spoiled by all who hear it.
+    fn carry_spoiled(&mut self) -> Answer {
+        let heard = self.spoil()?;
+        Ok(self.line.carry(Some(heard.as_slice())))
     }
 
     /// Each terminal hears what is pending in a way of its own.
@@ -226,11 +246,26 @@ impl Script {
             count
         };
         let mut hearings = Vec::new(self.alloc);
+        self.add_hearings(&mut hearings, count)?;
+        self.carry_as(&hearings)
+    }
+
+    /// Adds what each of this many terminals hears.
+    fn add_hearings(
+        &mut self,
+        hearings: &mut Vec<Option<Vec<u8>>>,
+        count: usize,
+    ) -> Result<(), AllocError> {
         for _ in 0..count {
             hearings.push(self.hearing()?)?;
         }
+        Ok(())
+    }
+
+    /// Each terminal hears its one of these.
+    fn carry_as(&mut self, hearings: &[Option<Vec<u8>>]) -> Answer {
         let mut items = Vec::new(self.alloc);
-        for hearing in &hearings {
+        for hearing in hearings {
             items.push(match hearing {
                 Some(octets) => Some(octets.as_slice()),
                 None => None,
@@ -250,27 +285,48 @@ impl Script {
 
     /// What is heard in place of what is pending.
     fn spoil(&mut self) -> Result<Vec<u8>, AllocError> {
-        let mut heard = self.octets.clone()?;
-        let place = self.random.below(heard.len().max(1));
+        let place = self.random.below(self.octets.len().max(1));
         match self.random.below(self.ways) {
-            0 => {
-                let bit = self.random.below(8);
-                if let Some(octet) = heard.get_mut(place) {
-                    *octet ^= 1u8 << bit;
-                }
-            }
-            1 => heard.truncate(place),
-            2 => heard.push(0xff)?,
-            3 => heard = self.earlier.clone()?,
-            4 => heard = Vec::from_slice(self.alloc, OTHERS[self.random.below(8)])?,
-            _ => {
-                let new = self.random.octet();
-                if let Some(octet) = heard.get_mut(place) {
-                    *octet = new;
-                }
+            3 => self.earlier.clone(),
+            4 => Vec::from_slice(self.alloc, OTHERS[self.random.below(8)]),
+            way => {
+                let mut heard = self.octets.clone()?;
+                damage(&mut self.random, &mut heard, way, place)?;
+                Ok(heard)
             }
         }
-        Ok(heard)
+    }
+}
+
+/// Damages the octets in this way: from this place on, there, or after them.
+fn damage(
+    random: &mut Random,
+    octets: &mut Vec<u8>,
+    way: usize,
+    place: usize,
+) -> Result<(), AllocError> {
+    match way {
+        0 => turn_bit(random, octets, place),
+        1 => octets.truncate(place),
+        2 => octets.push(0xff)?,
+        _ => put(random, octets, place),
+    }
+    Ok(())
+}
+
+/// Turns a bit of the octet at this place.
+fn turn_bit(random: &mut Random, octets: &mut [u8], place: usize) {
+    let bit = random.below(8);
+    if let Some(octet) = octets.get_mut(place) {
+        *octet ^= 1u8 << bit;
+    }
+}
+
+/// Puts any octet at this place.
+fn put(random: &mut Random, octets: &mut [u8], place: usize) {
+    let new = random.octet();
+    if let Some(octet) = octets.get_mut(place) {
+        *octet = new;
     }
 }
 

@@ -33,7 +33,7 @@ const RECORDS: usize = 7;
 /// How many transmissions a visit of a terminal takes: two calls, two texts, their replies and EOT.
 const TRANSMISSIONS: usize = 8;
 
-/// A line, and the record that was offered last on it: of 55 characters, so that it counts 57 and
+/// A line that is lent to those that play on it, and the record that was offered last on it: of 55 characters, so that it counts 57 and
 /// seven of them fill a block of 400.
 #[derive(Drop)]
 struct Player {
@@ -70,9 +70,7 @@ pub fn polls<R: AllocGlobal + Clock, W: Write>(
     hearing: Hearing,
 ) -> anyhow::Result<Measured> {
     let mut player = Player::new(rt.alloc(), terminals, hearing)?;
-    let measured = player.time_polls(rt, events)?;
-    report::print(out, "polls", Digest::new(), &player.line)?;
-    Ok(measured)
+    player.measure_polls(rt, out, events)
 }
 
 /// Texts of seven records each way, after a history of this many records.
@@ -85,10 +83,7 @@ pub fn texts<R: AllocGlobal + Clock + Files, W: Write>(
     hearing: Hearing,
 ) -> anyhow::Result<Measured> {
     let mut player = Player::new(rt.alloc(), terminals, hearing)?;
-    let octets = player.remember(rt, history)?;
-    let measured = player.time_visits(rt, visits, octets)?;
-    report::print(out, "texts", Digest::new(), &player.line)?;
-    Ok(measured)
+    player.measure_texts(rt, out, history, visits)
 }
 
 /// A terminal for each number below this, and a poll list that names each in turn.
@@ -109,18 +104,51 @@ fn station(number: u8) -> anyhow::Result<Terminal> {
     Ok(Terminal::new(poll, &[select])?)
 }
 
+/// A line of the terminals of the numbers below this, which are called in turn.
+fn line(alloc: Global, count: u8) -> anyhow::Result<Line<Global>> {
+    let setup = Setup::new(80, 400, 3, 10)?;
+    let (terminals, poll_list) = stations(alloc, count)?;
+    Ok(Line::new(alloc, setup, &terminals, &poll_list)?)
+}
+
 impl Player {
     fn new(alloc: Global, terminals: usize, hearing: Hearing) -> anyhow::Result<Player> {
         ensure!(terminals <= 64, "more than 64 terminals");
-        let setup = Setup::new(80, 400, 3, 10)?;
-        let (stations, poll_list) = stations(alloc, terminals as u8)?;
         Ok(Player {
-            line: Line::new(alloc, setup, &stations, &poll_list)?,
+            line: line(alloc, terminals as u8)?,
             hearing,
             octets: Wire::new(),
             record: *b"\x7f\x7f\x7f\x7f---------------------------------------------------",
             terminal: 0,
         })
+    }
+
+    /// Polls of nothing, and what is left.
+    fn measure_polls<R: Clock, W: Write>(
+        &mut self,
+        rt: &R,
+        out: &mut W,
+        events: usize,
+    ) -> anyhow::Result<Measured> {
+        let measured = self.time_polls(rt, events)?;
+        write!(out, "polls: ")?;
+        report::print(out, Digest::new(), &self.line)?;
+        Ok(measured)
+    }
+
+    /// Texts after a history, and what is left.
+    fn measure_texts<R: AllocGlobal + Clock + Files, W: Write>(
+        &mut self,
+        rt: &R,
+        out: &mut W,
+        history: usize,
+        visits: usize,
+    ) -> anyhow::Result<Measured> {
+        let octets = self.remember(rt, history)?;
+        let measured = self.time_visits(rt, visits, octets)?;
+        write!(out, "texts: ")?;
+        report::print(out, Digest::new(), &self.line)?;
+        Ok(measured)
     }
 
     /// How long this many polls of nothing take.
@@ -143,8 +171,7 @@ impl Player {
         rt: &R,
         history: usize,
     ) -> anyhow::Result<usize> {
-        self.offer()?;
-        self.line.silence()?;
+        self.start()?;
         let before = resident(rt)?;
         self.visit_often(history.div_ceil(2 * RECORDS))?;
         Ok(resident(rt)?.saturating_sub(before))
@@ -164,6 +191,12 @@ impl Player {
             time: started.elapsed(rt)?,
             octets,
         })
+    }
+
+    /// The first terminal has records to send and to take, and is called.
+    fn start(&mut self) -> Result<(), LineError> {
+        self.offer()?;
+        self.line.silence()
     }
 
     fn carry(&mut self) -> Result<(), LineError> {
@@ -242,10 +275,11 @@ fn address(letter: u8, number: u8) -> anyhow::Result<Address> {
 /// How many octets of memory the process has.
 fn resident<R: AllocGlobal + Files>(rt: &R) -> anyhow::Result<usize> {
     let pages = fs::read_to_string(rt, "/proc/self/statm")?;
-    let resident = pages
-        .as_str()
-        .split(' ')
-        .nth(1)
-        .context("no resident pages")?;
+    read_resident(pages.as_str())
+}
+
+/// How many octets are resident, by the numbers of pages that the system tells.
+fn read_resident(pages: &str) -> anyhow::Result<usize> {
+    let resident = pages.split(' ').nth(1).context("no resident pages")?;
     Ok(resident.parse::<usize>()?.saturating_mul(4096))
 }
