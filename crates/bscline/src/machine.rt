@@ -8,7 +8,8 @@ use bsc_input::{Files, InputError, read_input};
 use bsc_loopback::{LoopbackError, connect};
 use bsc_running::Cables;
 use bsc_sockets::{
-    Listening, Reading, Settings, Sockets, SocketsError, Writing, connect as connect_to, listen,
+    Begun, Listening, Reading, Settings, Sockets, SocketsError, Writing, connect as connect_to,
+    listen,
 };
 use bsc_station::Timer;
 use std::alloc::Global;
@@ -86,6 +87,36 @@ impl<R: AllocGlobal + Net> Cables for Machine<'_, R> {
     }
 }
 
+/// The connections that a station asks for.
+fn begin<'a, R: AllocGlobal + Clock + Net>(
+    runtime: &'a R,
+    wanted: &Wanted<'_>,
+) -> Result<Begun<'a, R, Global>, SocketsError> {
+    let settings = Settings {
+        time_out: Duration::from_millis(wanted.time_out),
+        gap: Duration::from_millis(wanted.gap),
+        begins: wanted.begins,
+    };
+    match wanted.place {
+        Place::Connect { address } => connect_to(
+            runtime,
+            runtime.alloc(),
+            address,
+            settings.time_out,
+            settings,
+        ),
+        Place::Listen { address } => listen(
+            runtime,
+            runtime.alloc(),
+            Listening::bind(runtime, address)?,
+            wanted.connections.min(MAX_CONNECTIONS),
+            Duration::from_millis(PATIENCE),
+            wanted.stays,
+            settings,
+        ),
+    }
+}
+
 impl<'a, R: AllocGlobal + Clock + Eprint + Net> Network for Machine<'a, R> {
     type Reader = Reading;
 
@@ -101,31 +132,7 @@ impl<'a, R: AllocGlobal + Clock + Eprint + Net> Network for Machine<'a, R> {
         &mut self,
         wanted: &Wanted<'_>,
     ) -> Result<Opened<Self::Reader, Self::Writer, Self::Waiter>, SocketsError> {
-        let (runtime, alloc) = (self.runtime, self.runtime.alloc());
-        let settings = Settings {
-            time_out: Duration::from_millis(wanted.time_out),
-            gap: Duration::from_millis(wanted.gap),
-            begins: wanted.begins,
-        };
-        let begun = match wanted.place {
-            Place::Connect { address } => {
-                connect_to(runtime, alloc, address, settings.time_out, settings)?
-            }
-            Place::Listen { address } => {
-                let listening = Listening::bind(runtime, address)?;
-                let patience = Duration::from_millis(PATIENCE);
-                let peers = wanted.connections.min(MAX_CONNECTIONS);
-                listen(
-                    runtime,
-                    alloc,
-                    listening,
-                    peers,
-                    patience,
-                    wanted.stays,
-                    settings,
-                )?
-            }
-        };
+        let begun = begin(self.runtime, wanted)?;
         Ok(Opened {
             waiter: begun.sockets,
             connections: begun.connections,

@@ -6,6 +6,7 @@ mod machine;
 
 use bsc_command::{Fault, command, fail, not_text};
 use machine::{Errors, Machine};
+use std::alloc::Global;
 use std::io::{BufWriter, ErrorKind};
 use std::process::ExitCode;
 use std::rt::Env;
@@ -13,25 +14,35 @@ use std::{env, io};
 
 fn main(rt: HostRuntime) -> ExitCode {
     let mut errors = Errors { runtime: &rt };
-    let Ok(mut out) = BufWriter::new(rt.alloc(), io::writer(&rt)) else {
-        return ExitCode::from(fail(&Fault::OutOfMemory, &mut errors));
-    };
-    let (words, mut input, mut machine) = (words(&rt), rt.reader(), Machine { runtime: &rt });
-    ExitCode::from(command(
-        rt.alloc(),
-        words,
-        &mut input,
-        &mut machine,
-        &mut out,
-        &mut errors,
-    ))
+    ExitCode::from(match BufWriter::new(rt.alloc(), io::writer(&rt)) {
+        Ok(mut out) => {
+            let mut input = rt.reader();
+            let mut machine = Machine { runtime: &rt };
+            command(
+                rt.alloc(),
+                words(&rt),
+                &mut input,
+                &mut machine,
+                &mut out,
+                &mut errors,
+            )
+        }
+        Err(_) => fail(&Fault::OutOfMemory, &mut errors),
+    })
 }
 
 /// The words of the command line, the program's name first.
 fn words<R: AllocGlobal + Env>(rt: &R) -> Result<Vec<String>, Fault> {
     match env::args(rt) {
         Ok(words) => Ok(words.collect(rt.alloc())?),
-        Err(error) if error.kind() == ErrorKind::OutOfMemory => Err(Fault::OutOfMemory),
-        Err(_) => Err(not_text(rt.alloc())),
+        Err(error) => Err(fault(rt.alloc(), error.kind())),
+    }
+}
+
+/// The fault of words that could not be had, for this reason.
+fn fault(alloc: Global, kind: ErrorKind) -> Fault {
+    match kind {
+        ErrorKind::OutOfMemory => Fault::OutOfMemory,
+        _ => not_text(alloc),
     }
 }
