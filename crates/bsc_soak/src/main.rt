@@ -4,6 +4,7 @@
 //! Its words are the number of events and a seed, by default 20,000 and 1.
 #![tactic(auto)]
 
+mod events;
 mod player;
 mod random;
 mod report;
@@ -11,6 +12,7 @@ mod setups;
 mod spoiling;
 
 use anyhow::{Context, Result, bail};
+use events::Events;
 use player::Player;
 use refusing_alloc::Refusing;
 use report::Report;
@@ -24,21 +26,31 @@ fn main(rt: HostRuntime) -> Result<()> {
 
 /// Plays as the command line says, and prints what was seen.
 fn run<R: AllocGlobal + Env + Print>(rt: &R) -> Result<()> {
+    let (events, seed) = asked(rt)?;
+    soak(rt.alloc(), events, seed)?.print(rt)
+}
+
+/// The number of events and the seed of the command line.
+fn asked<R: AllocGlobal + Env>(rt: &R) -> Result<(u64, u64)> {
     let mut words = Vec::new(rt.alloc());
-    for word in env::args(rt)?.skip(1) {
+    add_words(rt, &mut words)?;
+    read_words(&words)
+}
+
+/// Adds the words of the command line, which begins with the name of the program.
+fn add_words<R: AllocGlobal + Env>(rt: &R, words: &mut Vec<String>) -> Result<()> {
+    for word in env::args(rt)? {
         words.push(word)?;
     }
-    let (events, seed) = read_words(&words)?;
-    let report = soak(rt.alloc(), events, seed)?;
-    report.print(rt)
+    Ok(())
 }
 
 /// The number of events and the seed.
 fn read_words(words: &[String]) -> Result<(u64, u64)> {
     match words {
-        [] => Ok((20_000, 1)),
-        [events] => Ok((events.parse()?, 1)),
-        [events, seed] => Ok((events.parse()?, seed.parse()?)),
+        [] | [_] => Ok((20_000, 1)),
+        [_, events] => Ok((events.parse()?, 1)),
+        [_, events, seed] => Ok((events.parse()?, seed.parse()?)),
         _ => bail!("not a number of events and a seed"),
     }
 }
@@ -66,15 +78,38 @@ fn play_line(
     report: &mut Report,
 ) -> Result<()> {
     let mut player = Player::new(alloc, memory, seed)?;
-    let events = player.life().min(most);
+    play_on(alloc, &mut player, seed, most, report)
+}
+
+/// Plays for at most this many events on the line of this seed.
+fn play_on(
+    alloc: Global,
+    player: &mut Player<'_>,
+    seed: u64,
+    most: u64,
+    report: &mut Report,
+) -> Result<()> {
+    let events = life(&mut player.events).min(most);
+    play_events(alloc, player, seed, events)?;
+    report.add(events, player.line.trusted(), &player.watch.tally());
+    Ok(())
+}
+
+/// How many events a line is played for: few on most lines, since a line loses trust once.
+fn life(events: &mut Events) -> u64 {
+    let most = if events.below(8) == 0 { 6000 } else { 1000 };
+    (events.below(most) as u64).saturating_add(100)
+}
+
+/// Plays this many events on the line of this seed, and then compares all records.
+fn play_events(alloc: Global, player: &mut Player<'_>, seed: u64, events: u64) -> Result<()> {
     for number in 0..events {
         player
-            .step()?
+            .step(alloc)?
             .context(format_args!("line {seed}, event {number}"))?;
     }
     player
-        .see_all()
-        .context(format_args!("line {seed}, after {events} events"))?;
-    report.add(events, &player);
-    Ok(())
+        .watch
+        .see_all(&player.line)
+        .context(format_args!("line {seed}, after {events} events"))
 }

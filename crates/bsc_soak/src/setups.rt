@@ -44,23 +44,39 @@ pub fn terminals(alloc: Global, random: &mut Random) -> anyhow::Result<Vec<Termi
 
 /// A terminal whose addresses begin with a letter and this code.
 fn terminal(alloc: Global, random: &mut Random, code: u8) -> anyhow::Result<Terminal> {
-    let poll = address(alloc, random, b'P', code)?;
+    let poll = address(random, b'P', code)?;
     let mut selects = Vec::new(alloc);
-    for letter in [b'a', b'b', b'c', b'd'] {
-        if selects.is_empty() || random.one_in(2) {
-            selects.push(address(alloc, random, letter, code)?)?;
-        }
-    }
+    add_selects(random, code, &mut selects)?;
     Ok(Terminal::new(poll, &selects)?)
 }
 
-/// An address of this letter and code and up to five more codes.
-fn address(alloc: Global, random: &mut Random, letter: u8, code: u8) -> anyhow::Result<Address> {
-    let mut codes = Vec::from_slice(alloc, &[letter, code])?;
-    for _ in 0..random.below(6) {
-        codes.push(octet(0x21 + random.below(0x5e)))?;
+/// Adds one to four addresses of this code.
+fn add_selects(random: &mut Random, code: u8, selects: &mut Vec<Address>) -> anyhow::Result<()> {
+    for letter in b'a'..=b'd' {
+        if selects.is_empty() || random.one_in(2) {
+            selects.push(address(random, letter, code)?)?;
+        }
     }
-    Address::read(&codes).context("no address")
+    Ok(())
+}
+
+/// An address of this letter and code and up to five more codes.
+fn address(random: &mut Random, letter: u8, code: u8) -> anyhow::Result<Address> {
+    let mut codes = [letter, code, 0, 0, 0, 0, 0];
+    let more = random.below(6);
+    for place in 2..2 + more {
+        codes[place] = octet(0x21 + random.below(0x5e));
+    }
+    Address::read(&codes[..2 + more]).context("no address")
+}
+
+/// How many selection addresses each terminal has.
+pub fn select_counts(alloc: Global, terminals: &[Terminal]) -> Result<Vec<usize>, AllocError> {
+    let mut counts = Vec::new(alloc);
+    for terminal in terminals {
+        counts.push(terminal.selects())?;
+    }
+    Ok(counts)
 }
 
 /// A poll list for this many terminals, of 1 to 255 entries: each terminal in its order, or any.

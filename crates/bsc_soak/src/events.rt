@@ -1,0 +1,285 @@
+//! Random events of a line, made without the line.
+
+use crate::random::Random;
+use crate::spoiling::{Spoiling, any_spoiling, change};
+use bsc_control::Way;
+use bsc_line::{Event, Speaker};
+use std::alloc::{AllocError, Global};
+use std::mem;
+
+/// What was pending: nothing, a call, or something else that this station sent.
+#[derive(Clone, Copy, PartialEq, Eq)]
+enum Pending {
+    Nothing,
+    Call,
+    Control,
+    Terminal,
+}
+
+/// What events are made of.
+#[derive(Drop)]
+pub struct Events {
+    alloc: Global,
+    random: Random,
+    // How many selection addresses each terminal has.
+    selects: Vec<usize>,
+    // How many characters a full record has.
+    full: usize,
+    spoiling: Spoiling,
+    // Of 16 transmissions this many are not heard as they were sent.
+    spoiled: usize,
+    // The codes of the record that is offered.
+    codes: Vec<u8>,
+    // What is pending, and what was pending some time before.
+    octets: Vec<u8>,
+    earlier: Vec<u8>,
+    // What is heard by all, and by each terminal.
+    heard: Vec<u8>,
+    hearings: Vec<Option<Vec<u8>>>,
+}
+
+/// What happens next.
+pub enum Next<'a> {
+    /// An event.
+    Event(Event<'a>),
+
+    /// Each terminal hears its one of these.
+    Each(&'a [Option<Vec<u8>>]),
+}
+
+/// The choice of 32 that is a release.
+pub const RELEASE: usize = 11;
+
+/// Nothing is heard, by two terminals.
+const NOTHING_BY_TWO: &[Option<&[u8]>] = &[None, None];
+
+impl Events {
+    /// Events of a line on which full records have this many characters, and each terminal this
+    /// many selection addresses.
+    pub fn new(alloc: Global, mut random: Random, full: usize, selects: Vec<usize>) -> Events {
+        Events {
+            alloc,
+            selects,
+            full,
+            spoiling: any_spoiling(&mut random),
+            spoiled: random.below(8),
+            codes: Vec::new(alloc),
+            octets: Vec::new(alloc),
+            earlier: Vec::new(alloc),
+            heard: Vec::new(alloc),
+            hearings: Vec::new(alloc),
+            random,
+        }
+    }
+
+    /// One of the numbers below this.
+    pub fn below(&mut self, bound: usize) -> usize {
+        self.random.below(bound)
+    }
+
+    /// What happens next by this choice of 32, where this channel is the first in doubt and this is
+    /// pending.
+    pub fn next(
+        &mut self,
+        choice: usize,
+        doubtful: Option<(usize, Way)>,
+        pending: Option<(Speaker, &[u8])>,
+    ) -> Result<Next<'_>, AllocError> {
+        match choice {
+            0..=4 => self.offer_at(),
+            5..=9 => self.offer_for(),
+            10 => Ok(Next::Event(self.flag())),
+            RELEASE => Ok(Next::Event(self.release(doubtful))),
+            12 => Ok(Next::Event(self.any_turn())),
+            _ => self.turn(pending),
+        }
+    }
+
+    /// A number below the count, or sometimes also the count.
+    fn one_of(&mut self, count: usize) -> usize {
+        if self.random.one_in(32) {
+            self.random.below(count.saturating_add(1))
+        } else {
+            self.random.below(count)
+        }
+    }
+
+    /// The number of a terminal, or of none.
+    fn terminal(&mut self) -> usize {
+        let count = self.selects.len();
+        self.one_of(count)
+    }
+
+    /// The number of an address of a terminal, or one more.
+    fn select(&mut self, terminal: usize) -> usize {
+        let count = match self.selects.get(terminal) {
+            Some(count) => *count,
+            None => 1,
+        };
+        self.one_of(count)
+    }
+
+    /// How many characters the next record has: few, as many as may be, or one too many.
+    fn record_len(&mut self) -> usize {
+        match self.random.below(4) {
+            0 => self.random.below(self.full.saturating_add(2)),
+            1 => self.full,
+            _ => self.random.below(4),
+        }
+    }
+
+    /// Makes the codes of a record, in which one is sometimes no character.
+    fn make_record(&mut self) -> Result<(), AllocError> {
+        self.codes.clear();
+        for _ in 0..self.record_len() {
+            self.codes.push(0x20 | self.random.octet() & 0x5f)?;
+        }
+        if self.random.one_in(32) {
+            change(&mut self.random, &mut self.codes);
+        }
+        Ok(())
+    }
+
+    fn offer_at(&mut self) -> Result<Next<'_>, AllocError> {
+        let terminal = self.terminal();
+        self.make_record()?;
+        let codes = self.codes.as_slice();
+        Ok(Next::Event(Event::OfferAt { terminal, codes }))
+    }
+
+    fn offer_for(&mut self) -> Result<Next<'_>, AllocError> {
+        let terminal = self.terminal();
+        let select = self.select(terminal);
+        self.make_record()?;
+        Ok(Next::Event(Event::OfferFor {
+            terminal,
+            select,
+            codes: self.codes.as_slice(),
+        }))
+    }
+
+    /// A terminal is ready or not, or something is urgent.
+    fn flag(&mut self) -> Event<'_> {
+        let terminal = self.terminal();
+        let ready = !self.random.one_in(3);
+        match self.random.below(3) {
+            0 => Event::Ready { terminal, ready },
+            1 => Event::UrgentAt { terminal },
+            _ => Event::UrgentFor { terminal },
+        }
+    }
+
+    /// A release of this channel that is in doubt, or of any.
+    fn release(&mut self, doubtful: Option<(usize, Way)>) -> Event<'_> {
+        if let Some((terminal, way)) = doubtful {
+            return Event::Release { terminal, way };
+        }
+        let terminal = self.terminal();
+        let select = self.select(terminal);
+        let way = if self.random.one_in(2) {
+            Way::FromTerminal
+        } else {
+            Way::ToTerminal(select)
+        };
+        Event::Release { terminal, way }
+    }
+
+    /// An event at any time.
+    fn any_turn(&mut self) -> Event<'_> {
+        match self.random.below(4) {
+            0 => Event::Silence,
+            1 => Event::Carry { heard: None },
+            2 => Event::CarryEach {
+                heard: NOTHING_BY_TWO,
+            },
+            _ => Event::CarrySent,
+        }
+    }
+
+    /// Copies what is pending, and keeps what was before it sometimes.
+    fn copy(&mut self, pending: Option<(Speaker, &[u8])>) -> Result<Pending, AllocError> {
+        if self.random.one_in(4) {
+            mem::swap(&mut self.octets, &mut self.earlier);
+        }
+        self.octets.clear();
+        let Some((speaker, octets)) = pending else {
+            return Ok(Pending::Nothing);
+        };
+        self.octets.extend_from_slice(octets)?;
+        Ok(kind_of(speaker, octets))
+    }
+
+    /// What is pending is carried or lost; where nothing is, a silence passes.
+    fn turn(&mut self, pending: Option<(Speaker, &[u8])>) -> Result<Next<'_>, AllocError> {
+        let pending = self.copy(pending)?;
+        if pending == Pending::Nothing {
+            return Ok(Next::Event(Event::Silence));
+        }
+        if self.random.below(16) >= self.spoiled {
+            return Ok(Next::Event(Event::CarrySent));
+        }
+        match self.random.below(4) {
+            0 => Ok(Next::Event(Event::Carry { heard: None })),
+            1 | 2 if pending != Pending::Terminal => self.hear_each(pending),
+            _ => self.hear(),
+        }
+    }
+
+    /// What is pending is heard spoiled by all who hear it.
+    fn hear(&mut self) -> Result<Next<'_>, AllocError> {
+        self.heard.clear();
+        self.heard.extend_from_slice(&self.octets)?;
+        self.spoiling
+            .spoil(&mut self.random, &mut self.heard, &self.earlier)?;
+        let heard = Some(self.heard.as_slice());
+        Ok(Next::Event(Event::Carry { heard }))
+    }
+
+    /// Each terminal hears what is pending in a way of its own.
+    fn hear_each(&mut self, pending: Pending) -> Result<Next<'_>, AllocError> {
+        self.hearings.clear();
+        for _ in 0..self.selects.len() {
+            let hearing = self.hearing(pending)?;
+            self.hearings.push(hearing)?;
+        }
+        Ok(Next::Each(self.hearings.as_slice()))
+    }
+
+    /// What one terminal hears of what is pending. Where it is a call and all is to be fair, it is
+    /// not the call, so that nobody hears it.
+    fn hearing(&mut self, pending: Pending) -> Result<Option<Vec<u8>>, AllocError> {
+        if pending == Pending::Call && self.spoiling.is_fair() {
+            return self.hearing_of_eot();
+        }
+        match self.random.below(4) {
+            0 => Ok(None),
+            1 => Ok(Some(self.spoiled_octets()?)),
+            _ => Ok(Some(self.octets.clone()?)),
+        }
+    }
+
+    /// EOT or nothing is heard.
+    fn hearing_of_eot(&mut self) -> Result<Option<Vec<u8>>, AllocError> {
+        if self.random.one_in(2) {
+            return Ok(None);
+        }
+        Ok(Some(Vec::from_slice(self.alloc, b"\x16\x16\x04\xff")?))
+    }
+
+    /// What is heard in place of what is pending.
+    fn spoiled_octets(&mut self) -> Result<Vec<u8>, AllocError> {
+        let mut octets = self.octets.clone()?;
+        self.spoiling
+            .spoil(&mut self.random, &mut octets, &self.earlier)?;
+        Ok(octets)
+    }
+}
+
+/// What is pending, where this station sent these octets.
+fn kind_of(speaker: Speaker, octets: &[u8]) -> Pending {
+    match speaker {
+        Speaker::Terminal(_) => Pending::Terminal,
+        Speaker::Control if octets.get(2) == Some(&0x04) => Pending::Call,
+        Speaker::Control => Pending::Control,
+    }
+}
