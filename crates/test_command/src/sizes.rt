@@ -32,31 +32,32 @@ fn around(
     Ok(whole)
 }
 
-/// How many events a script of a mebibyte of this line has; which they are is said by the contract
-/// of `read_script`.
-fn count_of(alloc: Global, line: &str) -> Result<Option<usize>, AllocError> {
+/// How many octets a script of a mebibyte of this line has, and how many events; which they are is
+/// said by the contract of `read_script`.
+fn counts(alloc: Global, line: &str) -> Result<Option<(usize, usize)>, AllocError> {
     let text = mebibyte_of(alloc, line)?;
     Ok(match read_script(alloc, text.as_bytes()) {
-        Ok(script) => Some(script.steps().len()),
+        Ok(script) => Some((text.len(), script.steps().len())),
         Err(_) => None,
     })
 }
 
 #[test]
 fn a_script_of_a_mebibyte_has_each_event(rt: HostRuntime) -> Result<(), Fail> {
-    assert_eq!(rt; count_of(rt.alloc(), "offer-at 0 HI\n")?, Some(74_898));
+    let counts = counts(rt.alloc(), "offer-at 0 HI\n")?;
+    assert_eq!(rt; counts, Some((1_048_576, 74_898)));
     Ok(())
 }
 
-/// How many of the longest hearings a script of a mebibyte has.
-fn count_of_longest(alloc: Global) -> Result<Option<usize>, AllocError> {
+/// The same of the longest hearing.
+fn counts_of_longest(alloc: Global) -> Result<Option<(usize, usize)>, AllocError> {
     let line = around(alloc, "heard ", "16", 2048, "\n")?;
-    count_of(alloc, &line)
+    counts(alloc, &line)
 }
 
 #[test]
 fn a_script_of_the_longest_hearings_has_each(rt: HostRuntime) -> Result<(), Fail> {
-    assert_eq!(rt; count_of_longest(rt.alloc())?, Some(255));
+    assert_eq!(rt; counts_of_longest(rt.alloc())?, Some((1_048_576, 255)));
     Ok(())
 }
 
