@@ -6,7 +6,7 @@ ghost use Rattle.bsc_line_model.specs.Line.{IsChannel, terminal_count};
 use crate::events::NONE;
 use bsc_block::Record;
 use bsc_control::Way;
-use bsc_fixtures::records::{are_front, are_records};
+use bsc_fixtures::records::are_records;
 use bsc_line::{Line, LineError};
 use std::alloc::Allocator;
 
@@ -48,11 +48,6 @@ struct Ends<'a> {
 }
 
 impl<'a> Has<'a> {
-    /// The records that were offered.
-    pub(crate) fn offered(&self) -> &'a [&'a [u8]] {
-        self.ends().offered
-    }
-
     fn ends(&self) -> Ends<'a> {
         let (offered, known, spooled, in_doubt) = match *self {
             Has::Delivered(records) => (records, records.len(), records, false),
@@ -108,17 +103,6 @@ pub(crate) fn offered_count<A: Allocator>(line: &Line<A>, terminal: usize, way: 
     } else {
         0
     }
-}
-
-/// Whether the line has such a channel, and the records of the first of these characters, and no
-/// others, were offered there.
-pub(crate) fn has_front_of<A: Allocator>(
-    line: &Line<A>,
-    terminal: usize,
-    way: Way,
-    expected: &[&[u8]],
-) -> bool {
-    is_channel(line, terminal, way) && are_front(line.offered(terminal, way), expected)
 }
 
 /// Whether the line has such a channel, and that has this.

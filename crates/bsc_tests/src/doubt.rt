@@ -39,11 +39,16 @@ const ONCE_IN_DOUBT: Left<'static> = &[(
 const ACKNOWLEDGEMENT_LOST: Part<'static> = Part {
     steps: &[
         (OFFER_AT, Done),
-        (Silence, Sent(Control, CALL_POLL_A)),
-        (CarrySent, Sent(Terminal(0), TEXT_HI)),
-        (CarrySent, Sent(Control, ACK1)),
+        (
+            Silence,
+            Sent(&[
+                (Control, CALL_POLL_A),
+                (Terminal(0), TEXT_HI),
+                (Control, ACK1),
+            ]),
+        ),
         (LOSE, Quiet),
-        (Silence, Sent(Terminal(0), ENQ)),
+        (Silence, Sent(&[(Terminal(0), ENQ)])),
     ],
     trusted: true,
     left: &[],
@@ -52,11 +57,10 @@ const ACKNOWLEDGEMENT_LOST: Part<'static> = Part {
 /// After that the control station hears the ENQ as a broken text, asks for the text again and takes
 /// it a second time.
 const SPOOLED_TWICE: Part<'static> = Part {
-    steps: &[
-        (HEAR_BROKEN_TEXT, Sent(Control, NAK)),
-        (CarrySent, Sent(Terminal(0), TEXT_HI)),
-        (CarrySent, Sent(Control, ACK0)),
-    ],
+    steps: &[(
+        HEAR_BROKEN_TEXT,
+        Sent(&[(Control, NAK), (Terminal(0), TEXT_HI), (Control, ACK0)]),
+    )],
     trusted: false,
     left: &[(
         0,
@@ -108,24 +112,32 @@ const EXCHANGES: &[Exchange<'static>] = &[
             Part {
                 steps: &[
                     (OFFER_AT, Done),
-                    (Silence, Sent(Control, CALL_POLL_A)),
-                    (CarrySent, Sent(Terminal(0), TEXT_HI)),
-                    (CarrySent, Sent(Control, ACK1)),
+                    (
+                        Silence,
+                        Sent(&[
+                            (Control, CALL_POLL_A),
+                            (Terminal(0), TEXT_HI),
+                            (Control, ACK1),
+                        ]),
+                    ),
                     (LOSE, Quiet),
-                    (Silence, Sent(Terminal(0), ENQ)),
+                    (Silence, Sent(&[(Terminal(0), ENQ)])),
                     (LOSE, Quiet),
-                    (Silence, Sent(Terminal(0), EOT)),
+                    (Silence, Sent(&[(Terminal(0), EOT)])),
                 ],
                 trusted: true,
                 left: ONCE_IN_DOUBT,
             },
             Part {
-                steps: &[
-                    (CarrySent, Sent(Control, CALL_POLL_B)),
-                    (CarrySent, Sent(Terminal(1), EOT)),
-                    (CarrySent, Sent(Control, CALL_POLL_A)),
-                    (CarrySent, Sent(Terminal(0), EOT)),
-                ],
+                steps: &[(
+                    CarrySent,
+                    Sent(&[
+                        (Control, CALL_POLL_B),
+                        (Terminal(1), EOT),
+                        (Control, CALL_POLL_A),
+                        (Terminal(0), EOT),
+                    ]),
+                )],
                 trusted: true,
                 left: ONCE_IN_DOUBT,
             },
@@ -149,10 +161,7 @@ const EXCHANGES: &[Exchange<'static>] = &[
             ACKNOWLEDGEMENT_LOST,
             SPOOLED_TWICE,
             Part {
-                steps: &[
-                    (CarrySent, Sent(Terminal(0), TEXT_HI)),
-                    (CarrySent, Sent(Control, ACK1)),
-                ],
+                steps: &[(CarrySent, Sent(&[(Terminal(0), TEXT_HI), (Control, ACK1)]))],
                 trusted: false,
                 left: &[(
                     0,
@@ -166,7 +175,7 @@ const EXCHANGES: &[Exchange<'static>] = &[
             },
             Part {
                 steps: &[
-                    (CarrySent, Sent(Terminal(0), EOT)),
+                    (CarrySent, Sent(&[(Terminal(0), EOT)])),
                     (RELEASE_FROM, Refused(LineError::NotInDoubt)),
                 ],
                 trusted: false,
@@ -192,9 +201,9 @@ const EXCHANGES: &[Exchange<'static>] = &[
             Part {
                 steps: &[
                     (LOSE, Quiet),
-                    (Silence, Sent(Terminal(0), ENQ)),
+                    (Silence, Sent(&[(Terminal(0), ENQ)])),
                     (LOSE, Quiet),
-                    (Silence, Sent(Terminal(0), EOT)),
+                    (Silence, Sent(&[(Terminal(0), EOT)])),
                 ],
                 trusted: false,
                 left: TWICE_IN_DOUBT,
@@ -211,25 +220,31 @@ const EXCHANGES: &[Exchange<'static>] = &[
             Part {
                 steps: &[
                     (OFFER_FOR, Done),
-                    (Silence, Sent(Control, CALL_SELECT_A)),
-                    (CarrySent, Sent(Terminal(0), ACK0)),
-                    (CarrySent, Sent(Control, TEXT_HI)),
-                    (CarrySent, Sent(Terminal(0), ACK1)),
+                    (
+                        Silence,
+                        Sent(&[
+                            (Control, CALL_SELECT_A),
+                            (Terminal(0), ACK0),
+                            (Control, TEXT_HI),
+                            (Terminal(0), ACK1),
+                        ]),
+                    ),
                     (LOSE, Quiet),
-                    (Silence, Sent(Control, ENQ)),
+                    (Silence, Sent(&[(Control, ENQ)])),
                 ],
                 trusted: true,
                 left: &[],
             },
             Part {
                 steps: &[
-                    (HEAR_BROKEN_TEXT, Sent(Terminal(0), NAK)),
-                    (CarrySent, Sent(Control, TEXT_HI)),
-                    (CarrySent, Sent(Terminal(0), ACK0)),
+                    (
+                        HEAR_BROKEN_TEXT,
+                        Sent(&[(Terminal(0), NAK), (Control, TEXT_HI), (Terminal(0), ACK0)]),
+                    ),
                     (LOSE, Quiet),
-                    (Silence, Sent(Control, ENQ)),
+                    (Silence, Sent(&[(Control, ENQ)])),
                     (LOSE, Quiet),
-                    (Silence, Sent(Control, CALL_POLL_A)),
+                    (Silence, Sent(&[(Control, CALL_POLL_A)])),
                 ],
                 trusted: false,
                 left: SELECTED_TWICE_IN_DOUBT,
@@ -249,13 +264,18 @@ const EXCHANGES: &[Exchange<'static>] = &[
             Part {
                 steps: &[
                     (OFFER_FOR, Done),
-                    (Silence, Sent(Control, CALL_SELECT_A)),
-                    (CarrySent, Sent(Terminal(0), ACK0)),
-                    (CarrySent, Sent(Control, TEXT_HI)),
+                    (
+                        Silence,
+                        Sent(&[
+                            (Control, CALL_SELECT_A),
+                            (Terminal(0), ACK0),
+                            (Control, TEXT_HI),
+                        ]),
+                    ),
                     (LOSE, Quiet),
-                    (Silence, Sent(Control, ENQ)),
+                    (Silence, Sent(&[(Control, ENQ)])),
                     (LOSE, Quiet),
-                    (Silence, Sent(Control, CALL_POLL_A)),
+                    (Silence, Sent(&[(Control, CALL_POLL_A)])),
                 ],
                 trusted: true,
                 left: &[(
@@ -274,16 +294,19 @@ const EXCHANGES: &[Exchange<'static>] = &[
                 left: &[(0, ToTerminal(0), Waiting(HI))],
             },
             Part {
-                steps: &[
-                    (CarrySent, Sent(Terminal(0), EOT)),
-                    (CarrySent, Sent(Control, CALL_POLL_B)),
-                    (CarrySent, Sent(Terminal(1), EOT)),
-                    (CarrySent, Sent(Control, CALL_SELECT_A)),
-                    (CarrySent, Sent(Terminal(0), ACK0)),
-                    (CarrySent, Sent(Control, TEXT_HI)),
-                    (CarrySent, Sent(Terminal(0), ACK1)),
-                    (CarrySent, Sent(Control, CALL_POLL_A)),
-                ],
+                steps: &[(
+                    CarrySent,
+                    Sent(&[
+                        (Terminal(0), EOT),
+                        (Control, CALL_POLL_B),
+                        (Terminal(1), EOT),
+                        (Control, CALL_SELECT_A),
+                        (Terminal(0), ACK0),
+                        (Control, TEXT_HI),
+                        (Terminal(0), ACK1),
+                        (Control, CALL_POLL_A),
+                    ]),
+                )],
                 trusted: true,
                 left: &[(0, ToTerminal(0), Delivered(HI))],
             },

@@ -3,8 +3,8 @@
 use bsc_control::SetupError;
 use bsc_fixtures::lines::{setup, two_terminals, two_terminals_by_three};
 use bsc_frame::Address;
-use bsc_line::Line;
-use bsc_text::Terminal;
+use bsc_line::{Line, LineError};
+use bsc_text::{Setup, Terminal};
 use refusing_alloc::Refusing;
 use std::alloc::{Allocator, Global};
 use std::test::Fail;
@@ -67,6 +67,7 @@ pub(crate) fn most_terminals() -> Result<[Terminal; 64], Fail> {
 }
 
 /// The terminals of a line.
+#[derive(Clone, Copy)]
 enum Terminals {
     /// Terminals 0 and 1, of one selection address each.
     Two,
@@ -74,15 +75,30 @@ enum Terminals {
     /// These, where terminal 0 has a second selection address.
     TwoByThree,
 
-    /// As many as there may be.
-    Most,
+    /// This many of the most that there may be.
+    First(usize),
 }
 
-/// A line: its terminals, its poll list, and how many failures in a row are borne.
+/// A line: its terminals, its poll list, how many failures in a row are borne, and how many
+/// characters a record may have.
+#[derive(Clone, Copy)]
 pub(crate) struct On<'a> {
     terminals: Terminals,
     poll_list: &'a [u8],
     tries: u8,
+    chars: u8,
+}
+
+impl<'a> On<'a> {
+    /// This many of the most terminals with this poll list.
+    pub(crate) fn first(count: usize, poll_list: &'a [u8]) -> On<'a> {
+        On {
+            terminals: Terminals::First(count),
+            poll_list,
+            tries: 3,
+            chars: 80,
+        }
+    }
 }
 
 /// Terminals 0 and 1 polled in turn, and the default of three tries.
@@ -90,6 +106,7 @@ pub(crate) const TWO: On<'static> = On {
     terminals: Terminals::Two,
     poll_list: &[0, 1],
     tries: 3,
+    chars: 80,
 };
 
 /// These, with one try.
@@ -97,6 +114,7 @@ pub(crate) const TWO_WITH_ONE_TRY: On<'static> = On {
     terminals: Terminals::Two,
     poll_list: &[0, 1],
     tries: 1,
+    chars: 80,
 };
 
 /// These, with one try, where terminal 1 is polled first.
@@ -104,6 +122,7 @@ pub(crate) const SECOND_FIRST: On<'static> = On {
     terminals: Terminals::Two,
     poll_list: &[1, 0],
     tries: 1,
+    chars: 80,
 };
 
 /// Terminals 0 and 1 polled in turn, where terminal 0 has two selection addresses.
@@ -111,6 +130,7 @@ pub(crate) const TWO_BY_THREE: On<'static> = On {
     terminals: Terminals::TwoByThree,
     poll_list: &[0, 1],
     tries: 3,
+    chars: 80,
 };
 
 /// These, where terminal 0 has two entries of the poll list.
@@ -118,35 +138,66 @@ pub(crate) const TWO_BY_THREE_ENTRIES: On<'static> = On {
     terminals: Terminals::TwoByThree,
     poll_list: &[0, 0, 1],
     tries: 3,
+    chars: 80,
+};
+
+/// Terminals 0 and 1 polled in turn, with the longest records, of which two go in one block.
+pub(crate) const TWO_OF_LONGEST: On<'static> = On {
+    terminals: Terminals::Two,
+    poll_list: &[0, 1],
+    tries: 3,
+    chars: 144,
 };
 
 /// As many terminals as there may be, of which one is polled.
 pub(crate) const MOST: On<'static> = On {
-    terminals: Terminals::Most,
+    terminals: Terminals::First(64),
     poll_list: &[0],
     tries: 3,
+    chars: 80,
 };
 
-/// A new line with these terminals and this poll list, on which this many failures in a row are
-/// borne.
-pub(crate) fn line_of<A: Allocator + Copy>(
+/// A new line with these settings, terminals and poll list.
+fn line_of<A: Allocator + Copy>(
     alloc: A,
+    setup: Setup,
     terminals: &[Terminal],
     poll_list: &[u8],
-    tries: u8,
 ) -> Result<Line<A>, Fail> {
-    Ok(Line::new(alloc, setup(tries)?, terminals, poll_list)?)
+    Ok(Line::new(alloc, setup, terminals, poll_list)?)
 }
 
 /// A new line.
-pub(crate) fn line_on<A: Allocator + Copy>(alloc: A, on: &On<'_>) -> Result<Line<A>, Fail> {
+fn line_on<A: Allocator + Copy>(alloc: A, on: &On<'_>) -> Result<Line<A>, Fail> {
+    let setup = Setup::new(on.chars, 400, on.tries, 10)?;
     match on.terminals {
-        Terminals::Two => line_of(alloc, &two_terminals(), on.poll_list, on.tries),
-        Terminals::TwoByThree => {
-            line_of(alloc, &two_terminals_by_three(), on.poll_list, on.tries)
+        Terminals::Two => line_of(alloc, setup, &two_terminals(), on.poll_list),
+        Terminals::TwoByThree => line_of(alloc, setup, &two_terminals_by_three(), on.poll_list),
+        Terminals::First(count) => {
+            let most = most_terminals()?;
+            let first = most.get(..count).ok_or("too few terminals")?;
+            line_of(alloc, setup, first, on.poll_list)
         }
-        Terminals::Most => line_of(alloc, &most_terminals()?, on.poll_list, on.tries),
     }
+}
+
+/// What is played on a new line.
+pub(crate) trait Play {
+    /// What comes of it.
+    type Answer: Drop;
+
+    /// Plays it.
+    fn play<A: Allocator>(&self, line: &mut Line<A>) -> Self::Answer;
+}
+
+/// Whether a line did as it should, or which of its calls was refused.
+pub(crate) type Answer = Result<bool, LineError>;
+
+/// Plays this on a new line, for which no growth is refused.
+pub(crate) fn play_on<P: Play>(alloc: &Refusing, on: &On<'_>, play: &P) -> Result<P::Answer, Fail> {
+    alloc.refuse_none();
+    let mut line = line_on(alloc, on)?;
+    Ok(play.play(&mut line))
 }
 
 /// Why there is no line with these terminals and this poll list; None where there is one.

@@ -1,12 +1,10 @@
 //! Each growth of whole exchanges refused in turn, all growths from one on, and all above a size.
 
-use crate::channels::Has::Delivered;
-use crate::channels::{are_sound, has_front_of, offer, offered_count};
-use crate::events::{EIGHT, HI, NONE, SEVEN};
-use crate::fixtures::{TWO, line_on, refusal, terminals_of};
+use crate::channels::{are_sound, is_channel, offer, offered_count};
+use crate::fixtures::{Play, TWO, play_on, refusal, terminals_of};
 use crate::limits::go_on;
-use crate::play::{Left, wrong_left};
 use crate::refusals::{SETTINGS, Setting};
+use bsc_block::Record;
 use bsc_control::Way::{FromTerminal, ToTerminal};
 use bsc_control::{SetupError, Way};
 use bsc_fixtures::octets::{NAK, WACK};
@@ -22,83 +20,84 @@ const ABOVE: Refusal = Refusal::Above { octets: 512 };
 /// Growths of more octets than a number of units of 64.
 const ABOVE_LITTLE: Refusal = Refusal::Above { octets: 64 };
 
-/// An exchange on a line of two terminals: what is offered on each channel, in order, and whether
+/// What is offered on channels: each one's terminal and way, and the characters of its records,
+/// which are of one character each.
+type Offered<'a> = &'a [(usize, Way, &'a [u8])];
+
+/// An exchange on a line of two terminals: what is offered, channel by channel, and whether
 /// terminal 0 then asks for the line.
 struct Exchange<'a> {
-    offered: Left<'a>,
+    offered: Offered<'a>,
     urgent: bool,
 }
 
-/// Records that are told apart.
-const CAPITALS: &[&[u8]] = &[
-    b"A", b"B", b"C", b"D", b"E", b"F", b"G", b"H", b"I", b"J", b"K", b"L", b"M", b"N", b"O", b"P",
-    b"Q", b"R", b"S", b"T",
-];
+const ONE: &[u8] = b"H";
 
-/// Other records, which are told apart from each other and from the capitals.
-const LETTERS: &[&[u8]] = &[
-    b"a", b"b", b"c", b"d", b"e", b"f", b"g", b"h", b"i", b"j", b"k", b"l", b"m", b"n", b"o", b"p",
-    b"q", b"r", b"s", b"t",
-];
+/// As many as one block holds.
+const SEVEN: &[u8] = b"0123456";
 
-const RECORD: &[u8] = b"HI";
+const EIGHT: &[u8] = b"01234567";
 
-/// A record a hundred times.
-const HUNDRED: &[&[u8]] = &[RECORD; 100];
+/// Of three blocks.
+const CAPITALS: &[u8] = b"ABCDEFGHIJKLMNOPQRST";
+
+/// Others of three blocks, which are told apart from the capitals.
+const LETTERS: &[u8] = b"abcdefghijklmnopqrst";
+
+/// Of fifteen blocks.
+const HUNDRED: &[u8] = b"A record of each of these characters is offered, one after the other, \
+    each way of the first terminal";
 
 /// A record from terminal 0; one block to it; two blocks to it; two blocks to it, of which it
 /// interrupts the first to send a record; three blocks each way; and fifteen blocks each way.
 const EXCHANGES: &[Exchange<'static>] = &[
     Exchange {
         offered: &[
-            (0, FromTerminal, Delivered(HI)),
-            (0, ToTerminal(0), Delivered(NONE)),
-            (1, FromTerminal, Delivered(NONE)),
-            (1, ToTerminal(0), Delivered(NONE)),
+            (0, FromTerminal, ONE),
+            (0, ToTerminal(0), b""),
+            (1, FromTerminal, b""),
+            (1, ToTerminal(0), b""),
         ],
         urgent: false,
     },
     Exchange {
         offered: &[
-            (0, FromTerminal, Delivered(NONE)),
-            (0, ToTerminal(0), Delivered(SEVEN)),
-            (1, FromTerminal, Delivered(NONE)),
-            (1, ToTerminal(0), Delivered(NONE)),
+            (0, FromTerminal, b""),
+            (0, ToTerminal(0), SEVEN),
+            (1, FromTerminal, b""),
+            (1, ToTerminal(0), b""),
         ],
         urgent: false,
     },
     Exchange {
         offered: &[
-            (0, FromTerminal, Delivered(NONE)),
-            (0, ToTerminal(0), Delivered(EIGHT)),
-            (1, FromTerminal, Delivered(NONE)),
-            (1, ToTerminal(0), Delivered(NONE)),
+            (0, FromTerminal, b""),
+            (0, ToTerminal(0), EIGHT),
+            (1, FromTerminal, b""),
+            (1, ToTerminal(0), b""),
         ],
         urgent: false,
     },
     Exchange {
         offered: &[
-            (0, ToTerminal(0), Delivered(EIGHT)),
-            (0, FromTerminal, Delivered(HI)),
-            (1, FromTerminal, Delivered(NONE)),
-            (1, ToTerminal(0), Delivered(NONE)),
+            (0, ToTerminal(0), EIGHT),
+            (0, FromTerminal, ONE),
+            (1, FromTerminal, b""),
+            (1, ToTerminal(0), b""),
         ],
         urgent: true,
     },
     Exchange {
         offered: &[
-            (0, FromTerminal, Delivered(CAPITALS)),
-            (0, ToTerminal(0), Delivered(LETTERS)),
-            (1, FromTerminal, Delivered(NONE)),
-            (1, ToTerminal(0), Delivered(NONE)),
+            (0, FromTerminal, CAPITALS),
+            (0, ToTerminal(0), LETTERS),
+            (1, FromTerminal, b""),
+            (1, ToTerminal(0), b""),
         ],
         urgent: false,
     },
     Exchange {
-        offered: &[
-            (0, FromTerminal, Delivered(HUNDRED)),
-            (0, ToTerminal(0), Delivered(HUNDRED)),
-        ],
+        offered: &[(0, FromTerminal, HUNDRED), (0, ToTerminal(0), HUNDRED)],
         urgent: false,
     },
 ];
@@ -130,13 +129,13 @@ fn offers_rest<A: Allocator>(
     line: &mut Line<A>,
     terminal: usize,
     way: Way,
-    records: &[&[u8]],
+    codes: &[u8],
 ) -> bool {
-    for _ in records.iter().chain(records) {
-        let Some(codes) = records.get(offered_count(line, terminal, way)) else {
+    for _ in codes.iter().chain(codes) {
+        let Some(code) = codes.get(offered_count(line, terminal, way)) else {
             return true;
         };
-        if !offers_rightly(alloc, line, terminal, way, codes) {
+        if !offers_rightly(alloc, line, terminal, way, &[*code]) {
             return false;
         }
     }
@@ -144,9 +143,9 @@ fn offers_rest<A: Allocator>(
 }
 
 /// Whether the records that are left are offered rightly on each channel.
-fn offers_all<A: Allocator>(alloc: &Refusing, line: &mut Line<A>, left: Left<'_>) -> bool {
-    for (terminal, way, expected) in left {
-        if !offers_rest(alloc, line, *terminal, *way, expected.offered()) {
+fn offers_all<A: Allocator>(alloc: &Refusing, line: &mut Line<A>, offered: Offered<'_>) -> bool {
+    for (terminal, way, codes) in offered {
+        if !offers_rest(alloc, line, *terminal, *way, codes) {
             return false;
         }
     }
@@ -179,14 +178,45 @@ fn wrong_step<A: Allocator>(
     Ok(None)
 }
 
-/// Whether the first of these records, and nothing else, were offered on each channel.
-fn are_fronts<A: Allocator>(line: &Line<A>, left: Left<'_>) -> bool {
-    for (terminal, way, expected) in left {
-        if !has_front_of(line, *terminal, *way, expected.offered()) {
+/// Whether these are the records of the first of these characters, in order.
+fn are_first(records: &[Record], codes: &[u8]) -> bool {
+    for (record, code) in records.iter().zip(codes) {
+        if record.chars() != [*code].as_slice() {
+            return false;
+        }
+    }
+    records.len() <= codes.len()
+}
+
+/// Whether the records of the first of these characters, and nothing else, were offered on each
+/// channel.
+fn are_fronts<A: Allocator>(line: &Line<A>, offered: Offered<'_>) -> bool {
+    for (terminal, way, codes) in offered {
+        if !is_channel(line, *terminal, *way) || !are_first(line.offered(*terminal, *way), codes) {
             return false;
         }
     }
     true
+}
+
+/// Whether as many records as there are characters were offered on a channel, arrived, and are
+/// known to have.
+fn has_count<A: Allocator>(line: &Line<A>, terminal: usize, way: Way, count: usize) -> bool {
+    is_channel(line, terminal, way)
+        && line.offered(terminal, way).len() == count
+        && line.spooled(terminal, way).len() == count
+        && line.known(terminal, way) == count
+        && !line.in_doubt(terminal, way)
+}
+
+/// Whether the records of all these characters were delivered on a line whose channels are sound.
+fn are_delivered<A: Allocator>(line: &Line<A>, offered: Offered<'_>) -> bool {
+    for (terminal, way, codes) in offered {
+        if !has_count(line, *terminal, *way, codes.len()) {
+            return false;
+        }
+    }
+    are_sound(line) && are_fronts(line, offered)
 }
 
 /// What was refused a growth in an exchange: an offer, a spool.
@@ -217,52 +247,62 @@ fn refusals_in<A: Allocator>(
 fn delivers_rest<A: Allocator>(
     alloc: &Refusing,
     line: &mut Line<A>,
-    left: Left<'_>,
+    offered: Offered<'_>,
 ) -> Result<bool, LineError> {
     alloc.refuse_none();
-    let is_offered = offers_all(alloc, line, left);
+    let is_offered = offers_all(alloc, line, offered);
     let wrong = wrong_step(alloc, line)?;
-    Ok(is_offered && wrong.is_none() && wrong_left(line, left).is_none())
+    Ok(is_offered && wrong.is_none() && are_delivered(line, offered))
 }
 
-/// Plays an exchange while growths are refused by this number, and then the rest of it: what was
-/// refused; None where something was wrong.
-fn refused_on<A: Allocator>(
-    alloc: &Refusing,
-    line: &mut Line<A>,
-    (which, number): (Refusal, usize),
-    exchange: &Exchange<'_>,
-) -> Result<Option<Refused>, LineError> {
-    alloc.refuse(which, number);
-    let refused = refusals_in(alloc, line, exchange)?;
-    if delivers_rest(alloc, line, exchange.offered)? {
-        Ok(refused)
-    } else {
-        Ok(None)
+/// An exchange while this allocator refuses growths by this number.
+#[derive(Clone, Copy)]
+struct Starved<'a> {
+    alloc: &'a Refusing,
+    which: Refusal,
+    number: usize,
+    exchange: &'a Exchange<'a>,
+}
+
+impl Starved<'_> {
+    /// Plays the exchange, and then what is left of it: what was refused; None where something was
+    /// wrong.
+    fn refused<A: Allocator>(&self, line: &mut Line<A>) -> Result<Option<Refused>, LineError> {
+        self.alloc.refuse(self.which, self.number);
+        let refused = refusals_in(self.alloc, line, self.exchange)?;
+        if delivers_rest(self.alloc, line, self.exchange.offered)? {
+            Ok(refused)
+        } else {
+            Ok(None)
+        }
     }
 }
 
-/// Plays an exchange on a new line, while growths are refused by this number: what was refused;
-/// None where something was wrong.
-fn refused_in(
-    alloc: &Refusing,
-    by: (Refusal, usize),
-    exchange: &Exchange<'_>,
-) -> Result<Option<Refused>, Fail> {
-    alloc.refuse_none();
-    let mut line = line_on(alloc, &TWO)?;
-    Ok(refused_on(alloc, &mut line, by, exchange).ok().flatten())
+impl Play for Starved<'_> {
+    /// What was refused; None where something was wrong.
+    type Answer = Option<Refused>;
+
+    fn play<A: Allocator>(&self, line: &mut Line<A>) -> Option<Refused> {
+        self.refused(line).ok().flatten()
+    }
 }
 
 /// Plays an exchange until nothing is refused a growth: what was.
-fn refused_in_turn(
-    alloc: &Refusing,
+fn refused_in_turn<'a>(
+    alloc: &'a Refusing,
     which: Refusal,
-    exchange: &Exchange<'_>,
+    exchange: &'a Exchange<'a>,
 ) -> Result<Refused, Fail> {
     let (mut offers, mut rooms) = (false, false);
     for number in alloc.in_turn(which, 1..999) {
-        let refused = refused_in(alloc, (which, number?), exchange)?;
+        let number = number?;
+        let starved = Starved {
+            alloc,
+            which,
+            number,
+            exchange,
+        };
+        let refused = play_on(alloc, &TWO, &starved)?;
         let (offer, room) = refused.ok_or("not as expected")?;
         offers |= offer;
         rooms |= room;

@@ -10,7 +10,7 @@ use bsc_fixtures::octets::{
     ACK0, ACK1, BROKEN_TEXT, CALL_POLL_A, CALL_POLL_B, CALL_SELECT_A, EOT, NAK, NOISE, TEXT_HI,
 };
 use bsc_line::Event;
-use bsc_line::Event::{CarrySent, Silence};
+use bsc_line::Event::Silence;
 use bsc_line::Speaker::{Control, Terminal};
 
 /// Terminal 0 hears nothing, and terminal 1 noise.
@@ -50,14 +50,21 @@ const EXCHANGES: &[Exchange<'static>] = &[
         parts: &[Part {
             steps: &[
                 (OFFER_FOR, Done),
-                (Silence, Sent(Control, CALL_SELECT_A)),
+                (Silence, Sent(&[(Control, CALL_SELECT_A)])),
                 (NOISE_AT_SECOND, Quiet),
-                (Silence, Sent(Control, CALL_SELECT_A)),
-                (CarrySent, Sent(Terminal(0), ACK0)),
-                (CarrySent, Sent(Control, TEXT_HI)),
-                (BROKEN_AT_FIRST, Sent(Terminal(0), NAK)),
-                (CarrySent, Sent(Control, TEXT_HI)),
-                (TEXT_AT_FIRST, Sent(Terminal(0), ACK1)),
+                (
+                    Silence,
+                    Sent(&[
+                        (Control, CALL_SELECT_A),
+                        (Terminal(0), ACK0),
+                        (Control, TEXT_HI),
+                    ]),
+                ),
+                (
+                    BROKEN_AT_FIRST,
+                    Sent(&[(Terminal(0), NAK), (Control, TEXT_HI)]),
+                ),
+                (TEXT_AT_FIRST, Sent(&[(Terminal(0), ACK1)])),
             ],
             trusted: true,
             left: &[(
@@ -80,18 +87,21 @@ const EXCHANGES: &[Exchange<'static>] = &[
                 steps: &[
                     (OFFER_AT, Done),
                     (OFFER_AT_SECOND, Done),
-                    (Silence, Sent(Control, CALL_POLL_A)),
+                    (Silence, Sent(&[(Control, CALL_POLL_A)])),
                 ],
                 trusted: true,
                 left: &[],
             },
             Part {
-                steps: &[
-                    (TWO_CALLS, Sent(Terminal(0), TEXT_HI)),
-                    (CarrySent, Sent(Control, ACK1)),
-                    (CarrySent, Sent(Terminal(0), EOT)),
-                    (CarrySent, Sent(Control, CALL_POLL_B)),
-                ],
+                steps: &[(
+                    TWO_CALLS,
+                    Sent(&[
+                        (Terminal(0), TEXT_HI),
+                        (Control, ACK1),
+                        (Terminal(0), EOT),
+                        (Control, CALL_POLL_B),
+                    ]),
+                )],
                 trusted: false,
                 left: &[
                     (0, FromTerminal, Delivered(HI)),

@@ -1,17 +1,13 @@
 //! The largest lines, and long lists of records.
 
-ghost use Rattle.std.specs.Prelude.{◌<◌};
-
 use crate::channels::Has::Delivered;
 use crate::channels::{are_sound, has_left, offer};
 use crate::events::HI;
-use crate::fixtures::{TWO, line_of, line_on, most_terminals};
-use crate::play::wrong_left;
+use crate::fixtures::{Answer, On, Play, TWO, play_on};
 use bsc_control::Way;
 use bsc_control::Way::{FromTerminal, ToTerminal};
 use bsc_line::Speaker::Control;
 use bsc_line::{Line, LineError};
-use bsc_text::Terminal;
 use refusing_alloc::Refusing;
 use std::alloc::{AllocError, Allocator, Global};
 use std::test::Fail;
@@ -48,9 +44,6 @@ fn offer_everywhere<A: Allocator>(line: &mut Line<A>) -> Result<(), LineError> {
     Ok(())
 }
 
-/// Whether a line did as it should, or which of its calls was refused.
-pub(crate) type Answer = Result<bool, LineError>;
-
 /// Carries this many transmissions.
 pub(crate) fn carry_on<A: Allocator>(line: &mut Line<A>, count: u64) -> Result<(), LineError> {
     for _ in 0..count {
@@ -80,41 +73,48 @@ fn play_round<A: Allocator>(line: &mut Line<A>) -> Result<(), LineError> {
     carry_on(line, 64 * 5 * 4 + 191 * 2)
 }
 
-/// Plays a round: whether each record arrived, and the first terminal is polled again.
-fn delivers_round<A: Allocator>(line: &mut Line<A>) -> Answer {
-    play_round(line)?;
-    let is_polling = line.pending() == Some((Control, CALL_POLL_FIRST));
-    Ok(is_polling && line.trusted() && is_everywhere(line))
-}
+/// A round in which HI is delivered everywhere, and after which the first terminal is polled again.
+struct Round;
 
-/// Plays a round on a new line of the most terminals with this poll list.
-fn delivers_on_new<A: Allocator + Copy>(alloc: A, poll_list: &[u8]) -> Result<Answer, Fail> {
-    let mut line = line_of(alloc, &most_terminals()?, poll_list, 3)?;
-    Ok(delivers_round(&mut line))
+impl Play for Round {
+    type Answer = Answer;
+
+    fn play<A: Allocator>(&self, line: &mut Line<A>) -> Answer {
+        play_round(line)?;
+        let is_polling = line.pending() == Some((Control, CALL_POLL_FIRST));
+        Ok(is_polling && line.trusted() && is_everywhere(line))
+    }
 }
 
 #[test]
 fn a_record_each_way_of_each_address_arrives_in_one_round(rt: HostRuntime) -> Result<(), Fail> {
     let alloc = Refusing::new(rt.alloc());
     let poll_list = longest_poll_list(rt.alloc())?;
-    assert_eq!(rt; delivers_on_new(&alloc, &poll_list)?, Ok(true));
+    assert_eq!(rt;
+        play_on(&alloc, &On::first(64, &poll_list), &Round)?,
+        Ok(true)
+    );
     Ok(())
 }
 
-/// How many terminals a new line has that is made with these, of which it polls only the last.
-fn terminals_on<A: Allocator + Copy>(alloc: A, terminals: &[Terminal]) -> Result<usize, Fail> {
-    let last = u8::try_from(terminals.len())?.saturating_sub(1);
-    let line = line_of(alloc, terminals, &[last], 3)?;
-    Ok(line.terminals())
+/// How many terminals a line has.
+struct Count;
+
+impl Play for Count {
+    type Answer = usize;
+
+    fn play<A: Allocator>(&self, line: &mut Line<A>) -> usize {
+        line.terminals()
+    }
 }
 
+/// Only the last terminal is polled.
 #[test]
 fn a_line_has_each_number_of_terminals_from_1_to_64(rt: HostRuntime) -> Result<(), Fail> {
     let alloc = Refusing::new(rt.alloc());
-    let terminals = most_terminals()?;
-    for count in 1..=64usize {
-        let first = terminals.get(..count).ok_or("too few terminals")?;
-        assert_eq!(rt; terminals_on(&alloc, first)?, count);
+    for last in 0..64u8 {
+        let count = usize::from(last) + 1;
+        assert_eq!(rt; play_on(&alloc, &On::first(count, &[last]), &Count)?, count);
     }
     Ok(())
 }
@@ -150,55 +150,53 @@ pub(crate) fn go_on<A: Allocator>(line: &mut Line<A>, is_lost: bool) -> Result<(
     }
 }
 
-/// Goes on 999 times on a line that loses each transmission whose number is a multiple of `period`,
-/// which is not 0, up to the first after which the line is not trusted or a channel is not sound.
-fn first_unsound<A: Allocator>(
-    line: &mut Line<A>,
+/// Records that are offered each way on a line that loses each transmission whose number is a
+/// multiple of `period`.
+#[derive(Clone, Copy)]
+struct Losing<'a> {
+    records: &'a [&'a [u8]],
     period: usize,
-) -> Result<Option<usize>, LineError>
-    requires { 0 < period }
-{
-    for number in 1..1000usize {
-        go_on(line, number % period == 0)?;
-        if !line.trusted() || !are_sound(line) {
-            return Ok(Some(number));
+}
+
+impl Losing<'_> {
+    /// Goes on 999 times, up to the first after which the line is not trusted or a channel is not
+    /// sound.
+    fn first_unsound<A: Allocator>(&self, line: &mut Line<A>) -> Result<Option<usize>, LineError> {
+        for number in 1..1000usize {
+            go_on(line, number.checked_rem(self.period) == Some(0))?;
+            if !line.trusted() || !are_sound(line) {
+                return Ok(Some(number));
+            }
         }
+        Ok(None)
     }
-    Ok(None)
 }
 
-/// Offers these records each way on a line that loses each transmission whose number is a multiple
-/// of `period`, which is not 0: whether it stays sound, and each was delivered.
-fn delivers_each<A: Allocator>(line: &mut Line<A>, records: &[&[u8]], period: usize) -> Answer
-    requires { 0 < period }
-{
-    offer_each_way(line, records)?;
-    let unsound = first_unsound(line, period)?;
-    let left = [
-        (0, FromTerminal, Delivered(records)),
-        (0, ToTerminal(0), Delivered(records)),
-    ];
-    Ok(unsound.is_none() && wrong_left(line, &left).is_none())
-}
+impl Play for Losing<'_> {
+    type Answer = Answer;
 
-/// Delivers these records each way of a new line that loses transmissions of this period.
-fn delivers_each_on_new<A: Allocator + Copy>(
-    alloc: A,
-    records: &[&[u8]],
-    period: usize,
-) -> Result<Answer, Fail>
-    requires { 0 < period }
-{
-    let mut line = line_on(alloc, &TWO)?;
-    Ok(delivers_each(&mut line, records, period))
+    fn play<A: Allocator>(&self, line: &mut Line<A>) -> Answer {
+        offer_each_way(line, self.records)?;
+        let unsound = self.first_unsound(line)?;
+        let delivered = Delivered(self.records);
+        Ok(
+            unsound.is_none()
+                && has_left(line, 0, FromTerminal, &delivered)
+                && has_left(line, 0, ToTerminal(0), &delivered),
+        )
+    }
 }
 
 #[test]
 fn a_hundred_records_arrive_whole_over_a_bad_line(rt: HostRuntime) -> Result<(), Fail> {
     let alloc = Refusing::new(rt.alloc());
     let records = hundred_records(rt.alloc())?;
+    let records = records.as_slice();
     for period in [1000, 5, 7, 11] {
-        assert_eq!(rt; delivers_each_on_new(&alloc, &records, period)?, Ok(true));
+        assert_eq!(rt;
+            play_on(&alloc, &TWO, &Losing { records, period })?,
+            Ok(true)
+        );
     }
     Ok(())
 }

@@ -10,7 +10,7 @@ use bsc_control::Way::{FromTerminal, ToTerminal};
 use bsc_fixtures::octets::{
     ACK0, ACK1, CALL_POLL_A, CALL_SELECT_A, ENQ, EOT, NAK, TEXT_HI, TEXT_LAST_SEVEN, WACK,
 };
-use bsc_line::Event::{CarrySent, Silence};
+use bsc_line::Event::Silence;
 use bsc_line::Speaker::{Control, Terminal};
 use refusing_alloc::Refusal;
 use std::test::Fail;
@@ -24,15 +24,18 @@ const EXCHANGES: &[Exchange<'static>] = &[
         parts: &[
             SEVEN_OFFERED,
             Part {
-                steps: &[
-                    (Silence, Sent(Control, CALL_SELECT_A)),
-                    (CarrySent, Sent(Terminal(0), WACK)),
-                    (CarrySent, Sent(Control, ENQ)),
-                    (CarrySent, Sent(Terminal(0), ACK0)),
-                    (CarrySent, Sent(Control, TEXT_LAST_SEVEN)),
-                    (CarrySent, Sent(Terminal(0), ACK1)),
-                    (CarrySent, Sent(Control, CALL_POLL_A)),
-                ],
+                steps: &[(
+                    Silence,
+                    Sent(&[
+                        (Control, CALL_SELECT_A),
+                        (Terminal(0), WACK),
+                        (Control, ENQ),
+                        (Terminal(0), ACK0),
+                        (Control, TEXT_LAST_SEVEN),
+                        (Terminal(0), ACK1),
+                        (Control, CALL_POLL_A),
+                    ]),
+                )],
                 trusted: true,
                 left: &[(0, ToTerminal(0), Delivered(SEVEN))],
             },
@@ -49,14 +52,17 @@ const EXCHANGES: &[Exchange<'static>] = &[
                 left: &[(0, FromTerminal, Waiting(HI))],
             },
             Part {
-                steps: &[
-                    (Silence, Sent(Control, CALL_POLL_A)),
-                    (CarrySent, Sent(Terminal(0), TEXT_HI)),
-                    (CarrySent, Sent(Control, NAK)),
-                    (CarrySent, Sent(Terminal(0), TEXT_HI)),
-                    (CarrySent, Sent(Control, ACK1)),
-                    (CarrySent, Sent(Terminal(0), EOT)),
-                ],
+                steps: &[(
+                    Silence,
+                    Sent(&[
+                        (Control, CALL_POLL_A),
+                        (Terminal(0), TEXT_HI),
+                        (Control, NAK),
+                        (Terminal(0), TEXT_HI),
+                        (Control, ACK1),
+                        (Terminal(0), EOT),
+                    ]),
+                )],
                 trusted: true,
                 left: &[(0, FromTerminal, Delivered(HI))],
             },

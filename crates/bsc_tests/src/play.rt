@@ -1,7 +1,7 @@
 //! Exchanges as tables: what happens on a line, what comes of it, and what is left.
 
 use crate::channels::{Has, are_sound, has_left};
-use crate::fixtures::{On, line_on};
+use crate::fixtures::{On, Play, play_on};
 use bsc_control::Way;
 use bsc_line::{Event, Line, LineError, Speaker, Stopped};
 use refusing_alloc::{Refusal, Refusing};
@@ -23,8 +23,9 @@ pub(crate) enum Then<'a> {
     /// It is done, and nothing is pending.
     Quiet,
 
-    /// It is done, and these octets of this station are pending.
-    Sent(Speaker, &'a [u8]),
+    /// It is done, and these octets of this station are pending; each time that they are then
+    /// carried as they were sent, the next are.
+    Sent(&'a [(Speaker, &'a [u8])]),
 
     /// It is refused, and what is pending stays.
     Refused(LineError),
@@ -39,12 +40,11 @@ impl<'a> Then<'a> {
         }
     }
 
-    /// What is pending after the event, where this was pending before it.
-    fn pending(&self, before: Pending<'a>) -> Pending<'a> {
+    /// How many events it is: one, and one for each further transmission.
+    fn count(&self) -> usize {
         match self {
-            Then::Done | Then::Refused(_) => before,
-            Then::Quiet => None,
-            Then::Sent(speaker, octets) => Some((*speaker, octets)),
+            Then::Sent(sent) => sent.len(),
+            _ => 1,
         }
     }
 }
@@ -79,7 +79,7 @@ pub(crate) struct Exchange<'a> {
     pub(crate) parts: &'a [Part<'a>],
 }
 
-/// Where an exchange went otherwise than its table says: the part, the step or the channel of it,
+/// Where an exchange went otherwise than its table says: the part, the event or the channel of it,
 /// all counted from 0, and what was wrong there.
 #[derive(Debug, PartialEq, Drop)]
 pub(crate) struct Wrong {
@@ -136,26 +136,75 @@ pub(crate) fn wrong_left<A: Allocator>(line: &Line<A>, left: Left<'_>) -> Option
     None
 }
 
-/// The first step or channel of a part that goes wrong, and what is wrong there; else what is
-/// pending after the last step.
+/// Carries what is pending until each of these was: the first of them that was not, and what was
+/// wrong there; else the last.
+fn carry_each<'a, A: Allocator>(
+    line: &mut Line<A>,
+    sent: &[(Speaker, &'a [u8])],
+    trusted: bool,
+) -> Result<Pending<'a>, (usize, What)> {
+    let mut pending = None;
+    for (place, (speaker, octets)) in sent.iter().enumerate() {
+        if place > 0 && line.run(&[Event::CarrySent]).is_err() {
+            return Err((place, What::Answer));
+        }
+        pending = Some((*speaker, *octets));
+        if let Some(what) = wrong_now(line, pending, trusted) {
+            return Err((place, what));
+        }
+    }
+    Ok(pending)
+}
+
+/// The first event of a step that goes wrong, and what is wrong there; else what is pending after
+/// the last.
+fn play_step<'a, A: Allocator>(
+    line: &mut Line<A>,
+    (event, then): &(Event<'a>, Then<'a>),
+    before: Pending<'a>,
+    trusted: bool,
+) -> Result<Pending<'a>, (usize, What)> {
+    if line.run(&[*event]) != then.answer() {
+        return Err((0, What::Answer));
+    }
+    let pending = match then {
+        Then::Sent(sent) => return carry_each(line, sent, trusted),
+        Then::Quiet => None,
+        Then::Done | Then::Refused(_) => before,
+    };
+    match wrong_now(line, pending, trusted) {
+        Some(what) => Err((0, what)),
+        None => Ok(pending),
+    }
+}
+
+/// The first event or channel of a part that goes wrong, and what is wrong there; else what is
+/// pending after the last event.
 fn play_part<'a, A: Allocator>(
     line: &mut Line<A>,
     part: &Part<'a>,
     before: Pending<'a>,
 ) -> Result<Pending<'a>, (usize, What)> {
     let mut pending = before;
-    for (place, (event, then)) in part.steps.iter().enumerate() {
-        if line.run(&[*event]) != then.answer() {
-            return Err((place, What::Answer));
+    let mut count = 0usize;
+    for step in part.steps {
+        match play_step(line, step, pending, part.trusted) {
+            Ok(after) => pending = after,
+            Err((place, what)) => return Err((count.saturating_add(place), what)),
         }
-        pending = then.pending(pending);
-        if let Some(what) = wrong_now(line, pending, part.trusted) {
-            return Err((place, what));
-        }
+        count = count.saturating_add(step.1.count());
     }
     match wrong_left(line, part.left) {
         Some(place) => Err((place, What::Left)),
         None => Ok(pending),
+    }
+}
+
+/// Begins to refuse the growths of an exchange, where they are refused from this part on.
+fn starve(alloc: &Refusing, exchange: &Exchange<'_>, part: usize) {
+    match exchange.starved {
+        Some((from, refusal, _)) if from == part => alloc.refuse(refusal, 1),
+        _ => {}
     }
 }
 
@@ -168,45 +217,39 @@ fn is_starved(alloc: &Refusing, exchange: &Exchange<'_>) -> bool {
     alloc.refused() == refused
 }
 
-/// The first part of an exchange that goes wrong on a new line, its step or channel, and what is
-/// wrong there.
-fn wrong_part<A: Allocator>(
-    alloc: &Refusing,
-    line: &mut Line<A>,
-    exchange: &Exchange<'_>,
-) -> Option<(usize, usize, What)> {
-    let mut pending = None;
-    for (number, part) in exchange.parts.iter().enumerate() {
-        match exchange.starved {
-            Some((from, refusal, _)) if from == number => alloc.refuse(refusal, 1),
-            _ => {}
-        }
-        match play_part(line, part, pending) {
-            Ok(after) => pending = after,
-            Err((place, what)) => return Some((number, place, what)),
-        }
-    }
-    if is_starved(alloc, exchange) {
-        None
-    } else {
-        Some((exchange.parts.len(), 0, What::Refused))
-    }
+/// An exchange that is played while this allocator refuses its growths.
+#[derive(Clone, Copy)]
+struct Played<'a> {
+    alloc: &'a Refusing,
+    exchange: &'a Exchange<'a>,
 }
 
-/// Plays an exchange on a new line, up to the first difference.
-fn wrong_exchange(
-    alloc: &Refusing,
-    exchange: &Exchange<'_>,
-) -> Result<Option<(usize, usize, What)>, Fail> {
-    alloc.refuse_none();
-    let mut line = line_on(alloc, &exchange.on)?;
-    Ok(wrong_part(alloc, &mut line, exchange))
+impl Play for Played<'_> {
+    /// The first part that goes wrong, its event or channel, and what is wrong there.
+    type Answer = Option<(usize, usize, What)>;
+
+    fn play<A: Allocator>(&self, line: &mut Line<A>) -> Option<(usize, usize, What)> {
+        let mut pending = None;
+        for (number, part) in self.exchange.parts.iter().enumerate() {
+            starve(self.alloc, self.exchange, number);
+            match play_part(line, part, pending) {
+                Ok(after) => pending = after,
+                Err((place, what)) => return Some((number, place, what)),
+            }
+        }
+        if is_starved(self.alloc, self.exchange) {
+            None
+        } else {
+            Some((self.exchange.parts.len(), 0, What::Refused))
+        }
+    }
 }
 
 /// Plays each of these exchanges, up to the first difference.
 fn first_wrong(alloc: &Refusing, exchanges: &[Exchange<'_>]) -> Result<Option<Wrong>, Fail> {
     for exchange in exchanges {
-        if let Some((part, place, what)) = wrong_exchange(alloc, exchange)? {
+        let played = Played { alloc, exchange };
+        if let Some((part, place, what)) = play_on(alloc, &exchange.on, &played)? {
             return Ok(Some(Wrong {
                 exchange: exchange.name,
                 part,

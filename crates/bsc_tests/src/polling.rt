@@ -7,7 +7,7 @@ use crate::play::Then::{Done, Quiet, Sent};
 use crate::play::{Exchange, Left, Part, passes_each};
 use bsc_control::Way::{FromTerminal, ToTerminal};
 use bsc_fixtures::octets::{ACK0, ACK1, CALL_POLL_A, CALL_POLL_B, ENQ, EOT, TEXT_HI};
-use bsc_line::Event::{CarrySent, Silence};
+use bsc_line::Event::Silence;
 use bsc_line::Speaker::{Control, Terminal};
 use std::test::Fail;
 
@@ -28,13 +28,18 @@ const EXCHANGES: &[Exchange<'static>] = &[
         parts: &[Part {
             steps: &[
                 (OFFER_AT, Done),
-                (Silence, Sent(Control, CALL_POLL_A)),
-                (CarrySent, Sent(Terminal(0), TEXT_HI)),
-                (CarrySent, Sent(Control, ACK1)),
-                (CarrySent, Sent(Terminal(0), EOT)),
-                (CarrySent, Sent(Control, CALL_POLL_B)),
-                (CarrySent, Sent(Terminal(1), EOT)),
-                (CarrySent, Sent(Control, CALL_POLL_A)),
+                (
+                    Silence,
+                    Sent(&[
+                        (Control, CALL_POLL_A),
+                        (Terminal(0), TEXT_HI),
+                        (Control, ACK1),
+                        (Terminal(0), EOT),
+                        (Control, CALL_POLL_B),
+                        (Terminal(1), EOT),
+                        (Control, CALL_POLL_A),
+                    ]),
+                ),
             ],
             trusted: true,
             left: HI_ALONE,
@@ -47,13 +52,19 @@ const EXCHANGES: &[Exchange<'static>] = &[
         parts: &[Part {
             steps: &[
                 (OFFER_AT, Done),
-                (Silence, Sent(Control, CALL_POLL_A)),
-                (CarrySent, Sent(Terminal(0), TEXT_HI)),
-                (CarrySent, Sent(Control, ACK1)),
+                (
+                    Silence,
+                    Sent(&[
+                        (Control, CALL_POLL_A),
+                        (Terminal(0), TEXT_HI),
+                        (Control, ACK1),
+                    ]),
+                ),
                 (LOSE, Quiet),
-                (Silence, Sent(Terminal(0), ENQ)),
-                (CarrySent, Sent(Control, ACK1)),
-                (CarrySent, Sent(Terminal(0), EOT)),
+                (
+                    Silence,
+                    Sent(&[(Terminal(0), ENQ), (Control, ACK1), (Terminal(0), EOT)]),
+                ),
             ],
             trusted: true,
             left: HI_ALONE,
@@ -66,14 +77,21 @@ const EXCHANGES: &[Exchange<'static>] = &[
         parts: &[Part {
             steps: &[
                 (OFFER_AT, Done),
-                (Silence, Sent(Control, CALL_POLL_A)),
-                (CarrySent, Sent(Terminal(0), TEXT_HI)),
+                (
+                    Silence,
+                    Sent(&[(Control, CALL_POLL_A), (Terminal(0), TEXT_HI)]),
+                ),
                 (LOSE, Quiet),
-                (Silence, Sent(Terminal(0), ENQ)),
-                (CarrySent, Sent(Control, ACK0)),
-                (CarrySent, Sent(Terminal(0), TEXT_HI)),
-                (CarrySent, Sent(Control, ACK1)),
-                (CarrySent, Sent(Terminal(0), EOT)),
+                (
+                    Silence,
+                    Sent(&[
+                        (Terminal(0), ENQ),
+                        (Control, ACK0),
+                        (Terminal(0), TEXT_HI),
+                        (Control, ACK1),
+                        (Terminal(0), EOT),
+                    ]),
+                ),
             ],
             trusted: true,
             left: HI_ALONE,

@@ -10,11 +10,9 @@ use bsc_control::SetupError;
 use bsc_control::Way::{FromTerminal, ToTerminal};
 use bsc_fixtures::lines::two_terminals;
 use bsc_fixtures::octets::{CALL_POLL_A, EOT, TEXT_HI};
-use bsc_frame::Address;
 use bsc_line::Event::{CarrySent, Silence};
 use bsc_line::Speaker::{Control, Terminal};
 use bsc_line::{Event, LineError};
-use bsc_text::TerminalError;
 use refusing_alloc::{Refusal, Refusing};
 use std::test::Fail;
 
@@ -57,23 +55,6 @@ fn a_wrong_number_of_terminals_is_told_without_memory(rt: HostRuntime) -> Result
     );
     let expected = (Some(SetupError::NoTerminal), Some(SetupError::TooMany), 0);
     assert_eq!(rt; refusals, expected);
-    Ok(())
-}
-
-#[test]
-fn a_terminal_has_one_to_four_selection_addresses(rt: HostRuntime) -> Result<(), Fail> {
-    const CASES: &[(usize, Option<TerminalError>)] = &[
-        (0, Some(TerminalError::Count)),
-        (1, None),
-        (4, None),
-        (5, Some(TerminalError::Count)),
-    ];
-    let poll = Address::read(b"A")?;
-    let selects = [Address::read(b"a")?; 5];
-    for (count, expected) in CASES {
-        let chosen = selects.get(..*count).ok_or("too many")?;
-        assert_eq!(rt; bsc_text::Terminal::new(poll, chosen).err(), *expected);
-    }
     Ok(())
 }
 
@@ -318,14 +299,14 @@ const EXCHANGES: &[Exchange<'static>] = &[
                     Refused(LineError::NothingSent),
                 ),
                 (NOTHING_HEARD, Refused(LineError::NothingSent)),
-                (Silence, Sent(Control, CALL_POLL_A)),
+                (Silence, Sent(&[(Control, CALL_POLL_A)])),
                 (Silence, Refused(LineError::Pending)),
                 (ONE_HEARING, Refused(LineError::WrongCount)),
                 (
                     Event::CarryEach { heard: &[None; 3] },
                     Refused(LineError::WrongCount),
                 ),
-                (CarrySent, Sent(Terminal(0), TEXT_HI)),
+                (CarrySent, Sent(&[(Terminal(0), TEXT_HI)])),
                 (Silence, Refused(LineError::Pending)),
                 (ONE_HEARING, Refused(LineError::NotControl)),
                 (NOTHING_HEARD, Refused(LineError::NotControl)),

@@ -1,8 +1,8 @@
 //! How many transmissions a visit and a round take, and that exactly as many deliver what waits.
 
 use crate::channels::{is_channel, offer};
-use crate::fixtures::{On, TWO_BY_THREE, TWO_BY_THREE_ENTRIES, line_on};
-use crate::limits::{Answer, carry_on};
+use crate::fixtures::{Answer, On, Play, TWO_BY_THREE, TWO_BY_THREE_ENTRIES, play_on};
+use crate::limits::carry_on;
 use bsc_control::Way;
 use bsc_control::Way::{FromTerminal, ToTerminal};
 use bsc_fixtures::octets::CALL_POLL_A;
@@ -12,38 +12,53 @@ use refusing_alloc::Refusing;
 use std::alloc::Allocator;
 use std::test::Fail;
 
-/// A line, how many empty records are offered on these channels, how many transmissions a visit of
-/// terminal 0 and one of terminal 1 then take, and how many a round takes.
-type Row<'a> = (On<'a>, &'a [(usize, Way, usize)], [u64; 2], u64);
+/// What waits on a line of two terminals, and how long that takes.
+struct Row<'a> {
+    on: On<'a>,
+
+    /// How many empty records are offered on these channels.
+    channels: &'a [(usize, Way, usize)],
+
+    /// How many transmissions a visit of terminal 0 and one of terminal 1 then take.
+    visits: [u64; 2],
+
+    /// How many a round takes, after which terminal 0 is polled.
+    round: u64,
+}
 
 /// Nothing waits; two blocks to terminal 0 and one from it; the same where terminal 0 is visited
 /// twice; a record for each of two selection addresses; and 43 blocks each way.
 const ROWS: &[Row<'static>] = &[
-    (TWO_BY_THREE, &[], [2, 2], 4),
-    (
-        TWO_BY_THREE,
-        &[(0, ToTerminal(0), 8), (0, FromTerminal, 1)],
-        [10, 2],
-        12,
-    ),
-    (
-        TWO_BY_THREE_ENTRIES,
-        &[(0, ToTerminal(0), 8), (0, FromTerminal, 1)],
-        [10, 2],
-        14,
-    ),
-    (
-        TWO_BY_THREE,
-        &[(0, ToTerminal(0), 1), (0, ToTerminal(1), 1)],
-        [10, 2],
-        12,
-    ),
-    (
-        TWO_BY_THREE,
-        &[(0, ToTerminal(0), 300), (0, FromTerminal, 300)],
-        [176, 2],
-        178,
-    ),
+    Row {
+        on: TWO_BY_THREE,
+        channels: &[],
+        visits: [2, 2],
+        round: 4,
+    },
+    Row {
+        on: TWO_BY_THREE,
+        channels: &[(0, ToTerminal(0), 8), (0, FromTerminal, 1)],
+        visits: [10, 2],
+        round: 12,
+    },
+    Row {
+        on: TWO_BY_THREE_ENTRIES,
+        channels: &[(0, ToTerminal(0), 8), (0, FromTerminal, 1)],
+        visits: [10, 2],
+        round: 14,
+    },
+    Row {
+        on: TWO_BY_THREE,
+        channels: &[(0, ToTerminal(0), 1), (0, ToTerminal(1), 1)],
+        visits: [10, 2],
+        round: 12,
+    },
+    Row {
+        on: TWO_BY_THREE,
+        channels: &[(0, ToTerminal(0), 300), (0, FromTerminal, 300)],
+        visits: [176, 2],
+        round: 178,
+    },
 ];
 
 /// Offers this many empty records on a channel: whether each was taken.
@@ -76,39 +91,45 @@ fn is_round<A: Allocator>(line: &mut Line<A>, round: u64) -> Answer {
     let within = line.round();
     carry_on(line, round)?;
     let is_polling = line.pending() == Some((Control, CALL_POLL_A));
-    Ok(is_polling && [before, within] == [round, round])
+    Ok(is_polling && before == round && within == round)
 }
 
-/// Whether a row holds.
-fn holds<A: Allocator>(line: &mut Line<A>, row: &Row<'_>) -> Answer {
-    let (_, channels, visits, round) = row;
-    for (terminal, way, count) in *channels {
+/// Whether the empty records are taken, one after the other, on each channel.
+fn offers_all<A: Allocator>(line: &mut Line<A>, channels: &[(usize, Way, usize)]) -> bool {
+    for (terminal, way, count) in channels {
         if !offers(line, *terminal, *way, *count) {
-            return Ok(false);
+            return false;
         }
     }
-    if !has_visits(line, visits) || !is_round(line, *round)? {
-        return Ok(false);
-    }
-    for (terminal, way, count) in *channels {
-        if !arrived(line, *terminal, *way, *count) {
-            return Ok(false);
-        }
-    }
-    Ok(true)
+    true
 }
 
-/// Whether a row holds on a new line.
-fn holds_on_new<A: Allocator + Copy>(alloc: A, row: &Row<'_>) -> Result<Answer, Fail> {
-    let mut line = line_on(alloc, &row.0)?;
-    Ok(holds(&mut line, row))
+/// Whether they arrived on each channel.
+fn all_arrived<A: Allocator>(line: &Line<A>, channels: &[(usize, Way, usize)]) -> bool {
+    for (terminal, way, count) in channels {
+        if !arrived(line, *terminal, *way, *count) {
+            return false;
+        }
+    }
+    true
+}
+
+impl Play for Row<'_> {
+    type Answer = Answer;
+
+    fn play<A: Allocator>(&self, line: &mut Line<A>) -> Answer {
+        if !offers_all(line, self.channels) || !has_visits(line, &self.visits) {
+            return Ok(false);
+        }
+        Ok(is_round(line, self.round)? && all_arrived(line, self.channels))
+    }
 }
 
 #[test]
 fn a_round_delivers_what_waits(rt: HostRuntime) -> Result<(), Fail> {
     let alloc = Refusing::new(rt.alloc());
     for (place, row) in ROWS.iter().enumerate() {
-        assert_eq!(rt; holds_on_new(&alloc, row)?, Ok(true), "at {place}");
+        assert_eq!(rt; play_on(&alloc, &row.on, row)?, Ok(true), "at {place}");
     }
     Ok(())
 }

@@ -2,7 +2,7 @@
 
 use crate::channels::Has::{Delivered, Waiting};
 use crate::events::{HI, LOSE, NONE, OFFER_AT, OFFER_FOR, RELEASE_FROM, URGENT_AT, URGENT_FOR};
-use crate::fixtures::{TWO, line_on};
+use crate::fixtures::{Play, TWO, play_on};
 use crate::play::{Left, Pending, wrong_left};
 use bsc_control::Way::{FromTerminal, ToTerminal};
 use bsc_fixtures::octets::{CALL_POLL_A, CALL_SELECT_A, ENQ, EOT, NAK, RVI, TEXT_HI};
@@ -151,32 +151,34 @@ fn goes<A: Allocator>(alloc: &Refusing, line: &mut Line<A>, run: &Run<'_>) -> bo
         && wrong_left(line, left).is_none()
 }
 
-/// The first of these lists that goes otherwise.
-fn wrong_run<A: Allocator>(
-    alloc: &Refusing,
-    line: &mut Line<A>,
-    runs: &[Run<'_>],
-) -> Option<usize> {
-    for (place, run) in runs.iter().enumerate() {
-        if !goes(alloc, line, run) {
-            return Some(place);
-        }
-    }
-    None
+/// Lists that are played while this allocator refuses growths.
+#[derive(Clone, Copy)]
+struct Played<'a> {
+    alloc: &'a Refusing,
+    runs: &'a [Run<'a>],
 }
 
-/// The first of these lists that goes otherwise on a new line.
-fn wrong_on_new(alloc: &Refusing, runs: &[Run<'_>]) -> Result<Option<usize>, Fail> {
-    alloc.refuse_none();
-    let mut line = line_on(alloc, &TWO)?;
-    Ok(wrong_run(alloc, &mut line, runs))
+impl Play for Played<'_> {
+    /// The first of the lists that goes otherwise.
+    type Answer = Option<usize>;
+
+    fn play<A: Allocator>(&self, line: &mut Line<A>) -> Option<usize> {
+        for (place, run) in self.runs.iter().enumerate() {
+            if !goes(self.alloc, line, run) {
+                return Some(place);
+            }
+        }
+        None
+    }
 }
 
 #[test]
 fn each_run_goes_as_its_table_says(rt: HostRuntime) -> Result<(), Fail> {
     let alloc = Refusing::new(rt.alloc());
     for (name, runs) in RUNS {
-        assert_eq!(rt; wrong_on_new(&alloc, runs)?, None, "{name}");
+        let alloc = &alloc;
+        let played = Played { alloc, runs };
+        assert_eq!(rt; play_on(alloc, &TWO, &played)?, None, "{name}");
     }
     Ok(())
 }

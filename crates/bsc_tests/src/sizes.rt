@@ -4,16 +4,14 @@
 use crate::channels::Has::{Arrived, Delivered};
 use crate::channels::{has_left, is_channel, offer};
 use crate::events::{HI, NONE};
-use crate::fixtures::{TWO, line_on};
-use crate::limits::{Answer, carry_on};
+use crate::fixtures::{Answer, Play, TWO, TWO_OF_LONGEST, play_on};
+use crate::limits::carry_on;
 use bsc_block::Record;
 use bsc_control::Way;
 use bsc_control::Way::{FromTerminal, ToTerminal};
-use bsc_fixtures::lines::two_terminals;
 use bsc_fixtures::octets::{ACK0, ACK1, CALL_POLL_A, CALL_POLL_B, CALL_SELECT_A};
 use bsc_line::Speaker::{Control, Terminal};
 use bsc_line::{Line, LineError, Speaker};
-use bsc_text::Setup;
 use refusing_alloc::Refusing;
 use std::alloc::{AllocError, Allocator, Global};
 use std::test::Fail;
@@ -61,27 +59,29 @@ fn has_all<A: Allocator>(line: &Line<A>, way: Way) -> bool {
         && line.known(0, way) == COUNT as usize
 }
 
-/// Offers the records, and carries as many transmissions as deliver them: whether they arrived.
-fn delivers_all<A: Allocator>(line: &mut Line<A>) -> Answer {
-    offer_all(line)?;
-    line.silence()?;
+/// The records, delivered in as many transmissions as that takes.
+struct All;
 
-    // A selection and a poll, of two transmissions each and two for each of 14,286 blocks of seven.
-    carry_on(line, 2 * (2 + 2 * 14_286))?;
-    let is_polling = line.pending() == Some((Control, CALL_POLL_B));
-    Ok(is_polling && line.trusted() && has_all(line, FromTerminal) && has_all(line, ToTerminal(0)))
-}
+impl Play for All {
+    type Answer = Answer;
 
-/// Delivers the records on a new line.
-fn delivers_all_on_new<A: Allocator + Copy>(alloc: A) -> Result<Answer, Fail> {
-    let mut line = line_on(alloc, &TWO)?;
-    Ok(delivers_all(&mut line))
+    fn play<A: Allocator>(&self, line: &mut Line<A>) -> Answer {
+        offer_all(line)?;
+        line.silence()?;
+
+        // A selection and a poll, of two transmissions each and two for each of 14,286 blocks of
+        // seven.
+        carry_on(line, 2 * (2 + 2 * 14_286))?;
+        let is_polling = line.pending() == Some((Control, CALL_POLL_B));
+        let arrived = has_all(line, FromTerminal) && has_all(line, ToTerminal(0));
+        Ok(is_polling && line.trusted() && arrived)
+    }
 }
 
 #[test]
 fn a_hundred_thousand_records_arrive_each_way(rt: HostRuntime) -> Result<(), Fail> {
     let alloc = Refusing::new(rt.alloc());
-    assert_eq!(rt; delivers_all_on_new(&alloc)?, Ok(true));
+    assert_eq!(rt; play_on(&alloc, &TWO, &All)?, Ok(true));
     Ok(())
 }
 
@@ -105,46 +105,62 @@ fn longest_text(alloc: Global) -> Result<Vec<u8>, AllocError> {
     Ok(octets)
 }
 
-/// The pending text of HI is heard as this one: whether the other end of this channel of terminal 0
-/// stored seven records of 144 characters.
-fn stores_longest<A: Allocator>(line: &mut Line<A>, way: Way, text: &[u8]) -> Answer {
-    line.carry(Some(text))?;
-    let arrived = Arrived {
-        offered: HI,
-        known: 0,
-        spooled: SEVEN_LONGEST,
-    };
-    Ok(has_left(line, 0, way, &arrived))
+/// Whether ACK1 is pending.
+fn is_acknowledged<A: Allocator>(line: &Line<A>) -> bool {
+    match line.pending() {
+        Some((_, octets)) => octets == ACK1,
+        None => false,
+    }
 }
 
-/// HI is offered on this channel of terminal 0, and this many transmissions after the first call
-/// its text is heard as this one: whether that is stored and acknowledged.
-fn takes_longest<A: Allocator>(line: &mut Line<A>, way: Way, count: u64, text: &[u8]) -> Answer {
-    offer(line, 0, way, b"HI")?;
-    line.silence()?;
-    carry_on(line, count)?;
-    let is_stored = stores_longest(line, way, text)?;
-    Ok(is_stored && matches!(line.pending(), Some((_, octets)) if octets == ACK1))
-}
+/// Each way of terminal 0, and after how many transmissions its text is pending.
+const WAYS: &[(Way, u64)] = &[(FromTerminal, 1), (ToTerminal(0), 2)];
 
-/// Takes the longest text on a new line.
-fn takes_longest_on_new<A: Allocator + Copy>(
-    alloc: A,
+/// HI is offered on this way of terminal 0, and this many transmissions after the first call its
+/// text is heard as this one.
+#[derive(Clone, Copy)]
+struct Heard<'a> {
     way: Way,
     count: u64,
-    text: &[u8],
-) -> Result<Answer, Fail> {
-    let mut line = line_on(alloc, &TWO)?;
-    Ok(takes_longest(&mut line, way, count, text))
+    text: &'a [u8],
+}
+
+impl Heard<'_> {
+    /// Whether seven records of 144 characters are stored and acknowledged.
+    fn is_stored<A: Allocator>(&self, line: &Line<A>) -> bool {
+        let arrived = Arrived {
+            offered: HI,
+            known: 0,
+            spooled: SEVEN_LONGEST,
+        };
+        is_acknowledged(line) && has_left(line, 0, self.way, &arrived)
+    }
+}
+
+impl Play for Heard<'_> {
+    type Answer = Answer;
+
+    fn play<A: Allocator>(&self, line: &mut Line<A>) -> Answer {
+        offer(line, 0, self.way, b"HI")?;
+        line.silence()?;
+        carry_on(line, self.count)?;
+        line.carry(Some(self.text))?;
+        Ok(self.is_stored(line))
+    }
 }
 
 #[test]
 fn the_longest_text_is_stored_whole(rt: HostRuntime) -> Result<(), Fail> {
     let text = longest_text(rt.alloc())?;
+    let text = text.as_slice();
     assert_eq!(rt; text.len(), 1033);
     let alloc = Refusing::new(rt.alloc());
-    for (way, count) in [(FromTerminal, 1), (ToTerminal(0), 2)] {
-        assert_eq!(rt; takes_longest_on_new(&alloc, way, count, &text)?, Ok(true));
+    for (way, count) in WAYS {
+        let (way, count) = (*way, *count);
+        assert_eq!(rt;
+            play_on(&alloc, &TWO, &Heard { way, count, text })?,
+            Ok(true)
+        );
     }
     Ok(())
 }
@@ -181,14 +197,29 @@ const SELECTED: Moments<'static> = &[
     (Terminal(0), ACK1),
 ];
 
-/// A way of terminal 0, the moments of a bid of it, how many transmissions follow, and the call
-/// that is then pending.
-type Row<'a> = (Way, Moments<'a>, u64, &'a [u8]);
+/// A bid of a way of terminal 0 at whose moments records are offered, how many transmissions
+/// follow, and the call that is then pending.
+struct Bid<'a> {
+    way: Way,
+    moments: Moments<'a>,
+    further: u64,
+    call: &'a [u8],
+}
 
 /// After the second text come ACK0, the third text, ACK1, at a poll EOT, and the next call.
-const ROWS: &[Row<'static>] = &[
-    (FromTerminal, POLLED, 5, CALL_POLL_B),
-    (ToTerminal(0), SELECTED, 4, CALL_POLL_A),
+const BIDS: &[Bid<'static>] = &[
+    Bid {
+        way: FromTerminal,
+        moments: POLLED,
+        further: 5,
+        call: CALL_POLL_B,
+    },
+    Bid {
+        way: ToTerminal(0),
+        moments: SELECTED,
+        further: 4,
+        call: CALL_POLL_A,
+    },
 ];
 
 /// Whether this station sent what is pending, and that begins with these octets.
@@ -199,12 +230,14 @@ fn is_pending<A: Allocator>(line: &Line<A>, speaker: Speaker, front: &[u8]) -> b
     }
 }
 
-/// Offers two long records on this way of terminal 0, lets a silence pass, and offers one of the
-/// others at each of these moments: whether each of them came.
-fn offer_within<A: Allocator>(line: &mut Line<A>, way: Way, moments: Moments<'_>) -> Answer {
+/// Offers the first two long records on this way of terminal 0.
+fn offer_two<A: Allocator>(line: &mut Line<A>, way: Way) -> Result<(), LineError> {
     offer(line, 0, way, LONG[0])?;
-    offer(line, 0, way, LONG[1])?;
-    line.silence()?;
+    offer(line, 0, way, LONG[1])
+}
+
+/// Offers one of the other long records at each of these moments: whether each of them came.
+fn offer_within<A: Allocator>(line: &mut Line<A>, way: Way, moments: Moments<'_>) -> Answer {
     for ((speaker, front), record) in moments.iter().zip(&LONG[2..]) {
         if !is_pending(line, *speaker, front) {
             return Ok(false);
@@ -215,30 +248,34 @@ fn offer_within<A: Allocator>(line: &mut Line<A>, way: Way, moments: Moments<'_>
     Ok(true)
 }
 
-/// Offers these, and carries this many further transmissions: whether each record was delivered,
-/// and this call is made.
-fn delivers_long<A: Allocator>(line: &mut Line<A>, row: &Row<'_>) -> Answer {
-    let (way, moments, further, call) = *row;
-    let came = offer_within(line, way, moments)?;
-    carry_on(line, further)?;
-    let is_calling = line.pending() == Some((Control, call));
-    let records = LONG.get(..moments.len().saturating_add(2)).unwrap_or(NONE);
-    Ok(came && is_calling && line.trusted() && has_left(line, 0, way, &Delivered(records)))
+impl Bid<'_> {
+    /// Whether each record was delivered, and the call is made.
+    fn is_done<A: Allocator>(&self, line: &Line<A>) -> bool {
+        let count = self.moments.len().saturating_add(2);
+        let delivered = Delivered(LONG.get(..count).unwrap_or(NONE));
+        line.pending() == Some((Control, self.call))
+            && line.trusted()
+            && has_left(line, 0, self.way, &delivered)
+    }
 }
 
-/// Delivers such records on a new line of two terminals on which records are of up to 144
-/// characters, and blocks count up to 400: two records go in one block.
-fn delivers_long_on_new<A: Allocator + Copy>(alloc: A, row: &Row<'_>) -> Result<Answer, Fail> {
-    let setup = Setup::new(144, 400, 3, 10)?;
-    let mut line = Line::new(alloc, setup, &two_terminals(), &[0, 1])?;
-    Ok(delivers_long(&mut line, row))
+impl Play for Bid<'_> {
+    type Answer = Answer;
+
+    fn play<A: Allocator>(&self, line: &mut Line<A>) -> Answer {
+        offer_two(line, self.way)?;
+        line.silence()?;
+        let came = offer_within(line, self.way, self.moments)?;
+        carry_on(line, self.further)?;
+        Ok(came && self.is_done(line))
+    }
 }
 
 #[test]
 fn the_longest_records_are_taken_while_a_bid_goes_on(rt: HostRuntime) -> Result<(), Fail> {
     let alloc = Refusing::new(rt.alloc());
-    for row in ROWS {
-        assert_eq!(rt; delivers_long_on_new(&alloc, row)?, Ok(true));
+    for bid in BIDS {
+        assert_eq!(rt; play_on(&alloc, &TWO_OF_LONGEST, bid)?, Ok(true));
     }
     Ok(())
 }
