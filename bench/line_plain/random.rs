@@ -1,4 +1,4 @@
-//! The numbers that the workloads are made of: the same here and in the crate `bsc_bench`.
+//! The numbers that the workloads are made of: the same here and in the crate `bench_line`.
 
 /// xorshift64*.
 pub struct Random {

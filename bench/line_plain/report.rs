@@ -1,4 +1,4 @@
-//! What was left on a line, in a line of text that is the same here and in the crate `bsc_bench`.
+//! What was left on a line, in a line of text that is the same here and in the crate `bench_line`.
 
 use crate::line::{Line, LineError, Speaker, Way};
 use crate::record::RecordError;

@@ -5,13 +5,13 @@ use Rattle.bsc_config.specs.declared.error.ConfigError.{ConfigError}
 use Rattle.bsc_config.specs.declared.error.ConfigError.TheVariants as config
 use Rattle.bsc_input.specs.declared.texts.TextError.{TextError}
 use Rattle.bsc_input.specs.declared.texts.TextError.TheVariants as text
-use Rattle.bsc_live.specs.declared.awaited.LiveError.{LiveError}
-use Rattle.bsc_live.specs.declared.awaited.LiveError.TheVariants as live
-use Rattle.bsc_names.specs.declared.error.PrintError.{PrintError}
-use Rattle.bsc_names.specs.declared.error.PrintError.TheVariants as print
+use Rattle.bsc_connections.specs.declared.awaited.LiveError.{LiveError}
+use Rattle.bsc_connections.specs.declared.awaited.LiveError.TheVariants as live
+use Rattle.bsc_print.specs.declared.error.PrintError.{PrintError}
+use Rattle.bsc_print.specs.declared.error.PrintError.TheVariants as print
 use Rattle.bsc_sockets.specs.declared.error.SocketsError.{SocketsError}
 use Rattle.bsc_sockets.specs.declared.error.SocketsError.TheVariants as sockets
-use Rattle.bsc_station.specs.declared.standing.Standing.{Standing}
+use Rattle.bsc_monitor.specs.declared.standing.Standing.{Standing}
 use Rattle.bsc_attending.specs.declared.error.AttendingError.{AttendingError}
 use Rattle.bsc_attending.specs.declared.error.AttendingError.TheVariants as attending
 

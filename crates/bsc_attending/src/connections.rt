@@ -4,8 +4,10 @@ ghost use Rattle.std.specs.Prelude.{IfErr};
 ghost use Rattle.bsc_attending.specs.Errors.{IsLate};
 
 use crate::{AttendingError, Network, Opened, Wanted};
-use bsc_live::{Connection, Framing, Gaps, LiveError, Monitor, SocketRecords, Waiter, attend};
-use bsc_text::Station;
+use bsc_bid::Station;
+use bsc_connections::{
+    Connection, Framing, Gaps, LiveError, Monitor, SocketRecords, Waiter, attend,
+};
 use std::alloc::Global;
 use std::io::{Read, Write};
 

@@ -3,11 +3,11 @@ ghost use Rattle.std.specs.Prelude.{◌≡◌};
 
 use bsc_carrier::CarrierError;
 use bsc_config::ConfigError;
+use bsc_connections::LiveError;
 use bsc_input::TextError;
-use bsc_live::LiveError;
-use bsc_names::PrintError;
+use bsc_monitor::OfferError;
+use bsc_print::PrintError;
 use bsc_sockets::SocketsError;
-use bsc_station::OfferError;
 use std::alloc::{AllocError, AllocFailed};
 use thiserror::Error;
 

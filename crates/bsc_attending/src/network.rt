@@ -1,8 +1,8 @@
 //! What a station asks of the machine, beside its texts.
 
-use bsc_live::Waiter;
+use bsc_connections::Waiter;
+use bsc_monitor::Timer;
 use bsc_sockets::SocketsError;
-use bsc_station::Timer;
 use std::io::{Read, Write};
 
 /// Where the connections of a station are.

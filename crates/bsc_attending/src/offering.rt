@@ -8,11 +8,11 @@ use crate::AttendingError;
 use crate::AttendingError::WrongValue;
 use crate::settings::Role;
 use bsc_asked::StationWords;
+use bsc_bid::Setup;
 use bsc_block::Record;
 use bsc_control::Control;
 use bsc_input::{Files, STANDARD_INPUT, read_text};
-use bsc_station::{LineTerminal, OfferError, offer_at_terminal, offer_for_terminal, read_records};
-use bsc_text::Setup;
+use bsc_monitor::{LineTerminal, OfferError, offer_at_terminal, offer_for_terminal, read_records};
 use std::alloc::Global;
 use std::io::Read;
 

@@ -12,7 +12,7 @@ use bsc_asked::StationWords;
 use bsc_config::{Config, read_config};
 use bsc_control::Control;
 use bsc_input::{Files, read_text};
-use bsc_station::{LineTerminal, new_control, new_terminal};
+use bsc_monitor::{LineTerminal, new_control, new_terminal};
 use std::alloc::Global;
 use std::io::Read;
 

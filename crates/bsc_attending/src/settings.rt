@@ -6,7 +6,7 @@ ghost use Rattle.bsc_attending.specs.Errors.{IsWordsError};
 use crate::AttendingError::{WrongTogether, WrongValue};
 use crate::{AttendingError, Place};
 use bsc_asked::StationWords;
-use bsc_station::{Form, Limits, Printing};
+use bsc_monitor::{Form, Limits, Printing};
 
 /// The gap unless one is given, in milliseconds.
 const GAP: u64 = 50;

@@ -10,10 +10,10 @@ use crate::settings::{StationSettings, read_settings};
 use crate::{AttendingError, Network, Place, Wanted};
 use bsc_asked::StationWords;
 use bsc_carrier::CarrierError;
+use bsc_connections::{LiveError, Waiter};
 use bsc_control::Control;
 use bsc_input::Files;
-use bsc_live::{LiveError, Waiter};
-use bsc_station::{
+use bsc_monitor::{
     ControlWatch, Ended, LineTerminal, Standing, TerminalWatch, Timer, Watch, station_standing,
     write_report,
 };

@@ -7,7 +7,7 @@ use Rattle.clap.specs.Words.{Text}
 use Rattle.bsc_asked.specs.Asked.{AskedValue, names, name, show, run, station}
 use Rattle.bsc_frame.specs.declared.message.Heard.{Heard}
 use Rattle.bsc_input.specs.Hexadecimal.{octets_of}
-use Rattle.bsc_names.specs.Names.{Prints, name_line, unit_lines}
+use Rattle.bsc_print.specs.Names.{Prints, name_line, unit_lines}
 use Rattle.bsc_run.specs.Printed.{report_of}
 use Rattle.bsc_naming.specs.Lines.{PrintsInput}
 use Rattle.bsc_running.specs.Running.{HasRun, IsRunDone}

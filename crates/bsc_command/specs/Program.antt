@@ -4,7 +4,7 @@ use Rattle.clap.specs.Words.{HasKind, Text, kind_of}
 use Rattle.clap.specs.declared.error.Error.{Error}
 use Rattle.bsc_asked.specs.Asked.{AskedValue, names, name, show, run, station}
 use Rattle.bsc_input.specs.Hexadecimal.{octets_of}
-use Rattle.bsc_names.specs.Names.{Prints, name_line, unit_lines}
+use Rattle.bsc_print.specs.Names.{Prints, name_line, unit_lines}
 use Rattle.bsc_naming.specs.Lines.{PrintsInput, StopsAt}
 use Rattle.bsc_running.specs.Running.{IsRunDone}
 use Rattle.bsc_words.specs.CommandLine.{IsHelp, asked_of, faults_at}

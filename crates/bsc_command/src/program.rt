@@ -18,7 +18,7 @@ use std::io::{Read, Write};
 /// Does the work. The input is read where the work asks for it, and as a whole before anything is
 /// printed. A run reads its files and makes its connections by the machine; where it is done it has
 /// printed what `bsc_run::run_line` says of what its texts say, and nothing where it only checks. A
-/// station is attended until it ends; what it prints is told by the calls of `bsc_station`.
+/// station is attended until it ends; what it prints is told by the calls of `bsc_monitor`.
 pub fn perform<R: Read, H: Files + Cables + Network, W: Write>(
     alloc: Global,
     asked: &Asked,

@@ -3,7 +3,7 @@ use Rattle.std.proofs.Common.{◌≡◌, ℕ, ◌+◌, ◌<◌, List, [], ◌∷
 use Rattle.std.proofs.Common.{get_or, refl, ap, sym, ◌∙◌, append_assoc, subst}
 use Rattle.toml.specs.declared.value.Value.{Value}
 use Rattle.toml.specs.View.{items_view, view}
-use Rattle.bsc_text.specs.Terminal.{TerminalValue}
+use Rattle.bsc_bid.specs.Terminal.{TerminalValue}
 use Rattle.bsc_config.specs.declared.error.ConfigError.{ConfigError}
 use Rattle.bsc_config.specs.declared.error.ConfigError.TheVariants as error
 use Rattle.bsc_config.specs.declared.values.Version.{Version}

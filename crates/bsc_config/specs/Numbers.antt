@@ -4,8 +4,8 @@ use Rattle.std.specs.Prelude.{if◌then◌else◌, nat_eq}
 use Rattle.toml.specs.Data.{Data, Members}
 use Rattle.bsc_block.specs.declared.limits.TheConstants.{MAX_FULL, MIN_BLOCK_CHARS}
 use Rattle.bsc_block.specs.declared.limits.TheConstants.{MAX_BLOCK_CHARS}
-use Rattle.bsc_text.specs.declared.limits.TheConstants.{MAX_TRIES, MAX_WAITS}
-use Rattle.bsc_text.specs.Setup.{SetupValue}
+use Rattle.bsc_bid.specs.declared.limits.TheConstants.{MAX_TRIES, MAX_WAITS}
+use Rattle.bsc_bid.specs.Setup.{SetupValue}
 use Rattle.bsc_config.specs.declared.key.Key.{Key}
 use Rattle.bsc_config.specs.declared.key.Key.TheVariants.{Version, Full, BlockChars, Tries, Waits}
 use Rattle.bsc_config.specs.declared.key.Key.TheVariants.{PollList}

@@ -1,8 +1,8 @@
 -- What a document says: the settings, terminals and poll list, or its first fault (own).
 use Rattle.std.specs.Prelude.{ℕ, List, Result, Ok}
 use Rattle.toml.specs.Data.{Members}
-use Rattle.bsc_text.specs.Setup.{SetupValue}
-use Rattle.bsc_text.specs.Terminal.{TerminalValue}
+use Rattle.bsc_bid.specs.Setup.{SetupValue}
+use Rattle.bsc_bid.specs.Terminal.{TerminalValue}
 use Rattle.bsc_config.specs.Faults.{Fault, ◌>>=◌}
 use Rattle.bsc_config.specs.Checks.{known_keys, keys_present}
 use Rattle.bsc_config.specs.Numbers.{version_in, setup_in, poll_list_in}

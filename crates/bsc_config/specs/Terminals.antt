@@ -2,7 +2,7 @@
 use Rattle.std.specs.Prelude.{ℕ, ◌+◌, List, [], ◌∷◌, Option, Result, Ok, Err, option_map}
 use Rattle.std.specs.Result.{result_ok}
 use Rattle.toml.specs.Data.{Data, table, Items, no_items, item, Members}
-use Rattle.bsc_text.specs.Terminal.{TerminalValue, terminal_of}
+use Rattle.bsc_bid.specs.Terminal.{TerminalValue, terminal_of}
 use Rattle.bsc_config.specs.declared.key.Key.TheVariants.{Terminals, Poll, Select}
 use Rattle.bsc_config.specs.declared.values.Version.{Version}
 use Rattle.bsc_config.specs.declared.values.Version.TheVariants.{One, Two}

@@ -11,9 +11,9 @@ use crate::error::ConfigError;
 use crate::key::Key;
 use crate::lookup::{required, value_at};
 use crate::values::{Version, whole_number};
+use bsc_bid::Setup;
+use bsc_bid::limits::{MAX_TRIES, MAX_WAITS};
 use bsc_block::limits::{MAX_BLOCK_CHARS, MAX_FULL, MIN_BLOCK_CHARS};
-use bsc_text::Setup;
-use bsc_text::limits::{MAX_TRIES, MAX_WAITS};
 use toml::Table;
 
 /// The version: 1 or 2.

@@ -11,7 +11,7 @@ use crate::numbers::{setup_in, version_in};
 use crate::poll_list::poll_list_in;
 use crate::present::keys_present;
 use crate::terminals::terminals_in;
-use bsc_text::{Setup, Terminal};
+use bsc_bid::{Setup, Terminal};
 use std::alloc::Global;
 use toml::Table;
 

@@ -12,8 +12,8 @@ use crate::error::ConfigError;
 use crate::key::Key;
 use crate::lookup::{required, tables_in};
 use crate::values::{Version, address_in};
+use bsc_bid::Terminal;
 use bsc_frame::Address;
-use bsc_text::Terminal;
 use std::alloc::Global;
 use toml::{Table, Value};
 

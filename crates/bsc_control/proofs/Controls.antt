@@ -5,10 +5,10 @@ use Rattle.std.proofs.lemmas.List.{length-set}
 use Rattle.bsc_frame.specs.declared.message.Message.{Message}
 use Rattle.bsc_frame.specs.declared.message.Heard.{Heard}
 use Rattle.bsc_spool.specs.Queue.{QueueValue, waiting}
-use Rattle.bsc_text.specs.declared.phase.Phase.{Phase}
-use Rattle.bsc_text.specs.declared.phase.Phase.TheVariants.{Idle, Unanswered, Held, InDoubt}
-use Rattle.bsc_text.specs.Ready.{IsGoing}
-use Rattle.bsc_text.specs.Sender.{ReleaseStep, release_in}
+use Rattle.bsc_bid.specs.declared.phase.Phase.{Phase}
+use Rattle.bsc_bid.specs.declared.phase.Phase.TheVariants.{Idle, Unanswered, Held, InDoubt}
+use Rattle.bsc_bid.specs.Ready.{IsGoing}
+use Rattle.bsc_bid.specs.Sender.{ReleaseStep, release_in}
 use Rattle.std.specs.Result.{OnOk, OnErr}
 use Rattle.std.specs.Prelude.{Result, Ok, Err}
 use Rattle.bsc_directory.specs.declared.limits.TheConstants.{MAX_TERMINALS, MAX_ENTRIES}
@@ -26,7 +26,7 @@ use Rattle.bsc_control.proofs.Noise.{noise_changes_nothing}
 use Rattle.bsc_control.proofs.Entries.{peer_with_outbound, entries_with_peer}
 use Rattle.bsc_control.proofs.PeerLists.{same_map}
 use Rattle.bsc_control.proofs.Replacing.{replaced, Follows, orderly_replaced, orderly_flags}
-use Rattle.bsc_text.proofs.Choice.{choose}
+use Rattle.bsc_bid.proofs.Choice.{choose}
 use Rattle.bsc_control.proofs.Steps.{HearingKeeps, SilenceKeeps, hearing_keeps, silence_keeps}
 
 -- the settings, the poll list and the addresses stay

@@ -3,7 +3,7 @@ use Rattle.std.proofs.Common.{ℕ, Bool, ◌<◌, sym, ◌∙◌, subst}
 use Rattle.std.proofs.lemmas.List.{length-set}
 use Rattle.std.proofs.lemmas.List.Elements.{All-set}
 use Rattle.std.specs.List.{All}
-use Rattle.bsc_text.specs.Receiver.{ReceiverValue}
+use Rattle.bsc_bid.specs.Receiver.{ReceiverValue}
 use Rattle.bsc_control.specs.Control.{ControlValue, HasEntries, with_peer}
 use Rattle.bsc_control.specs.Peer.{OutboundValue, PeerValue, IsOutbound, IsPeer, with_outbound}
 

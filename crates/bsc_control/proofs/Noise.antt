@@ -4,7 +4,7 @@ use Rattle.std.proofs.Common.{◌≡◌, ℕ, List, Option, refl, ap, sym, ◌�
 use Rattle.std.proofs.lemmas.List.{set-get_or}
 use Rattle.bsc_frame.specs.declared.message.Message.{Message}
 use Rattle.bsc_frame.specs.declared.message.Heard.TheVariants.{Noise}
-use Rattle.bsc_text.specs.Receiver.{Rooms}
+use Rattle.bsc_bid.specs.Receiver.{Rooms}
 use Rattle.bsc_control.specs.declared.task.Task.{Task}
 use Rattle.bsc_control.specs.declared.task.Task.TheVariants.{AtRest, Selecting, Sending, Polling}
 use Rattle.bsc_control.specs.Peer.{OutboundValue, PeerValue, no_outbound, no_peer, outbound_at}
@@ -12,7 +12,7 @@ use Rattle.bsc_control.specs.Peer.{with_outbound}
 use Rattle.bsc_control.specs.Control.{ControlValue, ControlStep, peer, current, with_current}
 use Rattle.bsc_control.specs.Control.{quiet_step}
 use Rattle.bsc_control.specs.Table.{Hears, task_step, rooms_after}
-use Rattle.bsc_text.specs.Station.{StaysQuiet}
+use Rattle.bsc_bid.specs.Station.{StaysQuiet}
 
 -- writing what is there changes nothing
 same_peer : (c : ControlValue) → with_current c (peer c) ≡ c

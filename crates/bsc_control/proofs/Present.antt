@@ -7,10 +7,10 @@ use Rattle.std.proofs.lemmas.List.Quantifiers.{position-Some}
 use Rattle.std.specs.Prelude.{nat_lt, position, slice_set, slice_get, if◌then◌else◌}
 use Rattle.bsc_frame.specs.declared.message.Message.{Message}
 use Rattle.bsc_frame.specs.declared.message.Message.TheVariants as m
-use Rattle.bsc_text.specs.declared.outcome.Outcome.{Outcome}
-use Rattle.bsc_text.specs.Act.{message_for, outcome_of}
-use Rattle.bsc_text.specs.Receiver.{ReceiverValue, new_receiver}
-use Rattle.bsc_text.specs.Sender.{SenderStep}
+use Rattle.bsc_bid.specs.declared.outcome.Outcome.{Outcome}
+use Rattle.bsc_bid.specs.Act.{message_for, outcome_of}
+use Rattle.bsc_bid.specs.Receiver.{ReceiverValue, new_receiver}
+use Rattle.bsc_bid.specs.Sender.{SenderStep}
 use Rattle.bsc_control.specs.declared.task.Replied.TheVariants.{Nothing}
 use Rattle.bsc_control.specs.declared.task.Task.TheVariants.{Selecting, Polling}
 use Rattle.bsc_directory.specs.declared.way.Way.TheVariants.{FromTerminal, ToTerminal}

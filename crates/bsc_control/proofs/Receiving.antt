@@ -6,9 +6,9 @@ use Rattle.bsc_frame.specs.declared.message.Message.{Message}
 use Rattle.bsc_frame.specs.declared.message.Message.TheVariants as m
 use Rattle.bsc_frame.specs.declared.message.Heard.{Heard}
 use Rattle.bsc_frame.specs.declared.message.Heard.TheVariants.{Whole, Failed, Noise}
-use Rattle.bsc_text.specs.declared.reply.Reply.{Reply}
-use Rattle.bsc_text.specs.Receiver.{ReceiverStep, Rooms, heard_step, rooms_left}
-use Rattle.bsc_text.specs.Reply.{message_of}
+use Rattle.bsc_bid.specs.declared.reply.Reply.{Reply}
+use Rattle.bsc_bid.specs.Receiver.{ReceiverStep, Rooms, heard_step, rooms_left}
+use Rattle.bsc_bid.specs.Reply.{message_of}
 use Rattle.bsc_control.specs.declared.task.Replied.{Replied}
 use Rattle.bsc_control.specs.declared.task.Task.TheVariants.{Polling}
 use Rattle.bsc_control.specs.Control.{ControlValue, ControlStep, current, peer, peer_at}

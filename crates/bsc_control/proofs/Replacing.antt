@@ -3,8 +3,8 @@ use Rattle.std.proofs.Common.{◌≡◌, ℕ, ◌≤◌, ◌<◌, List, length, 
 use Rattle.std.proofs.Common.{arith}
 use Rattle.std.proofs.lemmas.List.{length-set}
 use Rattle.bsc_spool.specs.Queue.{waiting}
-use Rattle.bsc_text.specs.declared.phase.Phase.TheVariants.{Idle}
-use Rattle.bsc_text.specs.Ready.{IsGoing, IsAtRest}
+use Rattle.bsc_bid.specs.declared.phase.Phase.TheVariants.{Idle}
+use Rattle.bsc_bid.specs.Ready.{IsGoing, IsAtRest}
 use Rattle.bsc_control.specs.declared.task.Replied.TheVariants.{Nothing, WithoutRvi, WithRvi}
 use Rattle.bsc_control.specs.declared.task.Task.{Task}
 use Rattle.bsc_control.specs.declared.task.Task.TheVariants.{AtRest, Selecting, Sending, Polling}

@@ -2,18 +2,18 @@
 use Rattle.std.proofs.Common.{◌≡◌, Option, None, Some, sym, subst}
 use Rattle.bsc_spool.specs.declared.queue.Next.{Next}
 use Rattle.bsc_spool.specs.Queue.{QueueValue, next_block}
-use Rattle.bsc_text.specs.Act.{Act}
-use Rattle.bsc_text.specs.Act as a
-use Rattle.bsc_text.specs.declared.alternation.Alternation.{Alternation}
-use Rattle.bsc_text.specs.declared.alternation.Alternation.TheVariants.{Odd}
-use Rattle.bsc_text.specs.declared.phase.Phase.{Phase}
-use Rattle.bsc_text.specs.declared.reply.Reply.{Reply}
-use Rattle.bsc_text.specs.EachStep as each
-use Rattle.bsc_text.specs.Ready.{IsGoing, IsAtRest, FitsAct}
-use Rattle.bsc_text.specs.Sender.{SenderValue, SenderStep, sent_next, begin_step, reply_step}
-use Rattle.bsc_text.specs.Sender.{silence_step}
-use Rattle.bsc_text.proofs.FitLemmas.{fits_reply, fits_silence}
-use Rattle.bsc_text.proofs.KeepLemmas.{keeps_begin, keeps_reply, keeps_silence}
+use Rattle.bsc_bid.specs.Act.{Act}
+use Rattle.bsc_bid.specs.Act as a
+use Rattle.bsc_bid.specs.declared.alternation.Alternation.{Alternation}
+use Rattle.bsc_bid.specs.declared.alternation.Alternation.TheVariants.{Odd}
+use Rattle.bsc_bid.specs.declared.phase.Phase.{Phase}
+use Rattle.bsc_bid.specs.declared.reply.Reply.{Reply}
+use Rattle.bsc_bid.specs.EachStep as each
+use Rattle.bsc_bid.specs.Ready.{IsGoing, IsAtRest, FitsAct}
+use Rattle.bsc_bid.specs.Sender.{SenderValue, SenderStep, sent_next, begin_step, reply_step}
+use Rattle.bsc_bid.specs.Sender.{silence_step}
+use Rattle.bsc_bid.proofs.FitLemmas.{fits_reply, fits_silence}
+use Rattle.bsc_bid.proofs.KeepLemmas.{keeps_begin, keeps_reply, keeps_silence}
 
 -- a bid goes on after each act but the one that says that it is over
 abbrev pub LeavesPhase : Act → Phase → Type 0

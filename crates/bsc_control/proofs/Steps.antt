@@ -6,12 +6,12 @@ use Rattle.bsc_frame.specs.declared.message.Message.{Message}
 use Rattle.bsc_frame.specs.declared.message.Message.TheVariants as m
 use Rattle.bsc_frame.specs.declared.message.Heard.{Heard}
 use Rattle.bsc_frame.specs.declared.message.Heard.TheVariants.{Whole, Failed, Noise}
-use Rattle.bsc_text.specs.Act as a
-use Rattle.bsc_text.specs.declared.reply.Reply.{Reply}
-use Rattle.bsc_text.specs.declared.reply.Reply.TheVariants.{Ack0, Ack1, Nak, Wack, Rvi}
-use Rattle.bsc_text.specs.Receiver.{ReceiverStep, Rooms, new_receiver, heard_step, sends_rvi}
-use Rattle.bsc_text.specs.Reply.{message_of, reply_heard}
-use Rattle.bsc_text.specs.Sender.{SenderStep, begin_step, reply_step, silence_step}
+use Rattle.bsc_bid.specs.Act as a
+use Rattle.bsc_bid.specs.declared.reply.Reply.{Reply}
+use Rattle.bsc_bid.specs.declared.reply.Reply.TheVariants.{Ack0, Ack1, Nak, Wack, Rvi}
+use Rattle.bsc_bid.specs.Receiver.{ReceiverStep, Rooms, new_receiver, heard_step, sends_rvi}
+use Rattle.bsc_bid.specs.Reply.{message_of, reply_heard}
+use Rattle.bsc_bid.specs.Sender.{SenderStep, begin_step, reply_step, silence_step}
 use Rattle.bsc_control.specs.declared.task.Replied.{Replied}
 use Rattle.bsc_control.specs.declared.task.Replied.TheVariants.{Nothing, WithoutRvi, WithRvi}
 use Rattle.bsc_control.specs.declared.task.Task.{Task}
@@ -36,11 +36,11 @@ use Rattle.bsc_control.proofs.Calls.{keeps_moved, rests_moved, settings_moved}
 use Rattle.bsc_control.proofs.Calls.{keeps_spools_poll_call_step, keeps_spools_next_call_step}
 use Rattle.bsc_control.proofs.Calls.{next_is_called, terminal_there, selects_there}
 use Rattle.bsc_control.proofs.PeerLists.{same_map, value_at, holds_at}
-use Rattle.bsc_text.proofs.ReceiverSteps.{TakesText, Grows, grows_heard_step, silent_heard_step}
-use Rattle.bsc_text.proofs.Choice.{choose}
+use Rattle.bsc_bid.proofs.ReceiverSteps.{TakesText, Grows, grows_heard_step, silent_heard_step}
+use Rattle.bsc_bid.proofs.Choice.{choose}
 use Rattle.bsc_control.proofs.SenderSteps.{KeepsAndLeaves, keeps_begin_step}
 use Rattle.bsc_control.proofs.SenderSteps.{keeps_reply_step, keeps_silence_step}
-use Rattle.bsc_text.proofs.FitLemmas.{begin_not_quiet}
+use Rattle.bsc_bid.proofs.FitLemmas.{begin_not_quiet}
 
 -- what a transmission that is heard leaves
 pub record HearingKeeps (old : ControlValue) (h : Heard) (step : ControlStep) : Type 0 where

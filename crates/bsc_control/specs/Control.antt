@@ -2,8 +2,8 @@
 use Rattle.std.specs.Prelude.{◌<◌, ℕ, List, length, slice_index, slice_index_or, slice_set, All}
 use Rattle.std.specs.Prelude.{map, Option, None, Some}
 use Rattle.bsc_frame.specs.declared.message.Message.{Message}
-use Rattle.bsc_text.specs.Setup.{SetupValue}
-use Rattle.bsc_text.specs.Terminal.{TerminalValue}
+use Rattle.bsc_bid.specs.Setup.{SetupValue}
+use Rattle.bsc_bid.specs.Terminal.{TerminalValue}
 use Rattle.bsc_control.specs.declared.task.Task.{Task}
 use Rattle.bsc_control.specs.Peer.{PeerValue, no_peer, IsPeer}
 

@@ -8,13 +8,13 @@ use Rattle.bsc_frame.specs.declared.message.Heard.TheVariants.{Whole, Noise}
 use Rattle.bsc_frame.specs.Texts.{TextValue}
 use Rattle.bsc_block.specs.Blocks.{records_in}
 use Rattle.bsc_spool.specs.Queue.{waiting}
-use Rattle.bsc_text.specs.declared.phase.Phase.{Phase}
-use Rattle.bsc_text.specs.declared.phase.Phase.TheVariants.{Idle}
-use Rattle.bsc_text.specs.Ready.{IsGoing, IsAtRest}
-use Rattle.bsc_text.specs.Receiver.{new_receiver}
-use Rattle.bsc_text.specs.Reply.{reply_heard}
-use Rattle.bsc_text.specs.Setup.{SetupValue}
-use Rattle.bsc_text.specs.Terminal.{TerminalValue}
+use Rattle.bsc_bid.specs.declared.phase.Phase.{Phase}
+use Rattle.bsc_bid.specs.declared.phase.Phase.TheVariants.{Idle}
+use Rattle.bsc_bid.specs.Ready.{IsGoing, IsAtRest}
+use Rattle.bsc_bid.specs.Receiver.{new_receiver}
+use Rattle.bsc_bid.specs.Reply.{reply_heard}
+use Rattle.bsc_bid.specs.Setup.{SetupValue}
+use Rattle.bsc_bid.specs.Terminal.{TerminalValue}
 use Rattle.bsc_directory.specs.declared.limits.TheConstants.{MAX_TERMINALS, MAX_ENTRIES}
 use Rattle.bsc_control.specs.declared.task.Replied.{Replied}
 use Rattle.bsc_control.specs.declared.task.Replied.TheVariants.{Nothing, WithoutRvi, WithRvi}
@@ -27,7 +27,7 @@ use Rattle.bsc_control.specs.CallOrder.{Call, After, Start, Selection, Poll, nex
 use Rattle.bsc_control.specs.Peer.{OutboundValue, PeerValue, IsNewPeer, outbound_at}
 use Rattle.bsc_control.specs.Control.{ControlValue, HasEntries, terminals, peer_at, peer, current}
 use Rattle.bsc_control.specs.Table.{Hears, ActsOnSilence, after_bid, has_rvi}
-use Rattle.bsc_text.specs.Station.{StaysQuiet}
+use Rattle.bsc_bid.specs.Station.{StaysQuiet}
 
 -- a selection address was called: records wait for it, and there is no doubt and no bid
 pub record IsSelected (p : PeerValue) (s : ℕ) : Type 0 where

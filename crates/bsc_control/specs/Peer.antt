@@ -4,13 +4,13 @@ use Rattle.std.specs.Prelude.{slice_index_or, slice_set, replicate, All, if◌th
 use Rattle.bsc_frame.specs.declared.message.Heard.{Heard}
 use Rattle.bsc_spool.specs.Queue.{QueueValue, waiting}
 use Rattle.bsc_spool.specs.Spool.{SpoolValue}
-use Rattle.bsc_text.specs.declared.phase.Phase.TheVariants.{Idle}
-use Rattle.bsc_text.specs.declared.reply.Reply.{Reply}
-use Rattle.bsc_text.specs.Ready.{IsReady}
-use Rattle.bsc_text.specs.Receiver.{ReceiverValue, Receives, new_receiver, sends_rvi}
-use Rattle.bsc_text.specs.Sender.{SenderValue, SenderStep, is_in_doubt, release_step}
-use Rattle.bsc_text.specs.Setup.{SetupValue}
-use Rattle.bsc_text.specs.Terminal.{TerminalValue, IsTerminal}
+use Rattle.bsc_bid.specs.declared.phase.Phase.TheVariants.{Idle}
+use Rattle.bsc_bid.specs.declared.reply.Reply.{Reply}
+use Rattle.bsc_bid.specs.Ready.{IsReady}
+use Rattle.bsc_bid.specs.Receiver.{ReceiverValue, Receives, new_receiver, sends_rvi}
+use Rattle.bsc_bid.specs.Sender.{SenderValue, SenderStep, is_in_doubt, release_step}
+use Rattle.bsc_bid.specs.Setup.{SetupValue}
+use Rattle.bsc_bid.specs.Terminal.{TerminalValue, IsTerminal}
 use Rattle.std.specs.Prelude.{true}
 
 -- the records for one selection address, and the sender of their bids

@@ -7,16 +7,16 @@ use Rattle.bsc_frame.specs.declared.message.Message.{Message}
 use Rattle.bsc_frame.specs.declared.message.Message.TheVariants as m
 use Rattle.bsc_frame.specs.declared.message.Heard.{Heard}
 use Rattle.bsc_frame.specs.declared.message.Heard.TheVariants.{Whole}
-use Rattle.bsc_text.specs.declared.outcome.Outcome.{Outcome}
-use Rattle.bsc_text.specs.declared.outcome.Outcome.TheVariants as o
-use Rattle.bsc_text.specs.declared.reply.Reply.{Reply}
-use Rattle.bsc_text.specs.declared.reply.Reply.TheVariants.{Ack0, Nak, Wack, Rvi}
-use Rattle.bsc_text.specs.Act.{Act, message_for, outcome_of}
-use Rattle.bsc_text.specs.Terminal.{TerminalValue}
-use Rattle.bsc_text.specs.Reply.{message_of, reply_heard}
-use Rattle.bsc_text.specs.Receiver.{ReceiverStep, Rooms, new_receiver, heard_step, rooms_left}
-use Rattle.bsc_text.specs.Receiver.{sends_rvi}
-use Rattle.bsc_text.specs.Sender.{SenderStep, begin_step, reply_step, silence_step}
+use Rattle.bsc_bid.specs.declared.outcome.Outcome.{Outcome}
+use Rattle.bsc_bid.specs.declared.outcome.Outcome.TheVariants as o
+use Rattle.bsc_bid.specs.declared.reply.Reply.{Reply}
+use Rattle.bsc_bid.specs.declared.reply.Reply.TheVariants.{Ack0, Nak, Wack, Rvi}
+use Rattle.bsc_bid.specs.Act.{Act, message_for, outcome_of}
+use Rattle.bsc_bid.specs.Terminal.{TerminalValue}
+use Rattle.bsc_bid.specs.Reply.{message_of, reply_heard}
+use Rattle.bsc_bid.specs.Receiver.{ReceiverStep, Rooms, new_receiver, heard_step, rooms_left}
+use Rattle.bsc_bid.specs.Receiver.{sends_rvi}
+use Rattle.bsc_bid.specs.Sender.{SenderStep, begin_step, reply_step, silence_step}
 use Rattle.bsc_control.specs.declared.task.Replied.{Replied}
 use Rattle.bsc_control.specs.declared.task.Replied.TheVariants.{Nothing, WithoutRvi, WithRvi}
 use Rattle.bsc_control.specs.declared.task.Task.{Task}

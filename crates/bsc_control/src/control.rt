@@ -2,7 +2,7 @@
 
 ghost use Rattle.std.specs.Prelude.{◌≡◌, ◌≤◌, ◌<◌, ◌↔◌, ℕ, length, true, false, Some, OnOk, OnErr};
 ghost use Rattle.std.specs.Prelude.{IfOk, IfErr};
-ghost use Rattle.bsc_text.specs.Sender.{is_in_doubt, release_step};
+ghost use Rattle.bsc_bid.specs.Sender.{is_in_doubt, release_step};
 ghost use Rattle.bsc_directory.specs.declared.way.Way.{Way as WayValue};
 ghost use Rattle.bsc_directory.specs.Addresses.{IsAddressOf};
 ghost use Rattle.bsc_control.specs.Control.{ControlValue, terminals, peer_at, with_peer};
@@ -12,11 +12,11 @@ ghost use Rattle.bsc_control.specs.Peer.{with_outbound, outbound_released, offer
 ghost use Rattle.bsc_directory.specs.Ways.{IsSelection, select_of};
 
 use crate::procedure::Procedure;
+use bsc_bid::{ReleaseError, Setup, Station, Terminal};
 use bsc_block::Record;
 use bsc_directory::{Directory, SetupError, Way};
 use bsc_frame::{Address, Heard, Message};
 use bsc_spool::{Queue, Spool};
-use bsc_text::{ReleaseError, Setup, Station, Terminal};
 use std::alloc::Allocator;
 use std::marker::Model;
 

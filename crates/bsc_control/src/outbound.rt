@@ -2,17 +2,17 @@
 
 ghost use Rattle.std.specs.Prelude.{◌≡◌, ◌≤◌, ◌++◌, [], ◌∷◌, length, OnOk, OnErr, IfErr};
 ghost use Rattle.bsc_spool.specs.Queue.{waiting};
-ghost use Rattle.bsc_text.specs.declared.phase.Phase.TheVariants.{Idle};
-ghost use Rattle.bsc_text.specs.Act.{message_for, outcome_of};
-ghost use Rattle.bsc_text.specs.Reply.{reply_heard};
-ghost use Rattle.bsc_text.specs.Sender.{begin_step, reply_step, silence_step, release_step};
+ghost use Rattle.bsc_bid.specs.declared.phase.Phase.TheVariants.{Idle};
+ghost use Rattle.bsc_bid.specs.Act.{message_for, outcome_of};
+ghost use Rattle.bsc_bid.specs.Reply.{reply_heard};
+ghost use Rattle.bsc_bid.specs.Sender.{begin_step, reply_step, silence_step, release_step};
 ghost use Rattle.bsc_control.specs.Peer.{OutboundValue, IsOutbound, outbound_after, new_outbound};
 ghost use Rattle.bsc_control.specs.Peer.{outbound_released, is_selectable};
 
+use bsc_bid::{Outcome, ReleaseError, Sender, Setup};
 use bsc_block::Record;
 use bsc_frame::{Heard, Message};
 use bsc_spool::Queue;
-use bsc_text::{Outcome, ReleaseError, Sender, Setup};
 use std::alloc::Allocator;
 use std::marker::Model;
 
@@ -27,7 +27,7 @@ pub(crate) struct Outbound<A: Allocator> {
 }
 
 impl<A: Allocator> Model for Outbound<A> {
-    ghost use Rattle.bsc_text.specs.Ready.{IsReady};
+    ghost use Rattle.bsc_bid.specs.Ready.{IsReady};
     ghost use Rattle.bsc_control.specs.Peer.{OutboundValue};
 
     ghost Value = { OutboundValue };

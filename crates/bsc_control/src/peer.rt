@@ -5,10 +5,10 @@ ghost use Rattle.bsc_control.specs.CallOrder.{way_from};
 ghost use Rattle.bsc_control.specs.Peer.{PeerValue, IsPeer, PeerReceives, IsNewPeer, is_selectable};
 
 use crate::outbound::Outbound;
+use bsc_bid::{Receiver, Reply, Setup, Terminal};
 use bsc_directory::Way;
 use bsc_frame::Heard;
 use bsc_spool::Spool;
-use bsc_text::{Receiver, Reply, Setup, Terminal};
 use std::alloc::{AllocError, Allocator};
 use std::marker::Model;
 

@@ -13,8 +13,8 @@ ghost use Rattle.bsc_control.specs.Table.{Hears, ActsOnSilence};
 
 use crate::peer::Peer;
 use crate::task::Task;
+use bsc_bid::{Setup, Terminal};
 use bsc_frame::{Heard, Message};
-use bsc_text::{Setup, Terminal};
 use std::alloc::{AllocError, Allocator};
 use std::marker::Model;
 

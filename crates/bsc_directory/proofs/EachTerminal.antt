@@ -4,7 +4,7 @@ use Rattle.std.proofs.Common.{length-append}
 use Rattle.std.proofs.Math.ListN.{get_or-append}
 use Rattle.std.proofs.lemmas.List.{get_or-append-add}
 use Rattle.std.specs.List.{All, AllPairs}
-use Rattle.bsc_text.specs.Terminal.{TerminalValue, own_addresses, HasDistinctAddresses}
+use Rattle.bsc_bid.specs.Terminal.{TerminalValue, own_addresses, HasDistinctAddresses}
 use Rattle.bsc_directory.specs.Addresses.{addresses, AreDistinct}
 
 -- where no two of a list are the same, none of its front are, and none of its rest

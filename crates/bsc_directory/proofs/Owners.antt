@@ -6,7 +6,7 @@ use Rattle.std.proofs.lemmas.List.Elements.{Contains-append_cases}
 use Rattle.std.proofs.lemmas.List.{map-append, append-nil}
 use Rattle.std.specs.List.{Contains, slice_get}
 use Rattle.std.specs.Map.{keys_of}
-use Rattle.bsc_text.specs.Terminal.{TerminalValue, own_addresses}
+use Rattle.bsc_bid.specs.Terminal.{TerminalValue, own_addresses}
 use Rattle.bsc_directory.specs.declared.way.Way.{Way}
 use Rattle.bsc_directory.specs.declared.way.Way.TheVariants.{FromTerminal, ToTerminal}
 use Rattle.bsc_directory.specs.Addresses.{addresses, address_for, IsAddressOf, numbered_selects}

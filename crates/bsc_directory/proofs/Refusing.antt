@@ -4,7 +4,7 @@ use Rattle.std.proofs.lemmas.Bool.Decides.{nat_tests}
 use Rattle.std.proofs.lemmas.List.{get_or_default}
 use Rattle.std.specs.List.{All}
 use Rattle.std.specs.Bool.{◌==◌}
-use Rattle.bsc_text.specs.Terminal.{TerminalValue}
+use Rattle.bsc_bid.specs.Terminal.{TerminalValue}
 use Rattle.bsc_directory.specs.declared.refusal.SetupError.{SetupError}
 use Rattle.bsc_directory.specs.declared.refusal.SetupError.TheVariants.{NoTerminal, TooMany}
 use Rattle.bsc_directory.specs.declared.refusal.SetupError.TheVariants.{SameAddress, EmptyPollList}

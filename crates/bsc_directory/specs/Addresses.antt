@@ -2,7 +2,7 @@
 -- numbering is own).
 use Rattle.std.specs.Prelude.{◌≡◌, ◌≢◌, ◌+◌, ℕ, List, [], ◌∷◌, ◌++◌, Option, Some, slice_get}
 use Rattle.std.specs.List.{AllPairs}
-use Rattle.bsc_text.specs.Terminal.{TerminalValue, own_addresses}
+use Rattle.bsc_bid.specs.Terminal.{TerminalValue, own_addresses}
 use Rattle.bsc_directory.specs.declared.way.Way.{Way}
 use Rattle.bsc_directory.specs.declared.way.Way.TheVariants.{FromTerminal, ToTerminal}
 

@@ -2,7 +2,7 @@
 use Rattle.std.specs.Prelude.{◌≡◌, ◌≢◌, ◌<◌, ◌≤◌, ℕ, List, ◌++◌, length, take, slice_get}
 use Rattle.std.specs.Prelude.{slice_index}
 use Rattle.std.specs.List.{AllPairs}
-use Rattle.bsc_text.specs.Terminal.{TerminalValue}
+use Rattle.bsc_bid.specs.Terminal.{TerminalValue}
 use Rattle.bsc_directory.specs.declared.limits.TheConstants.{MAX_TERMINALS, MAX_ENTRIES}
 use Rattle.bsc_directory.specs.declared.refusal.SetupError.{SetupError}
 use Rattle.bsc_directory.specs.declared.refusal.SetupError.TheVariants.{NoTerminal, TooMany}

@@ -4,15 +4,15 @@ ghost use Rattle.std.specs.Prelude.{◌≡◌, ◌++◌, ◌↔◌, [], ◌∷�
 ghost use Rattle.std.specs.List.{Contains};
 ghost use Rattle.bsc_directory.specs.declared.way.Way.{Way as WayValue};
 ghost use Rattle.bsc_directory.specs.Addresses.{AreDistinct, numbered, owned, addresses};
-ghost use Rattle.bsc_text.specs.Terminal.{own_addresses};
+ghost use Rattle.bsc_bid.specs.Terminal.{own_addresses};
 ghost use Rattle.bsc_directory.specs.Refusals.{RefusesAddresses, IsAccepted, IsRefused};
 ghost use Rattle.std.specs.Map.{keys_of};
 
 use crate::limits::MAX_TERMINALS;
 use crate::refusal::{SetupError, wrong_entry};
 use crate::way::Way;
+use bsc_bid::Terminal;
 use bsc_frame::Address;
-use bsc_text::Terminal;
 use indexmap::IndexMap;
 use std::alloc::Allocator;
 use std::hash::{BuildHasherDefault, FoldHasher};

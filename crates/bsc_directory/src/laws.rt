@@ -1,7 +1,7 @@
 //! Laws over the definitions, for the layers above.
 
 ghost use Rattle.std.specs.Prelude.{List, All};
-ghost use Rattle.bsc_text.specs.Terminal.{TerminalValue, HasDistinctAddresses};
+ghost use Rattle.bsc_bid.specs.Terminal.{TerminalValue, HasDistinctAddresses};
 ghost use Rattle.bsc_directory.specs.Addresses.{AreDistinct};
 
 /// Where the addresses of a line all differ, those of each of its terminals do.

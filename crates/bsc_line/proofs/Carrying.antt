@@ -11,7 +11,7 @@ use Rattle.bsc_frame.specs.Message.{IsMessage}
 use Rattle.bsc_frame.specs.Reading.{heard}
 use Rattle.bsc_frame.specs.Spells.{Spells}
 use Rattle.bsc_frame.specs.Wire.{wire}
-use Rattle.bsc_text.specs.Fair.{IsFairlyHeard}
+use Rattle.bsc_bid.specs.Fair.{IsFairlyHeard}
 use Rattle.bsc_tributary.specs.Tributary.{TributaryValue, ActsOnSilence as TerminalActs}
 use Rattle.bsc_tributary.specs.Kept.{AfterSilence as TerminalKeeps}
 use Rattle.bsc_control.specs.Control.{ControlValue, terminals as addresses_of}

@@ -4,8 +4,8 @@ use Rattle.std.proofs.Common.{subst, arith, length-append, below_more}
 use Rattle.std.proofs.Math.ListN.{get_or-append}
 use Rattle.std.proofs.Math.Seq.{get_or-append_seam}
 use Rattle.std.proofs.lemmas.List.{get_or_default}
-use Rattle.bsc_text.specs.Setup.{SetupValue}
-use Rattle.bsc_text.specs.Terminal.{TerminalValue}
+use Rattle.bsc_bid.specs.Setup.{SetupValue}
+use Rattle.bsc_bid.specs.Terminal.{TerminalValue}
 use Rattle.bsc_tributary.specs.Tributary.{TributaryValue}
 use Rattle.bsc_control.specs.Peer.{no_peer}
 use Rattle.bsc_line_model.specs.Line.{no_terminal, terminal_in}

@@ -10,11 +10,11 @@ use Rattle.bsc_block.specs.declared.record.RecordError.TheVariants.{TooLong}
 use Rattle.bsc_block.specs.Records.{record_of, unless_wrong}
 use Rattle.bsc_spool.specs.Queue.{with_offered}
 use Rattle.bsc_block.specs.Format.{FormatValue}
-use Rattle.bsc_text.specs.Setup.{SetupValue}
+use Rattle.bsc_bid.specs.Setup.{SetupValue}
 use Rattle.bsc_tributary.specs.Tributary.{TributaryValue}
 use Rattle.bsc_tributary.specs.Kept.{KeepsSetupAndMode}
 use Rattle.bsc_control.specs.Control.{ControlValue, peer_at, with_peer}
-use Rattle.bsc_text.specs.Terminal.{TerminalValue}
+use Rattle.bsc_bid.specs.Terminal.{TerminalValue}
 use Rattle.bsc_control.specs.Peer.{IsPeer, no_peer, offered_to}
 use Rattle.bsc_control.specs.Kept.{IsControl}
 use Rattle.bsc_line_model.specs.declared.error.LineError.{LineError}

@@ -9,7 +9,7 @@ mod silences;
 
 ghost use Rattle.std.specs.Prelude.{◌≡◌, ◌<◌, IfSome, IfOk, IfErr, OnOk};
 ghost use Rattle.bsc_frame.specs.Message.{IsMessage};
-ghost use Rattle.bsc_text.specs.Sender.{is_in_doubt};
+ghost use Rattle.bsc_bid.specs.Sender.{is_in_doubt};
 ghost use Rattle.bsc_directory.specs.Refusals.{IsAccepted, IsRefused};
 ghost use Rattle.bsc_line_model.specs.declared.transmission.Transmission.{Transmission as TransmissionValue};
 ghost use Rattle.bsc_line_model.specs.Transmission.{IsPending};
@@ -18,13 +18,13 @@ ghost use Rattle.bsc_line_model.specs.Offers.{select_count};
 ghost use Rattle.bsc_line_model.specs.Kept.{IsLine, IsNewLine};
 
 use crate::terminals::new_terminals;
+use bsc_bid::{Setup, Terminal};
 use bsc_block::Record;
 use bsc_control::{Control, SetupError, Way};
 use bsc_directory::laws::distinct_addresses;
 use bsc_frame::Wire;
 use bsc_line_model::laws::each_event;
 use bsc_line_model::{Speaker, Transmission};
-use bsc_text::{Setup, Terminal};
 use bsc_tributary::Tributary;
 use std::alloc::Allocator;
 use std::marker::Model;

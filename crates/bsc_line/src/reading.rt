@@ -3,9 +3,9 @@
 ghost use Rattle.std.specs.Prelude.{◌≡◌};
 ghost use Rattle.bsc_line_model.specs.Offers.{read_for, told};
 
+use bsc_bid::{ReleaseError, Setup};
 use bsc_block::Record;
 use bsc_line_model::LineError;
-use bsc_text::{ReleaseError, Setup};
 
 /// The record of these codes, or why they are none.
 pub(crate) fn read_record(codes: &[u8], setup: Setup) -> Result<Record, LineError>

@@ -13,11 +13,11 @@ ghost use Rattle.bsc_line_model.specs.Kept.{AreNewTerminals, AreEachDistinct};
 ghost use Rattle.bsc_line.specs.Hearings.{hearing_of};
 
 use crate::hearing::{Hearings, hearing, item_at};
+use bsc_bid::{Setup, Station, Terminal};
 use bsc_block::Record;
 use bsc_control::SetupError;
 use bsc_frame::{Heard, Message};
 use bsc_line_model::{LineError, Speaker, Transmission};
-use bsc_text::{Setup, Station, Terminal};
 use bsc_tributary::Tributary;
 use std::alloc::Allocator;
 

@@ -2,7 +2,7 @@
 
 ghost use Rattle.std.specs.Prelude.{◌≡◌, ◌<◌, ◌↔◌, IsTrue, IfSome, ◌&&◌};
 ghost use Rattle.bsc_frame.specs.declared.message.Heard.TheVariants as h;
-ghost use Rattle.bsc_text.specs.Fair.{IsFairlyHeard, IsTextMessage};
+ghost use Rattle.bsc_bid.specs.Fair.{IsFairlyHeard, IsTextMessage};
 ghost use Rattle.bsc_line_model.specs.declared.transmission.Transmission.{Transmission as TransmissionValue};
 ghost use Rattle.bsc_line_model.specs.Hearing.{heard_at};
 ghost use Rattle.bsc_line_model.specs.Trust.{IsMissed, AllHear, EachOf, IsHeardFairly, is_call};

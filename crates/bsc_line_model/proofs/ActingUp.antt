@@ -3,13 +3,13 @@ use Rattle.std.proofs.Common.{◌≡◌, ◌≢◌, ◌⊎◌, inl, inr, ℕ, �
 use Rattle.std.proofs.Common.{refl, sym, subst}
 use Rattle.bsc_frame.specs.declared.message.Message.{Message}
 use Rattle.bsc_frame.specs.declared.message.Message.TheVariants as m
-use Rattle.bsc_text.specs.Act.{Act}
-use Rattle.bsc_text.specs.Act as a
-use Rattle.bsc_text.specs.declared.phase.Phase.{Phase}
-use Rattle.bsc_text.specs.Ready.{IsGoing, IsAtRest}
-use Rattle.bsc_text.specs.Sender.{SenderStep}
-use Rattle.bsc_text.specs.Agreement.{Still, Outward, Continues, sent_flight}
-use Rattle.bsc_text.specs.EachStep.{IsEnded}
+use Rattle.bsc_bid.specs.Act.{Act}
+use Rattle.bsc_bid.specs.Act as a
+use Rattle.bsc_bid.specs.declared.phase.Phase.{Phase}
+use Rattle.bsc_bid.specs.Ready.{IsGoing, IsAtRest}
+use Rattle.bsc_bid.specs.Sender.{SenderStep}
+use Rattle.bsc_bid.specs.Agreement.{Still, Outward, Continues, sent_flight}
+use Rattle.bsc_bid.specs.EachStep.{IsEnded}
 use Rattle.bsc_tributary.specs.declared.mode.Mode.{Mode}
 use Rattle.bsc_tributary.specs.declared.mode.Mode.TheVariants.{Control, Sending}
 use Rattle.bsc_tributary.specs.Tributary.{TributaryValue, mode_after, message_of_act}

@@ -6,19 +6,19 @@ use Rattle.bsc_frame.specs.declared.message.Message.{Message}
 use Rattle.bsc_frame.specs.declared.message.Message.TheVariants as m
 use Rattle.bsc_frame.specs.declared.message.Heard.{Heard}
 use Rattle.bsc_frame.specs.declared.message.Heard.TheVariants.{Whole, Failed, Noise}
-use Rattle.bsc_text.specs.declared.alternation.Alternation.{Alternation}
-use Rattle.bsc_text.specs.declared.alternation.Alternation.TheVariants.{Even}
-use Rattle.bsc_text.specs.declared.reply.Reply.{Reply}
-use Rattle.bsc_text.specs.declared.reply.Reply.TheVariants.{Ack0}
-use Rattle.bsc_text.specs.declared.phase.Phase.{Phase}
-use Rattle.bsc_text.specs.declared.phase.Phase.TheVariants.{Idle}
-use Rattle.bsc_text.specs.Reply.{message_of, reply_in, reply_heard}
-use Rattle.bsc_text.specs.Receiver.{ReceiverStep, Rooms, heard_step, sends_rvi}
-use Rattle.bsc_text.specs.Sender.{SenderStep, begin_step}
-use Rattle.bsc_text.specs.Fair.{IsFairlyHeard}
-use Rattle.bsc_text.specs.Agreement.{Flight, Still, Outward, InBid, IsResting, Continues}
-use Rattle.bsc_text.specs.Agreement.{reply_flight, sent_flight}
-use Rattle.bsc_text.specs.EachStep.{SenderAgrees, ReceiverAgrees}
+use Rattle.bsc_bid.specs.declared.alternation.Alternation.{Alternation}
+use Rattle.bsc_bid.specs.declared.alternation.Alternation.TheVariants.{Even}
+use Rattle.bsc_bid.specs.declared.reply.Reply.{Reply}
+use Rattle.bsc_bid.specs.declared.reply.Reply.TheVariants.{Ack0}
+use Rattle.bsc_bid.specs.declared.phase.Phase.{Phase}
+use Rattle.bsc_bid.specs.declared.phase.Phase.TheVariants.{Idle}
+use Rattle.bsc_bid.specs.Reply.{message_of, reply_in, reply_heard}
+use Rattle.bsc_bid.specs.Receiver.{ReceiverStep, Rooms, heard_step, sends_rvi}
+use Rattle.bsc_bid.specs.Sender.{SenderStep, begin_step}
+use Rattle.bsc_bid.specs.Fair.{IsFairlyHeard}
+use Rattle.bsc_bid.specs.Agreement.{Flight, Still, Outward, InBid, IsResting, Continues}
+use Rattle.bsc_bid.specs.Agreement.{reply_flight, sent_flight}
+use Rattle.bsc_bid.specs.EachStep.{SenderAgrees, ReceiverAgrees}
 use Rattle.bsc_tributary.specs.Tributary.{TributaryValue, spool_at}
 use Rattle.bsc_tributary.specs.Kept.{IsNoCall}
 use Rattle.bsc_control.specs.declared.task.Replied.{Replied}
@@ -45,7 +45,7 @@ use Rattle.bsc_line_model.proofs.Calling.{called_next}
 use Rattle.bsc_line_model.proofs.SendingDown.{IsBidMessage, no_call_heard}
 use Rattle.bsc_line_model.proofs.SendingUp.{HasActed, performed, places_after, answers_down}
 use Rattle.bsc_line_model.proofs.CallsHeard.{with_others}
-use Rattle.bsc_text.proofs.FitLemmas.{begin_not_quiet}
+use Rattle.bsc_bid.proofs.FitLemmas.{begin_not_quiet}
 
 -- what was on its way is lost
 lost_selecting : (c : ControlValue) (ts : List TributaryValue) (pending : Option Transmission)

@@ -11,19 +11,19 @@ use Rattle.bsc_frame.specs.declared.message.Heard.{Heard}
 use Rattle.bsc_frame.specs.declared.message.Heard.TheVariants.{Whole}
 use Rattle.bsc_spool.specs.Queue.{waiting}
 use Rattle.bsc_spool.specs.Spool.{SpoolValue, room_asked}
-use Rattle.bsc_text.specs.Act as a
-use Rattle.bsc_text.specs.declared.phase.Phase.{Phase}
-use Rattle.bsc_text.specs.declared.phase.Phase.TheVariants.{Idle}
-use Rattle.bsc_text.specs.Ready.{IsAtRest, FitsAct}
-use Rattle.bsc_text.specs.Receiver.{ReceiverValue, new_receiver, first_reply}
-use Rattle.bsc_text.specs.Reply.{message_of}
-use Rattle.bsc_text.specs.declared.alternation.Alternation.TheVariants.{Even}
-use Rattle.bsc_text.specs.declared.reply.Reply.TheVariants.{Ack0}
-use Rattle.bsc_text.specs.Act.{Act}
-use Rattle.bsc_text.specs.Sender.{SenderStep, begin_step, cut_phase, is_in_doubt}
-use Rattle.bsc_text.specs.Terminal.{TerminalValue, HasDistinctAddresses}
-use Rattle.bsc_text.specs.Agreement.{IsResting, Continues, sent_flight}
-use Rattle.bsc_text.specs.EachStep.{SenderAgrees}
+use Rattle.bsc_bid.specs.Act as a
+use Rattle.bsc_bid.specs.declared.phase.Phase.{Phase}
+use Rattle.bsc_bid.specs.declared.phase.Phase.TheVariants.{Idle}
+use Rattle.bsc_bid.specs.Ready.{IsAtRest, FitsAct}
+use Rattle.bsc_bid.specs.Receiver.{ReceiverValue, new_receiver, first_reply}
+use Rattle.bsc_bid.specs.Reply.{message_of}
+use Rattle.bsc_bid.specs.declared.alternation.Alternation.TheVariants.{Even}
+use Rattle.bsc_bid.specs.declared.reply.Reply.TheVariants.{Ack0}
+use Rattle.bsc_bid.specs.Act.{Act}
+use Rattle.bsc_bid.specs.Sender.{SenderStep, begin_step, cut_phase, is_in_doubt}
+use Rattle.bsc_bid.specs.Terminal.{TerminalValue, HasDistinctAddresses}
+use Rattle.bsc_bid.specs.Agreement.{IsResting, Continues, sent_flight}
+use Rattle.bsc_bid.specs.EachStep.{SenderAgrees}
 use Rattle.bsc_tributary.specs.declared.called.Called.{Called}
 use Rattle.bsc_tributary.specs.declared.called.Called.TheVariants.{Polling as PollingCalled}
 use Rattle.bsc_tributary.specs.declared.called.Called.TheVariants.{Selection, Other}
@@ -59,7 +59,7 @@ use Rattle.bsc_line_model.proofs.SendingDown.{first_answer_is, same_terminal}
 use Rattle.bsc_line_model.proofs.ActingUp.{HasActedUp, acts_up, present_after}
 use Rattle.bsc_line_model.proofs.CallsMissed.{no_bid_without_line, GivesUp}
 use Rattle.bsc_line_model.proofs.CallsMissed.{no_bid_back}
-use Rattle.bsc_text.proofs.RestLemmas.{idle_at_rest, cut_at_rest}
+use Rattle.bsc_bid.proofs.RestLemmas.{idle_at_rest, cut_at_rest}
 use Rattle.bsc_line_model.proofs.UpTerminals.{poll_by}
 
 -- a call is heard whole by all, and its address is that of terminal e for this way

@@ -5,8 +5,8 @@ use Rattle.bsc_frame.specs.declared.message.Message.{Message}
 use Rattle.bsc_frame.specs.declared.message.Message.TheVariants as m
 use Rattle.bsc_frame.specs.declared.message.Heard.{Heard}
 use Rattle.bsc_frame.specs.declared.message.Heard.TheVariants.{Whole, Failed, Noise}
-use Rattle.bsc_text.specs.declared.phase.Phase.{Phase}
-use Rattle.bsc_text.specs.Agreement.{IsResting}
+use Rattle.bsc_bid.specs.declared.phase.Phase.{Phase}
+use Rattle.bsc_bid.specs.Agreement.{IsResting}
 use Rattle.bsc_tributary.specs.Tributary.{TributaryValue, TributaryStep, Hears, without_line}
 use Rattle.bsc_tributary.specs.Kept.{IsTributary, AfterHearing}
 use Rattle.bsc_control.specs.declared.task.Replied.{Replied}
@@ -18,9 +18,9 @@ use Rattle.bsc_line_model.specs.Trust.{EachOf, IsMissed}
 use Rattle.bsc_line_model.specs.Kept.{AreStations}
 use Rattle.bsc_line_model.specs.Together.{HasNoBid, NoBids, IsSelecting, IsPolling}
 use Rattle.bsc_line_model.proofs.SendingDown.{none_before}
-use Rattle.bsc_text.proofs.RestLemmas.{cut_at_rest}
+use Rattle.bsc_bid.proofs.RestLemmas.{cut_at_rest}
 use Rattle.bsc_line_model.proofs.Stations.{at_rest_in}
-use Rattle.bsc_text.specs.Station.{StaysQuiet}
+use Rattle.bsc_bid.specs.Station.{StaysQuiet}
 
 -- the line is taken from it
 pub no_bid_without_line : (p : PeerValue) (x : TributaryValue) → IsTributary x → HasNoBid p x

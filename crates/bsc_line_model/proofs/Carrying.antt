@@ -26,7 +26,7 @@ use Rattle.bsc_line_model.specs.Together.{InTask}
 use Rattle.bsc_line_model.specs.Transmission.{sent_by}
 use Rattle.bsc_line_model.specs.Terminals.{first_answer}
 use Rattle.bsc_line_model.specs.Kept.{IsMember}
-use Rattle.bsc_text.specs.Fair.{IsFairlyHeard}
+use Rattle.bsc_bid.specs.Fair.{IsFairlyHeard}
 use Rattle.bsc_tributary.specs.declared.mode.Mode.{Mode}
 use Rattle.bsc_tributary.specs.declared.mode.Mode.TheVariants.{Control as ControlMode, Receiving}
 use Rattle.bsc_tributary.specs.declared.mode.Mode.TheVariants.{Sending}
@@ -43,7 +43,7 @@ use Rattle.bsc_line_model.proofs.AnswersHeard.{hears_up}
 use Rattle.bsc_line_model.proofs.Silences.{silent_control, silent_terminal}
 use Rattle.bsc_line_model.proofs.Likeness.{IsLike, together_like, terminal_like, peer_like}
 use Rattle.bsc_block.specs.Format.{FormatValue}
-use Rattle.bsc_text.specs.Setup.{SetupValue}
+use Rattle.bsc_bid.specs.Setup.{SetupValue}
 
 -- the control station's transmission was heard
 pub line_down : (laws : NamesOwn) (bids : BidLaws) (c : ControlValue) (ts : List TributaryValue)

@@ -4,11 +4,11 @@ use Rattle.std.proofs.Common.{length, Ok, refl, sym, ◌∙◌, ap, subst, get_o
 use Rattle.std.proofs.Common.{get_or-set_same, if◌then◌else◌}
 use Rattle.bsc_spool.specs.Queue.{QueueValue, queue_of, with_offered}
 use Rattle.bsc_spool.specs.Spool.{SpoolValue}
-use Rattle.bsc_text.specs.declared.phase.Phase.{Phase}
-use Rattle.bsc_text.specs.declared.phase.Phase.TheVariants.{Idle, Unanswered, Held, InDoubt}
-use Rattle.bsc_text.specs.declared.sender.ReleaseError.TheVariants.{CountMismatch}
-use Rattle.bsc_text.specs.Sender.{SenderValue, release_in, released, not_released}
-use Rattle.bsc_text.specs.Channel.{Channel, channel, Move, Offer, Learn, Makes}
+use Rattle.bsc_bid.specs.declared.phase.Phase.{Phase}
+use Rattle.bsc_bid.specs.declared.phase.Phase.TheVariants.{Idle, Unanswered, Held, InDoubt}
+use Rattle.bsc_bid.specs.declared.sender.ReleaseError.TheVariants.{CountMismatch}
+use Rattle.bsc_bid.specs.Sender.{SenderValue, release_in, released, not_released}
+use Rattle.bsc_bid.specs.Channel.{Channel, channel, Move, Offer, Learn, Makes}
 use Rattle.bsc_tributary.specs.Tributary.{TributaryValue, spool_at, after_release}
 use Rattle.bsc_directory.specs.declared.way.Way.{Way}
 use Rattle.bsc_directory.specs.declared.way.Way.TheVariants.{FromTerminal, ToTerminal}

@@ -10,16 +10,16 @@ use Rattle.bsc_frame.specs.declared.message.Heard.TheVariants.{Whole, Failed, No
 use Rattle.bsc_frame.specs.Texts.{TextValue}
 use Rattle.bsc_spool.specs.Queue.{waiting}
 use Rattle.bsc_spool.specs.Spool.{SpoolValue, with_delay, room_asked}
-use Rattle.bsc_text.specs.Act.{Act}
-use Rattle.bsc_text.specs.Act as a
-use Rattle.bsc_text.specs.declared.reply.Reply.{Reply}
-use Rattle.bsc_text.specs.declared.reply.Reply.TheVariants.{Ack0, Ack1, Nak, Wack, Rvi}
-use Rattle.bsc_text.specs.Reply.{reply_heard}
-use Rattle.bsc_text.specs.Receiver.{ReceiverValue, ReceiverStep, Rooms, heard_step, text_step}
-use Rattle.bsc_text.specs.Receiver.{stored_text, taken_urgently, replied, is_rvi, is_wack}
-use Rattle.bsc_text.specs.Receiver.{new_receiver}
-use Rattle.bsc_text.specs.Sender.{SenderStep, begin_step, reply_step, is_in_doubt}
-use Rattle.bsc_text.proofs.Choice.{choose}
+use Rattle.bsc_bid.specs.Act.{Act}
+use Rattle.bsc_bid.specs.Act as a
+use Rattle.bsc_bid.specs.declared.reply.Reply.{Reply}
+use Rattle.bsc_bid.specs.declared.reply.Reply.TheVariants.{Ack0, Ack1, Nak, Wack, Rvi}
+use Rattle.bsc_bid.specs.Reply.{reply_heard}
+use Rattle.bsc_bid.specs.Receiver.{ReceiverValue, ReceiverStep, Rooms, heard_step, text_step}
+use Rattle.bsc_bid.specs.Receiver.{stored_text, taken_urgently, replied, is_rvi, is_wack}
+use Rattle.bsc_bid.specs.Receiver.{new_receiver}
+use Rattle.bsc_bid.specs.Sender.{SenderStep, begin_step, reply_step, is_in_doubt}
+use Rattle.bsc_bid.proofs.Choice.{choose}
 use Rattle.bsc_tributary.specs.declared.called.Called.{Called}
 use Rattle.bsc_tributary.specs.declared.called.Called.TheVariants.{Polling, Selection, Other}
 use Rattle.bsc_tributary.specs.declared.mode.Mode.{Mode}

@@ -12,15 +12,15 @@ use Rattle.bsc_frame.specs.declared.text.End.{End}
 use Rattle.bsc_frame.specs.declared.text.End.TheVariants.{Etb, Etx}
 use Rattle.bsc_spool.specs.declared.queue.Next.{Next}
 use Rattle.bsc_spool.specs.Queue.{QueueValue, IsQueue, with_known, next_block}
-use Rattle.bsc_text.specs.declared.alternation.Alternation.{Alternation}
-use Rattle.bsc_text.specs.declared.alternation.Alternation.TheVariants.{Even, Odd}
-use Rattle.bsc_text.specs.declared.phase.SentBlock.{SentBlock}
-use Rattle.bsc_text.specs.declared.phase.Phase.TheVariants.{Idle, Unanswered}
-use Rattle.bsc_text.specs.Receiver.{new_receiver}
-use Rattle.bsc_text.specs.Reply.{message_of, reply_heard, ack, other}
-use Rattle.bsc_text.specs.Sender.{SenderValue, SenderStep, text_of, sent_next, begin_step}
-use Rattle.bsc_text.specs.Sender.{reply_step, accepted, over, with_counts}
-use Rattle.bsc_text.specs.Terminal.{TerminalValue}
+use Rattle.bsc_bid.specs.declared.alternation.Alternation.{Alternation}
+use Rattle.bsc_bid.specs.declared.alternation.Alternation.TheVariants.{Even, Odd}
+use Rattle.bsc_bid.specs.declared.phase.SentBlock.{SentBlock}
+use Rattle.bsc_bid.specs.declared.phase.Phase.TheVariants.{Idle, Unanswered}
+use Rattle.bsc_bid.specs.Receiver.{new_receiver}
+use Rattle.bsc_bid.specs.Reply.{message_of, reply_heard, ack, other}
+use Rattle.bsc_bid.specs.Sender.{SenderValue, SenderStep, text_of, sent_next, begin_step}
+use Rattle.bsc_bid.specs.Sender.{reply_step, accepted, over, with_counts}
+use Rattle.bsc_bid.specs.Terminal.{TerminalValue}
 use Rattle.bsc_control.specs.declared.task.Task.{Task}
 use Rattle.bsc_control.specs.declared.task.Task.TheVariants.{Selecting, Sending}
 use Rattle.bsc_directory.specs.declared.way.Way.{Way}

@@ -10,16 +10,16 @@ use Rattle.bsc_frame.specs.declared.message.Heard.TheVariants.{Whole}
 use Rattle.bsc_frame.specs.Texts.{TextValue}
 use Rattle.bsc_spool.specs.Queue.{QueueValue}
 use Rattle.bsc_spool.specs.Spool.{SpoolValue}
-use Rattle.bsc_text.specs.declared.phase.Phase.{Phase}
-use Rattle.bsc_text.specs.declared.reply.Reply.{Reply}
-use Rattle.bsc_text.specs.Reply.{message_of, reply_heard}
-use Rattle.bsc_text.specs.Receiver.{ReceiverStep, Rooms, heard_step}
-use Rattle.bsc_text.specs.Sender.{reply_step}
-use Rattle.bsc_text.specs.Channel.{Channel, channel}
-use Rattle.bsc_text.specs.Fair.{IsFairlyHeard, IsCallCutShort}
-use Rattle.bsc_text.specs.Agreement.{Flight, Outward, Back, InBid}
-use Rattle.bsc_text.specs.OneBid.{MovesAtReceiver, MovesAtSender}
-use Rattle.bsc_text.specs.EachStep.{ReceiverAgrees, SenderAgrees}
+use Rattle.bsc_bid.specs.declared.phase.Phase.{Phase}
+use Rattle.bsc_bid.specs.declared.reply.Reply.{Reply}
+use Rattle.bsc_bid.specs.Reply.{message_of, reply_heard}
+use Rattle.bsc_bid.specs.Receiver.{ReceiverStep, Rooms, heard_step}
+use Rattle.bsc_bid.specs.Sender.{reply_step}
+use Rattle.bsc_bid.specs.Channel.{Channel, channel}
+use Rattle.bsc_bid.specs.Fair.{IsFairlyHeard, IsCallCutShort}
+use Rattle.bsc_bid.specs.Agreement.{Flight, Outward, Back, InBid}
+use Rattle.bsc_bid.specs.OneBid.{MovesAtReceiver, MovesAtSender}
+use Rattle.bsc_bid.specs.EachStep.{ReceiverAgrees, SenderAgrees}
 use Rattle.bsc_tributary.specs.declared.mode.Mode.{Mode}
 use Rattle.bsc_tributary.specs.Tributary.{TributaryValue, TributaryStep, Hears, mode_step}
 use Rattle.bsc_tributary.specs.Tributary.{receive_step, rooms_after, spool_at, empty_spool}
@@ -50,7 +50,7 @@ use Rattle.bsc_line_model.proofs.AllHear.{reply_is_no_call}
 use Rattle.bsc_line_model.proofs.QueueSteps.{LearnsUp, terminal_queue}
 use Rattle.bsc_line_model.proofs.Holding.{IsBidOf, bid_of}
 use Rattle.bsc_line_model.proofs.Moving.{MovesIfAddressed, EachMoves}
-use Rattle.bsc_text.proofs.Answering.{no_reply}
+use Rattle.bsc_bid.proofs.Answering.{no_reply}
 use Rattle.bsc_line_model.proofs.Stations.{receiving_into}
 
 -- a text that is heard fairly was sent

@@ -9,14 +9,14 @@ use Rattle.bsc_frame.specs.declared.message.Message.TheVariants as m
 use Rattle.bsc_frame.specs.declared.message.Heard.{Heard}
 use Rattle.bsc_frame.specs.declared.message.Heard.TheVariants.{Whole}
 use Rattle.bsc_frame.specs.Texts.{TextValue}
-use Rattle.bsc_text.specs.declared.phase.SentBlock.{SentBlock}
-use Rattle.bsc_text.specs.declared.phase.Phase.{Phase}
-use Rattle.bsc_text.specs.declared.phase.Phase.TheVariants.{Unanswered}
-use Rattle.bsc_text.specs.Ready.{IsAtRest}
-use Rattle.bsc_text.specs.Reply.{message_of, ack, other}
-use Rattle.bsc_text.specs.Sender.{text_of}
-use Rattle.bsc_text.specs.Agreement.{Flight, Outward, Agree}
-use Rattle.bsc_text.specs.Terminal.{TerminalValue}
+use Rattle.bsc_bid.specs.declared.phase.SentBlock.{SentBlock}
+use Rattle.bsc_bid.specs.declared.phase.Phase.{Phase}
+use Rattle.bsc_bid.specs.declared.phase.Phase.TheVariants.{Unanswered}
+use Rattle.bsc_bid.specs.Ready.{IsAtRest}
+use Rattle.bsc_bid.specs.Reply.{message_of, ack, other}
+use Rattle.bsc_bid.specs.Sender.{text_of}
+use Rattle.bsc_bid.specs.Agreement.{Flight, Outward, Agree}
+use Rattle.bsc_bid.specs.Terminal.{TerminalValue}
 use Rattle.bsc_tributary.specs.declared.called.Called.{Called}
 use Rattle.bsc_tributary.specs.declared.called.Called.TheVariants.{Polling, Selection, Other}
 use Rattle.bsc_tributary.specs.declared.mode.Mode.{Mode}

@@ -7,13 +7,13 @@ use Rattle.bsc_frame.specs.declared.message.Message.TheVariants as m
 use Rattle.bsc_frame.specs.declared.message.Heard.TheVariants.{Whole}
 use Rattle.bsc_frame.specs.Texts.{TextValue}
 use Rattle.bsc_spool.specs.Spool.{SpoolValue, room_asked, with_delay}
-use Rattle.bsc_text.specs.declared.alternation.Alternation.{Alternation}
-use Rattle.bsc_text.specs.declared.alternation.Alternation.TheVariants.{Even, Odd}
-use Rattle.bsc_text.specs.declared.reply.Reply.{Reply}
-use Rattle.bsc_text.specs.Ready.{IsAtRest}
-use Rattle.bsc_text.specs.Reply.{message_of, ack, other}
-use Rattle.bsc_text.specs.Receiver.{ReceiverValue, ReceiverStep, Rooms, text_step, sends_rvi}
-use Rattle.bsc_text.specs.Receiver.{new_receiver, first_reply}
+use Rattle.bsc_bid.specs.declared.alternation.Alternation.{Alternation}
+use Rattle.bsc_bid.specs.declared.alternation.Alternation.TheVariants.{Even, Odd}
+use Rattle.bsc_bid.specs.declared.reply.Reply.{Reply}
+use Rattle.bsc_bid.specs.Ready.{IsAtRest}
+use Rattle.bsc_bid.specs.Reply.{message_of, ack, other}
+use Rattle.bsc_bid.specs.Receiver.{ReceiverValue, ReceiverStep, Rooms, text_step, sends_rvi}
+use Rattle.bsc_bid.specs.Receiver.{new_receiver, first_reply}
 use Rattle.bsc_tributary.specs.declared.called.Called.{Called}
 use Rattle.bsc_tributary.specs.declared.called.Called.TheVariants.{Selection, Other}
 use Rattle.bsc_tributary.specs.declared.mode.Mode.{Mode}
@@ -25,7 +25,7 @@ use Rattle.bsc_tributary.specs.Tributary.{without_line, quiet_step, spool_at, em
 use Rattle.bsc_directory.specs.declared.way.Way.TheVariants.{ToTerminal}
 use Rattle.bsc_directory.specs.declared.way.Way.{Way}
 use Rattle.bsc_line_model.proofs.Staying.{TerminalStays}
-use Rattle.bsc_text.proofs.RestLemmas.{cut_at_rest}
+use Rattle.bsc_bid.proofs.RestLemmas.{cut_at_rest}
 
 -- a flag that is down stays down
 pub calm : (b u : Bool) → u ≡ false → (if b then false else u) ≡ false

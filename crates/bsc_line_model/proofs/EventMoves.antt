@@ -6,7 +6,7 @@ use Rattle.bsc_frame.specs.declared.message.Heard.{Heard}
 use Rattle.bsc_frame.specs.declared.message.Heard.TheVariants.{Whole}
 use Rattle.bsc_spool.specs.Queue.{QueueValue}
 use Rattle.bsc_spool.specs.Spool.{SpoolValue}
-use Rattle.bsc_text.specs.Channel.{channel, Offer, Learn}
+use Rattle.bsc_bid.specs.Channel.{channel, Offer, Learn}
 use Rattle.bsc_tributary.specs.Tributary.{TributaryValue, spool_at}
 use Rattle.bsc_directory.specs.declared.way.Way.{Way}
 use Rattle.bsc_directory.specs.declared.way.Way.TheVariants.{FromTerminal, ToTerminal}

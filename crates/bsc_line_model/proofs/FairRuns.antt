@@ -5,7 +5,7 @@ use Rattle.std.proofs.Common.{◌≡◌, inl, inr, ℕ, zero, suc, ◌+◌, ◌^
 use Rattle.std.proofs.Common.{Result, Ok, Err, refl, sym, ◌∙◌, ap, subst, arith}
 use Rattle.bsc_frame.specs.declared.message.Message.{Message}
 use Rattle.bsc_frame.specs.declared.message.Heard.TheVariants.{Whole}
-use Rattle.bsc_text.specs.Fair.{IsFairlyHeard}
+use Rattle.bsc_bid.specs.Fair.{IsFairlyHeard}
 use Rattle.bsc_tributary.specs.Tributary.{spool_at}
 use Rattle.bsc_directory.specs.declared.way.Way.TheVariants.{ToTerminal}
 use Rattle.bsc_control.specs.Control.{ControlValue, peer_at}

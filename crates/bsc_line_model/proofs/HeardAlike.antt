@@ -4,7 +4,7 @@ use Rattle.bsc_frame.specs.declared.message.Message.{Message}
 use Rattle.bsc_frame.specs.declared.message.Message.TheVariants as m
 use Rattle.bsc_frame.specs.declared.message.Heard.{Heard}
 use Rattle.bsc_frame.specs.declared.message.Heard.TheVariants.{Whole, Failed, Noise}
-use Rattle.bsc_text.specs.Fair.{IsFairlyHeard, IsCallCutShort}
+use Rattle.bsc_bid.specs.Fair.{IsFairlyHeard, IsCallCutShort}
 use Rattle.bsc_line_model.specs.Hearing.{all_hear}
 use Rattle.bsc_line_model.specs.Trust.{IsMissed, IsCallFair, IsHeardFairly}
 

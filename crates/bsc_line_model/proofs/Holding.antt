@@ -3,11 +3,11 @@ use Rattle.std.proofs.Common.{◌≡◌, inl, inr, ℕ, ◌+◌, ◌<◌, Bool, 
 use Rattle.std.proofs.Common.{length, IsTrue, Option, Err, refl, sym, ◌∙◌, ap, if◌then◌else◌}
 use Rattle.std.proofs.lemmas.Bool.{eqb-false}
 use Rattle.bsc_spool.specs.Queue.{QueueValue}
-use Rattle.bsc_text.specs.declared.phase.Phase.{Phase}
-use Rattle.bsc_text.specs.declared.phase.Phase.TheVariants.{Idle, Unanswered, Held, InDoubt}
-use Rattle.bsc_text.specs.declared.sender.ReleaseError.TheVariants as r
-use Rattle.bsc_text.specs.Sender.{SenderValue, release_in, released, not_released}
-use Rattle.bsc_text.specs.Channel.{IsSpooled, IsSound}
+use Rattle.bsc_bid.specs.declared.phase.Phase.{Phase}
+use Rattle.bsc_bid.specs.declared.phase.Phase.TheVariants.{Idle, Unanswered, Held, InDoubt}
+use Rattle.bsc_bid.specs.declared.sender.ReleaseError.TheVariants as r
+use Rattle.bsc_bid.specs.Sender.{SenderValue, release_in, released, not_released}
+use Rattle.bsc_bid.specs.Channel.{IsSpooled, IsSound}
 use Rattle.bsc_tributary.specs.declared.mode.Mode.{Mode}
 use Rattle.bsc_tributary.specs.declared.mode.Mode.TheVariants.{Control, Receiving, Sending as Sends}
 use Rattle.bsc_tributary.specs.Tributary.{TributaryValue, spool_at, holds}

@@ -8,16 +8,16 @@ use Rattle.std.proofs.lemmas.List.{length-set}
 use Rattle.bsc_frame.specs.declared.message.Message.{Message}
 use Rattle.bsc_frame.specs.declared.message.Message.TheVariants as m
 use Rattle.bsc_spool.specs.Queue.{QueueValue, with_offered}
-use Rattle.bsc_text.specs.declared.alternation.Alternation.{Alternation}
-use Rattle.bsc_text.specs.declared.reply.Reply.{Reply}
-use Rattle.bsc_text.specs.declared.reply.Reply.TheVariants.{Ack0, Wack}
-use Rattle.bsc_text.specs.declared.phase.Phase.{Phase}
-use Rattle.bsc_text.specs.declared.phase.Phase.TheVariants.{Idle, Unanswered, Held, InDoubt}
-use Rattle.bsc_text.specs.Receiver.{ReceiverValue}
-use Rattle.bsc_text.specs.Sender.{SenderValue, release_in}
-use Rattle.bsc_text.specs.Agreement.{Flight, InBid, IsResting}
-use Rattle.bsc_text.specs.EachStep.{ReleaseAgrees}
-use Rattle.bsc_text.specs.Terminal.{TerminalValue}
+use Rattle.bsc_bid.specs.declared.alternation.Alternation.{Alternation}
+use Rattle.bsc_bid.specs.declared.reply.Reply.{Reply}
+use Rattle.bsc_bid.specs.declared.reply.Reply.TheVariants.{Ack0, Wack}
+use Rattle.bsc_bid.specs.declared.phase.Phase.{Phase}
+use Rattle.bsc_bid.specs.declared.phase.Phase.TheVariants.{Idle, Unanswered, Held, InDoubt}
+use Rattle.bsc_bid.specs.Receiver.{ReceiverValue}
+use Rattle.bsc_bid.specs.Sender.{SenderValue, release_in}
+use Rattle.bsc_bid.specs.Agreement.{Flight, InBid, IsResting}
+use Rattle.bsc_bid.specs.EachStep.{ReleaseAgrees}
+use Rattle.bsc_bid.specs.Terminal.{TerminalValue}
 use Rattle.bsc_tributary.specs.Tributary.{TributaryValue, spool_at, after_release}
 use Rattle.bsc_control.specs.declared.task.Replied.{Replied}
 use Rattle.bsc_control.specs.declared.task.Task.{Task}

@@ -2,16 +2,16 @@
 use Rattle.std.proofs.Common.{◌≡◌, ℕ, ◌<◌, Bool, List, [], length, None, get_or, refl, sym, ◌∙◌, ap}
 use Rattle.std.proofs.Common.{subst, arith}
 use Rattle.std.proofs.lemmas.List.{length-map}
-use Rattle.bsc_text.specs.Setup.{SetupValue}
-use Rattle.bsc_text.specs.Sender.{SenderValue}
-use Rattle.bsc_text.specs.Terminal.{TerminalValue}
+use Rattle.bsc_bid.specs.Setup.{SetupValue}
+use Rattle.bsc_bid.specs.Sender.{SenderValue}
+use Rattle.bsc_bid.specs.Terminal.{TerminalValue}
 use Rattle.bsc_tributary.specs.declared.mode.Mode.{Mode}
 use Rattle.bsc_tributary.specs.declared.mode.Mode.TheVariants.{Control, Sending}
 use Rattle.bsc_tributary.specs.Tributary.{TributaryValue, spool_at, empty_spool}
 use Rattle.bsc_spool.specs.Queue.{QueueValue, IsQueue}
-use Rattle.bsc_text.specs.declared.phase.Phase.{Phase}
-use Rattle.bsc_text.specs.declared.phase.Phase.TheVariants.{Idle}
-use Rattle.bsc_text.specs.Agreement.{IsResting}
+use Rattle.bsc_bid.specs.declared.phase.Phase.{Phase}
+use Rattle.bsc_bid.specs.declared.phase.Phase.TheVariants.{Idle}
+use Rattle.bsc_bid.specs.Agreement.{IsResting}
 use Rattle.bsc_line_model.specs.Together.{NoBids, InTask}
 use Rattle.std.proofs.lemmas.List.{get_or-replicate}
 use Rattle.bsc_control.specs.Peer.{PeerValue, OutboundValue, IsPeer, IsNewPeer, no_peer}

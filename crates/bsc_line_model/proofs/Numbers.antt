@@ -11,11 +11,11 @@ use Rattle.bsc_frame.specs.declared.message.Message.{Message}
 use Rattle.bsc_frame.specs.declared.message.Message.TheVariants as m
 use Rattle.bsc_spool.specs.Queue.{QueueValue}
 use Rattle.bsc_spool.specs.Spool.{SpoolValue}
-use Rattle.bsc_text.specs.declared.phase.Phase.{Phase}
-use Rattle.bsc_text.specs.Channel.{channel}
-use Rattle.bsc_text.specs.Ready.{IsAtRest}
-use Rattle.bsc_text.specs.Sender.{is_in_doubt}
-use Rattle.bsc_text.specs.Terminal.{TerminalValue}
+use Rattle.bsc_bid.specs.declared.phase.Phase.{Phase}
+use Rattle.bsc_bid.specs.Channel.{channel}
+use Rattle.bsc_bid.specs.Ready.{IsAtRest}
+use Rattle.bsc_bid.specs.Sender.{is_in_doubt}
+use Rattle.bsc_bid.specs.Terminal.{TerminalValue}
 use Rattle.bsc_tributary.specs.declared.mode.Mode.{Mode}
 use Rattle.bsc_tributary.specs.declared.mode.Mode.TheVariants as mode
 use Rattle.bsc_tributary.specs.Tributary.{spool_at}

@@ -6,7 +6,7 @@ use Rattle.bsc_frame.specs.declared.message.Heard.{Heard}
 use Rattle.bsc_frame.specs.declared.message.Heard.TheVariants.{Whole, Failed, Noise}
 use Rattle.bsc_frame.specs.Reading.{heard}
 use Rattle.bsc_frame.specs.Spells.{Spells, IsFailed, IsNoise}
-use Rattle.bsc_text.specs.Fair.{IsCallCutShort, IsFairlyHeard}
+use Rattle.bsc_bid.specs.Fair.{IsCallCutShort, IsFairlyHeard}
 use Rattle.bsc_line_model.specs.Hearing.{heard_in}
 use Rattle.bsc_line_model.specs.Trust.{is_call}
 use Rattle.bsc_line_model.specs.Octets.{IsFairIn, FairInOctets}

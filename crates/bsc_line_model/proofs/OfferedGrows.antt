@@ -8,8 +8,8 @@ use Rattle.std.specs.Borrow.{Bor}
 use Rattle.bsc_frame.specs.declared.message.Message.{Message}
 use Rattle.bsc_frame.specs.declared.message.Heard.{Heard}
 use Rattle.bsc_frame.specs.declared.message.Heard.TheVariants.{Whole}
-use Rattle.bsc_text.specs.Terminal.{TerminalValue}
-use Rattle.bsc_text.specs.Channel.{Channel, Offer, Learn}
+use Rattle.bsc_bid.specs.Terminal.{TerminalValue}
+use Rattle.bsc_bid.specs.Channel.{Channel, Offer, Learn}
 use Rattle.bsc_tributary.specs.Tributary.{TributaryValue, after_release}
 use Rattle.bsc_spool.specs.Queue.{with_offered}
 use Rattle.bsc_directory.specs.declared.way.Way.{Way}

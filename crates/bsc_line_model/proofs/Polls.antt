@@ -8,15 +8,15 @@ use Rattle.bsc_frame.specs.declared.message.Message.{Message}
 use Rattle.bsc_frame.specs.declared.message.Message.TheVariants as msg
 use Rattle.bsc_frame.specs.declared.message.Heard.TheVariants.{Whole}
 use Rattle.bsc_frame.specs.Texts.{TextValue}
-use Rattle.bsc_text.specs.declared.alternation.Alternation.{Alternation}
-use Rattle.bsc_text.specs.declared.phase.SentBlock.{SentBlock}
-use Rattle.bsc_text.specs.declared.phase.Phase.{Phase}
-use Rattle.bsc_text.specs.declared.phase.Phase.TheVariants.{Unanswered}
-use Rattle.bsc_text.specs.Ready.{IsAtRest, IsReady}
-use Rattle.bsc_text.specs.Reply.{message_of, ack, other}
-use Rattle.bsc_text.specs.Sender.{text_of, is_in_doubt}
-use Rattle.bsc_text.specs.Agreement.{Flight, Outward, Agree}
-use Rattle.bsc_text.specs.Terminal.{TerminalValue}
+use Rattle.bsc_bid.specs.declared.alternation.Alternation.{Alternation}
+use Rattle.bsc_bid.specs.declared.phase.SentBlock.{SentBlock}
+use Rattle.bsc_bid.specs.declared.phase.Phase.{Phase}
+use Rattle.bsc_bid.specs.declared.phase.Phase.TheVariants.{Unanswered}
+use Rattle.bsc_bid.specs.Ready.{IsAtRest, IsReady}
+use Rattle.bsc_bid.specs.Reply.{message_of, ack, other}
+use Rattle.bsc_bid.specs.Sender.{text_of, is_in_doubt}
+use Rattle.bsc_bid.specs.Agreement.{Flight, Outward, Agree}
+use Rattle.bsc_bid.specs.Terminal.{TerminalValue}
 use Rattle.bsc_tributary.specs.declared.called.Called.TheVariants.{Polling}
 use Rattle.bsc_tributary.specs.declared.mode.Mode.{Mode}
 use Rattle.bsc_tributary.specs.Called.{called_as}
@@ -55,7 +55,7 @@ use Rattle.bsc_line_model.proofs.UpTerminals.{hears_ack, hears_poll}
 use Rattle.bsc_line_model.proofs.UpControl.{IsPolled, CallsNext, takes_up, polled_out}
 use Rattle.bsc_line_model.proofs.Walking.{IsGood, good_places, Walks, Stepped, one_step}
 use Rattle.bsc_line_model.proofs.Selections.{VisitLaws, Comes, Calls, known_queue, current_same}
-use Rattle.bsc_text.proofs.Answering.{no_reply}
+use Rattle.bsc_bid.proofs.Answering.{no_reply}
 
 -- the poll of terminal e goes on, with n blocks to send, and what the terminal sent is pending
 pub record IsInPoll (l : LineValue) (e place n : ℕ) : Type 0 where

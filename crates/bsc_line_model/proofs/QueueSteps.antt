@@ -8,15 +8,15 @@ use Rattle.bsc_frame.specs.declared.message.Heard.TheVariants.{Whole, Failed, No
 use Rattle.bsc_spool.specs.declared.queue.Next.{Next}
 use Rattle.bsc_spool.specs.Queue.{QueueValue, waiting, next_block}
 use Rattle.bsc_spool.specs.Spool.{room_asked}
-use Rattle.bsc_text.specs.Act.{Act}
-use Rattle.bsc_text.specs.Act as a
-use Rattle.bsc_text.specs.declared.alternation.Alternation.TheVariants.{Odd}
-use Rattle.bsc_text.specs.declared.phase.Phase.{Phase}
-use Rattle.bsc_text.specs.declared.phase.Phase.TheVariants.{Idle, Unanswered, Held, InDoubt}
-use Rattle.bsc_text.specs.Reply.{message_of, reply_heard}
-use Rattle.bsc_text.specs.Receiver.{Rooms, new_receiver, first_reply}
-use Rattle.bsc_text.specs.Sender.{SenderValue, with_counts, over, sent_next, begin_step, reply_step}
-use Rattle.bsc_text.specs.Sender.{failed, silence_in as sender_silence, silence_step, is_in_doubt}
+use Rattle.bsc_bid.specs.Act.{Act}
+use Rattle.bsc_bid.specs.Act as a
+use Rattle.bsc_bid.specs.declared.alternation.Alternation.TheVariants.{Odd}
+use Rattle.bsc_bid.specs.declared.phase.Phase.{Phase}
+use Rattle.bsc_bid.specs.declared.phase.Phase.TheVariants.{Idle, Unanswered, Held, InDoubt}
+use Rattle.bsc_bid.specs.Reply.{message_of, reply_heard}
+use Rattle.bsc_bid.specs.Receiver.{Rooms, new_receiver, first_reply}
+use Rattle.bsc_bid.specs.Sender.{SenderValue, with_counts, over, sent_next, begin_step, reply_step}
+use Rattle.bsc_bid.specs.Sender.{failed, silence_in as sender_silence, silence_step, is_in_doubt}
 use Rattle.bsc_tributary.specs.declared.called.Called.{Called}
 use Rattle.bsc_tributary.specs.declared.called.Called.TheVariants as called
 use Rattle.bsc_tributary.specs.declared.mode.Mode.{Mode}

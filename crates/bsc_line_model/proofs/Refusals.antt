@@ -7,11 +7,11 @@ use Rattle.bsc_frame.specs.declared.message.Message.{Message}
 use Rattle.bsc_frame.specs.declared.message.Heard.{Heard}
 use Rattle.bsc_frame.specs.declared.message.Heard.TheVariants.{Whole}
 use Rattle.bsc_spool.specs.Queue.{QueueValue}
-use Rattle.bsc_text.specs.declared.phase.Phase.{Phase}
-use Rattle.bsc_text.specs.declared.phase.Phase.TheVariants.{Idle, Unanswered, Held, InDoubt}
-use Rattle.bsc_text.specs.declared.sender.ReleaseError.TheVariants as r
-use Rattle.bsc_text.specs.Sender.{SenderValue, ReleaseStep, release_in, release_step, released}
-use Rattle.bsc_text.specs.Sender.{not_released}
+use Rattle.bsc_bid.specs.declared.phase.Phase.{Phase}
+use Rattle.bsc_bid.specs.declared.phase.Phase.TheVariants.{Idle, Unanswered, Held, InDoubt}
+use Rattle.bsc_bid.specs.declared.sender.ReleaseError.TheVariants as r
+use Rattle.bsc_bid.specs.Sender.{SenderValue, ReleaseStep, release_in, release_step, released}
+use Rattle.bsc_bid.specs.Sender.{not_released}
 use Rattle.bsc_tributary.specs.Tributary.{TributaryValue, spool_at, after_release}
 use Rattle.bsc_directory.specs.declared.way.Way.{Way}
 use Rattle.bsc_directory.specs.declared.way.Way.TheVariants.{FromTerminal, ToTerminal}

@@ -9,17 +9,17 @@ use Rattle.bsc_frame.specs.declared.message.Message.TheVariants as m
 use Rattle.bsc_frame.specs.declared.message.Heard.{Heard}
 use Rattle.bsc_frame.specs.declared.message.Heard.TheVariants.{Whole, Failed, Noise}
 use Rattle.bsc_spool.specs.Spool.{SpoolValue, room_asked}
-use Rattle.bsc_text.specs.declared.alternation.Alternation.{Alternation}
-use Rattle.bsc_text.specs.declared.alternation.Alternation.TheVariants.{Even}
-use Rattle.bsc_text.specs.declared.reply.Reply.{Reply}
-use Rattle.bsc_text.specs.declared.reply.Reply.TheVariants.{Ack0, Ack1, Nak, Wack, Rvi}
-use Rattle.bsc_text.specs.Reply.{message_of, reply_heard, ack}
-use Rattle.bsc_text.specs.Receiver.{Rooms, replied, is_wack}
-use Rattle.bsc_text.specs.Sender.{SenderStep, reply_step}
-use Rattle.bsc_text.specs.Fair.{IsFairlyHeard}
-use Rattle.bsc_text.specs.Agreement.{Flight, Back, InBid, IsResting}
-use Rattle.bsc_text.proofs.Answering.{reply_not_cut}
-use Rattle.bsc_text.specs.EachStep.{SenderAgrees}
+use Rattle.bsc_bid.specs.declared.alternation.Alternation.{Alternation}
+use Rattle.bsc_bid.specs.declared.alternation.Alternation.TheVariants.{Even}
+use Rattle.bsc_bid.specs.declared.reply.Reply.{Reply}
+use Rattle.bsc_bid.specs.declared.reply.Reply.TheVariants.{Ack0, Ack1, Nak, Wack, Rvi}
+use Rattle.bsc_bid.specs.Reply.{message_of, reply_heard, ack}
+use Rattle.bsc_bid.specs.Receiver.{Rooms, replied, is_wack}
+use Rattle.bsc_bid.specs.Sender.{SenderStep, reply_step}
+use Rattle.bsc_bid.specs.Fair.{IsFairlyHeard}
+use Rattle.bsc_bid.specs.Agreement.{Flight, Back, InBid, IsResting}
+use Rattle.bsc_bid.proofs.Answering.{reply_not_cut}
+use Rattle.bsc_bid.specs.EachStep.{SenderAgrees}
 use Rattle.bsc_tributary.specs.declared.mode.Mode.{Mode}
 use Rattle.bsc_tributary.specs.declared.mode.Mode.TheVariants.{Control, Receiving}
 use Rattle.bsc_tributary.specs.Tributary.{TributaryValue, TributaryStep, Hears, mode_step, act_step}
@@ -45,7 +45,7 @@ use Rattle.bsc_line_model.proofs.SendingDown.{others_in_control, OneHears, one_h
 use Rattle.bsc_line_model.proofs.SendingUp.{keeps_going, going_in}
 use Rattle.bsc_line_model.proofs.ActingUp.{HasActedUp, acts_up, present_after}
 use Rattle.bsc_line_model.proofs.CallsHeard.{with_others}
-use Rattle.bsc_text.specs.Station.{StaysQuiet}
+use Rattle.bsc_bid.specs.Station.{StaysQuiet}
 
 reply_no_call : (r : Reply) → IsNoCall (Whole (message_of r))
 reply_no_call Ack0 = tt

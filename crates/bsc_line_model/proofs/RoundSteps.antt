@@ -8,7 +8,7 @@ use Rattle.std.proofs.Math.Seq.{drop-cons}
 use Rattle.std.proofs.lemmas.Bool.Decides.{nat_tests}
 use Rattle.std.proofs.lemmas.List.{drop_all}
 use Rattle.bsc_spool.specs.Queue.{QueueValue}
-use Rattle.bsc_text.specs.Sender.{is_in_doubt}
+use Rattle.bsc_bid.specs.Sender.{is_in_doubt}
 use Rattle.bsc_control.specs.Peer.{PeerValue, OutboundValue}
 use Rattle.bsc_control.specs.Control.{peer_at, peer, current}
 use Rattle.bsc_control.specs.CallOrder.{way_from, wrapped}

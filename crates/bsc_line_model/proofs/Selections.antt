@@ -12,12 +12,12 @@ use Rattle.bsc_frame.specs.declared.text.End.{End}
 use Rattle.bsc_frame.specs.declared.text.End.TheVariants.{Etb, Etx}
 use Rattle.bsc_frame.specs.Texts.{TextValue}
 use Rattle.bsc_spool.specs.Queue.{QueueValue, IsQueue, with_known, waiting}
-use Rattle.bsc_text.specs.declared.phase.SentBlock.{SentBlock}
-use Rattle.bsc_text.specs.declared.phase.Phase.{Phase}
-use Rattle.bsc_text.specs.declared.phase.Phase.TheVariants.{Idle, Unanswered}
-use Rattle.bsc_text.specs.Ready.{AreWaiting, CountsOn}
-use Rattle.bsc_text.specs.Reply.{message_of, ack}
-use Rattle.bsc_text.specs.Sender.{text_of}
+use Rattle.bsc_bid.specs.declared.phase.SentBlock.{SentBlock}
+use Rattle.bsc_bid.specs.declared.phase.Phase.{Phase}
+use Rattle.bsc_bid.specs.declared.phase.Phase.TheVariants.{Idle, Unanswered}
+use Rattle.bsc_bid.specs.Ready.{AreWaiting, CountsOn}
+use Rattle.bsc_bid.specs.Reply.{message_of, ack}
+use Rattle.bsc_bid.specs.Sender.{text_of}
 use Rattle.bsc_directory.specs.declared.way.Way.{Way}
 use Rattle.bsc_directory.specs.declared.way.Way.TheVariants.{ToTerminal}
 use Rattle.bsc_control.specs.Peer.{OutboundValue, IsPeer, IsOutbound, no_peer, no_outbound}

@@ -8,12 +8,12 @@ use Rattle.bsc_frame.specs.declared.message.Message.TheVariants as m
 use Rattle.bsc_frame.specs.declared.message.Heard.{Heard}
 use Rattle.bsc_frame.specs.declared.message.Heard.TheVariants.{Whole, Failed, Noise}
 use Rattle.bsc_spool.specs.Spool.{SpoolValue}
-use Rattle.bsc_text.specs.declared.reply.Reply.{Reply}
-use Rattle.bsc_text.specs.Reply.{message_of}
-use Rattle.bsc_text.specs.Receiver.{ReceiverStep, Rooms, heard_step}
-use Rattle.bsc_text.specs.Fair.{IsFairlyHeard, IsTextMessage, IsCallCutShort}
-use Rattle.bsc_text.specs.Agreement.{Flight, Outward, InBid, IsResting, reply_flight}
-use Rattle.bsc_text.specs.EachStep.{ReceiverAgrees}
+use Rattle.bsc_bid.specs.declared.reply.Reply.{Reply}
+use Rattle.bsc_bid.specs.Reply.{message_of}
+use Rattle.bsc_bid.specs.Receiver.{ReceiverStep, Rooms, heard_step}
+use Rattle.bsc_bid.specs.Fair.{IsFairlyHeard, IsTextMessage, IsCallCutShort}
+use Rattle.bsc_bid.specs.Agreement.{Flight, Outward, InBid, IsResting, reply_flight}
+use Rattle.bsc_bid.specs.EachStep.{ReceiverAgrees}
 use Rattle.bsc_tributary.specs.declared.mode.Mode.{Mode}
 use Rattle.bsc_tributary.specs.declared.mode.Mode.TheVariants.{Control, Receiving, Sending}
 use Rattle.bsc_tributary.specs.Tributary.{TributaryValue, TributaryStep, Hears, mode_step}

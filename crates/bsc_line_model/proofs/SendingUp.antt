@@ -6,20 +6,20 @@ use Rattle.std.proofs.lemmas.List.{length-set}
 use Rattle.bsc_frame.specs.declared.message.Message.TheVariants as m
 use Rattle.bsc_frame.specs.declared.message.Message.{Message}
 use Rattle.bsc_frame.specs.declared.message.Heard.{Heard}
-use Rattle.bsc_text.specs.Fair.{IsFairlyHeard}
-use Rattle.bsc_text.specs.Reply.{message_of, reply_heard}
+use Rattle.bsc_bid.specs.Fair.{IsFairlyHeard}
+use Rattle.bsc_bid.specs.Reply.{message_of, reply_heard}
 use Rattle.bsc_spool.specs.Queue.{QueueValue}
-use Rattle.bsc_text.specs.Act.{Act}
-use Rattle.bsc_text.specs.Act as a
-use Rattle.bsc_text.specs.declared.alternation.Alternation.{Alternation}
-use Rattle.bsc_text.specs.declared.reply.Reply.{Reply}
-use Rattle.bsc_text.specs.declared.phase.Phase.{Phase}
-use Rattle.bsc_text.specs.declared.phase.Phase.TheVariants.{Idle, Unanswered, Held, InDoubt}
-use Rattle.bsc_text.specs.Ready.{IsGoing, IsAtRest, FitsAct}
-use Rattle.bsc_text.specs.Sender.{SenderStep, reply_step, silence_step}
-use Rattle.bsc_text.specs.Agreement.{Flight, Still, Outward, InBid, IsResting, Back, Continues}
-use Rattle.bsc_text.specs.Agreement.{sent_flight}
-use Rattle.bsc_text.specs.EachStep.{SenderAgrees, IsEnded}
+use Rattle.bsc_bid.specs.Act.{Act}
+use Rattle.bsc_bid.specs.Act as a
+use Rattle.bsc_bid.specs.declared.alternation.Alternation.{Alternation}
+use Rattle.bsc_bid.specs.declared.reply.Reply.{Reply}
+use Rattle.bsc_bid.specs.declared.phase.Phase.{Phase}
+use Rattle.bsc_bid.specs.declared.phase.Phase.TheVariants.{Idle, Unanswered, Held, InDoubt}
+use Rattle.bsc_bid.specs.Ready.{IsGoing, IsAtRest, FitsAct}
+use Rattle.bsc_bid.specs.Sender.{SenderStep, reply_step, silence_step}
+use Rattle.bsc_bid.specs.Agreement.{Flight, Still, Outward, InBid, IsResting, Back, Continues}
+use Rattle.bsc_bid.specs.Agreement.{sent_flight}
+use Rattle.bsc_bid.specs.EachStep.{SenderAgrees, IsEnded}
 use Rattle.bsc_tributary.specs.declared.mode.Mode.TheVariants.{Receiving, Sending as Sends}
 use Rattle.bsc_tributary.specs.Tributary.{TributaryValue, spool_at}
 use Rattle.bsc_control.specs.declared.task.Task.{Task}

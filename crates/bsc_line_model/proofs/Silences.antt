@@ -5,9 +5,9 @@ use Rattle.std.proofs.Common.{length, Option, None, Some, slice_set, refl, sym, 
 use Rattle.std.proofs.Common.{arith, get_or-set_other, get_or-set_same, if◌then◌else◌}
 use Rattle.std.proofs.lemmas.List.{length-set}
 use Rattle.bsc_frame.specs.declared.message.Message.{Message}
-use Rattle.bsc_text.specs.Sender.{SenderStep, silence_step}
-use Rattle.bsc_text.specs.Agreement.{Flight, Still, InBid}
-use Rattle.bsc_text.specs.EachStep.{SenderAgrees}
+use Rattle.bsc_bid.specs.Sender.{SenderStep, silence_step}
+use Rattle.bsc_bid.specs.Agreement.{Flight, Still, InBid}
+use Rattle.bsc_bid.specs.EachStep.{SenderAgrees}
 use Rattle.bsc_tributary.specs.declared.mode.Mode.{Mode}
 use Rattle.bsc_tributary.specs.declared.mode.Mode.TheVariants.{Control, Receiving, Sending as Sends}
 use Rattle.bsc_tributary.specs.Tributary.{TributaryValue, TributaryStep}

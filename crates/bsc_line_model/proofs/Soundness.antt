@@ -1,7 +1,7 @@
 -- Where the stations go together each channel is sound.
 use Rattle.std.proofs.Common.{inl, inr, ℕ, ◌<◌, List, length, Option, sym, subst, arith}
-use Rattle.bsc_text.specs.Channel.{channel, IsSound}
-use Rattle.bsc_text.specs.Terminal.{TerminalValue}
+use Rattle.bsc_bid.specs.Channel.{channel, IsSound}
+use Rattle.bsc_bid.specs.Terminal.{TerminalValue}
 use Rattle.bsc_tributary.specs.Tributary.{TributaryValue, spool_at}
 use Rattle.bsc_control.specs.declared.task.Task.{Task}
 use Rattle.bsc_control.specs.declared.task.Task.TheVariants.{AtRest, Selecting, Sending, Polling}

@@ -6,7 +6,7 @@ use Rattle.std.proofs.lemmas.Bool.Decides.{nat_tests}
 use Rattle.std.proofs.lemmas.List.{get_or-map, length-map, length-set}
 use Rattle.std.proofs.lemmas.Option.{slice_get-get_or}
 use Rattle.bsc_frame.specs.declared.message.Heard.{Heard}
-use Rattle.bsc_text.specs.Terminal.{TerminalValue}
+use Rattle.bsc_bid.specs.Terminal.{TerminalValue}
 use Rattle.bsc_tributary.specs.declared.mode.Mode.{Mode}
 use Rattle.bsc_tributary.specs.declared.mode.Mode.TheVariants.{Control, Receiving, Sending}
 use Rattle.bsc_tributary.specs.Tributary.{TributaryValue}
@@ -19,8 +19,8 @@ use Rattle.bsc_control.proofs.Calls.{places, current_there}
 use Rattle.bsc_line_model.specs.Line.{no_terminal, terminal_in}
 use Rattle.bsc_line_model.specs.Terminals.{EachHears, EachKeeps}
 use Rattle.bsc_line_model.specs.Kept.{IsMember, AreStations, IsTuned, AreTuned}
-use Rattle.bsc_text.specs.declared.phase.Phase.{Phase}
-use Rattle.bsc_text.specs.Ready.{IsAtRest}
+use Rattle.bsc_bid.specs.declared.phase.Phase.{Phase}
+use Rattle.bsc_bid.specs.Ready.{IsAtRest}
 
 -- the addresses of a peer are those of its terminal
 pub peer_terminal : (c : ControlValue) (t : ℕ) → t < length c.peers

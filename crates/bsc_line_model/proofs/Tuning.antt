@@ -6,14 +6,14 @@ use Rattle.bsc_frame.specs.declared.message.Message.{Message}
 use Rattle.bsc_frame.specs.declared.message.Message.TheVariants as m
 use Rattle.bsc_frame.specs.declared.message.Heard.{Heard}
 use Rattle.bsc_frame.specs.declared.message.Heard.TheVariants.{Whole, Failed, Noise}
-use Rattle.bsc_text.specs.Fair.{IsFairlyHeard, IsCallCutShort}
-use Rattle.bsc_text.specs.Terminal.{TerminalValue}
+use Rattle.bsc_bid.specs.Fair.{IsFairlyHeard, IsCallCutShort}
+use Rattle.bsc_bid.specs.Terminal.{TerminalValue}
 use Rattle.bsc_tributary.specs.declared.called.Called.{Called}
 use Rattle.bsc_tributary.specs.declared.called.Called.TheVariants.{Polling, Selection, Other}
 use Rattle.bsc_tributary.specs.declared.mode.Mode.{Mode}
 use Rattle.bsc_tributary.specs.declared.mode.Mode.TheVariants.{Control}
 use Rattle.bsc_tributary.specs.Called.{called_as}
-use Rattle.bsc_text.specs.Terminal.{HasDistinctAddresses}
+use Rattle.bsc_bid.specs.Terminal.{HasDistinctAddresses}
 use Rattle.bsc_tributary.specs.Tributary.{TributaryValue}
 use Rattle.bsc_tributary.specs.Kept.{IsModeCalled, IsModeAfter}
 use Rattle.bsc_directory.specs.declared.way.Way.{Way}

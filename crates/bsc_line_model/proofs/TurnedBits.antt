@@ -11,7 +11,7 @@ use Rattle.bsc_frame.specs.Wire.{wire}
 use Rattle.bsc_frame.specs.Reading.{heard}
 use Rattle.bsc_frame.specs.Spells.{Spells, IsFailed, IsNoise}
 use Rattle.bsc_frame.specs.TurnedBits.{with_turned_bit, IsSomeText}
-use Rattle.bsc_text.specs.Fair.{IsTextMessage, IsFairlyHeard}
+use Rattle.bsc_bid.specs.Fair.{IsTextMessage, IsFairlyHeard}
 use Rattle.bsc_line_model.specs.Hearing.{heard_in}
 use Rattle.bsc_line_model.specs.Trust.{IsMissed}
 use Rattle.bsc_line_model.specs.TurnedBits.{IsTurned, IsSpoiled, TurnedIsFair, TurnedAlikeIsFair}

@@ -10,15 +10,15 @@ use Rattle.bsc_frame.specs.declared.message.Heard.TheVariants.{Whole}
 use Rattle.bsc_frame.specs.Texts.{TextValue}
 use Rattle.bsc_spool.specs.Queue.{QueueValue}
 use Rattle.bsc_spool.specs.Spool.{SpoolValue}
-use Rattle.bsc_text.specs.declared.reply.Reply.{Reply}
-use Rattle.bsc_text.specs.Reply.{message_of, reply_heard}
-use Rattle.bsc_text.specs.Receiver.{ReceiverStep, Rooms, heard_step, sends_rvi}
-use Rattle.bsc_text.specs.Sender.{SenderStep, reply_step}
-use Rattle.bsc_text.specs.Channel.{channel}
-use Rattle.bsc_text.specs.Fair.{IsFairlyHeard}
-use Rattle.bsc_text.specs.Agreement.{Flight, Outward, Back, InBid}
-use Rattle.bsc_text.specs.OneBid.{MovesAtReceiver, MovesAtSender}
-use Rattle.bsc_text.specs.EachStep.{ReceiverAgrees, SenderAgrees}
+use Rattle.bsc_bid.specs.declared.reply.Reply.{Reply}
+use Rattle.bsc_bid.specs.Reply.{message_of, reply_heard}
+use Rattle.bsc_bid.specs.Receiver.{ReceiverStep, Rooms, heard_step, sends_rvi}
+use Rattle.bsc_bid.specs.Sender.{SenderStep, reply_step}
+use Rattle.bsc_bid.specs.Channel.{channel}
+use Rattle.bsc_bid.specs.Fair.{IsFairlyHeard}
+use Rattle.bsc_bid.specs.Agreement.{Flight, Outward, Back, InBid}
+use Rattle.bsc_bid.specs.OneBid.{MovesAtReceiver, MovesAtSender}
+use Rattle.bsc_bid.specs.EachStep.{ReceiverAgrees, SenderAgrees}
 use Rattle.bsc_tributary.specs.declared.mode.Mode.{Mode}
 use Rattle.bsc_tributary.specs.Tributary.{TributaryValue, spool_at}
 use Rattle.bsc_control.specs.declared.task.Replied.{Replied}

@@ -12,14 +12,14 @@ use Rattle.bsc_frame.specs.declared.text.End.TheVariants.{Etb, Etx}
 use Rattle.bsc_spool.specs.Spool.{SpoolValue}
 use Rattle.bsc_spool.specs.declared.queue.Next.{Next}
 use Rattle.bsc_spool.specs.Queue.{QueueValue, IsQueue, waiting, with_known, next_block}
-use Rattle.bsc_text.specs.declared.alternation.Alternation.{Alternation}
-use Rattle.bsc_text.specs.declared.alternation.Alternation.TheVariants.{Even, Odd}
-use Rattle.bsc_text.specs.declared.phase.SentBlock.{SentBlock}
-use Rattle.bsc_text.specs.declared.phase.Phase.TheVariants.{Unanswered}
-use Rattle.bsc_text.specs.Ready.{IsAtRest}
-use Rattle.bsc_text.specs.Reply.{message_of, ack, other}
-use Rattle.bsc_text.specs.Sender.{SenderValue, SenderStep, text_of, sent_next, begin_step, accepted}
-use Rattle.bsc_text.specs.Sender.{cut_phase, is_in_doubt}
+use Rattle.bsc_bid.specs.declared.alternation.Alternation.{Alternation}
+use Rattle.bsc_bid.specs.declared.alternation.Alternation.TheVariants.{Even, Odd}
+use Rattle.bsc_bid.specs.declared.phase.SentBlock.{SentBlock}
+use Rattle.bsc_bid.specs.declared.phase.Phase.TheVariants.{Unanswered}
+use Rattle.bsc_bid.specs.Ready.{IsAtRest}
+use Rattle.bsc_bid.specs.Reply.{message_of, ack, other}
+use Rattle.bsc_bid.specs.Sender.{SenderValue, SenderStep, text_of, sent_next, begin_step, accepted}
+use Rattle.bsc_bid.specs.Sender.{cut_phase, is_in_doubt}
 use Rattle.bsc_tributary.specs.declared.called.Called.{Called}
 use Rattle.bsc_tributary.specs.declared.called.Called.TheVariants.{Polling}
 use Rattle.bsc_tributary.specs.declared.mode.Mode.{Mode}
@@ -36,7 +36,7 @@ use Rattle.bsc_line_model.proofs.BlockCounts.{CutLaws, HasFirstBlock, IsEnd, has
 use Rattle.bsc_line_model.proofs.BlockCounts.{a_block}
 use Rattle.bsc_line_model.proofs.Staying.{TerminalStays}
 use Rattle.bsc_line_model.proofs.DownControl.{ack_step}
-use Rattle.bsc_text.proofs.RestLemmas.{cut_at_rest}
+use Rattle.bsc_bid.proofs.RestLemmas.{cut_at_rest}
 
 -- its block b is unanswered, with n after it
 pub record IsInBlockUp (x : TributaryValue) (n : ℕ) (b : SentBlock) : Type 0 where

@@ -8,8 +8,8 @@ use Rattle.std.proofs.lemmas.List.{drop_all}
 use Rattle.std.proofs.lemmas.List.Elements.{All-get_or}
 use Rattle.bsc_block.specs.Blocks.{blocks}
 use Rattle.bsc_spool.specs.Queue.{QueueValue, waiting}
-use Rattle.bsc_text.specs.declared.phase.Phase.TheVariants.{Idle}
-use Rattle.bsc_text.specs.Sender.{is_in_doubt}
+use Rattle.bsc_bid.specs.declared.phase.Phase.TheVariants.{Idle}
+use Rattle.bsc_bid.specs.Sender.{is_in_doubt}
 use Rattle.bsc_tributary.specs.Tributary.{spool_at}
 use Rattle.bsc_directory.specs.declared.way.Way.{Way}
 use Rattle.bsc_directory.specs.declared.way.Way.TheVariants.{FromTerminal, ToTerminal}

@@ -1,9 +1,9 @@
--- The laws of one step of a bid, as bsc_text's each_step ensures them: the lemmas of the line take
+-- The laws of one step of a bid, as bsc_bid's each_step ensures them: the lemmas of the line take
 -- them as one value.
-use Rattle.bsc_text.specs.EachStep.{HearingAgrees, AnsweringAgrees, SilenceAgrees, BeginAgrees}
-use Rattle.bsc_text.specs.EachStep.{OfferAgrees, OfferKeepsRest, ReleaseKeepsRest, AgreementIsSound}
-use Rattle.bsc_text.specs.EachStep.{LossAgrees, BidContinues, SendingGoesOn, OutwardIsTextOrEnq}
-use Rattle.bsc_text.specs.EachStep.{ReplyIsLast, ActsFit}
+use Rattle.bsc_bid.specs.EachStep.{HearingAgrees, AnsweringAgrees, SilenceAgrees, BeginAgrees}
+use Rattle.bsc_bid.specs.EachStep.{OfferAgrees, OfferKeepsRest, ReleaseKeepsRest, AgreementIsSound}
+use Rattle.bsc_bid.specs.EachStep.{LossAgrees, BidContinues, SendingGoesOn, OutwardIsTextOrEnq}
+use Rattle.bsc_bid.specs.EachStep.{ReplyIsLast, ActsFit}
 
 pub record BidLaws : Type 0 where
   pub hearing : HearingAgrees

@@ -3,7 +3,7 @@
 use Rattle.std.specs.Prelude.{◌≡◌, ℕ, ◌<◌, Option, None, Some}
 use Rattle.bsc_frame.specs.declared.message.Message.{Message}
 use Rattle.bsc_frame.specs.declared.message.Heard.{Heard}
-use Rattle.bsc_text.specs.Fair.{IsFairlyHeard}
+use Rattle.bsc_bid.specs.Fair.{IsFairlyHeard}
 use Rattle.bsc_tributary.specs.Tributary.{ActsOnSilence as TerminalActs}
 use Rattle.bsc_tributary.specs.Kept.{AfterSilence as TerminalKeeps}
 use Rattle.bsc_control.specs.Control.{terminals as addresses_of}

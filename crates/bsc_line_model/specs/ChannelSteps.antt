@@ -1,6 +1,6 @@
 -- What each event does to each channel of a trusted line (own).
 use Rattle.std.specs.Prelude.{◌≡◌, ◌⊎◌, ℕ, Option, None, Some}
-use Rattle.bsc_text.specs.Channel.{Move, Offer, Land, Learn, Makes}
+use Rattle.bsc_bid.specs.Channel.{Move, Offer, Land, Learn, Makes}
 use Rattle.bsc_directory.specs.declared.way.Way.{Way}
 use Rattle.bsc_directory.specs.declared.way.Way.TheVariants.{FromTerminal, ToTerminal}
 use Rattle.bsc_line_model.specs.declared.event.Event.{Event}

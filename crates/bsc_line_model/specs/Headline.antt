@@ -4,8 +4,8 @@
 -- that is not addressed.
 use Rattle.std.specs.Prelude.{◌≡◌, ◌⊎◌, ◌<◌, ◌≤◌, ◌+◌, ◌++◌, ℕ, IsTrue, List, [], ◌∷◌, length}
 use Rattle.std.specs.Prelude.{take, drop, slice_get, Some, Result, Ok, Err}
-use Rattle.bsc_text.specs.declared.phase.Phase.{Phase}
-use Rattle.bsc_text.specs.declared.phase.Phase.TheVariants.{Idle, Unanswered, Held, InDoubt}
+use Rattle.bsc_bid.specs.declared.phase.Phase.{Phase}
+use Rattle.bsc_bid.specs.declared.phase.Phase.TheVariants.{Idle, Unanswered, Held, InDoubt}
 use Rattle.bsc_directory.specs.declared.way.Way.{Way}
 use Rattle.bsc_line_model.specs.declared.error.Stopped.{Stopped}
 use Rattle.bsc_line_model.specs.declared.event.Event.{Event}

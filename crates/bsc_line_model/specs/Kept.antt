@@ -2,8 +2,8 @@
 -- line is trusted.
 use Rattle.std.specs.Prelude.{◌≡◌, ◌<◌, ℕ, true, IsTrue, List, length, slice_index_or, Option, None}
 use Rattle.std.specs.Prelude.{Some}
-use Rattle.bsc_text.specs.Terminal.{TerminalValue, HasDistinctAddresses}
-use Rattle.bsc_text.specs.Setup.{SetupValue}
+use Rattle.bsc_bid.specs.Terminal.{TerminalValue, HasDistinctAddresses}
+use Rattle.bsc_bid.specs.Setup.{SetupValue}
 use Rattle.bsc_tributary.specs.declared.mode.Mode.{Mode}
 use Rattle.bsc_tributary.specs.declared.mode.Mode.TheVariants.{Control, Receiving, Sending}
 use Rattle.bsc_tributary.specs.Tributary.{TributaryValue}

@@ -1,9 +1,9 @@
 -- What contracts see of a line, and its channels (own).
 use Rattle.std.specs.Prelude.{ℕ, ◌<◌, Bool, true, false, List, [], length, slice_index_or}
 use Rattle.std.specs.Prelude.{slice_set, Option}
-use Rattle.bsc_text.specs.declared.phase.Phase.{Phase}
-use Rattle.bsc_text.specs.Channel.{Channel, channel}
-use Rattle.bsc_text.specs.Receiver.{new_receiver}
+use Rattle.bsc_bid.specs.declared.phase.Phase.{Phase}
+use Rattle.bsc_bid.specs.Channel.{Channel, channel}
+use Rattle.bsc_bid.specs.Receiver.{new_receiver}
 use Rattle.bsc_tributary.specs.declared.mode.Mode.TheVariants as mode
 use Rattle.bsc_tributary.specs.Tributary.{TributaryValue, tributary_of, spool_at}
 use Rattle.bsc_directory.specs.declared.way.Way.{Way}

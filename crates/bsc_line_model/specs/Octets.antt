@@ -3,7 +3,7 @@ use Rattle.std.specs.Prelude.{◌⊎◌, ◌↔◌, ℕ, List, IsTrue, Option, N
 use Rattle.bsc_frame.specs.declared.message.Message.{Message}
 use Rattle.bsc_frame.specs.declared.message.Message.TheVariants as m
 use Rattle.bsc_frame.specs.Spells.{Spells, IsFailed, IsNoise}
-use Rattle.bsc_text.specs.Fair.{IsTextMessage, IsFairlyHeard}
+use Rattle.bsc_bid.specs.Fair.{IsTextMessage, IsFairlyHeard}
 use Rattle.bsc_line_model.specs.Hearing.{heard_in}
 use Rattle.bsc_line_model.specs.Trust.{is_call}
 

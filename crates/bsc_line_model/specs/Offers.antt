@@ -3,9 +3,9 @@ use Rattle.std.specs.Prelude.{◌≡◌, ◌<◌, ◌≤◌, ℕ, Bool, true, Li
 use Rattle.bsc_block.specs.declared.record.RecordError.{RecordError}
 use Rattle.bsc_block.specs.Records.{record_of}
 use Rattle.bsc_spool.specs.Queue.{with_offered}
-use Rattle.bsc_text.specs.declared.sender.ReleaseError.{ReleaseError}
-use Rattle.bsc_text.specs.declared.sender.ReleaseError.TheVariants as r
-use Rattle.bsc_text.specs.Sender.{release_step}
+use Rattle.bsc_bid.specs.declared.sender.ReleaseError.{ReleaseError}
+use Rattle.bsc_bid.specs.declared.sender.ReleaseError.TheVariants as r
+use Rattle.bsc_bid.specs.Sender.{release_step}
 use Rattle.bsc_tributary.specs.Tributary.{spool_at, after_release}
 use Rattle.bsc_directory.specs.declared.way.Way.{Way}
 use Rattle.bsc_directory.specs.declared.way.Way.TheVariants.{FromTerminal, ToTerminal}

@@ -7,8 +7,8 @@ use Rattle.std.specs.Prelude.{slice_index, Some, Result, Ok, if◌then◌else◌
 use Rattle.bsc_frame.specs.declared.message.Message.TheVariants as m
 use Rattle.bsc_block.specs.Blocks.{blocks}
 use Rattle.bsc_spool.specs.Queue.{QueueValue, waiting}
-use Rattle.bsc_text.specs.Channel.{Channel}
-use Rattle.bsc_text.specs.Sender.{is_in_doubt}
+use Rattle.bsc_bid.specs.Channel.{Channel}
+use Rattle.bsc_bid.specs.Sender.{is_in_doubt}
 use Rattle.bsc_tributary.specs.Tributary.{spool_at}
 use Rattle.bsc_directory.specs.declared.way.Way.{Way}
 use Rattle.bsc_directory.specs.declared.way.Way.TheVariants.{ToTerminal}

@@ -4,12 +4,12 @@ use Rattle.std.specs.Prelude.{◌≡◌, ◌≢◌, ◌⊎◌, ◌<◌, ℕ, Boo
 use Rattle.std.specs.Prelude.{Some}
 use Rattle.bsc_frame.specs.declared.message.Message.{Message}
 use Rattle.bsc_frame.specs.declared.message.Message.TheVariants as m
-use Rattle.bsc_text.specs.declared.alternation.Alternation.TheVariants.{Even}
-use Rattle.bsc_text.specs.declared.reply.Reply.{Reply}
-use Rattle.bsc_text.specs.declared.reply.Reply.TheVariants.{Ack0, Wack}
-use Rattle.bsc_text.specs.Reply.{message_of}
-use Rattle.bsc_text.specs.Agreement.{Flight, Still, Outward, Back, InBid, IsResting}
-use Rattle.bsc_text.specs.Channel.{IsSound}
+use Rattle.bsc_bid.specs.declared.alternation.Alternation.TheVariants.{Even}
+use Rattle.bsc_bid.specs.declared.reply.Reply.{Reply}
+use Rattle.bsc_bid.specs.declared.reply.Reply.TheVariants.{Ack0, Wack}
+use Rattle.bsc_bid.specs.Reply.{message_of}
+use Rattle.bsc_bid.specs.Agreement.{Flight, Still, Outward, Back, InBid, IsResting}
+use Rattle.bsc_bid.specs.Channel.{IsSound}
 use Rattle.bsc_tributary.specs.declared.mode.Mode.TheVariants as mode
 use Rattle.bsc_tributary.specs.Tributary.{TributaryValue, spool_at}
 use Rattle.bsc_control.specs.declared.task.Task.{Task}

@@ -6,8 +6,8 @@ use Rattle.bsc_frame.specs.declared.message.Message.{Message}
 use Rattle.bsc_frame.specs.declared.message.Message.TheVariants as m
 use Rattle.bsc_frame.specs.declared.message.Heard.{Heard}
 use Rattle.bsc_frame.specs.declared.message.Heard.TheVariants.{Whole, Noise}
-use Rattle.bsc_text.specs.Fair.{IsFairlyHeard}
-use Rattle.bsc_text.specs.Terminal.{TerminalValue}
+use Rattle.bsc_bid.specs.Fair.{IsFairlyHeard}
+use Rattle.bsc_bid.specs.Terminal.{TerminalValue}
 use Rattle.bsc_directory.specs.declared.way.Way.{Way}
 use Rattle.bsc_directory.specs.Addresses.{IsAddressOf}
 

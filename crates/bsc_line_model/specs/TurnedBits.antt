@@ -5,7 +5,7 @@ use Rattle.bsc_frame.specs.Message.{IsMessage}
 use Rattle.bsc_frame.specs.Wire.{wire}
 use Rattle.bsc_frame.specs.TurnedBits.{with_turned_bit}
 use Rattle.bsc_frame.specs.declared.message.Message.{Message}
-use Rattle.bsc_text.specs.Fair.{IsFairlyHeard}
+use Rattle.bsc_bid.specs.Fair.{IsFairlyHeard}
 use Rattle.bsc_line_model.specs.Hearing.{heard_in, all_hear}
 use Rattle.bsc_line_model.specs.Trust.{EachOf, IsHeardFairly, is_call}
 

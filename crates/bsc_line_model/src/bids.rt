@@ -2,7 +2,7 @@
 
 ghost use Rattle.bsc_line_model.specs.BidLaws.{BidLaws};
 
-use bsc_text::laws::each_step;
+use bsc_bid::laws::each_step;
 
 /// What each single step of a bid keeps.
 pub(crate) fn bid_laws()

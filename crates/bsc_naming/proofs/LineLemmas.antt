@@ -9,7 +9,7 @@ use Rattle.std.specs.Option.{option_to_list}
 use Rattle.std.specs.Str.Lines.{strip_carriage_return}
 use Rattle.std.proofs.KnownBytes.{Appends-nil, Appends-trans}
 use Rattle.bsc_frame.specs.declared.message.Heard.{Heard}
-use Rattle.bsc_names.specs.Names.{Prints}
+use Rattle.bsc_print.specs.Names.{Prints}
 use Rattle.bsc_input.specs.Lines.{is_blank, lines_of, parts_of}
 use Rattle.bsc_input.specs.Parts.{parts_at}
 use Rattle.bsc_naming.specs.Lines.{AreShown, PrintsInput, PrintsLines, StopsAt, digits, given}

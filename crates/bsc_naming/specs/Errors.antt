@@ -1,6 +1,6 @@
 -- Which errors end which work. All of it is own.
-use Rattle.bsc_names.specs.declared.error.PrintError.{PrintError}
-use Rattle.bsc_names.specs.declared.error.PrintError.TheVariants as print
+use Rattle.bsc_print.specs.declared.error.PrintError.{PrintError}
+use Rattle.bsc_print.specs.declared.error.PrintError.TheVariants as print
 use Rattle.bsc_naming.specs.declared.error.NamingError.{NamingError}
 use Rattle.bsc_naming.specs.declared.error.NamingError.TheVariants.{NotHexadecimal}
 use Rattle.bsc_naming.specs.declared.error.NamingError.TheVariants.{NotHexadecimalAt, Output}

@@ -1,7 +1,7 @@
 //! Why names were not printed, or not all of them.
 ghost use Rattle.std.specs.Prelude.{◌≡◌};
 
-use bsc_names::PrintError;
+use bsc_print::PrintError;
 use std::alloc::AllocError;
 use thiserror::Error;
 

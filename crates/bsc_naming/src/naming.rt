@@ -3,7 +3,7 @@ ghost use Rattle.std.specs.Prelude.{◌≡◌, ◌+◌, ◌<◌, ◌^◌, ◌∷
 ghost use Rattle.std.specs.Prelude.{IfErr, IsErrOf, IsSomeAnd, ℕ};
 ghost use Rattle.bsc_input.specs.Hexadecimal.{octets_of};
 ghost use Rattle.bsc_input.specs.Parts.{parts_at};
-ghost use Rattle.bsc_names.specs.Names.{Prints, name_line, unit_lines, shown};
+ghost use Rattle.bsc_print.specs.Names.{Prints, name_line, unit_lines, shown};
 ghost use Rattle.bsc_naming.specs.Lines.{PrintsInput, PrintsLines, StopsAt, is_traced, is_wrong};
 ghost use Rattle.bsc_naming.specs.Lines.{last_part};
 ghost use Rattle.bsc_naming.specs.Errors.{IsLineError, IsNameError, IsPrintError};
@@ -11,7 +11,7 @@ ghost use Rattle.bsc_naming.specs.Errors.{IsLineError, IsNameError, IsPrintError
 use crate::NamingError;
 use bsc_frame::decode;
 use bsc_input::{is_blank, read_octets, split_at_first, split_line, without_return};
-use bsc_names::{Detail, write_shown};
+use bsc_print::{Detail, write_shown};
 use std::alloc::Allocator;
 use std::io::Write;
 

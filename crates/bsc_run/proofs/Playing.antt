@@ -11,7 +11,7 @@ use Rattle.bsc_script.specs.Actions.{NumberedEvent}
 use Rattle.bsc_run.specs.declared.error.RunError.{RunError}
 use Rattle.bsc_run.specs.declared.error.RunError.TheVariants.{Refused}
 use Rattle.bsc_run.specs.declared.error.StepError.TheVariants as fault
-use Rattle.bsc_names.specs.declared.error.PrintError.TheVariants as print
+use Rattle.bsc_print.specs.declared.error.PrintError.TheVariants as print
 use Rattle.bsc_run.specs.Printed.{report_of}
 use Rattle.bsc_run.specs.Plays.{Plays, Played, Runs, TakesStep, WhereWhole}
 use Rattle.bsc_run.specs.Steps.{Accepts, trace_after}

@@ -1,8 +1,8 @@
 -- The errors of a run by those of its parts (own).
 use Rattle.std.specs.Prelude.{ℕ, Result, Ok, Err}
 use Rattle.bsc_line_model.specs.declared.error.LineError.{LineError}
-use Rattle.bsc_names.specs.declared.error.PrintError.{PrintError}
-use Rattle.bsc_names.specs.declared.error.PrintError.TheVariants as print
+use Rattle.bsc_print.specs.declared.error.PrintError.{PrintError}
+use Rattle.bsc_print.specs.declared.error.PrintError.TheVariants as print
 use Rattle.bsc_run.specs.declared.error.StepError.{StepError}
 use Rattle.bsc_run.specs.declared.error.StepError.TheVariants as step
 use Rattle.bsc_run.specs.declared.error.RunError.{RunError}

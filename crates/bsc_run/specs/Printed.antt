@@ -4,10 +4,10 @@ use Rattle.std.specs.Prelude.{codes}
 use Rattle.std.specs.List.{flat_map}
 use Rattle.std.specs.Fmt.{decimal}
 use Rattle.bsc_frame.specs.declared.message.Heard.TheVariants.{Whole}
-use Rattle.bsc_names.specs.Names.{name_line}
-use Rattle.bsc_printing.specs.Channels.{channel_name, doubt_shown, record_line, each_below}
-use Rattle.bsc_text.specs.Channel.{Channel}
-use Rattle.bsc_text.specs.Sender.{is_in_doubt}
+use Rattle.bsc_print.specs.Names.{name_line}
+use Rattle.bsc_report.specs.Channels.{channel_name, doubt_shown, record_line, each_below}
+use Rattle.bsc_bid.specs.Channel.{Channel}
+use Rattle.bsc_bid.specs.Sender.{is_in_doubt}
 use Rattle.bsc_directory.specs.declared.way.Way.{Way}
 use Rattle.bsc_directory.specs.declared.way.Way.TheVariants.{FromTerminal, ToTerminal}
 use Rattle.bsc_line_model.specs.declared.transmission.Speaker.{Speaker}

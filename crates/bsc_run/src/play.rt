@@ -14,7 +14,7 @@ use crate::report::write_report;
 use crate::trace::write_pending;
 use bsc_carrier::Cable;
 use bsc_line::Line;
-use bsc_names::PrintError;
+use bsc_print::PrintError;
 use bsc_script::{Action, Step};
 use std::alloc::Allocator;
 use std::io::{Read, Write};

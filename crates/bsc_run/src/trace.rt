@@ -3,14 +3,14 @@
 ghost use Rattle.std.specs.Prelude.{◌≡◌, ◌++◌, codes, OnOk};
 ghost use Rattle.std.specs.Io.KnownBytes.{Appends};
 ghost use Rattle.bsc_frame.specs.Reading.{heard};
-ghost use Rattle.bsc_names.specs.Names.{name_line};
+ghost use Rattle.bsc_print.specs.Names.{name_line};
 ghost use Rattle.bsc_run.specs.Printed.{speaker_name, pending_line};
 
 use bsc_frame::decode;
 use bsc_frame::laws::{one_reading, reading};
 use bsc_line::{Line, Speaker};
-use bsc_names::{Detail, PrintError, write_shown};
-use bsc_printing::put;
+use bsc_print::{Detail, PrintError, write_shown};
+use bsc_report::put;
 use std::alloc::Allocator;
 use std::io::Write;
 

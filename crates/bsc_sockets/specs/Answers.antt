@@ -1,7 +1,7 @@
 -- What a wait may answer (own).
 use Rattle.std.specs.Prelude.{◌<◌, ⊤, ℕ, Option, IsSome}
-use Rattle.bsc_live.specs.declared.awaited.Awaited.{Awaited}
-use Rattle.bsc_live.specs.declared.awaited.Awaited.TheVariants.{Octets, Newcomer, TimeOut}
+use Rattle.bsc_connections.specs.declared.awaited.Awaited.{Awaited}
+use Rattle.bsc_connections.specs.declared.awaited.Awaited.TheVariants.{Octets, Newcomer, TimeOut}
 
 -- with this many places for connections, and this newcomer kept: octets are told of at a place that
 -- there is, and a newcomer only where one is kept

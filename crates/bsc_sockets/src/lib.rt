@@ -1,5 +1,5 @@
 //! TCP connections of a station, and the waiting for them. It stands at the edge: it is the
-//! `bsc_live::Waiter` over sockets of this machine, in one thread, by the system's readiness
+//! `bsc_connections::Waiter` over sockets of this machine, in one thread, by the system's readiness
 //! reports, and knows nothing of transmissions.
 //!
 //! - `Listening` is an address that is bound; `listen` waits there for a number of peers.

@@ -8,7 +8,7 @@ use crate::directions::{Reading, Writing, directions};
 use crate::ready::Ready;
 use crate::time_limit::TimeLimit;
 use crate::{Listening, SocketsError};
-use bsc_live::{Awaited, LiveError, Wait, Waiter};
+use bsc_connections::{Awaited, LiveError, Wait, Waiter};
 use mio::net::{TcpListener, TcpStream};
 use mio::{Events, Interest, Poll, Token};
 use std::alloc::{AllocError, Allocator};

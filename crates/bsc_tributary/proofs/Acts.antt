@@ -4,21 +4,21 @@ use Rattle.std.proofs.Common.{subst}
 use Rattle.bsc_block.specs.Format.{FormatValue}
 use Rattle.bsc_spool.specs.declared.queue.Next.{Next}
 use Rattle.bsc_spool.specs.Queue.{QueueValue}
-use Rattle.bsc_text.specs.Act.{Act}
-use Rattle.bsc_text.specs.Act as a
-use Rattle.bsc_text.specs.declared.outcome.Outcome.{Outcome}
+use Rattle.bsc_bid.specs.Act.{Act}
+use Rattle.bsc_bid.specs.Act as a
+use Rattle.bsc_bid.specs.declared.outcome.Outcome.{Outcome}
 use Rattle.bsc_frame.specs.declared.message.Message.{Message}
-use Rattle.bsc_text.specs.declared.alternation.Alternation.{Alternation}
-use Rattle.bsc_text.specs.declared.phase.Phase.{Phase}
-use Rattle.bsc_text.specs.declared.phase.Phase.TheVariants.{Idle, Unanswered, Held, InDoubt}
-use Rattle.bsc_text.specs.declared.reply.Reply.{Reply}
-use Rattle.bsc_text.specs.EachStep.{StepKeeps}
-use Rattle.bsc_text.specs.Ready.{IsGoing, IsAtRest, FitsAct}
-use Rattle.bsc_text.specs.Setup.{SetupValue}
-use Rattle.bsc_text.specs.Sender.{SenderValue, SenderStep, SenderAnswer, Tells, sent_next}
-use Rattle.bsc_text.specs.Sender.{reply_step, silence_step, cut_phase}
-use Rattle.bsc_text.proofs.FitLemmas.{fits_reply, fits_silence}
-use Rattle.bsc_text.proofs.KeepLemmas.{keeps_reply, keeps_silence}
+use Rattle.bsc_bid.specs.declared.alternation.Alternation.{Alternation}
+use Rattle.bsc_bid.specs.declared.phase.Phase.{Phase}
+use Rattle.bsc_bid.specs.declared.phase.Phase.TheVariants.{Idle, Unanswered, Held, InDoubt}
+use Rattle.bsc_bid.specs.declared.reply.Reply.{Reply}
+use Rattle.bsc_bid.specs.EachStep.{StepKeeps}
+use Rattle.bsc_bid.specs.Ready.{IsGoing, IsAtRest, FitsAct}
+use Rattle.bsc_bid.specs.Setup.{SetupValue}
+use Rattle.bsc_bid.specs.Sender.{SenderValue, SenderStep, SenderAnswer, Tells, sent_next}
+use Rattle.bsc_bid.specs.Sender.{reply_step, silence_step, cut_phase}
+use Rattle.bsc_bid.proofs.FitLemmas.{fits_reply, fits_silence}
+use Rattle.bsc_bid.proofs.KeepLemmas.{keeps_reply, keeps_silence}
 use Rattle.bsc_tributary.specs.declared.mode.Mode.{Mode}
 use Rattle.bsc_tributary.specs.declared.mode.Mode.TheVariants.{Control, Receiving, Sending}
 use Rattle.bsc_tributary.specs.Tributary.{mode_left, mode_after, message_left, message_of_act}

@@ -7,13 +7,13 @@ use Rattle.bsc_frame.specs.declared.message.Message.{Message}
 use Rattle.bsc_frame.specs.declared.message.Message.TheVariants as m
 use Rattle.bsc_spool.specs.Queue.{waiting, next_block}
 use Rattle.bsc_spool.specs.Spool.{SpoolValue, room_asked}
-use Rattle.bsc_text.specs.declared.alternation.Alternation.TheVariants.{Odd}
-use Rattle.bsc_text.specs.declared.phase.Phase.TheVariants.{Idle}
-use Rattle.bsc_text.specs.declared.reply.Reply.{Reply}
-use Rattle.bsc_text.specs.Ready.{IsReady, IsAtRest}
-use Rattle.bsc_text.specs.Reply.{message_of}
-use Rattle.bsc_text.specs.Receiver.{ReceiverValue, new_receiver, first_reply}
-use Rattle.bsc_text.specs.Sender.{SenderStep, begin_step, is_in_doubt}
+use Rattle.bsc_bid.specs.declared.alternation.Alternation.TheVariants.{Odd}
+use Rattle.bsc_bid.specs.declared.phase.Phase.TheVariants.{Idle}
+use Rattle.bsc_bid.specs.declared.reply.Reply.{Reply}
+use Rattle.bsc_bid.specs.Ready.{IsReady, IsAtRest}
+use Rattle.bsc_bid.specs.Reply.{message_of}
+use Rattle.bsc_bid.specs.Receiver.{ReceiverValue, new_receiver, first_reply}
+use Rattle.bsc_bid.specs.Sender.{SenderStep, begin_step, is_in_doubt}
 use Rattle.bsc_tributary.specs.declared.mode.Mode.{Mode}
 use Rattle.bsc_tributary.specs.declared.mode.Mode.TheVariants.{Receiving}
 use Rattle.bsc_tributary.specs.Tributary.{TributaryValue, TributaryStep, spool_at, empty_spool}
@@ -22,7 +22,7 @@ use Rattle.bsc_tributary.specs.Tributary.{act_step, poll_step, selection_step}
 use Rattle.bsc_tributary.specs.Kept.{IsTributary}
 use Rattle.bsc_tributary.proofs.Acts.{FollowsFrom, follows_sent_next, is_at_rest_cut_phase}
 use Rattle.bsc_tributary.proofs.Stays.{stays_act_step, stays_flags}
-use Rattle.bsc_text.proofs.RestLemmas.{idle_at_rest}
+use Rattle.bsc_bid.proofs.RestLemmas.{idle_at_rest}
 
 -- the answer to a poll, of a terminal from which the line was taken
 abbrev poll_from : TributaryValue → TributaryStep

@@ -7,11 +7,11 @@ use Rattle.bsc_frame.specs.declared.message.Message.TheVariants as m
 use Rattle.bsc_frame.specs.declared.message.Heard.TheVariants.{Whole}
 use Rattle.bsc_spool.specs.declared.queue.Next.{Next}
 use Rattle.bsc_spool.specs.Queue.{QueueValue, waiting, next_block}
-use Rattle.bsc_text.specs.declared.alternation.Alternation.{Alternation}
-use Rattle.bsc_text.specs.declared.alternation.Alternation.TheVariants.{Odd}
-use Rattle.bsc_text.specs.Sender.{SenderValue, begin_step, sent_next, is_in_doubt}
-use Rattle.bsc_text.specs.Terminal.{TerminalValue}
-use Rattle.bsc_text.proofs.Choice.{choose}
+use Rattle.bsc_bid.specs.declared.alternation.Alternation.{Alternation}
+use Rattle.bsc_bid.specs.declared.alternation.Alternation.TheVariants.{Odd}
+use Rattle.bsc_bid.specs.Sender.{SenderValue, begin_step, sent_next, is_in_doubt}
+use Rattle.bsc_bid.specs.Terminal.{TerminalValue}
+use Rattle.bsc_bid.proofs.Choice.{choose}
 use Rattle.bsc_tributary.specs.declared.called.Called.{Called}
 use Rattle.bsc_tributary.specs.declared.called.Called.TheVariants.{Polling, Selection, Other}
 use Rattle.bsc_tributary.specs.declared.mode.Mode.{Mode}

@@ -11,14 +11,14 @@ use Rattle.bsc_frame.specs.declared.message.Heard.TheVariants.{Whole, Failed, No
 use Rattle.bsc_block.specs.Blocks.{records_in}
 use Rattle.bsc_spool.specs.Queue.{waiting, next_block}
 use Rattle.bsc_spool.specs.Spool.{SpoolValue, room_asked}
-use Rattle.bsc_text.specs.declared.alternation.Alternation.TheVariants.{Odd}
-use Rattle.bsc_text.specs.Reply.{reply_heard}
-use Rattle.bsc_text.specs.Receiver.{ReceiverStep, Rooms, heard_step}
-use Rattle.bsc_text.specs.Ready.{IsReady}
-use Rattle.bsc_text.specs.Sender.{SenderValue, SenderStep, with_phase, cut_phase, begin_step}
-use Rattle.bsc_text.specs.Sender.{reply_step, silence_step, is_in_doubt}
-use Rattle.bsc_text.proofs.Choice.{choose}
-use Rattle.bsc_text.proofs.ReceiverSteps.{Grows, grows_heard_step}
+use Rattle.bsc_bid.specs.declared.alternation.Alternation.TheVariants.{Odd}
+use Rattle.bsc_bid.specs.Reply.{reply_heard}
+use Rattle.bsc_bid.specs.Receiver.{ReceiverStep, Rooms, heard_step}
+use Rattle.bsc_bid.specs.Ready.{IsReady}
+use Rattle.bsc_bid.specs.Sender.{SenderValue, SenderStep, with_phase, cut_phase, begin_step}
+use Rattle.bsc_bid.specs.Sender.{reply_step, silence_step, is_in_doubt}
+use Rattle.bsc_bid.proofs.Choice.{choose}
+use Rattle.bsc_bid.proofs.ReceiverSteps.{Grows, grows_heard_step}
 use Rattle.bsc_tributary.specs.declared.called.Called.{Called}
 use Rattle.bsc_tributary.specs.declared.called.Called.TheVariants.{Polling, Selection, Other}
 use Rattle.bsc_tributary.specs.declared.mode.Mode.{Mode}
@@ -37,7 +37,7 @@ use Rattle.bsc_tributary.proofs.CallsHeard.{begun_mode, within_selects}
 use Rattle.bsc_tributary.proofs.InMode.{hear_step_no_call}
 use Rattle.bsc_tributary.proofs.Noise.{quiet_in}
 use Rattle.bsc_tributary.proofs.Stays.{stays_without_line}
-use Rattle.bsc_text.specs.Station.{StaysQuiet}
+use Rattle.bsc_bid.specs.Station.{StaysQuiet}
 
 -- what a row changes
 record Changes (old : TributaryValue) (h : Heard) (step : TributaryStep) : Type 0 where

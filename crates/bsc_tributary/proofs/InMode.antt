@@ -7,12 +7,12 @@ use Rattle.bsc_frame.specs.declared.message.Message.TheVariants as m
 use Rattle.bsc_frame.specs.declared.message.Heard.{Heard}
 use Rattle.bsc_frame.specs.declared.message.Heard.TheVariants.{Whole, Failed, Noise}
 use Rattle.bsc_spool.specs.Spool.{SpoolValue}
-use Rattle.bsc_text.specs.declared.reply.Reply.{Reply}
-use Rattle.bsc_text.specs.Ready.{IsReady}
-use Rattle.bsc_text.specs.Reply.{message_of, reply_heard}
-use Rattle.bsc_text.specs.Receiver.{ReceiverValue, ReceiverStep, Receives, Rooms, rooms_left}
-use Rattle.bsc_text.specs.Receiver.{sends_rvi}
-use Rattle.bsc_text.specs.Sender.{SenderStep, reply_step, silence_step}
+use Rattle.bsc_bid.specs.declared.reply.Reply.{Reply}
+use Rattle.bsc_bid.specs.Ready.{IsReady}
+use Rattle.bsc_bid.specs.Reply.{message_of, reply_heard}
+use Rattle.bsc_bid.specs.Receiver.{ReceiverValue, ReceiverStep, Receives, Rooms, rooms_left}
+use Rattle.bsc_bid.specs.Receiver.{sends_rvi}
+use Rattle.bsc_bid.specs.Sender.{SenderStep, reply_step, silence_step}
 use Rattle.bsc_tributary.specs.declared.mode.Mode.{Mode}
 use Rattle.bsc_tributary.specs.declared.mode.Mode.TheVariants.{Control, Receiving, Sending}
 use Rattle.bsc_tributary.specs.Tributary.{TributaryValue, spool_at, spool_in, rooms_after}

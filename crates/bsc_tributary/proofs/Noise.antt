@@ -4,7 +4,7 @@ use Rattle.std.proofs.Common.{◌≡◌, List, refl, ap}
 use Rattle.std.proofs.lemmas.List.{set-get_or}
 use Rattle.bsc_frame.specs.declared.message.Heard.TheVariants.{Noise}
 use Rattle.bsc_spool.specs.Spool.{SpoolValue}
-use Rattle.bsc_text.specs.Receiver.{Rooms}
+use Rattle.bsc_bid.specs.Receiver.{Rooms}
 use Rattle.bsc_tributary.specs.declared.mode.Mode.{Mode}
 use Rattle.bsc_tributary.specs.declared.mode.Mode.TheVariants.{Control, Receiving, Sending}
 use Rattle.bsc_tributary.specs.Tributary.{TributaryValue, mode_step, quiet_step, empty_spool}

@@ -4,13 +4,13 @@ use Rattle.std.proofs.Common.{refl, List, [], ◌∷◌, ◌++◌, length, Resul
 use Rattle.std.specs.Result.{OnOk, OnErr}
 use Rattle.bsc_block.specs.Format.{FormatValue}
 use Rattle.bsc_spool.specs.Queue.{QueueValue}
-use Rattle.bsc_text.specs.declared.phase.Phase.{Phase}
-use Rattle.bsc_text.specs.declared.phase.Phase.TheVariants.{Idle, Unanswered, Held, InDoubt}
-use Rattle.bsc_text.specs.Ready.{IsReady}
-use Rattle.bsc_text.specs.Setup.{SetupValue}
-use Rattle.bsc_text.specs.Sender.{SenderValue, ReleaseStep, release_step, with_phase}
-use Rattle.bsc_text.proofs.Choice.{choose}
-use Rattle.bsc_text.proofs.OfferLemmas.{ready_offered}
+use Rattle.bsc_bid.specs.declared.phase.Phase.{Phase}
+use Rattle.bsc_bid.specs.declared.phase.Phase.TheVariants.{Idle, Unanswered, Held, InDoubt}
+use Rattle.bsc_bid.specs.Ready.{IsReady}
+use Rattle.bsc_bid.specs.Setup.{SetupValue}
+use Rattle.bsc_bid.specs.Sender.{SenderValue, ReleaseStep, release_step, with_phase}
+use Rattle.bsc_bid.proofs.Choice.{choose}
+use Rattle.bsc_bid.proofs.OfferLemmas.{ready_offered}
 use Rattle.bsc_tributary.specs.declared.mode.Mode.{Mode}
 use Rattle.bsc_tributary.specs.declared.mode.Mode.TheVariants.{Control, Receiving, Sending}
 use Rattle.bsc_tributary.specs.Tributary.{TributaryValue, after_release}

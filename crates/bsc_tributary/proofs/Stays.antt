@@ -3,12 +3,12 @@ use Rattle.std.proofs.Common.{◌≡◌, ◌∙◌, Bool, true, false, sym, ap, 
 use Rattle.std.proofs.Common.{arith}
 use Rattle.bsc_spool.specs.Queue.{QueueValue}
 use Rattle.bsc_spool.specs.Spool.{SpoolValue}
-use Rattle.bsc_text.specs.declared.phase.Phase.TheVariants.{Idle}
-use Rattle.bsc_text.specs.Ready.{IsReady}
-use Rattle.bsc_text.specs.Setup.{SetupValue, IsSetup}
-use Rattle.bsc_text.specs.Terminal.{TerminalValue, IsTerminal, HasDistinctAddresses}
-use Rattle.bsc_text.specs.Receiver.{ReceiverValue}
-use Rattle.bsc_text.specs.Sender.{SenderValue, SenderStep, with_phase, cut_phase}
+use Rattle.bsc_bid.specs.declared.phase.Phase.TheVariants.{Idle}
+use Rattle.bsc_bid.specs.Ready.{IsReady}
+use Rattle.bsc_bid.specs.Setup.{SetupValue, IsSetup}
+use Rattle.bsc_bid.specs.Terminal.{TerminalValue, IsTerminal, HasDistinctAddresses}
+use Rattle.bsc_bid.specs.Receiver.{ReceiverValue}
+use Rattle.bsc_bid.specs.Sender.{SenderValue, SenderStep, with_phase, cut_phase}
 use Rattle.bsc_tributary.specs.declared.mode.Mode.{Mode}
 use Rattle.bsc_tributary.specs.declared.mode.Mode.TheVariants.{Control}
 use Rattle.bsc_tributary.specs.Tributary.{TributaryValue, mode_after}

@@ -2,7 +2,7 @@
 use Rattle.std.specs.Prelude.{ℕ, Bool, ◌==◌, List, Option, None, Some, if◌then◌else◌}
 use Rattle.std.specs.List.{position}
 use lib.Pointwise.{pointwise}
-use Rattle.bsc_text.specs.Terminal.{TerminalValue}
+use Rattle.bsc_bid.specs.Terminal.{TerminalValue}
 use Rattle.bsc_tributary.specs.declared.called.Called.{Called}
 use Rattle.bsc_tributary.specs.declared.called.Called.TheVariants.{Polling, Selection, Other}
 

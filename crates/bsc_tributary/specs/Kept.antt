@@ -9,19 +9,19 @@ use Rattle.bsc_frame.specs.Texts.{TextValue}
 use Rattle.bsc_block.specs.Blocks.{records_in}
 use Rattle.bsc_spool.specs.Queue.{queue_of}
 use Rattle.bsc_spool.specs.Spool.{SpoolValue}
-use Rattle.bsc_text.specs.declared.phase.Phase.{Phase}
-use Rattle.bsc_text.specs.declared.phase.Phase.TheVariants.{Idle}
-use Rattle.bsc_text.specs.Receiver.{new_receiver}
-use Rattle.bsc_text.specs.Setup.{SetupValue}
-use Rattle.bsc_text.specs.Ready.{IsReady, IsGoing, IsAtRest}
-use Rattle.bsc_text.specs.Terminal.{TerminalValue, IsTerminal, HasDistinctAddresses}
+use Rattle.bsc_bid.specs.declared.phase.Phase.{Phase}
+use Rattle.bsc_bid.specs.declared.phase.Phase.TheVariants.{Idle}
+use Rattle.bsc_bid.specs.Receiver.{new_receiver}
+use Rattle.bsc_bid.specs.Setup.{SetupValue}
+use Rattle.bsc_bid.specs.Ready.{IsReady, IsGoing, IsAtRest}
+use Rattle.bsc_bid.specs.Terminal.{TerminalValue, IsTerminal, HasDistinctAddresses}
 use Rattle.bsc_tributary.specs.declared.called.Called.{Called}
 use Rattle.bsc_tributary.specs.declared.called.Called.TheVariants.{Polling, Selection, Other}
 use Rattle.bsc_tributary.specs.declared.mode.Mode.{Mode}
 use Rattle.bsc_tributary.specs.declared.mode.Mode.TheVariants.{Control, Receiving, Sending}
 use Rattle.bsc_tributary.specs.Called.{called_as}
 use Rattle.bsc_tributary.specs.Tributary.{TributaryValue, Hears, ActsOnSilence, spool_at}
-use Rattle.bsc_text.specs.Station.{StaysQuiet}
+use Rattle.bsc_bid.specs.Station.{StaysQuiet}
 
 -- a bid goes on exactly while the terminal sends, and it receives into a spool that it has
 abbrev pub SuitsMode : Mode → Phase → ℕ → Type 0

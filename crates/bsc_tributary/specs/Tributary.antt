@@ -9,15 +9,15 @@ use Rattle.bsc_frame.specs.declared.message.Heard.{Heard}
 use Rattle.bsc_frame.specs.declared.message.Heard.TheVariants.{Whole}
 use Rattle.bsc_spool.specs.Queue.{QueueValue, waiting}
 use Rattle.bsc_spool.specs.Spool.{SpoolValue, room_asked}
-use Rattle.bsc_text.specs.declared.outcome.Outcome.{Outcome}
-use Rattle.bsc_text.specs.declared.outcome.Outcome.TheVariants as o
-use Rattle.bsc_text.specs.Act.{Act, message_for, outcome_of}
-use Rattle.bsc_text.specs.Terminal.{TerminalValue}
-use Rattle.bsc_text.specs.Reply.{message_of, reply_heard}
-use Rattle.bsc_text.specs.Receiver.{ReceiverValue, ReceiverStep, Rooms, new_receiver, first_reply}
-use Rattle.bsc_text.specs.Receiver.{heard_step, rooms_left, sends_rvi}
-use Rattle.bsc_text.specs.Sender.{SenderValue, SenderStep, with_phase, begin_step, reply_step}
-use Rattle.bsc_text.specs.Sender.{silence_step, cut_phase, is_in_doubt, release_step}
+use Rattle.bsc_bid.specs.declared.outcome.Outcome.{Outcome}
+use Rattle.bsc_bid.specs.declared.outcome.Outcome.TheVariants as o
+use Rattle.bsc_bid.specs.Act.{Act, message_for, outcome_of}
+use Rattle.bsc_bid.specs.Terminal.{TerminalValue}
+use Rattle.bsc_bid.specs.Reply.{message_of, reply_heard}
+use Rattle.bsc_bid.specs.Receiver.{ReceiverValue, ReceiverStep, Rooms, new_receiver, first_reply}
+use Rattle.bsc_bid.specs.Receiver.{heard_step, rooms_left, sends_rvi}
+use Rattle.bsc_bid.specs.Sender.{SenderValue, SenderStep, with_phase, begin_step, reply_step}
+use Rattle.bsc_bid.specs.Sender.{silence_step, cut_phase, is_in_doubt, release_step}
 use Rattle.bsc_tributary.specs.declared.called.Called.{Called}
 use Rattle.bsc_tributary.specs.declared.called.Called.TheVariants.{Polling, Selection, Other}
 use Rattle.bsc_tributary.specs.declared.mode.Mode.{Mode}

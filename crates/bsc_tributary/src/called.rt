@@ -1,11 +1,11 @@
 //! Whose call is heard: every terminal hears the calls of all.
 
 ghost use Rattle.std.specs.Prelude.{◌≡◌, ◌↔◌, ◌<◌, [], length, slice_index_or, IsTrue};
-ghost use Rattle.bsc_text.specs.Terminal.{HasDistinctAddresses};
+ghost use Rattle.bsc_bid.specs.Terminal.{HasDistinctAddresses};
 ghost use Rattle.bsc_tributary.specs.Called.{called_as};
 
+use bsc_bid::Terminal;
 use bsc_frame::Address;
-use bsc_text::Terminal;
 
 /// Which of a terminal's addresses a call names (GA27-3004, polling and selection).
 #[derive(Clone, Copy, Debug, PartialEq, Eq)]

@@ -1,7 +1,7 @@
 //! Laws over the definitions, for the layers above.
 
 ghost use Rattle.std.specs.Prelude.{◌≡◌, ℕ, List, Some, slice_get, Contains, ◌↔◌};
-ghost use Rattle.bsc_text.specs.Terminal.{TerminalValue, own_addresses, HasDistinctAddresses};
+ghost use Rattle.bsc_bid.specs.Terminal.{TerminalValue, own_addresses, HasDistinctAddresses};
 ghost use Rattle.bsc_tributary.specs.Called.{called_as};
 ghost use Rattle.bsc_tributary.specs.declared.called.Called.{Called};
 

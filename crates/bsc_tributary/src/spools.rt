@@ -1,14 +1,14 @@
 //! The spools of a terminal: one for each selection address.
 
 ghost use Rattle.std.specs.Prelude.{◌≡◌, ◌<◌, ◌≤◌, [], true, length, slice_set, All};
-ghost use Rattle.bsc_text.specs.Receiver.{Receives};
+ghost use Rattle.bsc_bid.specs.Receiver.{Receives};
 ghost use Rattle.bsc_spool.specs.Spool.{room_asked};
 ghost use Rattle.bsc_tributary.specs.Tributary.{spool_at};
 
+use bsc_bid::limits::MAX_SELECTS;
+use bsc_bid::{Receiver, Reply};
 use bsc_frame::Heard;
 use bsc_spool::Spool;
-use bsc_text::limits::MAX_SELECTS;
-use bsc_text::{Receiver, Reply};
 use std::alloc::Allocator;
 use std::marker::Model;
 
@@ -36,7 +36,7 @@ pub(crate) struct Spools<A: Allocator> {
 impl<A: Allocator> Model for Spools<A> {
     ghost use Rattle.std.specs.Prelude.{◌≤◌, List, [], ◌∷◌, take};
     ghost use Rattle.bsc_spool.specs.Spool.{SpoolValue};
-    ghost use Rattle.bsc_text.specs.declared.limits.TheConstants.{MAX_SELECTS};
+    ghost use Rattle.bsc_bid.specs.declared.limits.TheConstants.{MAX_SELECTS};
 
     ghost Value = { List SpoolValue };
 

@@ -3,10 +3,10 @@
 ghost use Rattle.std.specs.Prelude.{IsTrue, ◌≡◌, ◌≤◌, ◌<◌, true, false, if◌then◌else◌, None};
 ghost use Rattle.std.specs.Prelude.{length, OnOk, OnErr, IfErr, option_map};
 ghost use Rattle.bsc_spool.specs.Queue.{with_offered};
-ghost use Rattle.bsc_text.specs.Receiver.{sends_rvi};
-ghost use Rattle.bsc_text.specs.Reply.{message_of};
-ghost use Rattle.bsc_text.specs.Terminal.{HasDistinctAddresses};
-ghost use Rattle.bsc_text.specs.Sender.{release_step, is_in_doubt};
+ghost use Rattle.bsc_bid.specs.Receiver.{sends_rvi};
+ghost use Rattle.bsc_bid.specs.Reply.{message_of};
+ghost use Rattle.bsc_bid.specs.Terminal.{HasDistinctAddresses};
+ghost use Rattle.bsc_bid.specs.Sender.{release_step, is_in_doubt};
 ghost use Rattle.bsc_tributary.specs.Tributary.{without_line, poll_step, selection_step};
 ghost use Rattle.bsc_tributary.specs.Tributary.{mode_left, message_left, after_release, holds};
 ghost use Rattle.bsc_tributary.specs.Tributary.{spool_at};
@@ -16,10 +16,10 @@ ghost use Rattle.bsc_tributary.specs.Kept.{IsHearing, IsNoCall};
 use crate::called::{Called, called_address};
 use crate::mode::Mode;
 use crate::spools::Spools;
+use bsc_bid::{Outcome, Receiver, ReleaseError, Reply, Sender, Setup, Station, Terminal};
 use bsc_block::Record;
 use bsc_frame::{Address, Heard, Message};
 use bsc_spool::{Queue, Spool};
-use bsc_text::{Outcome, Receiver, ReleaseError, Reply, Sender, Setup, Station, Terminal};
 use std::alloc::Allocator;
 use std::marker::Model;
 

@@ -6,12 +6,12 @@ use bsc_carrier::Cable;
 use bsc_carrier::limits::MAX_CONNECTIONS;
 use bsc_input::{Files, InputError, read_input};
 use bsc_loopback::{LoopbackError, connect};
+use bsc_monitor::Timer;
 use bsc_running::Cables;
 use bsc_sockets::{
     Begun, Listening, Reading, Settings, Sockets, SocketsError, Writing, connect as connect_to,
     listen,
 };
-use bsc_station::Timer;
 use std::alloc::Global;
 use std::fs::File;
 use std::io;

@@ -4,10 +4,10 @@
 ghost use Rattle.std.specs.Prelude.{◌≡◌};
 
 use crate::turns::{Fate, heard_at_both, turn};
+use bsc_bid::{Outcome, Receiver, ReleaseError, Reply, Sender, Setup};
 use bsc_block::Record;
 use bsc_frame::{Heard, Message};
 use bsc_spool::{Queue, Spool};
-use bsc_text::{Outcome, Receiver, ReleaseError, Reply, Sender, Setup};
 use std::alloc::Allocator;
 use std::marker::Model;
 
@@ -36,8 +36,8 @@ pub(crate) struct Ends<A: Allocator> {
 impl<A: Allocator> Model for Ends<A> {
     ghost use Rattle.std.specs.Prelude.{◌≡◌, false};
     ghost use Rattle.bsc_spool.specs.Queue.{QueueValue};
-    ghost use Rattle.bsc_text.specs.Sender.{SenderValue};
-    ghost use Rattle.bsc_text.specs.Ready.{IsReady, IsAtRest};
+    ghost use Rattle.bsc_bid.specs.Sender.{SenderValue};
+    ghost use Rattle.bsc_bid.specs.Ready.{IsReady, IsAtRest};
 
     ghost Value = { SenderValue × QueueValue };
 
@@ -65,7 +65,7 @@ impl<A: Allocator + Copy> Ends<A> {
 
 impl<A: Allocator> Ends<A> {
     /// Offers an empty record: whether it was taken.
-    #[tactic(auto, using(bsc_text::proofs::OfferLemmas::counts_offered))]
+    #[tactic(auto, using(bsc_bid::proofs::OfferLemmas::counts_offered))]
     pub(crate) fn offer(&mut self) -> bool {
         let Ok(record) = Record::read(&[], 1) else {
             return false;

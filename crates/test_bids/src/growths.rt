@@ -5,8 +5,8 @@ ghost use Rattle.std.specs.Prelude.{◌≡◌, ◌≤◌};
 use bsc_block::{Format, Record, unpack};
 use bsc_frame::Message;
 use bsc_spool::{Queue, Spool};
-use refusing_alloc::{Refusal, Refusing};
 use std::test::Fail;
+use test_alloc::{Refusal, Refusing};
 
 const RECORDS: usize = 420;
 

@@ -2,10 +2,10 @@
 
 ghost use Rattle.std.specs.Prelude.{◌≡◌, ◌≤◌};
 
+use bsc_bid::{SettingError, Setup};
 use bsc_block::{Format, Record};
 use bsc_frame::End;
 use bsc_spool::{Next, Queue};
-use bsc_text::{SettingError, Setup};
 use std::alloc::Allocator;
 use std::test::Fail;
 

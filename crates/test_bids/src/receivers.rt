@@ -1,12 +1,12 @@
 //! Receivers by hand, and each growth of their spools refused.
 
-use bsc_fixtures::octets::{BROKEN_TEXT, ENQ, TEXT_EMPTY, TEXT_LAST_SEVEN};
+use bsc_bid::{Receiver, Reply};
 use bsc_frame::decode;
 use bsc_spool::Spool;
-use bsc_text::{Receiver, Reply};
-use refusing_alloc::{Refusal, Refusing};
 use std::alloc::Allocator;
 use std::test::Fail;
+use test_alloc::{Refusal, Refusing};
+use test_fixtures::octets::{BROKEN_TEXT, ENQ, TEXT_EMPTY, TEXT_LAST_SEVEN};
 
 /// The number from which on no request is refused.
 const NEVER: usize = usize::MAX;

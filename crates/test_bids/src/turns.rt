@@ -3,15 +3,15 @@
 ghost use Rattle.std.specs.Prelude.{◌≡◌, length, unwrap_or};
 ghost use Rattle.bsc_frame.specs.declared.message.Heard.TheVariants.{Noise};
 ghost use Rattle.bsc_spool.specs.Queue.{waiting};
-ghost use Rattle.bsc_text.specs.Act.{Quiet};
-ghost use Rattle.bsc_text.specs.Bid.{Bid, Turn, after_turn};
-ghost use Rattle.bsc_text.specs.Sender.{Tells};
-ghost use Rattle.bsc_text.specs.Ready.{CountsOn, IsGoing, IsReady};
-ghost use Rattle.bsc_text.specs.Receiver.{Rooms, rooms_left};
+ghost use Rattle.bsc_bid.specs.Act.{Quiet};
+ghost use Rattle.bsc_bid.specs.Bid.{Bid, Turn, after_turn};
+ghost use Rattle.bsc_bid.specs.Sender.{Tells};
+ghost use Rattle.bsc_bid.specs.Ready.{CountsOn, IsGoing, IsReady};
+ghost use Rattle.bsc_bid.specs.Receiver.{Rooms, rooms_left};
 
+use bsc_bid::{Outcome, Receiver, Reply, Sender};
 use bsc_frame::{Heard, Message};
 use bsc_spool::{Queue, Spool};
-use bsc_text::{Outcome, Receiver, Reply, Sender};
 use std::alloc::Allocator;
 
 /// What one exchange meets.

@@ -2,9 +2,9 @@
 
 use crate::naming::{Call, print};
 use bsc_naming::NamingError;
-use refusing_alloc::{Refusal, Refusing, TurnError};
 use std::alloc::Global;
 use std::test::Fail;
+use test_alloc::{Refusal, Refusing, TurnError};
 
 /// A call, what it is given and what it prints.
 type Row = (Call, &'static str, &'static str);

@@ -4,16 +4,16 @@
 use bsc_attending::{Network, Opened, Place, Wanted};
 use bsc_carrier::Cable;
 use bsc_command::{Fault, command};
-use bsc_fixtures::configurations::TWO_TERMINALS;
+use bsc_connections::{Awaited, LiveError, Wait, Waiter};
 use bsc_input::{Files, InputError};
-use bsc_live::{Awaited, LiveError, Wait, Waiter};
 use bsc_loopback::LoopbackError;
+use bsc_monitor::Timer;
 use bsc_running::Cables;
 use bsc_sockets::SocketsError;
-use bsc_station::Timer;
 use std::alloc::{AllocError, Global};
 use std::io;
 use std::io::{BufWriter, Error, ErrorKind, Read, Write};
+use test_fixtures::configurations::TWO_TERMINALS;
 
 /// An end of a connection that nobody holds.
 #[derive(Drop)]

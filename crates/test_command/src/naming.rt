@@ -1,11 +1,11 @@
 //! Names of worked transmissions, of lines and of traces.
 
-use bsc_fixtures::Full;
 use bsc_naming::{NamingError, name, names, show};
 use std::alloc::{Allocator, Global};
 use std::io::Write;
 use std::ops::Range;
 use std::test::Fail;
+use test_fixtures::Full;
 
 /// A call that prints names.
 #[derive(Clone, Copy)]

@@ -4,11 +4,11 @@ use bsc_input::{
     InputError, MAX_INPUT, is_blank, read_input, read_octets, split_at_first, split_line,
     without_return,
 };
-use refusing_alloc::{Refusal, Refusing};
 use std::alloc::{AllocError, Global};
 use std::io;
 use std::io::{Error, ErrorKind, Read};
 use std::test::Fail;
+use test_alloc::{Refusal, Refusing};
 
 /// Gives one octet a read, as many as are left, and counts the reads.
 #[derive(Drop)]

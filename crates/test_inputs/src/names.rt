@@ -1,12 +1,12 @@
 //! What no contract says of names: calls that succeed, a writer that fails, and growths that are
 //! refused.
 use bsc_frame::{Heard, Message, decode};
-use bsc_names::{Detail, PrintError, write_chars, write_name, write_shown};
-use refusing_alloc::{Refusal, Refusing};
+use bsc_print::{Detail, PrintError, write_chars, write_name, write_shown};
 use std::alloc::Global;
 use std::io;
 use std::io::{Error, ErrorKind, Write};
 use std::test::Fail;
+use test_alloc::{Refusal, Refusing};
 
 /// Takes this many writes, and fails at the next.
 #[derive(Drop)]

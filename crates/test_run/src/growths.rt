@@ -4,13 +4,13 @@
 use crate::runs::POLLED;
 use crate::watched::{Connections, NO_TROUBLE, Watch};
 use bsc_config::{Config, read_config};
-use bsc_fixtures::configurations::TWO_TERMINALS;
 use bsc_line::Line;
 use bsc_run::run_on;
 use bsc_script::{Script, read_script};
-use refusing_alloc::Refusing;
 use std::alloc::Global;
 use std::test::Fail;
+use test_alloc::Refusing;
+use test_fixtures::configurations::TWO_TERMINALS;
 
 /// What is printed where the control station has no room for the text at first.
 const NO_ROOM_FOR_IT: &str = "control CALL A

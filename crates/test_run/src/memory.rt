@@ -5,9 +5,9 @@ use crate::watched::{NO_TROUBLE, Watch, watched_writer};
 use crate::worked::{Case, WORKED, Worked};
 use bsc_line::LineError;
 use bsc_run::RunError;
-use refusing_alloc::{Refusal, Refusing};
 use std::alloc::Global;
 use std::test::Fail;
+use test_alloc::{Refusal, Refusing};
 
 /// What a run does where a growth was refused.
 #[derive(Clone, Copy, PartialEq, Eq)]

@@ -1,10 +1,10 @@
 //! Worked runs, with what is printed.
 
 use crate::loopback::run;
-use bsc_fixtures::configurations::{THREE_ADDRESSES, TWO_TERMINALS};
 use bsc_run::RunError;
 use std::alloc::Global;
 use std::test::Fail;
+use test_fixtures::configurations::{THREE_ADDRESSES, TWO_TERMINALS};
 
 /// A script on the line of a configuration.
 #[derive(Drop)]

@@ -8,13 +8,13 @@ use crate::runs::{COUNTED_TWICE, COUNTED_TWICE_PRINTED, HEARD_PRINTED, POLLED, P
 use crate::watched::{Connections, Watch, Watched, watched_writer};
 use bsc_config::{Config, read_config};
 use bsc_control::Way;
-use bsc_fixtures::configurations::TWO_TERMINALS;
-use bsc_fixtures::records::are_front;
 use bsc_line::{Line, LineError};
 use bsc_run::{RunError, run_line, run_on};
 use bsc_script::{Script, read_script};
 use std::alloc::{AllocError, Allocator, Global};
 use std::test::Fail;
+use test_fixtures::configurations::TWO_TERMINALS;
+use test_fixtures::records::are_front;
 
 /// A script, and what it does where nothing goes wrong.
 pub(crate) struct Worked<'a> {

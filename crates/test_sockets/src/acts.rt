@@ -1,6 +1,6 @@
 //! What is done with a station and its peers, and how it goes at the station.
 
-use bsc_live::{Awaited, Wait, Waiter};
+use bsc_connections::{Awaited, Wait, Waiter};
 use std::io;
 use std::io::{ErrorKind, Read, Write};
 use std::time::Instant;

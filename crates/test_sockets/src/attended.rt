@@ -4,8 +4,10 @@ use crate::memory::Piece::{Fails, Octets};
 use crate::memory::{Ends, Expecting, Pieces, Told};
 use crate::watching::{Answers, Expects};
 use bsc_carrier::CarrierError;
-use bsc_live::Awaited::{Newcomer, TimeOut};
-use bsc_live::{Awaited, Connection, Framing, Gaps, LiveError, Note, SocketRecords, Wait, attend};
+use bsc_connections::Awaited::{Newcomer, TimeOut};
+use bsc_connections::{
+    Awaited, Connection, Framing, Gaps, LiveError, Note, SocketRecords, Wait, attend,
+};
 use std::alloc::Global;
 use std::io::ErrorKind;
 use std::test::Fail;

@@ -2,7 +2,7 @@
 
 use crate::acts::{reads_at, writes_at};
 use crate::meeting::{bound, patience, peer, settings};
-use bsc_live::{Awaited, Wait, Waiter};
+use bsc_connections::{Awaited, Wait, Waiter};
 use bsc_sockets::{Begun, Listening, SocketsError, connect, listen};
 use std::alloc::{AllocError, Allocator, Global};
 use std::io::{Read, Write};

@@ -2,7 +2,7 @@
 
 use crate::memory::Expecting;
 use bsc_carrier::CarrierError;
-use bsc_live::{Framing, Gaps, SocketRecords};
+use bsc_connections::{Framing, Gaps, SocketRecords};
 
 /// Whether octets are sent as these, a record and then a transmission with nothing about it, and
 /// no octets as a record are refused.

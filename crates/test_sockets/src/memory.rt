@@ -1,7 +1,7 @@
 //! A reader that gives what it is told to, a writer that takes what is expected of it, and a waiter
 //! that answers what it is told to.
 
-use bsc_live::{Awaited, LiveError, Wait, Waiter};
+use bsc_connections::{Awaited, LiveError, Wait, Waiter};
 use std::io;
 use std::io::{Error, ErrorKind, Read, Write};
 

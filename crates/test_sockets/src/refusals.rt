@@ -2,13 +2,13 @@
 
 use crate::beginning::{connections_at, connections_to, text};
 use crate::meeting::{bound, patience, peer, settings};
-use bsc_live::{Awaited, Wait, Waiter};
+use bsc_connections::{Awaited, Wait, Waiter};
 use bsc_sockets::{Sockets, SocketsError, listen};
-use refusing_alloc::{Refusal, Refusing};
 use std::alloc::{Allocator, Global};
 use std::io::Read;
 use std::net::SocketAddr;
 use std::test::Fail;
+use test_alloc::{Refusal, Refusing};
 
 /// Fails unless one connection is told, or a refused growth where there was one.
 fn is_told(alloc: &Refusing<Global>, begun: Result<usize, SocketsError>) -> Result<(), Fail> {

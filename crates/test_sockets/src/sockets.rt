@@ -6,7 +6,7 @@ use crate::acts::Act::{
     TurnsAway, Waits, Writes,
 };
 use crate::meeting::{Encounter, play};
-use bsc_live::{Awaited, Wait};
+use bsc_connections::{Awaited, Wait};
 use std::io::ErrorKind;
 use std::test::Fail;
 

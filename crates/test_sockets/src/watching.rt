@@ -3,10 +3,10 @@
 
 ghost use Rattle.std.specs.Prelude.{◌≡◌};
 
+use bsc_bid::Station;
 use bsc_carrier::CarrierError;
+use bsc_connections::{LiveError, Monitor, Note};
 use bsc_frame::{Heard, Message};
-use bsc_live::{LiveError, Monitor, Note};
-use bsc_text::Station;
 
 /// Answers ACK0 to a message and NAK to a text that failed, and sends EOT at a silence.
 #[derive(Drop)]

@@ -7,15 +7,15 @@ use crate::control::exchange::Step::{
 };
 use crate::control::exchange::{Exchange, play, play_each};
 use crate::hearing::{QUIET, SILENCE};
+use bsc_bid::{ReleaseError, Setup};
 use bsc_control::{SetupError, Way};
-use bsc_fixtures::lines::setup;
-use bsc_fixtures::octets::{
+use std::test::Fail;
+use test_alloc::{Refusal, Refusing};
+use test_fixtures::lines::setup;
+use test_fixtures::octets::{
     ACK0, ACK1, CALL_POLL_A, CALL_POLL_B, CALL_SELECT_A, CALL_SELECT_B, CALL_SELECT_C, ENQ, EOT,
     NAK, RVI, TEXT_EMPTY, TEXT_FIRST_SEVEN, TEXT_HI, TEXT_LAST_SEVEN, WACK,
 };
-use bsc_text::{ReleaseError, Setup};
-use refusing_alloc::{Refusal, Refusing};
-use std::test::Fail;
 
 /// The characters of an empty record.
 const EMPTY: &[u8] = b"";

@@ -4,8 +4,8 @@ ghost use Rattle.std.specs.Prelude.{◌⊎◌, Option};
 ghost use Rattle.bsc_frame.specs.declared.message.Message.{Message as MessageValue};
 ghost use Rattle.bsc_frame.specs.declared.message.Heard.{Heard as HeardValue};
 
+use bsc_bid::Station;
 use bsc_frame::Wire;
-use bsc_text::Station;
 
 /// Nothing is heard for the time of a time-out.
 pub(crate) const SILENCE: &[u8] = &[];

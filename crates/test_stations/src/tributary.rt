@@ -9,14 +9,14 @@ use crate::tributary::exchange::Step::{
     AsksForLine, Hears, HoldsLine, Known, OfferHi, Ready, Release, Spooled,
 };
 use crate::tributary::exchange::{Exchange, play, play_each};
-use bsc_fixtures::lines::setup;
-use bsc_fixtures::octets::{
+use bsc_bid::{ReleaseError, Setup};
+use std::test::Fail;
+use test_alloc::Refusing;
+use test_fixtures::lines::setup;
+use test_fixtures::octets::{
     ACK0, ACK1, BROKEN_TEXT, CALL_POLL_A, CALL_SELECT_A, CALL_SELECT_B, CALL_SELECT_C, ENQ, EOT,
     NAK, RVI, TEXT_EMPTY, TEXT_HI, TEXT_LAST_SEVEN, WACK,
 };
-use bsc_text::{ReleaseError, Setup};
-use refusing_alloc::Refusing;
-use std::test::Fail;
 
 /// The characters of an empty record.
 const EMPTY: &[u8] = b"";

@@ -1,7 +1,7 @@
 //! Configurations that are read whole.
 
+use bsc_bid::{Setup, Terminal};
 use bsc_config::{Config, read_config};
-use bsc_text::{Setup, Terminal};
 use std::alloc::Global;
 use std::test::Fail;
 

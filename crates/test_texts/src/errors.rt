@@ -1,15 +1,15 @@
 //! The texts of errors that no other test prints.
 
+use bsc_bid::{ReleaseError, SettingError, TerminalError};
 use bsc_block::{FormatError, RecordError};
 use bsc_carrier::CarrierError;
 use bsc_config::ConfigError;
+use bsc_connections::LiveError;
 use bsc_control::SetupError;
 use bsc_frame::AddressError;
 use bsc_input::InputError;
-use bsc_live::LiveError;
-use bsc_names::PrintError;
+use bsc_print::PrintError;
 use bsc_script::ScriptError;
-use bsc_text::{ReleaseError, SettingError, TerminalError};
 use std::test::Fail;
 
 #[test]

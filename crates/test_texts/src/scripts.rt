@@ -1,9 +1,9 @@
 //! The lines of a script: their numbers, those that are no event, and the most that fits.
 
 use bsc_script::{Script, ScriptError, read_script};
-use refusing_alloc::{Refusal, Refusing};
 use std::alloc::{AllocError, Allocator, Global};
 use std::test::Fail;
+use test_alloc::{Refusal, Refusing};
 
 /// Scripts, and the numbers of the lines that are events. Comments and empty lines are counted, and
 /// the last line feed may be missing.

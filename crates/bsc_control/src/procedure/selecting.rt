@@ -1,15 +1,15 @@
 //! What is heard, and what a silence does, while a selection address is called.
 
 ghost use Rattle.std.specs.Prelude.{◌≡◌, ◌<◌, length, Some};
-ghost use Rattle.bsc_text.specs.Reply.{reply_heard};
+ghost use Rattle.bsc_bid.specs.Reply.{reply_heard};
 ghost use Rattle.bsc_control.specs.Control.{HasEntries, peer};
 ghost use Rattle.bsc_control.specs.Kept.{IsSelected};
 ghost use Rattle.bsc_control.specs.Table.{selecting_step, silence_in};
 
 use crate::procedure::Procedure;
 use crate::task::Task;
+use bsc_bid::Reply;
 use bsc_frame::{Heard, Message};
-use bsc_text::Reply;
 use std::alloc::Allocator;
 
 impl<A: Allocator> Procedure<A> {

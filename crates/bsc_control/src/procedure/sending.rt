@@ -1,8 +1,8 @@
 //! What is heard, and what a silence does, during a bid to a selection address.
 
 ghost use Rattle.std.specs.Prelude.{if◌then◌else◌, ◌≡◌, ◌<◌, length, Some};
-ghost use Rattle.bsc_text.specs.Reply.{reply_heard};
-ghost use Rattle.bsc_text.specs.Sender.{reply_step};
+ghost use Rattle.bsc_bid.specs.Reply.{reply_heard};
+ghost use Rattle.bsc_bid.specs.Sender.{reply_step};
 ghost use Rattle.bsc_control.specs.CallOrder.{Selection, Interruption};
 ghost use Rattle.bsc_control.specs.Control.{HasEntries, peer};
 ghost use Rattle.bsc_control.specs.Kept.{IsSelected};
@@ -12,8 +12,8 @@ ghost use Rattle.bsc_control.specs.Table.{silence_in};
 
 use crate::procedure::Procedure;
 use crate::task::Task;
+use bsc_bid::{Outcome, Reply};
 use bsc_frame::{Heard, Message};
-use bsc_text::{Outcome, Reply};
 use std::alloc::Allocator;
 
 impl<A: Allocator> Procedure<A> {

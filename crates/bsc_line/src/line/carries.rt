@@ -15,11 +15,11 @@ use crate::line::Line;
 use crate::pending::{show, speaker_of, take_whole};
 use crate::terminals::hear_in;
 use crate::trust::{both, is_down_fair, is_up_fair};
+use bsc_bid::Station;
 use bsc_frame::laws::{one_reading, reading};
 use bsc_frame::{Heard, Wire};
 use bsc_line_model::laws::each_event;
 use bsc_line_model::{LineError, Speaker, Transmission};
-use bsc_text::Station;
 use std::alloc::Allocator;
 
 impl<A: Allocator> Line<A> {

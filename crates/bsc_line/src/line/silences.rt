@@ -10,9 +10,9 @@ ghost use Rattle.bsc_line_model.specs.Kept.{IsLine};
 use crate::line::Line;
 use crate::pending::show;
 use crate::terminals::line_owner;
+use bsc_bid::Station;
 use bsc_line_model::laws::each_event;
 use bsc_line_model::{LineError, Speaker, Transmission};
-use bsc_text::Station;
 use std::alloc::Allocator;
 
 impl<A: Allocator> Line<A> {

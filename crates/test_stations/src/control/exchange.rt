@@ -4,13 +4,13 @@ ghost use Rattle.std.specs.Prelude.{◌<◌, IsTrue, length};
 ghost use Rattle.bsc_control.specs.Control.{peer_at};
 
 use crate::hearing::sends;
+use bsc_bid::{ReleaseError, Setup, Station};
 use bsc_block::Record;
 use bsc_control::{Control, SetupError, Way};
-use bsc_fixtures::lines::two_terminals_by_three;
-use bsc_fixtures::records::are_records;
 use bsc_frame::Address;
-use bsc_text::{ReleaseError, Setup, Station};
 use std::alloc::Allocator;
+use test_fixtures::lines::two_terminals_by_three;
+use test_fixtures::records::are_records;
 
 /// A step of an exchange. A release, and what is known, are those of the first selection address of
 /// terminal 0.

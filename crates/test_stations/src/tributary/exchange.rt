@@ -3,12 +3,12 @@
 ghost use Rattle.std.specs.Prelude.{◌≡◌, ◌≤◌, ◌<◌, IfOk, length};
 
 use crate::hearing::sends;
+use bsc_bid::{ReleaseError, Setup, Station};
 use bsc_block::Record;
-use bsc_fixtures::lines::{setup, two_terminals_by_three};
-use bsc_fixtures::records::are_records;
-use bsc_text::{ReleaseError, Setup, Station};
 use bsc_tributary::{Tributary, addresses_differ};
 use std::alloc::Allocator;
+use test_fixtures::lines::{setup, two_terminals_by_three};
+use test_fixtures::records::are_records;
 
 /// A step of an exchange.
 pub(crate) enum Step<'a> {

@@ -1,6 +1,6 @@
 use Rattle.std.proofs.Common.{sym, subst, arith, ◌∙◌}
 use Rattle.std.proofs.lemmas.List.{get_or_default}
-use Rattle.bsc_text.specs.Terminal.{HasDistinctAddresses}
+use Rattle.bsc_bid.specs.Terminal.{HasDistinctAddresses}
 use Rattle.bsc_control.specs.Peer.{no_peer}
 use Rattle.bsc_line.proofs.Making.{none_made, one_made, all_made}
 use Rattle.bsc_line.proofs.terminals.new_terminals.Goals as goal

@@ -1,5 +1,5 @@
 use Rattle.std.proofs.Common.{◌↔◌, IsTrue, sym, subst}
-use Rattle.bsc_text.specs.Fair.{IsFairlyHeard}
+use Rattle.bsc_bid.specs.Fair.{IsFairlyHeard}
 use Rattle.bsc_line_model.specs.Trust.{EachOf}
 use Rattle.bsc_line.specs.declared.hearing.Hearings.{Hearings}
 use Rattle.bsc_line.specs.Hearings.{hearing_of}

@@ -1,4 +1,4 @@
-use Rattle.bsc_text.specs.Fair.{IsFairlyHeard}
+use Rattle.bsc_bid.specs.Fair.{IsFairlyHeard}
 use Rattle.bsc_line_model.specs.Hearing.{heard_at}
 use Rattle.bsc_line_model.specs.Trust.{EachOf}
 use Rattle.bsc_line.proofs.trust.each_is_fair.Given as goal

@@ -1,6 +1,6 @@
 use Rattle.std.proofs.Common.{◌≡◌, Some, sym, ap, ◌∙◌, option_map}
 use Rattle.bsc_input.specs.Hexadecimal.{octets_of}
-use Rattle.bsc_names.specs.Names.{Prints, name_line}
+use Rattle.bsc_print.specs.Names.{Prints, name_line}
 use Rattle.bsc_naming.proofs.Outcomes.{on_ok}
 use Rattle.bsc_naming.proofs.naming.name.Goals as goal
 

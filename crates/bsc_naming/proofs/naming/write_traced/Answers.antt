@@ -1,7 +1,7 @@
 use Rattle.std.proofs.Common.{◌≡◌, Some, None, true, false, sym, ap, ◌∙◌, option_map, rules}
 use Rattle.bsc_input.specs.Hexadecimal.{octets_of}
 use Rattle.bsc_input.specs.Lines.{is_blank}
-use Rattle.bsc_names.specs.Names.{shown}
+use Rattle.bsc_print.specs.Names.{shown}
 use Rattle.bsc_naming.specs.Lines.{digits}
 use Rattle.bsc_naming.proofs.LineLemmas.{prints_lines_one, prints_lines_skip, digits_traced}
 use Rattle.bsc_naming.proofs.LineLemmas.{given_blank, given_wrong}

@@ -1,8 +1,8 @@
 use Rattle.std.specs.List.{flat_map}
-use Rattle.bsc_text.specs.Sender.{is_in_doubt}
+use Rattle.bsc_bid.specs.Sender.{is_in_doubt}
 use Rattle.bsc_line_model.specs.Line.{channel_of, phase_of}
 use Rattle.bsc_line_model.specs.Offers.{select_count}
-use Rattle.bsc_printing.specs.Channels.{channel_name, doubt_shown, record_line}
+use Rattle.bsc_report.specs.Channels.{channel_name, doubt_shown, record_line}
 use Rattle.bsc_run.specs.Printed.{counts_shown}
 use Rattle.bsc_run.proofs.Appending.{four_on_ok}
 use Rattle.bsc_run.proofs.report.write_channel.Goals as goal

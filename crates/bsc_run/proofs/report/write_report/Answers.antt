@@ -1,7 +1,7 @@
 use Rattle.std.proofs.Common.{◌≡◌, arith}
 use Rattle.bsc_line_model.specs.Line.{terminal_count}
-use Rattle.bsc_printing.specs.Channels.{each_below}
-use Rattle.bsc_printing.proofs.Appending.{each_below_more}
+use Rattle.bsc_report.specs.Channels.{each_below}
+use Rattle.bsc_report.proofs.Appending.{each_below_more}
 use Rattle.bsc_run.specs.Printed.{terminal_lines, trust_line}
 use Rattle.bsc_run.proofs.Appending.{two_on_ok}
 use Rattle.bsc_run.proofs.report.write_report.Goals as goal

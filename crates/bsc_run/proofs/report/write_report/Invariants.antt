@@ -1,5 +1,5 @@
 use Rattle.std.specs.Io.KnownBytes.{Appends}
-use Rattle.bsc_printing.specs.Channels.{each_below}
+use Rattle.bsc_report.specs.Channels.{each_below}
 use Rattle.bsc_run.specs.Printed.{terminal_lines}
 use Rattle.bsc_run.proofs.report.write_report.Given as goal
 

@@ -2,8 +2,8 @@ use Rattle.std.proofs.Common.{◌≡◌, arith}
 use Rattle.std.proofs.KnownBytes.{Appends-trans}
 use Rattle.bsc_directory.specs.declared.way.Way.TheVariants.{FromTerminal, ToTerminal}
 use Rattle.bsc_line_model.specs.Offers.{select_count}
-use Rattle.bsc_printing.specs.Channels.{each_below}
-use Rattle.bsc_printing.proofs.Appending.{each_below_more}
+use Rattle.bsc_report.specs.Channels.{each_below}
+use Rattle.bsc_report.proofs.Appending.{each_below_more}
 use Rattle.bsc_run.specs.Printed.{channel_lines}
 use Rattle.bsc_run.proofs.report.write_terminal.Goals as goal
 

@@ -1,6 +1,6 @@
 use Rattle.std.specs.Io.KnownBytes.{Appends}
 use Rattle.bsc_directory.specs.declared.way.Way.TheVariants.{ToTerminal}
-use Rattle.bsc_printing.specs.Channels.{each_below}
+use Rattle.bsc_report.specs.Channels.{each_below}
 use Rattle.bsc_run.specs.Printed.{channel_lines}
 use Rattle.bsc_run.proofs.report.write_terminal.Given as goal
 

@@ -1,5 +1,5 @@
 use Rattle.std.proofs.Common.{◌<◌, length, ap, ◌∙◌}
-use Rattle.bsc_text.specs.Sender.{is_in_doubt}
+use Rattle.bsc_bid.specs.Sender.{is_in_doubt}
 use Rattle.bsc_control.specs.Control.{peer_at}
 use Rattle.bsc_control.proofs.Controls.{selection_there}
 use Rattle.bsc_control.proofs.Reached.{peer_reached, outbound_reached, read_left}

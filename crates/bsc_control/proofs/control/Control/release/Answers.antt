@@ -1,5 +1,5 @@
 use Rattle.std.proofs.Common.{◌<◌, length, sym, ◌∙◌, ap}
-use Rattle.bsc_text.specs.Sender.{release_step}
+use Rattle.bsc_bid.specs.Sender.{release_step}
 use Rattle.bsc_directory.specs.Addresses.{numbered}
 use Rattle.bsc_control.specs.Control.{peer_at}
 use Rattle.bsc_control.proofs.Controls.{keeps_outbound_release, selection_there}

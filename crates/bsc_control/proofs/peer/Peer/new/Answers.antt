@@ -3,7 +3,7 @@ use Rattle.std.proofs.Common.{arith}
 use Rattle.std.specs.Prelude.{All, replicate}
 use Rattle.std.proofs.lemmas.List.{replicate-append-replicate, length-replicate}
 use Rattle.std.proofs.lemmas.List.Elements.{All-push}
-use Rattle.bsc_text.specs.Setup.{SetupValue}
+use Rattle.bsc_bid.specs.Setup.{SetupValue}
 use Rattle.bsc_control.specs.Peer.{OutboundValue, IsOutbound, new_outbound}
 use Rattle.bsc_control.proofs.peer.Peer.new.Given as given
 use Rattle.bsc_control.proofs.peer.Peer.new.Goals as goal

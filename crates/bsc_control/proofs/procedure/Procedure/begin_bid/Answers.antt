@@ -1,5 +1,5 @@
 use Rattle.std.proofs.Common.{◌<◌, length, refl, sym, ◌∙◌, subst}
-use Rattle.bsc_text.specs.Sender.{begin_step}
+use Rattle.bsc_bid.specs.Sender.{begin_step}
 use Rattle.bsc_control.specs.Control.{peer_at}
 use Rattle.bsc_control.proofs.Entries.{peer_with_outbound, entries_with_peer}
 use Rattle.bsc_control.proofs.Present.{step_made}

@@ -1,6 +1,6 @@
 use Rattle.std.proofs.Common.{◌≡◌, ◌<◌, length, sym, ◌∙◌, subst, if◌then◌else◌, rules}
-use Rattle.bsc_text.specs.Reply.{reply_heard}
-use Rattle.bsc_text.specs.Sender.{reply_step}
+use Rattle.bsc_bid.specs.Reply.{reply_heard}
+use Rattle.bsc_bid.specs.Sender.{reply_step}
 use Rattle.bsc_control.specs.CallOrder.{Interruption, Selection}
 use Rattle.bsc_control.specs.Control.{peer_at}
 use Rattle.bsc_control.specs.Table.{after_bid}

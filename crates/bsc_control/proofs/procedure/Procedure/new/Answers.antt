@@ -4,8 +4,8 @@ use Rattle.std.specs.List.{All}
 use Rattle.std.proofs.Math.Seq.{take-suc}
 use Rattle.std.proofs.lemmas.List.{map-append, length-map}
 use Rattle.std.proofs.lemmas.List.Elements.{All-push}
-use Rattle.bsc_text.specs.Setup.{SetupValue}
-use Rattle.bsc_text.specs.Terminal.{TerminalValue}
+use Rattle.bsc_bid.specs.Setup.{SetupValue}
+use Rattle.bsc_bid.specs.Terminal.{TerminalValue}
 use Rattle.bsc_control.specs.Peer.{PeerValue, IsPeer, IsNewPeer, new_outbound}
 use Rattle.bsc_control.proofs.procedure.Procedure.new.Goals as goal
 

@@ -1,6 +1,6 @@
 use Rattle.std.proofs.Common.{◌≡◌, refl, sym, ap, ◌∙◌, Some}
 use Rattle.std.specs.Prelude.{option_map}
-use Rattle.bsc_text.specs.Reply.{message_of}
+use Rattle.bsc_bid.specs.Reply.{message_of}
 use Rattle.bsc_control.proofs.Entries.{entries_with_peer}
 use Rattle.bsc_control.proofs.Reached.{peer_reached}
 use Rattle.bsc_control.proofs.Receiving.{received_row, received_room}

@@ -5,7 +5,7 @@ use Rattle.std.proofs.lemmas.Result.{err_from_is_err_and}
 use Rattle.std.proofs.lemmas.Option.{slice_get_within}
 use Rattle.std.specs.List.{slice_get}
 use Rattle.std.specs.Map.{keys_of}
-use Rattle.bsc_text.specs.Terminal.{TerminalValue, own_addresses}
+use Rattle.bsc_bid.specs.Terminal.{TerminalValue, own_addresses}
 use Rattle.bsc_directory.specs.declared.refusal.SetupError.{SetupError}
 use Rattle.bsc_directory.specs.declared.way.Way.TheVariants.{FromTerminal, ToTerminal}
 use Rattle.bsc_directory.specs.Addresses.{numbered_selects}

@@ -6,7 +6,7 @@ use Rattle.std.proofs.lemmas.Option.{slice_get_read}
 use Rattle.std.proofs.lemmas.Result.{err_from_is_err_and}
 use Rattle.std.specs.List.{AllPairs}
 use Rattle.std.specs.Map.{keys_of}
-use Rattle.bsc_text.specs.Terminal.{TerminalValue, own_addresses}
+use Rattle.bsc_bid.specs.Terminal.{TerminalValue, own_addresses}
 use Rattle.bsc_directory.specs.declared.refusal.SetupError.{SetupError}
 use Rattle.bsc_directory.specs.Addresses.{addresses, owned, numbered}
 use Rattle.bsc_directory.specs.Refusals.{RefusesAddresses}

@@ -1,5 +1,5 @@
 use Rattle.std.proofs.Common.{◌≡◌, ◌↔◌, IsTrue, Some, refl, ◌∙◌, ap}
-use Rattle.bsc_text.specs.Fair.{IsFairlyHeard}
+use Rattle.bsc_bid.specs.Fair.{IsFairlyHeard}
 use Rattle.bsc_line_model.specs.declared.transmission.Transmission.{Transmission}
 use Rattle.bsc_line_model.specs.Line.{LineValue, line_of}
 use Rattle.bsc_line_model.specs.Carries.{IsCarriedUp}

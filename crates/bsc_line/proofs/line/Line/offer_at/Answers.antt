@@ -1,6 +1,6 @@
 use Rattle.std.proofs.Common.{◌≡◌, ◌<◌, ◌≤◌, ℕ, length, refl, ap, sym, ◌∙◌, subst, arith}
 use Rattle.bsc_tributary.specs.Tributary.{TributaryValue}
-use Rattle.bsc_text.specs.Setup.{SetupValue}
+use Rattle.bsc_bid.specs.Setup.{SetupValue}
 use Rattle.bsc_line_model.specs.Line.{LineValue, line_of, terminal_at, with_terminal}
 use Rattle.bsc_line_model.specs.Offers.{full_length, read_for}
 use Rattle.bsc_line_model.proofs.Carrying.{is_terminal}

@@ -1,5 +1,5 @@
 use Rattle.std.proofs.Common.{◌≡◌, ◌<◌, ◌≤◌, ℕ, length, sym, ◌∙◌, subst, arith}
-use Rattle.bsc_text.specs.Setup.{SetupValue}
+use Rattle.bsc_bid.specs.Setup.{SetupValue}
 use Rattle.bsc_control.specs.Control.{peer_at}
 use Rattle.bsc_line_model.specs.Kept.{IsLine}
 use Rattle.bsc_line_model.specs.Line.{LineValue, line_of, with_control}

@@ -1,5 +1,5 @@
 use Rattle.std.proofs.Common.{◌∙◌, sym, false}
-use Rattle.bsc_text.proofs.Telling.{told_step}
+use Rattle.bsc_bid.proofs.Telling.{told_step}
 use Rattle.bsc_tributary.proofs.Acts.{mode_told, sent_told}
 use Rattle.bsc_tributary.proofs.Calls.{poll_step_in_doubt, poll_step_empty, poll_step_begins}
 use Rattle.bsc_tributary.proofs.Calls.{without_line_idle, stays_begun}

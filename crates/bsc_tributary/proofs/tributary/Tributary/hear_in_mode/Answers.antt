@@ -1,7 +1,7 @@
 use Rattle.std.proofs.Common.{subst, None}
 use Rattle.bsc_tributary.specs.Tributary.{Hears}
 use Rattle.bsc_tributary.specs.Kept.{IsTributary}
-use Rattle.bsc_text.proofs.Telling.{told_step}
+use Rattle.bsc_bid.proofs.Telling.{told_step}
 use Rattle.bsc_tributary.proofs.Acts.{mode_told, sent_told}
 use Rattle.bsc_tributary.proofs.Hearing.{after_hearing}
 use Rattle.bsc_tributary.proofs.InMode.{hears_control, hears_receiving, hears_sending}

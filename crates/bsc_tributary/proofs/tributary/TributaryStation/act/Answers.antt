@@ -1,4 +1,4 @@
-use Rattle.bsc_text.proofs.Telling.{told_step}
+use Rattle.bsc_bid.proofs.Telling.{told_step}
 use Rattle.bsc_tributary.proofs.Acts.{mode_told, sent_told}
 use Rattle.bsc_tributary.proofs.Hearing.{after_silence, after_stillness}
 use Rattle.bsc_tributary.proofs.InMode.{silent_sending, silent_still, stays_silent}

@@ -1,0 +1,117 @@
+-- Each single step of a bid keeps that its ends agree.
+use Rattle.std.proofs.Common.{◌≡◌, ◌⊎◌, inl, inr, ℕ, ◌≤◌, List, length, take, refl, sym, subst}
+use Rattle.std.proofs.Common.{arith}
+use Rattle.bsc_frame.specs.declared.message.Message.{Message}
+use Rattle.bsc_frame.specs.declared.message.Message.TheVariants as m
+use Rattle.bsc_spool.specs.Queue.{QueueValue, queue_of, IsQueue}
+use Rattle.bsc_bid.specs.declared.alternation.Alternation.{Alternation}
+use Rattle.bsc_bid.specs.declared.alternation.Alternation.TheVariants.{Even}
+use Rattle.bsc_bid.specs.declared.reply.Reply.{Reply}
+use Rattle.bsc_bid.specs.declared.reply.Reply.TheVariants.{Ack0}
+use Rattle.bsc_bid.specs.declared.phase.Phase.{Phase}
+use Rattle.bsc_bid.specs.declared.phase.Phase.TheVariants.{Idle, InDoubt}
+use Rattle.bsc_bid.specs.Sender.{SenderValue, SenderStep, ReleaseStep, begin_step, silence_in}
+use Rattle.bsc_bid.specs.Sender.{released, release_in}
+use Rattle.bsc_bid.specs.Fair.{IsTextMessage}
+use Rattle.bsc_bid.specs.Bid.{answered}
+use Rattle.bsc_bid.specs.Agreement.{IsResting}
+use Rattle.bsc_bid.specs.EachStep.{SenderAgrees, ReleaseAgrees, HearingAgrees, AnsweringAgrees}
+use Rattle.bsc_bid.specs.EachStep.{SilenceAgrees, BeginAgrees, OfferAgrees, OfferKeepsRest}
+use Rattle.bsc_bid.specs.EachStep.{ReleaseKeepsRest, AgreementIsSound, LossAgrees}
+use Rattle.bsc_bid.specs.EachStep.{OutwardIsTextOrEnq, ReplyIsLast}
+use Rattle.bsc_bid.proofs.Hearing.{IsSenders, senders, receiver_keeps}
+use Rattle.bsc_bid.proofs.Answering.{still_on, back_last, sender_keeps}
+use Rattle.bsc_bid.proofs.Landing.{Leaves, at_same}
+use Rattle.bsc_bid.proofs.Answering.{silence_keeps, begin_keeps}
+use Rattle.bsc_bid.proofs.OfferLemmas.{not_longer, bid_offered, resting_offered}
+use Rattle.bsc_bid.proofs.FitLemmas.{Fits, fits_heard, fits_silence, fits_begin}
+use Rattle.bsc_bid.proofs.Turning.{LawsBelow, ended, sound_by}
+use Rattle.bsc_bid.proofs.BlockLemmas.{released_by}
+
+agrees : (s : SenderValue) (q : QueueValue) (alternation : Alternation) (last : Reply)
+    (spooled : List (List ℕ)) (t : SenderStep) → Leaves q alternation last spooled t → Fits s t
+    → SenderAgrees q alternation last spooled t
+agrees s q alternation last spooled t h k =
+    record { continues = h.0; ended = ended s t k; moves = h.1 }
+
+pub hearing_agrees : LawsBelow → HearingAgrees
+hearing_agrees law phase q r s sent heard urgent rooms i fair =
+    let k = receiver_keeps law.records phase q r s sent heard urgent rooms i fair in
+    record {
+      bid = record { queue = i.queue; block = i.block; counts = i.counts; agree = k.0 };
+      moves = k.1;
+    }
+
+pub answering_agrees : LawsBelow → AnsweringAgrees
+answering_agrees law s q alternation last spooled reply heard i fair =
+    agrees s q alternation last spooled (answered s q reply heard)
+    (sender_keeps law.next s q alternation last spooled reply heard i fair)
+    (fits_heard s q reply heard)
+
+pub silence_agrees : SilenceAgrees
+silence_agrees s q alternation last spooled h =
+    agrees s q alternation last spooled (silence_in s q s.phase)
+    (at_same q alternation last spooled (silence_in s q s.phase)
+    (silence_keeps s s.phase q alternation last spooled refl h))
+    (fits_silence s q)
+
+pub begin_agrees : LawsBelow → BeginAgrees
+begin_agrees law s q spooled h some =
+    agrees s q Even Ack0 spooled (begin_step s q)
+    (at_same q Even Ack0 spooled (begin_step s q)
+    (begin_keeps law.next s q spooled h.queue h.sound some))
+    (fits_begin s q)
+
+pub offer_agrees : LawsBelow → OfferAgrees
+offer_agrees law phase q alternation last spooled f r short i =
+    bid_offered law.offers phase q r alternation last spooled f short i
+
+pub offer_keeps_rest : LawsBelow → OfferKeepsRest
+offer_keeps_rest law phase q spooled r short h =
+    resting_offered law.offers phase q r spooled short h
+
+-- all that was spooled is known
+known_all : (q : QueueValue) (spooled : List (List ℕ)) → IsQueue q
+    → spooled ≡ take (length spooled) q.offered → length spooled ≤ length q.offered →
+    IsResting Idle (queue_of q.format q.offered (length spooled)) spooled
+known_all q spooled h front long =
+    record {
+      queue = record { format = h.format; known = long; short = h.short };
+      counts = tt;
+      sound = record { front = front; known = omega arith; spooled = refl };
+    }
+
+release_by : (s : SenderValue) (q : QueueValue) (k : ℕ) (spooled : List (List ℕ)) (p : Phase)
+    → p ≡ InDoubt k → IsResting (InDoubt k) q spooled → length spooled ≤ length q.offered
+    → ReleaseAgrees (release_in s q p (length spooled)) spooled
+release_by s q k spooled p e h long =
+    let there : release_in s q (InDoubt k) (length spooled) ≡ released s q (length spooled) =
+    released_by s q (InDoubt k) (length spooled) refl h.sound.spooled in
+    let all : ReleaseAgrees (released s q (length spooled)) spooled =
+    record { answer = refl; idle = refl; rest = known_all q spooled h.queue h.sound.front long } in
+    subst (λ (x : Phase). ReleaseAgrees (release_in s q x (length spooled)) spooled) (sym e)
+    (subst (λ (x : ReleaseStep). ReleaseAgrees x spooled) (sym there) all)
+
+pub release_keeps_rest : ReleaseKeepsRest
+release_keeps_rest s q k spooled e h =
+    release_by s q k spooled s.phase e h (not_longer spooled q.offered h.sound.front)
+
+pub agreement_is_sound : AgreementIsSound
+agreement_is_sound phase q alternation last spooled f h =
+    sound_by phase q alternation last spooled f h
+
+pub loss_agrees : LossAgrees
+loss_agrees phase q alternation last spooled f i = still_on phase q alternation last spooled f i
+
+text_or_enq : (w : Message) → IsSenders w → IsTextMessage w ⊎ (w ≡ m.Enq)
+text_or_enq (m.Text t) h = inl tt
+text_or_enq m.Enq h = inr refl
+text_or_enq _ h = absurd h
+
+pub outward_is_text_or_enq : OutwardIsTextOrEnq
+outward_is_text_or_enq phase q alternation last spooled sent i =
+    text_or_enq sent (senders phase q alternation last spooled sent i.agree)
+
+pub reply_is_last : ReplyIsLast
+reply_is_last phase q alternation last reply spooled i =
+    back_last phase q alternation last reply spooled i.agree

@@ -1,0 +1,63 @@
+use Rattle.bsc_bid.proofs.StepLemmas.{hearing_agrees, answering_agrees, silence_agrees}
+use Rattle.bsc_bid.proofs.StepLemmas.{begin_agrees, offer_agrees, offer_keeps_rest}
+use Rattle.bsc_bid.proofs.StepLemmas.{release_keeps_rest, agreement_is_sound, loss_agrees}
+use Rattle.bsc_bid.proofs.StepLemmas.{outward_is_text_or_enq, reply_is_last}
+use Rattle.bsc_bid.proofs.FitLemmas.{fits_begin, fits_reply, fits_silence}
+use Rattle.bsc_bid.proofs.KeepLemmas.{keeps_begin, keeps_reply, keeps_silence}
+use Rattle.bsc_bid.proofs.Answering.{busy}
+use Rattle.bsc_bid.proofs.Turning.{LawsBelow, bid_continues}
+use Rattle.bsc_bid.proofs.laws.each_step.Goals as goal
+
+-- what the calls of the laws below ensure
+below : goal.After-next_blocks → LawsBelow
+below c = record {
+  records = c.records_back.ensures;
+  next = record { none = λ q. (c.next_blocks.ensures.none q).0; some = c.next_blocks.ensures.some };
+  offers = c.next_blocks.ensures.offered;
+}
+
+pub returns-clause-hearing : goal.returns-clause-hearing
+returns-clause-hearing c = hearing_agrees (below c)
+
+pub returns-clause-answering : goal.returns-clause-answering
+returns-clause-answering c = answering_agrees (below c)
+
+pub returns-clause-silence : goal.returns-clause-silence
+returns-clause-silence c = silence_agrees
+
+pub returns-clause-begin : goal.returns-clause-begin
+returns-clause-begin c = begin_agrees (below c)
+
+pub returns-clause-offer : goal.returns-clause-offer
+returns-clause-offer c = offer_agrees (below c)
+
+pub returns-clause-offer_at_rest : goal.returns-clause-offer_at_rest
+returns-clause-offer_at_rest c = offer_keeps_rest (below c)
+
+pub returns-clause-release : goal.returns-clause-release
+returns-clause-release c = release_keeps_rest
+
+pub returns-clause-sound : goal.returns-clause-sound
+returns-clause-sound c = agreement_is_sound
+
+pub returns-clause-loss : goal.returns-clause-loss
+returns-clause-loss c = loss_agrees
+
+pub returns-clause-continues : goal.returns-clause-continues
+returns-clause-continues c = bid_continues
+
+pub returns-clause-goes_on : goal.returns-clause-goes_on
+returns-clause-goes_on c = busy
+
+pub returns-clause-outward : goal.returns-clause-outward
+returns-clause-outward c = outward_is_text_or_enq
+
+pub returns-clause-last_reply : goal.returns-clause-last_reply
+returns-clause-last_reply c = reply_is_last
+
+pub returns-clause-fits : goal.returns-clause-fits
+returns-clause-fits c = record { begin = fits_begin; reply = fits_reply; silence = fits_silence }
+
+pub returns-clause-keeps : goal.returns-clause-keeps
+returns-clause-keeps c =
+    record { begin = keeps_begin; reply = keeps_reply; silence = keeps_silence }

@@ -1,0 +1,118 @@
+-- The receiver's table (GA27-3004: ACK0 and ACK1, NAK, ENQ, WACK and RVI; that RVI comes by a
+-- flag is own).
+use Rattle.std.specs.Prelude.{◌≡◌, ℕ, Bool, true, false, not, List, ◌++◌, Option, None, Some}
+use Rattle.std.specs.Prelude.{if◌then◌else◌}
+use Rattle.bsc_frame.specs.declared.message.Message.TheVariants as m
+use Rattle.bsc_frame.specs.declared.message.Heard.{Heard}
+use Rattle.bsc_frame.specs.declared.message.Heard.TheVariants.{Whole, Failed}
+use Rattle.bsc_frame.specs.Texts.{TextValue}
+use Rattle.bsc_block.specs.Blocks.{records_in}
+use Rattle.bsc_spool.specs.Spool.{SpoolValue, room_asked}
+use Rattle.bsc_bid.specs.declared.alternation.Alternation.{Alternation}
+use Rattle.bsc_bid.specs.declared.alternation.Alternation.TheVariants.{Even}
+use Rattle.bsc_bid.specs.declared.reply.Reply.{Reply}
+use Rattle.bsc_bid.specs.declared.reply.Reply.TheVariants.{Ack0, Nak, Wack, Rvi}
+use Rattle.bsc_bid.specs.Reply.{other, ack}
+
+-- a receiver: whether the number of blocks taken in this bid is even or odd, and the last reply
+pub record ReceiverValue : Type 0 where
+  pub alternation : Alternation
+  pub last : Reply
+
+-- what is left after a transmission was heard, and the reply to it
+pub record ReceiverStep : Type 0 where
+  pub receiver : ReceiverValue
+  pub spool : SpoolValue
+  pub reply : Option Reply
+
+-- what the tries for room find: the first one, and whether there is room in the end
+pub record Rooms : Type 0 where
+  pub first : Bool
+  pub after : Bool
+
+-- the reply by which a bid begins, with room or without
+abbrev pub first_reply : Bool → Reply
+first_reply room = if room then Ack0 else Wack
+
+-- the receiver of a bid that begins
+abbrev pub new_receiver : Bool → ReceiverValue
+new_receiver room = record { alternation = Even; last = first_reply room }
+
+-- a spool after these records were stored, with room left or without
+abbrev pub stored : SpoolValue → List (List ℕ) → Bool → SpoolValue
+stored s rs room = record { records = s.records ++ rs; room = room; delays = s.delays }
+
+-- the reply is RVI
+abbrev pub is_rvi : Reply → Bool
+is_rvi Rvi = true
+is_rvi _ = false
+
+-- the reply is WACK
+abbrev pub is_wack : Reply → Bool
+is_wack Wack = true
+is_wack _ = false
+
+-- the reply is NAK
+abbrev pub is_nak : Reply → Bool
+is_nak Nak = true
+is_nak _ = false
+
+-- whether RVI is sent
+abbrev pub sends_rvi : Option Reply → Bool
+sends_rvi None = false
+sends_rvi (Some r) = is_rvi r
+
+-- a reply, which is the last one from now on
+abbrev pub replied : Alternation → SpoolValue → Reply → ReceiverStep
+replied alternation s r =
+    record { receiver = record { alternation = alternation; last = r }; spool = s; reply = Some r }
+
+-- a text is taken: its acknowledgement, or WACK where no room is left for another one
+abbrev pub stored_text : ReceiverValue → SpoolValue → TextValue → Rooms → ReceiverStep
+stored_text r s t rooms =
+    replied (other r.alternation) (room_asked (stored (room_asked s true)
+    (records_in t.units) rooms.after) rooms.after)
+    (if rooms.after then ack (other r.alternation) else Wack)
+
+-- a text is taken, and RVI asks for the line
+abbrev pub taken_urgently : ReceiverValue → SpoolValue → TextValue → Rooms → ReceiverStep
+taken_urgently r s t rooms = replied (other r.alternation) (stored (room_asked s true)
+    (records_in t.units) rooms.after) Rvi
+
+-- A text: NAK where there is no room; else it is taken. RVI is the reply where the flag is up, but
+-- not twice in a row.
+abbrev pub text_step : ReceiverValue → SpoolValue → TextValue → Bool → Rooms → ReceiverStep
+text_step r s t urgent rooms =
+    if rooms.first
+    then (if urgent
+    then (if is_rvi r.last then stored_text r s t rooms else taken_urgently r s t rooms)
+    else stored_text r s t rooms)
+    else replied r.alternation (room_asked s false) Nak
+
+-- ENQ: the last reply again, and after WACK the acknowledgement once there is room
+abbrev pub enq_step : ReceiverValue → SpoolValue → Rooms → ReceiverStep
+enq_step r s rooms =
+    if is_wack r.last
+    then replied r.alternation (room_asked s rooms.first)
+    (if rooms.first then ack r.alternation else Wack)
+    else replied r.alternation s r.last
+
+-- a transmission is heard
+abbrev pub heard_step : ReceiverValue → SpoolValue → Heard → Bool → Rooms → ReceiverStep
+heard_step r s (Whole (m.Text t)) urgent rooms = text_step r s t urgent rooms
+heard_step r s (Whole m.Enq) urgent rooms = enq_step r s rooms
+heard_step r s Failed urgent rooms = replied r.alternation s Nak
+heard_step r s _ urgent rooms = record { receiver = r; spool = s; reply = None }
+
+-- What the tries found, read from the state that they left: a text was refused room exactly where
+-- the last reply is NAK now.
+abbrev pub rooms_left : Heard → Reply → SpoolValue → Rooms
+rooms_left (Whole (m.Text t)) last s = record { first = not (is_nak last); after = s.room }
+rooms_left _ last s = record { first = s.room; after = s.room }
+
+-- The receiver, its spool and the reply are those of the table. Where there was room, the first try
+-- found it.
+pub record Receives (r : ReceiverValue) (s : SpoolValue) (h : Heard) (urgent : Bool)
+    (out : ReceiverStep) : Type 0 where
+  pub row : out ≡ heard_step r s h urgent (rooms_left h out.receiver.last out.spool)
+  pub room : s.room ≡ true → (rooms_left h out.receiver.last out.spool).first ≡ true

@@ -1,0 +1,39 @@
+//! Whether the number of blocks taken in a bid is even or odd: the two acknowledgements alternate
+//! by it.
+
+ghost use Rattle.std.specs.Prelude.{◌≡◌};
+ghost use Rattle.bsc_bid.specs.Reply.{ack, other};
+
+use crate::Reply;
+
+/// Whether a number of blocks is even or odd (GA27-3004: alternating acknowledgements).
+#[derive(Clone, Copy, Debug, PartialEq, Eq)]
+pub enum Alternation {
+    /// The number is even: its acknowledgement is ACK0.
+    Even,
+
+    /// The number is odd: its acknowledgement is ACK1.
+    Odd,
+}
+
+impl Alternation {
+    /// Whether the number is even or odd once one more block is taken.
+    pub fn other(self) -> Alternation
+        ensures { result ≡ other self }
+    {
+        match self {
+            Alternation::Even => Alternation::Odd,
+            Alternation::Odd => Alternation::Even,
+        }
+    }
+
+    /// The acknowledgement of the number of blocks.
+    pub fn ack(self) -> Reply
+        ensures { result ≡ ack self }
+    {
+        match self {
+            Alternation::Even => Reply::Ack0,
+            Alternation::Odd => Reply::Ack1,
+        }
+    }
+}

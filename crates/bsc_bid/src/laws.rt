@@ -1,0 +1,76 @@
+//! Laws over the definitions: what holds of every bid, whatever is lost or spoiled.
+
+ghost use Rattle.bsc_bid.specs.OneBid.{SendsTextsAndEnq, SendsItsBlocks, HearsItsBlocks};
+ghost use Rattle.bsc_bid.specs.OneBid.{OnlyMoves, OffersMove, StaysReady, StaysSound};
+ghost use Rattle.bsc_bid.specs.OneBid.{SoundWithinTurns, EndsKnowing, DoubtsAtSilence};
+ghost use Rattle.bsc_bid.specs.OneBid.{ReleaseEndsDoubt, EndsSoon};
+ghost use Rattle.bsc_bid.specs.EachStep.{HearingAgrees, AnsweringAgrees, SilenceAgrees};
+ghost use Rattle.bsc_bid.specs.EachStep.{BeginAgrees, OfferAgrees, OfferKeepsRest};
+ghost use Rattle.bsc_bid.specs.EachStep.{ReleaseKeepsRest, AgreementIsSound, LossAgrees};
+ghost use Rattle.bsc_bid.specs.EachStep.{BidContinues, SendingGoesOn, OutwardIsTextOrEnq};
+ghost use Rattle.bsc_bid.specs.EachStep.{ReplyIsLast, ActsFit, StepsKeep};
+
+use bsc_block::laws::records_back;
+use bsc_spool::laws::next_blocks;
+
+/// One bid, end to end. For every bid that begins while the spooled records are the known ones, and
+/// every list of turns in which each spoiled transmission fails its check, with offers between the
+/// turns:
+///
+/// - the sender sends only texts and ENQ, and each text, sent or heard, has exactly the records of
+///   its block;
+/// - a block lands at most once, and is learnt only after it landed; an offer adds only its
+///   record;
+/// - at each moment the conditions of the sender's calls are met;
+/// - at each moment the channel is sound, and a bid that ended without doubt knows of all that was
+///   spooled;
+/// - doubt begins exactly where the sender gives up on a silence with a block unanswered, and a
+///   release of the spooled count ends it;
+/// - with b blocks begun there are at most b · (tries + 1) · (waits + 1) turns.
+pub fn one_bid()
+    ensures sends { SendsTextsAndEnq }
+    ensures sends_blocks { SendsItsBlocks }
+    ensures hears_blocks { HearsItsBlocks }
+    ensures moves { OnlyMoves }
+    ensures offers { OffersMove }
+    ensures ready { StaysReady }
+    ensures sound { StaysSound }
+    ensures sound_within { SoundWithinTurns }
+    ensures known { EndsKnowing }
+    ensures doubt { DoubtsAtSilence }
+    ensures release { ReleaseEndsDoubt }
+    ensures soon { EndsSoon }
+{
+    records_back();
+    next_blocks();
+}
+
+/// One step of a bid, for those who interleave bids with other traffic. Where the ends agree before
+/// it they agree after it, whatever is lost or spoiled by failing its check:
+///
+/// - the receiver hears what the sender sent, or nothing; the sender hears the reply, or nothing;
+/// - a silence comes to the sender, a bid begins, or a record is offered;
+/// - what was on its way is lost;
+/// - a sender whose bid is over is at rest, one that keeps quiet stays in its phase, and while the
+///   ends agree the channel is sound;
+/// - no step of a sender changes its settings, or the format and the offered records of its queue.
+pub fn each_step()
+    ensures hearing { HearingAgrees }
+    ensures answering { AnsweringAgrees }
+    ensures silence { SilenceAgrees }
+    ensures begin { BeginAgrees }
+    ensures offer { OfferAgrees }
+    ensures offer_at_rest { OfferKeepsRest }
+    ensures release { ReleaseKeepsRest }
+    ensures sound { AgreementIsSound }
+    ensures loss { LossAgrees }
+    ensures continues { BidContinues }
+    ensures goes_on { SendingGoesOn }
+    ensures outward { OutwardIsTextOrEnq }
+    ensures last_reply { ReplyIsLast }
+    ensures fits { ActsFit }
+    ensures keeps { StepsKeep }
+{
+    records_back();
+    next_blocks();
+}

@@ -1,0 +1,397 @@
+//! The sender of one bid.
+
+ghost use Rattle.std.specs.Prelude.{◌≡◌, ◌+◌, ◌<◌, ◌≤◌, true, false, nat_lt, length, OnOk, OnErr};
+ghost use Rattle.std.specs.Prelude.{None};
+ghost use Rattle.std.specs.Prelude.{IsTrue};
+ghost use Rattle.bsc_spool.specs.Queue.{QueueValue, IsQueue, waiting, next_block};
+ghost use Rattle.bsc_bid.specs.Ready.{AreWaiting, CountsOn, IsReady, IsGoing, IsAtRest};
+ghost use Rattle.bsc_bid.specs.Ready.{FitsOutcome};
+ghost use Rattle.bsc_bid.specs.Reply.{reply_heard};
+ghost use Rattle.bsc_bid.specs.Act.{Enq};
+ghost use Rattle.bsc_bid.specs.Sender.{with_phase, with_counts, begin_step, sent_next, accepted};
+ghost use Rattle.bsc_bid.specs.Sender.{Tells};
+ghost use Rattle.bsc_bid.specs.Sender.{failed, delayed, unanswered_step, held_step, reply_step};
+ghost use Rattle.bsc_bid.specs.Sender.{silence_step, cut_phase, is_in_doubt, release_step};
+
+use crate::alternation::Alternation;
+use crate::outcome::Outcome;
+use crate::phase::{Phase, SentBlock};
+use crate::reply::{Answer, Reply};
+use crate::setup::Setup;
+use bsc_frame::{End, Heard, Message};
+use bsc_spool::Queue;
+use std::alloc::Allocator;
+use std::marker::Model;
+use thiserror::Error;
+
+/// The sender of one bid: it sends the waiting records of a queue, block by block, and marks in the
+/// queue which are known to have arrived. (GA27-3004, acknowledgements and time-outs; the limits
+/// and the doubt are own.)
+#[derive(Drop)]
+pub struct Sender {
+    /// The limits of its counters, and how records become blocks.
+    setup: Setup,
+
+    /// How far it is with its bid. An unanswered block has 1 to 7 records.
+    phase: Phase,
+
+    /// The failures in a row.
+    failures: u8,
+
+    /// The WACKs since the last acknowledgement. At a limit of 255 the bid is over at 256.
+    wacks: u16,
+}
+
+impl Model for Sender {
+    ghost use Rattle.bsc_bid.specs.Sender.{SenderValue};
+    ghost use Rattle.bsc_bid.specs.Ready.{AreWithinLimits, HasBlock};
+
+    ghost Value = { SenderValue };
+
+    ghost view = { λ s. record {
+      setup = s.setup;
+      phase = s.phase;
+      failures = s.failures;
+      wacks = s.wacks;
+    } };
+
+    ghost invariant = { λ s. AreWithinLimits s.setup s.failures s.wacks s.phase
+        × HasBlock s.phase };
+}
+
+/// Why a doubt is not released.
+#[derive(Clone, Copy, Debug, PartialEq, Eq, Error)]
+pub enum ReleaseError {
+    /// There is no doubt.
+    #[error("not in doubt")]
+    NotInDoubt,
+
+    /// The count is neither that of the known records nor that with the doubtful block.
+    #[error("count mismatch")]
+    CountMismatch,
+}
+
+impl Sender {
+    /// A sender without a bid and without a doubt.
+    pub fn new(setup: Setup) -> Self
+        ensures { result ≡ record { setup = setup; phase = Phase.Idle; failures = 0; wacks = 0 } }
+    {
+        Sender {
+            setup,
+            phase: Phase::Idle,
+            failures: 0,
+            wacks: 0,
+        }
+    }
+
+    /// Begins a bid: leaves the text of the first block of the waiting records in `sent`.
+    /// Condition: the sender is idle, without a doubt, and records wait. (GA27-3004, transmission
+    /// of blocks.)
+    #[tactic(auto, using(crate::proofs::ReadyLemmas::going_begin))]
+    pub fn begin<A: Allocator>(&mut self, queue: &Queue<A>, sent: &mut Option<Message>) -> Outcome
+        requires idle { self.old.phase ≡ Phase.Idle }
+        requires some { 1 ≤ length (waiting queue.now) }
+        ensures row { Tells self.new queue.now result sent.new
+            (begin_step self.old queue.now) }
+        ensures going { IsGoing self.new.phase }
+        ensures ready { IsReady self.old queue.now → IsReady self.new queue.now }
+    {
+        self.send_next(queue, Alternation::Odd, sent)
+    }
+
+    /// Hears a transmission. A reply is acted on; anything else changes nothing. The message to
+    /// send is left in `sent`, or none. Condition: while a bid goes on, in the queue wait the
+    /// records of the unanswered block, after ETB one more, and while held after ETB at least one.
+    /// (GA27-3004, ACK0, ACK1, NAK, WACK and RVI; the limits are own.)
+    pub fn reply<A: Allocator>(
+        &mut self,
+        heard: &Heard,
+        queue: &mut Queue<A>,
+        sent: &mut Option<Message>,
+    ) -> Outcome
+        requires { IsGoing self.old.phase
+            → CountsOn self.old.phase (length (waiting queue.old)) }
+        ensures row { Tells self.new queue.new result sent.new
+            (reply_step self.old queue.old (reply_heard heard.now)) }
+        ensures ready { IsReady self.old queue.old → IsReady self.new queue.new }
+        ensures fits { FitsOutcome result self.old.phase self.new.phase }
+    {
+        let Some(reply) = Reply::heard(heard) else {
+            return keep_quiet(sent);
+        };
+        match self.phase {
+            Phase::Idle | Phase::InDoubt { .. } => keep_quiet(sent),
+            Phase::Unanswered { block } => {
+                let answer = reply.answer(block.alternation);
+                self.answer_unanswered(queue, block, answer, sent)
+            }
+            Phase::Held { end, alternation } => {
+                let answer = reply.answer(alternation);
+                self.answer_held(queue, end, alternation, answer, sent)
+            }
+        }
+    }
+
+    /// Nothing was heard for the time of a time-out. The message to send is left in `sent`, or
+    /// none. (GA27-3004, time-outs; the limit and the doubt are own.)
+    #[tactic(auto, using(crate::proofs::ReadyLemmas::all_waiting))]
+    pub fn silence(&mut self, sent: &mut Option<Message>) -> Outcome
+        ensures row { (q : QueueValue)
+            → Tells self.new q result sent.new
+            (silence_step self.old q) }
+        ensures ready { (q : QueueValue) → IsReady self.old q → IsReady self.new q }
+        ensures fits { FitsOutcome result self.old.phase self.new.phase }
+    {
+        match self.phase {
+            Phase::Idle | Phase::InDoubt { .. } => keep_quiet(sent),
+            Phase::Unanswered { block } => {
+                self.ask_again(Phase::InDoubt { count: block.count }, sent)
+            }
+            Phase::Held { .. } => self.ask_again(Phase::Idle, sent),
+        }
+    }
+
+    /// The line was taken from the sender: an unanswered block is in doubt from now on, and a held
+    /// sender is idle. (Own.)
+    pub fn cut_off(&mut self)
+        ensures state { self.new ≡ with_phase self.old (cut_phase self.old.phase) }
+        ensures rests { IsAtRest self.new.phase }
+        ensures ready { (q : QueueValue) → IsReady self.old q → IsReady self.new q }
+    {
+        match self.phase {
+            Phase::Idle | Phase::InDoubt { .. } => {}
+            Phase::Unanswered { block } => self.phase = Phase::InDoubt { count: block.count },
+            Phase::Held { .. } => self.phase = Phase::Idle,
+        }
+    }
+
+    /// Whether it is not known if a block arrived. (Own.)
+    pub fn in_doubt(&self) -> bool
+        ensures { result ≡ is_in_doubt self.now.phase }
+    {
+        matches!(self.phase, Phase::InDoubt { .. })
+    }
+
+    /// Ends the doubt: the other end has `count` records. `NotInDoubt`, then `CountMismatch` where
+    /// the count is neither that of the known records nor that with the doubtful block; both change
+    /// nothing. Condition: in doubt, the records of the doubtful block wait in the queue. (Own.)
+    pub fn release<A: Allocator>(
+        &mut self,
+        count: usize,
+        queue: &mut Queue<A>,
+    ) -> Result<(), ReleaseError>
+        requires { IsTrue (is_in_doubt self.old.phase)
+            → CountsOn self.old.phase (length (waiting queue.old)) }
+        ensures row { record { sender = self.new; queue = queue.new; answer = result }
+            ≡ release_step self.old queue.old count }
+        ensures ok { OnOk result (self.new ≡ with_phase self.old Phase.Idle) }
+        ensures err { OnErr result ((self.new ≡ self.old) × (queue.new ≡ queue.old)) }
+        ensures ready { IsReady self.old queue.old → IsReady self.new queue.new }
+    {
+        let Phase::InDoubt { count: doubtful } = self.phase else {
+            return Err(ReleaseError::NotInDoubt);
+        };
+        let known = queue.known();
+        if count != known && (count < known || count - known != doubtful) {
+            return Err(ReleaseError::CountMismatch);
+        }
+        queue.mark(count - known);
+        self.phase = Phase::Idle;
+        Ok(())
+    }
+
+    /// Ends the bid, with no doubt.
+    fn end(&mut self, sent: &mut Option<Message>) -> Outcome
+        ensures state { self.new ≡ with_phase self.old Phase.Idle }
+        ensures over { result ≡ Outcome.Over }
+        ensures nothing { sent.new ≡ None }
+    {
+        self.phase = Phase::Idle;
+        *sent = None;
+        Outcome::Over
+    }
+
+    /// Sends the next block.
+    #[tactic(auto, using(crate::proofs::ReadyLemmas::counts_next))]
+    fn send_next<A: Allocator>(
+        &mut self,
+        queue: &Queue<A>,
+        alternation: Alternation,
+        sent: &mut Option<Message>,
+    ) -> Outcome
+        ensures row { Tells self.new queue.now result sent.new
+            (sent_next self.old queue.now alternation (next_block queue.now)) }
+        ensures ready { IsQueue queue.now → IsReady self.new queue.now }
+    {
+        self.failures = 0;
+        self.wacks = 0;
+        let Some(next) = queue.next() else {
+            return self.end(sent);
+        };
+        self.phase = Phase::Unanswered {
+            block: SentBlock {
+                count: next.count,
+                end: next.end,
+                alternation,
+            },
+        };
+        queue.text(next.count, next.end, sent);
+        Outcome::Sends
+    }
+
+    /// The expected acknowledgement of a block with this end came.
+    fn accept<A: Allocator>(
+        &mut self,
+        queue: &Queue<A>,
+        end: End,
+        alternation: Alternation,
+        sent: &mut Option<Message>,
+    ) -> Outcome
+        ensures row { Tells self.new queue.now result sent.new
+            (accepted self.old queue.now end alternation) }
+        ensures ready { IsQueue queue.now → IsReady self.new queue.now }
+    {
+        match end {
+            End::Etx => {
+                self.failures = 0;
+                self.wacks = 0;
+                self.end(sent)
+            }
+            End::Etb => self.send_next(queue, alternation.other(), sent),
+        }
+    }
+
+    /// One more failure in a row. True where the limit is passed: the bid is over, and `left` is
+    /// its phase.
+    fn fail(&mut self, left: Phase) -> bool
+        requires going { IsGoing self.old.phase }
+        requires left { IsAtRest left }
+        ensures over { result ≡ nat_lt self.old.setup.tries (self.old.failures + 1) }
+        ensures ends { result ≡ true
+            → self.new
+            ≡ with_phase (with_counts self.old (self.old.failures + 1) self.old.wacks) left }
+        ensures goes_on { result ≡ false
+            → self.new ≡ with_counts self.old (self.old.failures + 1) self.old.wacks }
+    {
+        let limit = self.setup.tries();
+        self.failures += 1;
+        if self.failures > limit {
+            self.phase = left;
+            return true;
+        }
+        false
+    }
+
+    /// One more failure in a row, on which the last reply is asked for again, unless the bid is
+    /// over.
+    fn ask_again(&mut self, left: Phase, sent: &mut Option<Message>) -> Outcome
+        requires going { IsGoing self.old.phase }
+        requires left { IsAtRest left }
+        ensures row { (q : QueueValue)
+            → Tells self.new q result sent.new
+            (failed self.old q left Enq) }
+        ensures ready { (q : QueueValue) → IsReady self.old q
+            → CountsOn left (length (waiting q)) → IsReady self.new q }
+        ensures fits { FitsOutcome result self.old.phase self.new.phase }
+    {
+        if self.fail(left) {
+            *sent = None;
+            return Outcome::Over;
+        }
+        *sent = Some(Message::Enq);
+        Outcome::Sends
+    }
+
+    /// One more WACK, to a block with this end.
+    fn delay(&mut self, end: End, alternation: Alternation, sent: &mut Option<Message>) -> Outcome
+        requires { IsGoing self.old.phase }
+        ensures row { (q : QueueValue)
+            → Tells self.new q result sent.new
+            (delayed self.old q end alternation) }
+        ensures ready { (q : QueueValue) → IsQueue q → AreWaiting 0 end (length (waiting q))
+            → IsReady self.new q }
+    {
+        self.failures = 0;
+        self.wacks += 1;
+        if self.wacks > u16::from(self.setup.waits()) {
+            self.phase = Phase::Idle;
+            *sent = None;
+            return Outcome::Over;
+        }
+        self.phase = Phase::Held { end, alternation };
+        *sent = Some(Message::Enq);
+        Outcome::Sends
+    }
+
+    /// A reply while a block is unanswered.
+    #[tactic(auto, using(crate::proofs::ReadyLemmas::reply_steps))]
+    fn answer_unanswered<A: Allocator>(
+        &mut self,
+        queue: &mut Queue<A>,
+        block: SentBlock,
+        answer: Answer,
+        sent: &mut Option<Message>,
+    ) -> Outcome
+        requires phase { self.old.phase ≡ Phase.Unanswered block }
+        requires counts { CountsOn self.old.phase (length (waiting queue.old)) }
+        ensures row { Tells self.new queue.new result sent.new
+            (unanswered_step self.old queue.old block answer) }
+        ensures ready { IsReady self.old queue.old → IsReady self.new queue.new }
+    {
+        match answer {
+            Answer::Accepted => {
+                queue.mark(block.count);
+                self.accept(queue, block.end, block.alternation, sent)
+            }
+            Answer::Refused => {
+                // A field is read, so that the range of the block's records is known here.
+                let _ = &self.phase;
+                if self.fail(Phase::Idle) {
+                    *sent = None;
+                    return Outcome::Over;
+                }
+                queue.text(block.count, block.end, sent);
+                Outcome::Sends
+            }
+            Answer::Delayed => {
+                queue.mark(block.count);
+                self.delay(block.end, block.alternation, sent)
+            }
+            Answer::Interrupted => {
+                queue.mark(block.count);
+                self.end(sent)
+            }
+        }
+    }
+
+    /// A reply while the sender is held.
+    fn answer_held<A: Allocator>(
+        &mut self,
+        queue: &Queue<A>,
+        end: End,
+        alternation: Alternation,
+        answer: Answer,
+        sent: &mut Option<Message>,
+    ) -> Outcome
+        requires { self.old.phase ≡ Phase.Held end alternation }
+        ensures row { Tells self.new queue.now result sent.new
+            (held_step self.old queue.now end alternation answer) }
+        ensures ready { IsReady self.old queue.now → IsReady self.new queue.now }
+    {
+        match answer {
+            Answer::Accepted => self.accept(queue, end, alternation, sent),
+            Answer::Refused => self.ask_again(Phase::Idle, sent),
+            Answer::Delayed => self.delay(end, alternation, sent),
+            Answer::Interrupted => self.end(sent),
+        }
+    }
+}
+
+/// Leaves no message.
+fn keep_quiet(sent: &mut Option<Message>) -> Outcome
+    ensures quiet { result ≡ Outcome.Quiet }
+    ensures nothing { sent.new ≡ None }
+{
+    *sent = None;
+    Outcome::Quiet
+}

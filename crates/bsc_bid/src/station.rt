@@ -1,0 +1,91 @@
+//! What a station of the line is: it hears transmissions, and it answers or keeps still.
+
+ghost use Rattle.std.specs.Prelude.{◌≡◌, Option, Bool};
+ghost use Rattle.bsc_frame.specs.declared.message.Message.{Message as MessageValue};
+ghost use Rattle.bsc_frame.specs.declared.message.Heard.{Heard as HeardValue};
+ghost use Rattle.bsc_frame.specs.declared.message.Heard.TheVariants.{Noise};
+ghost use Rattle.bsc_frame.specs.Spells.{IsHeardAs};
+ghost use Rattle.bsc_bid.specs.Station.{IsSent, StaysQuiet};
+
+use bsc_frame::{Heard, Message, Wire, decode, encode};
+
+/// A station of the line (GA27-3004, centralised multipoint operation).
+pub trait Station {
+    /// What it does with what is heard: the station before, what is heard, the station after, and
+    /// the message that it sends.
+    ghost hears: { Self → HeardValue → Self → Option MessageValue → Type 0 };
+
+    /// What it does at a silence: the station before, the station after, and the message that it
+    /// sends.
+    ghost acts: { Self → Self → Option MessageValue → Type 0 };
+
+    /// Whether it acts on a silence before the control station does.
+    ghost holds: { Self → Bool };
+
+    /// Hears what octets were decoded as, and leaves the message to send, or none, in `sent`,
+    /// whatever that had. It may try to reserve memory; a refusal changes only a reply.
+    fn answer(&mut self, heard: &Heard, sent: &mut Option<Message>)
+        ensures { hears self.old heard.now self.new sent.new };
+
+    /// Nothing was heard for the time of a time-out; leaves the message to send, or none, in
+    /// `sent`, whatever that had.
+    fn act(&mut self, sent: &mut Option<Message>)
+        ensures { acts self.old self.new sent.new };
+
+    /// Hears what octets were decoded as. True: the wire holds the one message to send. False: the
+    /// wire is empty. It may try to reserve memory; a refusal changes only a reply.
+    fn hear_message(&mut self, heard: &Heard, wire: &mut Wire) -> bool
+        ensures { (sent : Option MessageValue) × hears self.old heard.now self.new sent
+            × IsSent sent result wire.new.items }
+    {
+        let mut sent = None;
+        self.answer(heard, &mut sent);
+        transmit(&sent, wire)
+    }
+
+    /// Hears octets. True: the wire holds the one message to send. False: the wire is empty. It may
+    /// try to reserve memory; a refusal changes only a reply.
+    fn hear(&mut self, octets: &[u8], wire: &mut Wire) -> bool
+        ensures { (heard : HeardValue) × (IsHeardAs octets.now heard
+            × ((sent : Option MessageValue) × hears self.old heard self.new sent
+            × IsSent sent result wire.new.items)) }
+    {
+        self.hear_message(&decode(octets), wire)
+    }
+
+    /// Nothing was heard for the time of a time-out. True: the wire holds the one message to send.
+    /// False: the wire is empty.
+    fn silence(&mut self, wire: &mut Wire) -> bool
+        ensures { (sent : Option MessageValue) × acts self.old self.new sent
+            × IsSent sent result wire.new.items }
+    {
+        let mut sent = None;
+        self.act(&mut sent);
+        transmit(&sent, wire)
+    }
+
+    /// Whether it acts on a silence before the control station does.
+    fn holds_line(&self) -> bool
+        ensures { result ≡ holds self.now };
+
+    /// Noise changes nothing, and nothing is sent.
+    ghost ignores_noise: { (old new : Self) (sent : Option MessageValue)
+        → hears old Noise new sent → StaysQuiet old new sent };
+}
+
+/// Puts the octets of the message into the wire, in place of what it had, and nothing where there
+/// is no message. True where there is one.
+pub fn transmit(message: &Option<Message>, wire: &mut Wire) -> bool
+    ensures { IsSent message.now result wire.new.items }
+{
+    match message {
+        Some(message) => {
+            encode(message, wire);
+            true
+        }
+        None => {
+            wire.clear();
+            false
+        }
+    }
+}

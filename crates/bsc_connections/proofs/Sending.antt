@@ -1,0 +1,24 @@
+-- What a station sends goes out, or nothing does.
+use Rattle.std.proofs.Common.{◌≡◌, ℕ, Bool, true, false, List, Option, None, Some, refl, sym, ◌∙◌}
+use Rattle.std.proofs.Common.{subst}
+use Rattle.std.specs.List.{AllZip}
+use Rattle.bsc_frame.specs.declared.message.Message.{Message}
+use Rattle.bsc_bid.specs.Station.{IsSent}
+use Rattle.bsc_connections.specs.Connections.{ConnectionValue, Sends}
+use Rattle.bsc_connections.specs.Attending.{SendsAll}
+
+module _ {R W F : Type 0} (contents : W → Option (List ℕ)) (framed : List ℕ → List ℕ) where
+  pub goes_out : (sent : Option Message) (is_sent : Bool) (octets : List ℕ)
+      (old new : List (ConnectionValue R W F)) → IsSent sent is_sent octets → is_sent ≡ true
+      → AllZip (Sends contents framed octets) old new → SendsAll contents framed sent old new
+  goes_out None is_sent octets old new (unsent, none) is_true all = let clash : true ≡ false =
+      sym is_true ∙ unsent in absurd cc
+  goes_out (Some m) is_sent octets old new (was_sent, is, message) is_true all =
+      subst (λ (o : List ℕ). AllZip (Sends contents framed o) old new) is all
+
+  pub nothing_goes : (sent : Option Message) (is_sent : Bool) (octets : List ℕ)
+      (old : List (ConnectionValue R W F)) → IsSent sent is_sent octets → is_sent ≡ false
+      → SendsAll contents framed sent old old
+  nothing_goes None is_sent octets old sends is_false = refl
+  nothing_goes (Some m) is_sent octets old (was_sent, is, message) is_false = let clash : true
+      ≡ false = sym was_sent ∙ is_false in absurd cc

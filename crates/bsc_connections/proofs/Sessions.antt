@@ -1,0 +1,500 @@
+-- What the streams of a connection carry, step after step.
+use Rattle.std.proofs.Common.{◌≡◌, ◌≢◌, ℕ, Bool, true, false, List, [], ◌∷◌, ◌++◌, length}
+use Rattle.std.proofs.Common.{slice_get, slice_set, Option, None, Some, Result, Ok, ◌⊎◌, inl, inr}
+use Rattle.std.proofs.Common.{refl, sym, ◌∙◌, ap, subst, append_assoc, append-nil, nat_eq}
+use Rattle.std.proofs.KnownBytes.{Consumes-nil, Appends-nil, Consumes-trans, Appends-trans}
+use Rattle.std.proofs.lemmas.Bool.{eqb-false}
+use Rattle.std.proofs.lemmas.List.Concat.{flat_map-append}
+use Rattle.std.specs.List.{flat_map}
+use Rattle.std.specs.Io.KnownBytes.{Appends, Consumes, Keeps}
+use Rattle.bsc_frame.specs.declared.message.Message.{Message}
+use Rattle.bsc_frame.specs.declared.message.Heard.{Heard}
+use Rattle.bsc_frame.specs.Wire.{wire}
+use Rattle.bsc_carrier.specs.declared.error.CarrierError.{CarrierError}
+use Rattle.bsc_connections.specs.declared.awaited.Awaited.{Awaited}
+use Rattle.bsc_connections.specs.declared.awaited.Awaited.TheVariants.{Octets, Newcomer, TimeOut}
+use Rattle.bsc_connections.specs.declared.awaited.Wait.{Wait}
+use Rattle.bsc_connections.specs.declared.awaited.LiveError.{LiveError}
+use Rattle.bsc_connections.specs.declared.connection.Taken.{Taken}
+use Rattle.bsc_connections.specs.declared.connection.Taken.TheVariants.{Nothing, Interrupted, Part, Whole}
+use Rattle.bsc_connections.specs.declared.connection.Taken.TheVariants.{Closed}
+use Rattle.bsc_connections.specs.Connections.{ConnectionValue, Takes, TakesOpen, Sends}
+use Rattle.bsc_connections.specs.Histories.{Happening, WasHeard, WasSilent, HasJoined, sent_where_some}
+use Rattle.bsc_connections.specs.Histories.{heard_in, heard_at, sent_in, all_sent, IsNoJoining}
+use Rattle.bsc_connections.specs.Histories.{NobodyJoins}
+use Rattle.bsc_connections.specs.Attending.{SendsAll, IsTakenAt, ReadsAt, TimesOut, Joins, Does}
+use Rattle.bsc_connections.specs.Attending.{ended, goes_on, first_closed, first_awaiting}
+use Rattle.bsc_connections.specs.Streams.{Carries, CarriedAt, CarriesFromStart, CarriesSinceJoining}
+use Rattle.bsc_connections.specs.Streams.{CarriesHistory}
+use Rattle.bsc_connections.proofs.PlaceLemmas.{kept_at, put_at, zipped_at, same_place, heard_here}
+use Rattle.bsc_connections.proofs.PlaceLemmas.{heard_elsewhere}
+use Rattle.bsc_carrier.specs.Cable.{ChangesAt}
+use Rattle.bsc_octet.proofs.Elements.{all_append}
+
+module _ {R W F : Type 0} (remaining : R → Option (List ℕ)) (contents : W → Option (List ℕ))
+    (framed : List ℕ → List ℕ)
+    (feeds : F → List ℕ → Result (ℕ × Bool) CarrierError → F → Type 0)
+    (ends : F → Bool → F → Type 0) (last : F → List ℕ)
+    (gives : F → List ℕ → List (List ℕ) → F → Type 0)
+    (gives_nothing : (f : F) → gives f [] [] f)
+    (gives_both : (a b c : F) (g k : List ℕ) (h t : List (List ℕ)) → gives a g h b → gives b k t c
+    → gives a (g ++ k) (h ++ t) c)
+    (gives_part : (a b : F) (piece : List ℕ) → feeds a piece (Ok (length piece, false)) b
+    → gives a piece [] b)
+    (gives_whole : (a b : F) (piece : List ℕ) → feeds a piece (Ok (length piece, true)) b
+    → gives a piece (last b ∷ []) b)
+    (gives_gap : (a b : F) → ends a true b → gives a [] (last b ∷ []) b) where
+  abbrev C : Type 0
+  C = ConnectionValue R W F
+
+  abbrev Conveys : List (List ℕ) → List (List ℕ) → C → C → Type 0
+  Conveys heard sent old new = Carries remaining contents framed gives heard sent old new
+
+  abbrev Came : ℕ → List (List ℕ) → List (List ℕ) → List C → C → Type 0
+  Came place heard sent before now =
+      CarriedAt remaining contents framed gives place heard sent before now
+
+  -- ---- one connection
+
+  same_ends : (r s : R) (w v : W) → ◌≡◌ {A = Option (R × W)} (Some (r, w)) (Some (s, v)) → (r ≡ s)
+      × (w ≡ v)
+  same_ends r s w v is = (
+    ap (λ (o : Option (R × W)). elim o [ None ↦ r | Some both ↦ both.0 ]) is,
+    ap (λ (o : Option (R × W)). elim o [ None ↦ w | Some both ↦ both.1 ]) is,
+  )
+
+  open_ends : (o : Option (R × W)) → o ≢ None → (r : R) × (w : W) × (o ≡ Some (r, w))
+  open_ends None is_up = absurd (is_up refl)
+  open_ends (Some (r, w)) is_up = (r, w, refl)
+
+  carries_nothing : (c : C) → c.ends ≢ None → Conveys [] [] c c
+  carries_nothing c is_up =
+      let (r, w, is) = open_ends c.ends is_up in
+      record {
+        reader_before = r;
+        reader_now = r;
+        writer_before = w;
+        writer_now = w;
+        was_open = is;
+        is_open = is;
+        given = [];
+        read = Consumes-nil (remaining r);
+        heard_of = gives_nothing c.framing;
+        written = Appends-nil (contents w);
+      }
+
+  carries_both : (h s k t : List (List ℕ)) (a b c : C) → Conveys h s a b → Conveys k t b c
+      → Conveys (h ++ k) (s ++ t) a c
+  carries_both h s k t a b c p q =
+      let (reader, writer) =
+      same_ends p.reader_now q.reader_before p.writer_now q.writer_before
+      (sym p.is_open ∙ q.was_open) in
+      let read : Consumes (remaining p.reader_now) (remaining q.reader_now) q.given =
+      subst (λ (r : R). Consumes (remaining r) (remaining q.reader_now) q.given) (sym reader)
+      q.read in
+      let written : Appends (contents p.writer_now) (contents q.writer_now) (flat_map framed t) =
+      subst (λ (w : W). Appends (contents w) (contents q.writer_now) (flat_map framed t))
+      (sym writer) q.written in
+      record {
+        reader_before = p.reader_before;
+        reader_now = q.reader_now;
+        writer_before = p.writer_before;
+        writer_now = q.writer_now;
+        was_open = p.was_open;
+        is_open = q.is_open;
+        given = p.given ++ q.given;
+        read =
+            Consumes-trans (remaining p.reader_before) (remaining p.reader_now)
+            (remaining q.reader_now) p.given q.given p.read read;
+        heard_of =
+            gives_both a.framing b.framing c.framing p.given q.given h k p.heard_of q.heard_of;
+        written =
+            subst (λ (l : List ℕ). Appends (contents p.writer_before) (contents q.writer_now) l)
+            (sym (flat_map-append framed s t))
+            (Appends-trans (contents p.writer_before) (contents p.writer_now)
+            (contents q.writer_now) (flat_map framed s) (flat_map framed t) p.written written);
+      }
+
+  gives_same : (a b : F) → b ≡ a → gives a [] [] b
+  gives_same a b same = subst (λ (f : F). gives a [] [] f) (sym same) (gives_nothing a)
+
+  -- a transmission that is sent
+  carries_sent : (octets : List ℕ) (a b : C) → b.ends ≢ None → Sends contents framed octets a b
+      → Conveys [] (octets ∷ []) a b
+  carries_sent octets a b is_up (inl (closed, same)) =
+      absurd (is_up (ap (λ (c : C). c.ends) same ∙ closed))
+  carries_sent octets a b is_up (inr (inr (closed, same))) = absurd (is_up closed)
+  carries_sent octets a b is_up (inr (inl w)) =
+      record {
+        reader_before = w.reader;
+        reader_now = w.reader;
+        writer_before = w.before;
+        writer_now = w.after;
+        was_open = w.was_open;
+        is_open = w.stays_open;
+        given = [];
+        read = Consumes-nil (remaining w.reader);
+        heard_of = gives_same a.framing b.framing w.held;
+        written =
+            subst (λ (l : List ℕ). Appends (contents w.before) (contents w.after) l)
+            (sym (append-nil (framed octets))) w.written;
+      }
+
+  -- a transmission that a gap ends
+  carries_gap : (a b : C) → b.ends ≢ None → b.ends ≡ a.ends → ends a.framing true b.framing
+      → Conveys (last b.framing ∷ []) [] a b
+  carries_gap a b is_up same ends_it =
+      let (r, w, is) = open_ends b.ends is_up in
+      record {
+        reader_before = r;
+        reader_now = r;
+        writer_before = w;
+        writer_now = w;
+        was_open = sym same ∙ is;
+        is_open = is;
+        given = [];
+        read = Consumes-nil (remaining r);
+        heard_of = gives_gap a.framing b.framing ends_it;
+        written = Appends-nil (contents w);
+      }
+
+  -- ---- one read
+
+  Consumes-kept_nil : (a b : Option (List ℕ)) → Keeps a b → Consumes a b []
+  Consumes-kept_nil None b kept = tt
+  Consumes-kept_nil (Some x) None kept = absurd kept
+  Consumes-kept_nil (Some x) (Some y) kept = sym kept
+
+  carries_taken : (taken : Taken) (a b : C) (t : TakesOpen remaining feeds taken a b)
+      (given : List ℕ) (heard : List (List ℕ))
+      → Consumes (remaining t.before) (remaining t.after) given
+      → gives a.framing given heard b.framing → Conveys heard [] a b
+  carries_taken taken a b t given heard read heard_of =
+      record {
+        reader_before = t.before;
+        reader_now = t.after;
+        writer_before = t.writer;
+        writer_now = t.writer;
+        was_open = t.was_open;
+        is_open = t.stays_open;
+        given = given;
+        read = read;
+        heard_of = heard_of;
+        written = Appends-nil (contents t.writer);
+      }
+
+  -- what a read of this kind adds to what was heard
+  abbrev heard_by : Taken → C → List (List ℕ)
+  heard_by Whole c = last c.framing ∷ []
+  heard_by _ c = []
+
+  carries_read : (taken : Taken) (a b : C) → b.ends ≢ None → Takes remaining feeds a taken b
+      → Conveys (heard_by taken b) [] a b
+  carries_read Nothing a b is_up (inl (closed, same)) =
+      absurd (is_up (ap (λ (c : C). c.ends) same ∙ closed))
+  carries_read Nothing a b is_up (inr t) =
+      carries_taken Nothing a b t [] []
+      (Consumes-kept_nil (remaining t.before) (remaining t.after) t.reads.0)
+      (gives_same a.framing b.framing t.reads.1)
+  carries_read Interrupted a b is_up t =
+      carries_taken Interrupted a b t [] []
+      (Consumes-kept_nil (remaining t.before) (remaining t.after) t.reads.0)
+      (gives_same a.framing b.framing t.reads.1)
+  carries_read (Closed why) a b is_up closed = absurd (is_up closed)
+  carries_read Part a b is_up t =
+      let (piece, read, fed) = t.reads in
+      carries_taken Part a b t piece [] read (gives_part a.framing b.framing piece fed)
+  carries_read Whole a b is_up t =
+      let (piece, read, fed) = t.reads in
+      carries_taken Whole a b t piece (last b.framing ∷ []) read
+      (gives_whole a.framing b.framing piece fed)
+
+  was_up : (heard sent : List (List ℕ)) (a b : C) → Conveys heard sent a b → a.ends ≢ None
+  was_up heard sent a b p none =
+      let clash : ◌≡◌ {A = Option (R × W)} (Some (p.reader_before, p.writer_before)) None =
+      sym p.was_open ∙ none in absurd cc
+
+  -- ---- the connection at one place
+
+  came_kept : (place : ℕ) (before after : List C) (b : C) → after ≡ before → slice_get after place
+      ≡ Some b → b.ends ≢ None → Came place [] [] before b
+  came_kept place before after b same is is_up =
+      (b, subst (λ (cs : List C). slice_get cs place ≡ Some b) same is, carries_nothing b is_up)
+
+  came_both : (place : ℕ) (h s k t : List (List ℕ)) (before between : List C) (b : C)
+      → ((m : C) → slice_get between place ≡ Some m → m.ends ≢ None → Came place h s before m)
+      → Came place k t between b → Came place (h ++ k) (s ++ t) before b
+  came_both place h s k t before between b first (m, at, later) =
+      let (a, was, sooner) = first m at (was_up k t m b later) in
+      (a, was, carries_both h s k t a m b sooner later)
+
+  changed_at : (at place : ℕ) (P : C → C → Type 0) (before after : List C) (b : C)
+      → ChangesAt at P before after → slice_get after place ≡ Some b
+      → ((at ≡ place) × ((a : C) × (slice_get before place ≡ Some a) × P a b))
+      ⊎ ((nat_eq at place ≡ false) × (slice_get before place ≡ Some b))
+  changed_at at place P before after b (x, y, was, new, changed) is =
+      let put : slice_get (slice_set before at y) place ≡ Some b =
+      subst (λ (cs : List C). slice_get cs place ≡ Some b) new is in
+      elim (same_place at place) [
+        | inl same ↦
+            inl (
+              same,
+              (
+                x,
+                subst (λ (n : ℕ). slice_get before n ≡ Some x) same was,
+                subst (λ (c : C). P x c) (put_at before at place y b same put) changed,
+              ),
+            )
+        | inr other ↦ inr (other, kept_at before at place y b (eqb-false at place other) put)
+      ]
+
+  came_sent : (sent : Option Message) (place : ℕ) (before after : List C) (b : C)
+      → SendsAll contents framed sent before after → slice_get after place ≡ Some b → b.ends ≢ None
+      → Came place (heard_at place (sent_where_some sent)) (all_sent (sent_where_some sent)) before
+      b
+  came_sent None place before after b same is is_up = came_kept place before after b same is is_up
+  came_sent (Some m) place before after b all is is_up =
+      let (a, was, sends) =
+      zipped_at (Sends contents framed (wire m)) before after place b all is in
+      (a, was, carries_sent (wire m) a b is_up sends)
+
+  -- a read that ends no transmission
+  came_part : (taken : Taken) → ((c : C) → heard_by taken c ≡ [])
+      → (at place : ℕ) (before after : List C) (b : C)
+      → IsTakenAt remaining feeds at before taken after
+      → slice_get after place ≡ Some b → b.ends ≢ None → Came place [] [] before b
+  came_part taken quiet at place before after b (inr (nowhere, nothing, same)) is is_up =
+      came_kept place before after b same is is_up
+  came_part taken quiet at place before after b (inl changes) is is_up =
+      elim
+      (changed_at at place (λ b a. Takes remaining feeds b taken a) before after b changes is) [
+        | inl (same, (a, was, takes)) ↦ (
+          a,
+          was,
+          subst (λ (h : List (List ℕ)). Conveys h [] a b) (quiet b)
+              (carries_read taken a b is_up takes),
+        )
+        | inr (other, was) ↦ (b, was, carries_nothing b is_up)
+      ]
+
+  -- what ends a transmission
+  came_heard : (at place : ℕ) (P : C → C → Type 0)
+      → ((x y : C) → y.ends ≢ None → P x y → Conveys (last y.framing ∷ []) [] x y)
+      → (before after : List C) (heard b : C)
+      → ChangesAt at P before after → slice_get after at ≡ Some heard → slice_get after place
+      ≡ Some b → b.ends ≢ None
+      → Came place (heard_in place (WasHeard at (last heard.framing))) [] before b
+  came_heard at place P conveys before after heard b changes there is is_up =
+      elim (changed_at at place P before after b changes is) [
+        | inl (same, (a, was, changed)) ↦
+            let one : Some heard ≡ Some b = sym there ∙ ap (λ (n : ℕ). slice_get after n) same
+            ∙ is in
+            let it : heard ≡ b = ap (λ (o : Option C). elim o [ None ↦ b | Some c ↦ c ]) one in
+            let list : last b.framing ∷ [] ≡ heard_in place (WasHeard at (last heard.framing)) =
+            ap (λ (c : C). last c.framing ∷ []) (sym it)
+            ∙ sym (heard_here at place (last heard.framing) same) in (
+              a,
+              was,
+              subst (λ (h : List (List ℕ)). Conveys h [] a b) list
+                  (conveys a b is_up changed),
+            )
+        | inr (other, was) ↦ (
+          b,
+          was,
+          subst (λ (h : List (List ℕ)). Conveys h [] b b)
+              (sym (heard_elsewhere at place (last heard.framing) other))
+              (carries_nothing b is_up),
+        )
+      ]
+
+  -- a read that ends one
+  came_whole : (at place : ℕ) (before after : List C) (heard b : C)
+      → IsTakenAt remaining feeds at before Whole after
+      → slice_get after at ≡ Some heard → slice_get after place ≡ Some b → b.ends ≢ None
+      → Came place (heard_in place (WasHeard at (last heard.framing))) [] before b
+  came_whole at place before after heard b (inr (nowhere, nothing, same)) there is is_up =
+      let clash : Whole ≡ Nothing = nothing in absurd cc
+  came_whole at place before after heard b (inl changes) there is is_up =
+      came_heard at place (λ b a. Takes remaining feeds b Whole a)
+      (λ x y y_up takes. carries_read Whole x y y_up takes) before after heard b changes there
+      is is_up
+
+  -- what happened is known
+  came_so : (place : ℕ) (before : List C) (b : C) (happened told : List Happening) → happened ≡ told
+      → Came place (heard_at place told) (all_sent told) before b
+      → Came place (heard_at place happened) (all_sent happened) before b
+  came_so place before b happened told is came =
+      subst (λ (hs : List Happening). Came place (heard_at place hs) (all_sent hs) before b)
+      (sym is) came
+
+  -- ---- one step after another
+  module _ {S T : Type 0} (hears : S → Heard → S → Option Message → Type 0)
+      (acts : S → S → Option Message → Type 0)
+      (starts : F → Type 0) (awaits : F → Bool)
+      (waits : T → Wait → Result Awaited LiveError → T → Type 0) where
+    -- what a step did at this place: nobody joined there, or one who did has the connection
+    abbrev Went : ℕ → List C → List Happening → C → Type 0
+    Went place before happened b =
+        (NobodyJoins place happened × Came place (heard_at place happened) (all_sent happened)
+        before b)
+        ⊎ ((happened ≡ HasJoined place ∷ []) × starts b.framing)
+
+    went_quiet : (place : ℕ) (before : List C) (happened : List Happening) (b : C) → happened ≡ []
+        → Came place [] [] before b → Went place before happened b
+    went_quiet place before happened b none came =
+        inl (subst (NobodyJoins place) (sym none) tt, came_so place before b happened [] none came)
+
+    nobody_sent : (place : ℕ) (sent : Option Message) → NobodyJoins place (sent_where_some sent)
+    nobody_sent place None = tt
+    nobody_sent place (Some m) = (tt, tt)
+
+    went_reads : (taken : Taken) (at place : ℕ) (old new : S) (before after : List C)
+        (happened : List Happening) (b : C)
+        → ReadsAt hears acts remaining contents starts feeds ends awaits last framed at taken old
+        new before after happened
+        → slice_get after place ≡ Some b → b.ends ≢ None → Went place before happened b
+    went_reads Whole at place old new before after happened b (between, taken, h) is is_up =
+        inl (
+          subst (NobodyJoins place) (sym h.happens) (tt, nobody_sent place h.sent),
+          came_so place before b happened (WasHeard at (last h.connection.framing)
+              ∷ sent_where_some h.sent) h.happens
+              (came_both place (heard_in place (WasHeard at (last h.connection.framing))) []
+              (heard_at place (sent_where_some h.sent)) (all_sent (sent_where_some h.sent))
+              before between b
+              (λ m there m_up. came_whole at place before between h.connection m taken h.at there
+              m_up)
+              (came_sent h.sent place between after b h.sends is is_up)),
+        )
+    went_reads Nothing at place old new before after happened b (taken, same, none) is is_up =
+        went_quiet place before happened b none
+        (came_part Nothing (λ c. refl) at place before after b taken is is_up)
+    went_reads Interrupted at place old new before after happened b (taken, same, none) is is_up =
+        went_quiet place before happened b none
+        (came_part Interrupted (λ c. refl) at place before after b taken is is_up)
+    went_reads Part at place old new before after happened b (taken, same, none) is is_up =
+        went_quiet place before happened b none
+        (came_part Part (λ c. refl) at place before after b taken is is_up)
+    went_reads (Closed why) at place old new before after happened b (taken, same, none) is is_up =
+        went_quiet place before happened b none
+        (came_part (Closed why) (λ c. refl) at place before after b taken is is_up)
+
+    went_joins : (free : Option ℕ) (place : ℕ) (before after : List C) (happened : List Happening)
+        (b : C)
+        → Joins hears acts remaining contents starts feeds ends awaits last framed free before after
+        happened
+        → slice_get after place ≡ Some b → b.ends ≢ None → Went place before happened b
+    went_joins None place before after happened b (same, none) is is_up =
+        went_quiet place before happened b none (came_kept place before after b same is is_up)
+    went_joins (Some at) place before after happened b (inl (same, none)) is is_up =
+        went_quiet place before happened b none (came_kept place before after b same is is_up)
+    went_joins (Some at) place before after happened b (inr (changes, joined)) is is_up =
+        elim (changed_at at place (λ b a. (a.ends ≢ None) × starts a.framing) before after b changes
+        is) [
+          | inl (same, (a, was, (up, fresh))) ↦ inr
+              (joined ∙ ap (λ (n : ℕ). HasJoined n ∷ []) same, fresh)
+          | inr (other, was) ↦
+              inl (
+                subst (NobodyJoins place) (sym joined) (eqb-false at place other, tt),
+                came_so place before b happened (HasJoined at ∷ []) joined
+                    (b, was, carries_nothing b is_up),
+              )
+        ]
+
+    went_times : (awaiting : Option ℕ) (place : ℕ) (old new : S) (before after : List C)
+        (happened : List Happening) (b : C)
+        → TimesOut hears acts remaining contents starts feeds ends awaits last framed awaiting old
+        new before after happened
+        → slice_get after place ≡ Some b → b.ends ≢ None → Went place before happened b
+    went_times None place old new before after happened b silent is is_up =
+        inl (
+          subst (NobodyJoins place) (sym silent.happens) (tt, nobody_sent place silent.sent),
+          came_so place before b happened (WasSilent ∷ sent_where_some silent.sent) silent.happens
+              (came_sent silent.sent place before after b silent.sends is is_up),
+        )
+    went_times (Some at) place old new before after happened b h is is_up =
+        inl (
+          subst (NobodyJoins place) (sym h.heard.happens) (tt, nobody_sent place h.heard.sent),
+          came_so place before b happened (WasHeard at (last h.heard.connection.framing)
+              ∷ sent_where_some h.heard.sent) h.heard.happens
+              (came_both place (heard_in place (WasHeard at (last h.heard.connection.framing))) []
+              (heard_at place (sent_where_some h.heard.sent))
+              (all_sent (sent_where_some h.heard.sent)) before h.between b
+              (λ m there m_up. came_heard at place
+              (λ b a. (a.ends ≡ b.ends) × ends b.framing true a.framing)
+              (λ x y y_up ended. carries_gap x y y_up ended.0 ended.1) before h.between
+              h.heard.connection m h.ended h.heard.at there m_up)
+              (came_sent h.heard.sent place h.between after b h.heard.sends is is_up)),
+        )
+
+    went_does : (awaited : Awaited) (place : ℕ) (old new : S) (before after : List C)
+        (happened : List Happening) (b : C)
+        → Does hears acts remaining contents starts feeds ends awaits last framed awaited old new
+        before after happened
+        → slice_get after place ≡ Some b → b.ends ≢ None → Went place before happened b
+    went_does (Octets at) place old new before after happened b (taken, reads) is is_up =
+        went_reads taken at place old new before after happened b reads is is_up
+    went_does Newcomer place old new before after happened b (same, joins) is is_up =
+        went_joins (first_closed before) place before after happened b joins is is_up
+    went_does TimeOut place old new before after happened b times is is_up =
+        went_times (first_awaiting awaits before) place old new before after happened b times is
+        is_up
+
+    -- a step, and what was carried after it
+    went_first : (place : ℕ) (before between : List C) (happened history : List Happening) (now : C)
+        → ((m : C) → slice_get between place ≡ Some m → m.ends ≢ None
+        → Went place before happened m)
+        → CarriesFromStart remaining contents framed gives place history between now
+        ⊎ CarriesSinceJoining remaining contents framed gives starts place history now
+        → CarriesFromStart remaining contents framed gives place (happened ++ history) before now
+        ⊎ CarriesSinceJoining remaining contents framed gives starts place (happened ++ history) now
+    went_first place before between happened history now first (inr since) =
+        inr (record {
+          sooner = happened ++ since.sooner;
+          later = since.later;
+          is = ap (λ (hs : List Happening). happened ++ hs) since.is
+              ∙ sym (append_assoc happened since.sooner (HasJoined place ∷ since.later));
+          last = since.last;
+          joined = since.joined;
+          nothing_arrived = since.nothing_arrived;
+          carries = since.carries;
+        })
+    went_first place before between happened history now first (inl (nobody, (m, there, later))) =
+        elim (first m there (was_up (heard_at place history) (all_sent history) m now later)) [
+          | inr (joined, none) ↦
+              inr (record {
+                sooner = [];
+                later = history;
+                is = ap (λ (hs : List Happening). hs ++ history) joined;
+                last = nobody;
+                joined = m;
+                nothing_arrived = none;
+                carries = later;
+              })
+          | inl (none, (a, was, sooner)) ↦
+              let both =
+              carries_both (heard_at place happened) (all_sent happened)
+              (heard_at place history) (all_sent history) a m now sooner later in
+              inl (
+                all_append (IsNoJoining place) happened history none nobody,
+                (
+                  a,
+                  was,
+                  subst (λ (h : List (List ℕ)). Conveys h (all_sent (happened ++ history)) a now)
+                      (sym (flat_map-append (heard_in place) happened history))
+                      (subst (λ (s : List (List ℕ)). Conveys
+                      (heard_at place happened ++ heard_at place history) s a now)
+                      (sym (flat_map-append sent_in happened history)) both),
+                ),
+              )
+        ]
+
+    pub carries_history : CarriesHistory gives hears acts remaining contents starts feeds ends
+        awaits last framed waits
+    carries_history old new [] place now (ended station connections) is is_up =
+        inl (tt, came_kept place old.connections new.connections now connections is is_up)
+    carries_history old new whole place now
+        (goes_on {mid = mid} {happened = happened} {history = history} step rest) is is_up =
+        went_first place old.connections mid.connections happened history now
+        (λ m there m_up. went_does step.awaited place old.station mid.station old.connections
+        mid.connections happened m step.does there m_up)
+        (carries_history mid new history place now rest is is_up)

@@ -1,0 +1,120 @@
+-- What the streams of one connection carry in a session (own).
+use Rattle.std.specs.Prelude.{◌≡◌, ◌≢◌, ◌⊎◌, ℕ, Bool, List, [], ◌∷◌, ◌++◌, map, take, Option, None}
+use Rattle.std.specs.Prelude.{Some, Result, slice_get}
+use Rattle.std.specs.List.{AllByRecursion, concat, flat_map}
+use Rattle.std.specs.Io.KnownBytes.{Appends, Consumes}
+use Rattle.bsc_frame.specs.declared.message.Message.{Message}
+use Rattle.bsc_frame.specs.declared.message.Heard.{Heard}
+use Rattle.bsc_carrier.specs.Front.{BeginsRecord}
+use Rattle.bsc_carrier.specs.Record.{IsCarried, socket_record}
+use Rattle.bsc_carrier.specs.Stream.{Splits}
+use Rattle.bsc_carrier.specs.declared.error.CarrierError.{CarrierError}
+use Rattle.bsc_connections.specs.declared.awaited.Awaited.{Awaited}
+use Rattle.bsc_connections.specs.declared.awaited.Wait.{Wait}
+use Rattle.bsc_connections.specs.declared.awaited.LiveError.{LiveError}
+use Rattle.bsc_connections.specs.declared.socket_records.SocketRecords.{SocketRecords}
+use Rattle.bsc_connections.specs.Connections.{ConnectionValue}
+use Rattle.bsc_connections.specs.declared.limits.TheConstants.{KEPT}
+use Rattle.bsc_connections.specs.Framings.{GapsValue}
+use Rattle.bsc_connections.specs.Histories.{Happening, HasJoined, heard_at, all_sent, NobodyJoins}
+use Rattle.bsc_connections.specs.Attending.{Attended, Attends}
+
+-- the octets that came since the last record was complete
+abbrev pub begun_of : SocketRecords → List ℕ
+begun_of records = records.assembler.begun
+
+-- These octets were given, after what was begun before. All of them together are the records of the
+-- transmissions that were heard, each once and in order, and then what is begun now.
+pub record GivesRecords (old : SocketRecords) (given : List ℕ) (heard : List (List ℕ))
+    (new : SocketRecords) : Type 0 where
+  pub records : begun_of old ++ given ≡ flat_map socket_record heard ++ begun_of new
+  pub carried : AllByRecursion IsCarried heard
+  pub rest : ¬ BeginsRecord (begun_of old) → ¬ BeginsRecord (begun_of new)
+
+-- Gaps cut these octets: some octets are between one gap and the next, and what is heard of them is
+-- the first 2,049. The rest have no gap after them, and the first 2,049 of them are begun.
+pub record CutsAtGaps (octets : List ℕ) (heard : List (List ℕ)) (begun : List ℕ) : Type 0 where
+  pub between : List (List ℕ)
+  pub later : List ℕ
+  pub whole : octets ≡ concat between ++ later
+  pub some : AllByRecursion (λ octets. octets ≢ []) between
+  pub first : heard ≡ map (take KEPT) between
+  pub kept_of : begun ≡ take KEPT later
+
+-- these octets were given, after those that came before them since the last gap
+abbrev pub GivesByGaps : GapsValue → List ℕ → List (List ℕ) → GapsValue → Type 0
+GivesByGaps old given heard new =
+    (sooner : List ℕ) → old.begun ≡ take KEPT sooner → CutsAtGaps (sooner ++ given) heard new.begun
+
+-- A connection was open, and is open. Its reader gave some octets, of which these transmissions
+-- were heard. Its writer took the octets that carry the transmissions that were sent, each once and
+-- in order.
+pub record Carries {R W F : Type 0} (remaining : R → Option (List ℕ))
+    (contents : W → Option (List ℕ)) (framed : List ℕ → List ℕ)
+    (gives : F → List ℕ → List (List ℕ) → F → Type 0)
+    (heard sent : List (List ℕ)) (old new : ConnectionValue R W F) : Type 0 where
+  pub reader_before : R
+  pub reader_now : R
+  pub writer_before : W
+  pub writer_now : W
+  pub was_open : old.ends ≡ Some (reader_before, writer_before)
+  pub is_open : new.ends ≡ Some (reader_now, writer_now)
+  pub given : List ℕ
+  pub read : Consumes (remaining reader_before) (remaining reader_now) given
+  pub heard_of : gives old.framing given heard new.framing
+  pub written : Appends (contents writer_before) (contents writer_now) (flat_map framed sent)
+
+module _ {R W F : Type 0} (remaining : R → Option (List ℕ)) (contents : W → Option (List ℕ))
+    (framed : List ℕ → List ℕ) (gives : F → List ℕ → List (List ℕ) → F → Type 0) where
+  -- the connection at this place was open, and carried these
+  abbrev pub CarriedAt : ℕ → List (List ℕ) → List (List ℕ) → List (ConnectionValue R W F)
+      → ConnectionValue R W F → Type 0
+  CarriedAt place heard sent before now =
+      (was : ConnectionValue R W F) × (slice_get before place ≡ Some was)
+      × Carries remaining contents framed gives heard sent was now
+
+  -- nobody joined at this place: the connection was open from the start, and its streams carried
+  -- all that the history has of it
+  abbrev pub CarriesFromStart : ℕ → List Happening → List (ConnectionValue R W F)
+      → ConnectionValue R W F → Type 0
+  CarriesFromStart place history before now =
+      NobodyJoins place history
+      × CarriedAt place (heard_at place history) (all_sent history) before now
+
+  -- A peer joined at this place, the last one that did: nothing had arrived from it, and the
+  -- streams of its connection carried all that the history has of it since then.
+  pub record CarriesSinceJoining (starts : F → Type 0) (place : ℕ) (history : List Happening)
+      (now : ConnectionValue R W F) : Type 0 where
+    pub sooner : List Happening
+    pub later : List Happening
+    pub is : history ≡ sooner ++ HasJoined place ∷ later
+    pub last : NobodyJoins place later
+    pub joined : ConnectionValue R W F
+    pub nothing_arrived : starts joined.framing
+    pub carries : Carries remaining contents framed gives (heard_at place later) (all_sent later)
+        joined now
+
+-- In every session, the streams of a connection that is open at its end carried all that the
+-- history has of it and nothing else: what was heard at its place, and all that was sent.
+abbrev pub CarriesHistory : {S R W F T : Type 0} → (F → List ℕ → List (List ℕ) → F → Type 0)
+    → (S → Heard → S → Option Message → Type 0)
+    → (S → S → Option Message → Type 0) → (R → Option (List ℕ)) → (W → Option (List ℕ))
+    → (F → Type 0) → (F → List ℕ → Result (ℕ × Bool) CarrierError → F → Type 0)
+    → (F → Bool → F → Type 0) → (F → Bool) → (F → List ℕ) → (List ℕ → List ℕ)
+    → (T → Wait → Result Awaited LiveError → T → Type 0) → Type 0
+CarriesHistory {S} {R} {W} {F} {T} gives hears acts remaining contents starts feeds ends awaits last
+    framed waits =
+    (old new : Attended S (ConnectionValue R W F) T) (history : List Happening)
+    (place : ℕ) (now : ConnectionValue R W F)
+    → Attends hears acts remaining contents starts feeds ends awaits last framed waits old history
+    new
+    → slice_get new.connections place ≡ Some now → now.ends ≢ None
+    → CarriesFromStart remaining contents framed gives place history old.connections now
+    ⊎ CarriesSinceJoining remaining contents framed gives starts place history now
+
+-- Where no whole record was begun before, the octets split into the records of what was heard and
+-- what is begun now. A stream splits in one way only, so what was heard is all that they have.
+abbrev pub SplitsAll : SocketRecords → List ℕ → List (List ℕ) → SocketRecords → Type 0
+SplitsAll old given heard new =
+    GivesRecords old given heard new → ¬ BeginsRecord (begun_of old)
+    → Splits (begun_of old ++ given) heard (begun_of new)

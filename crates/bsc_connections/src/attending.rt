@@ -1,0 +1,328 @@
+//! A station is attended: what happens on its connections is done, one thing after another.
+
+ghost use Rattle.std.specs.Prelude.{◌≡◌, ◌<◌, length, List, true, false, is_none, IfSome, IfOk};
+ghost use Rattle.std.specs.Prelude.{OnOk};
+ghost use Rattle.std.specs.List.{AllZip};
+ghost use Rattle.bsc_connections.specs.Connections.{Sends};
+ghost use Rattle.bsc_connections.specs.Histories.{Happening};
+ghost use Rattle.bsc_connections.specs.Attending.{Attends, StepsOrFails, Does, HearsLast, IsSilent};
+ghost use Rattle.bsc_connections.specs.Attending.{IsTakenAt, first_awaiting, first_closed, wait_for};
+
+use crate::{Awaited, Connection, Framing, LiveError, Monitor, Note, Taken, Wait, Waiter};
+use bsc_bid::Station;
+use bsc_frame::Wire;
+use std::io::{Read, Write};
+
+/// Attends a station over these connections until the monitor ends it. What the station sends goes
+/// out on each connection that is open, before anything else is heard. A connection that fails or
+/// ends is closed for good, and a peer that connects later takes its place. An error of the waiter
+/// or of the monitor ends it at once; `Count` comes after 2^64 - 1 steps.
+pub fn attend<
+    S: Station,
+    R: Read + Drop,
+    W: Write + Drop,
+    F: Framing + Drop,
+    T: Waiter<R, W>,
+    M: Monitor<S>,
+>(
+    station: &mut S,
+    connections: &mut [Connection<R, W, F>],
+    waiter: &mut T,
+    monitor: &mut M,
+) -> Result<(), LiveError>
+    ensures attends { (history : List Happening)
+        × Attends S.hears S.acts R.remaining W.contents F.starts F.feeds F.ends F.awaits F.last
+        F.framed T.waits
+        (record { station = station.old; connections = connections.old; waiter = waiter.old })
+        history
+        (record { station = station.new; connections = connections.new; waiter = waiter.new }) }
+    ensures ended { OnOk result (M.has_ended monitor.new ≡ true) }
+{
+    'steps: for _ in 0..u64::MAX {
+        if !step(station, connections, waiter, monitor)? {
+            return Ok(());
+        }
+    }
+    Err(LiveError::Count)
+}
+
+/// Waits for what happens first, and does what is due for it. False where the monitor ends it.
+fn step<
+    S: Station,
+    R: Read + Drop,
+    W: Write + Drop,
+    F: Framing + Drop,
+    T: Waiter<R, W>,
+    M: Monitor<S>,
+>(
+    station: &mut S,
+    connections: &mut [Connection<R, W, F>],
+    waiter: &mut T,
+    monitor: &mut M,
+) -> Result<bool, LiveError>
+    ensures steps { StepsOrFails S.hears S.acts R.remaining W.contents F.starts F.feeds F.ends
+        F.awaits F.last F.framed T.waits
+        (record { station = station.old; connections = connections.old; waiter = waiter.old })
+        result
+        (record { station = station.new; connections = connections.new; waiter = waiter.new }) }
+    ensures ended { IfOk result (λ goes_on. goes_on ≡ false → M.has_ended monitor.new ≡ true) }
+{
+    match waiter.wait(wait_for(connections))? {
+        Awaited::Octets { connection } => read_at(
+            station,
+            connections,
+            connection,
+            waiter,
+            monitor,
+        ),
+        Awaited::Newcomer => join(station, connections, waiter, monitor),
+        Awaited::TimeOut => time_out(station, connections, monitor),
+    }
+}
+
+/// The place of the first connection on which a transmission is begun that a gap would end.
+fn first_awaiting<R: Read + Drop, W: Write + Drop, F: Framing + Drop>(
+    connections: &[Connection<R, W, F>],
+) -> Option<usize>
+    ensures first { result ≡ first_awaiting F.awaits connections.now }
+    ensures within { IfSome result (λ place. place < length connections.now) }
+{
+    connections.iter().position(
+        |connection| -> bool
+            ensures { result ≡ F.awaits connection.now.framing }
+        { connection.awaits_gap() },
+    )
+}
+
+/// For how long to wait.
+fn wait_for<R: Read + Drop, W: Write + Drop, F: Framing + Drop>(
+    connections: &[Connection<R, W, F>],
+) -> Wait
+    ensures { result ≡ wait_for (first_awaiting F.awaits connections.now) }
+{
+    match first_awaiting(connections) {
+        Some(_) => Wait::Gap,
+        None => Wait::TimeOut,
+    }
+}
+
+/// Writes what is sent on each connection that is open.
+fn send_all<R: Read + Drop, W: Write + Drop, F: Framing + Drop>(
+    connections: &mut [Connection<R, W, F>],
+    octets: &[u8],
+)
+    ensures { AllZip (Sends W.contents F.framed octets.now) connections.old connections.new }
+{
+    'connections: for connection in connections.iter_mut() {
+        connection.send(octets);
+    }
+}
+
+/// The station hears the last transmission of the connection at this place, and what it answers
+/// goes out. The wire has what was sent; false where nothing was.
+fn hear_at<S: Station, R: Read + Drop, W: Write + Drop, F: Framing + Drop>(
+    station: &mut S,
+    connections: &mut [Connection<R, W, F>],
+    place: usize,
+    wire: &mut Wire,
+) -> bool
+    requires { place < length connections.old }
+    ensures hears { (happened : List Happening)
+        × HearsLast W.contents F.framed S.hears F.last place station.old station.new
+        connections.old connections.new happened }
+    ensures count { length connections.new ≡ length connections.old }
+{
+    let is_sent = station.hear(connections[place].octets(), wire);
+    if is_sent {
+        send_all(connections, wire);
+    }
+    is_sent
+}
+
+/// Reads once at this place. Where that ends a transmission the station hears it.
+fn read_at<
+    S: Station,
+    R: Read + Drop,
+    W: Write + Drop,
+    F: Framing + Drop,
+    T: Waiter<R, W>,
+    M: Monitor<S>,
+>(
+    station: &mut S,
+    connections: &mut [Connection<R, W, F>],
+    connection: usize,
+    waiter: &mut T,
+    monitor: &mut M,
+) -> Result<bool, LiveError>
+    ensures does { (happened : List Happening)
+        × Does S.hears S.acts R.remaining W.contents F.starts F.feeds F.ends F.awaits F.last
+        F.framed (Awaited.Octets connection) station.old station.new
+        connections.old connections.new happened }
+    ensures ended { IfOk result (λ goes_on. goes_on ≡ false → M.has_ended monitor.new ≡ true) }
+{
+    match take_at(connections, connection) {
+        Taken::Nothing => {
+            waiter.nothing_left(connection);
+            Ok(true)
+        }
+        Taken::Interrupted => Ok(true),
+        Taken::Part => Ok(true),
+        Taken::Whole => answer_at(station, connections, connection, monitor),
+        Taken::Closed { why } => {
+            waiter.nothing_left(connection);
+            monitor.note(station, Note::Closed { connection, why })
+        }
+    }
+}
+
+/// Reads once at this place; nothing where there is no such connection.
+fn take_at<R: Read + Drop, W: Write + Drop, F: Framing + Drop>(
+    connections: &mut [Connection<R, W, F>],
+    place: usize,
+) -> Taken
+    ensures { IsTakenAt R.remaining F.feeds place connections.old result connections.new }
+{
+    if place >= connections.len() {
+        return Taken::Nothing;
+    }
+    connections[place].take()
+}
+
+/// The station hears the last transmission of the connection at this place, what it answers goes
+/// out, and the monitor takes note of both.
+fn answer_at<S: Station, R: Read + Drop, W: Write + Drop, F: Framing + Drop, M: Monitor<S>>(
+    station: &mut S,
+    connections: &mut [Connection<R, W, F>],
+    connection: usize,
+    monitor: &mut M,
+) -> Result<bool, LiveError>
+    requires { connection < length connections.old }
+    ensures hears { (happened : List Happening)
+        × HearsLast W.contents F.framed S.hears F.last connection station.old station.new
+        connections.old connections.new happened }
+    ensures ended { IfOk result (λ goes_on. goes_on ≡ false → M.has_ended monitor.new ≡ true) }
+{
+    let mut wire = Wire::new();
+    let is_sent = hear_at(station, connections, connection, &mut wire);
+    let octets = connections[connection].octets();
+    let goes_on = monitor.note(station, Note::Heard { connection, octets })?;
+    Ok(note_sent(station, is_sent, &wire, monitor)? && goes_on)
+}
+
+/// Notes what was sent, where something was.
+fn note_sent<S: Station, M: Monitor<S>>(
+    station: &S,
+    is_sent: bool,
+    octets: &[u8],
+    monitor: &mut M,
+) -> Result<bool, LiveError>
+    ensures kept { M.has_ended monitor.old ≡ true → M.has_ended monitor.new ≡ true }
+    ensures ended { IfOk result (λ goes_on. goes_on ≡ false → M.has_ended monitor.new ≡ true) }
+{
+    if is_sent {
+        return monitor.note(station, Note::Sent { octets });
+    }
+    Ok(true)
+}
+
+/// The time has passed and nothing arrived: that ends a transmission where one is begun that ends
+/// at a gap, and else it is a silence.
+fn time_out<S: Station, R: Read + Drop, W: Write + Drop, F: Framing + Drop, M: Monitor<S>>(
+    station: &mut S,
+    connections: &mut [Connection<R, W, F>],
+    monitor: &mut M,
+) -> Result<bool, LiveError>
+    ensures does { (happened : List Happening)
+        × Does S.hears S.acts R.remaining W.contents F.starts F.feeds F.ends F.awaits F.last
+        F.framed Awaited.TimeOut station.old station.new connections.old connections.new happened }
+    ensures ended { IfOk result (λ goes_on. goes_on ≡ false → M.has_ended monitor.new ≡ true) }
+{
+    match first_awaiting(connections) {
+        Some(connection) => {
+            // It is the place of a connection that awaits a gap, so a transmission has ended.
+            let _ = connections[connection].gap();
+            answer_at(station, connections, connection, monitor)
+        }
+        None => silence(station, connections, monitor),
+    }
+}
+
+/// The station is told of a silence, and what it sends goes out. The wire has what was sent; false
+/// where nothing was.
+fn tell_silence<S: Station, R: Read + Drop, W: Write + Drop, F: Framing + Drop>(
+    station: &mut S,
+    connections: &mut [Connection<R, W, F>],
+    wire: &mut Wire,
+) -> bool
+    ensures { (happened : List Happening)
+        × IsSilent W.contents F.framed S.acts station.old station.new
+        connections.old connections.new happened }
+{
+    let is_sent = station.silence(wire);
+    if is_sent {
+        send_all(connections, wire);
+    }
+    is_sent
+}
+
+/// The station is told of a silence, what it sends goes out, and the monitor takes note of both.
+fn silence<S: Station, R: Read + Drop, W: Write + Drop, F: Framing + Drop, M: Monitor<S>>(
+    station: &mut S,
+    connections: &mut [Connection<R, W, F>],
+    monitor: &mut M,
+) -> Result<bool, LiveError>
+    ensures silent { (happened : List Happening)
+        × IsSilent W.contents F.framed S.acts station.old station.new
+        connections.old connections.new happened }
+    ensures ended { IfOk result (λ goes_on. goes_on ≡ false → M.has_ended monitor.new ≡ true) }
+{
+    let mut wire = Wire::new();
+    let is_sent = tell_silence(station, connections, &mut wire);
+    let goes_on = monitor.note(station, Note::Silence)?;
+    Ok(note_sent(station, is_sent, &wire, monitor)? && goes_on)
+}
+
+/// The place of the first connection that is closed.
+fn first_closed<R: Read + Drop, W: Write + Drop, F: Framing + Drop>(
+    connections: &[Connection<R, W, F>],
+) -> Option<usize>
+    ensures first { result ≡ first_closed connections.now }
+    ensures within { IfSome result (λ place. place < length connections.now) }
+{
+    connections.iter().position(
+        |connection| -> bool
+            ensures { result ≡ is_none connection.now.ends }
+        { !connection.is_open() },
+    )
+}
+
+/// A peer that has connected takes the first place that is free, and is turned away where there is
+/// none.
+fn join<
+    S: Station,
+    R: Read + Drop,
+    W: Write + Drop,
+    F: Framing + Drop,
+    T: Waiter<R, W>,
+    M: Monitor<S>,
+>(
+    station: &mut S,
+    connections: &mut [Connection<R, W, F>],
+    waiter: &mut T,
+    monitor: &mut M,
+) -> Result<bool, LiveError>
+    ensures does { (happened : List Happening)
+        × Does S.hears S.acts R.remaining W.contents F.starts F.feeds F.ends F.awaits F.last
+        F.framed Awaited.Newcomer station.old station.new connections.old connections.new happened }
+    ensures ended { IfOk result (λ goes_on. goes_on ≡ false → M.has_ended monitor.new ≡ true) }
+{
+    let Some(connection) = first_closed(connections) else {
+        waiter.turn_away();
+        return Ok(true);
+    };
+    let Some((reader, writer)) = waiter.join(connection) else {
+        return Ok(true);
+    };
+    connections[connection] = Connection::new(reader, writer);
+    monitor.note(station, Note::Joined { connection })
+}

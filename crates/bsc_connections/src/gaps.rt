@@ -1,0 +1,111 @@
+//! Transmissions as octets between gaps.
+
+use crate::Framing;
+use crate::limits::{KEPT, MAX_READ, MOST_WITHOUT_GAP};
+use arrayvec::ArrayVec;
+use bsc_carrier::CarrierError;
+use std::io::Write;
+use std::marker::Model;
+
+/// A transmission is the octets that arrive without a gap between them, as they stand on the line
+/// (own). Of more than 2,048 octets the first 2,049 are kept, which are heard as noise. More than
+/// 1,048,576 octets without a gap are refused by `Length`.
+#[derive(Drop)]
+pub struct Gaps {
+    /// The first octets that arrived since the last gap.
+    begun: ArrayVec<u8, KEPT>,
+    /// How many arrived since then.
+    arrived: usize,
+    /// The octets of the last transmission that a gap ended.
+    complete: ArrayVec<u8, KEPT>,
+}
+
+impl Model for Gaps {
+    ghost use Rattle.std.specs.Prelude.{◌≤◌, ◌≡◌, min, length};
+    ghost use Rattle.bsc_connections.specs.declared.limits.TheConstants.{MOST_WITHOUT_GAP};
+    ghost use Rattle.bsc_connections.specs.Framings.{GapsValue};
+
+    ghost Value = { GapsValue };
+
+    ghost view = { λ g. record {
+      begun = g.begun.items;
+      arrived = g.arrived;
+      complete = g.complete.items;
+    } };
+
+    ghost invariant = { λ g. g.arrived ≤ MOST_WITHOUT_GAP };
+}
+
+impl Framing for Gaps {
+    ghost use Rattle.std.specs.Prelude.{◌≡◌, [], not};
+    ghost use Rattle.bsc_connections.specs.declared.limits.TheConstants.{MAX_READ};
+    ghost use Rattle.bsc_connections.specs.Framings.{Gathers, EndsAtGap, is_empty};
+
+    ghost starts = { λ gaps. (gaps.begun ≡ []) × (gaps.arrived ≡ 0) × (gaps.complete ≡ []) };
+
+    ghost feeds = { Gathers };
+
+    ghost ends = { EndsAtGap };
+
+    ghost awaits = { λ gaps. not (is_empty gaps.begun) };
+
+    ghost last = { λ gaps. gaps.complete };
+
+    ghost room = { λ _. MAX_READ };
+
+    ghost framed = { λ octets. octets };
+
+    fn new() -> Gaps {
+        Gaps {
+            begun: ArrayVec::new(),
+            arrived: 0,
+            complete: ArrayVec::new(),
+        }
+    }
+
+    fn wanted(&self) -> usize {
+        MAX_READ
+    }
+
+    #[tactic(auto, using(crate::proofs::Kept::kept_of_both))]
+    fn feed(&mut self, piece: &[u8]) -> Result<(usize, bool), CarrierError> {
+        if piece.len() > MOST_WITHOUT_GAP - self.arrived {
+            return Err(CarrierError::Length);
+        }
+        let kept = (KEPT - self.begun.len()).min(piece.len());
+        self.begun.try_extend_from_slice(&piece[..kept]).unwrap();
+        self.arrived += piece.len();
+        Ok((piece.len(), false))
+    }
+
+    fn gap(&mut self) -> bool {
+        if self.begun.is_empty() {
+            return false;
+        }
+        self.complete.clear();
+        self.complete.try_extend_from_slice(&self.begun).unwrap();
+        self.begun.clear();
+        self.arrived = 0;
+        true
+    }
+
+    fn awaits_gap(&self) -> bool {
+        !self.begun.is_empty()
+    }
+
+    /// A transmission that is begun ends where the input ends.
+    fn is_short(&self) -> bool {
+        false
+    }
+
+    fn octets(&self) -> &[u8] {
+        self.complete.as_slice()
+    }
+
+    fn write<W: Write>(writer: &mut W, octets: &[u8]) -> Result<(), CarrierError> {
+        match writer.write_all(octets) {
+            Ok(()) => Ok(()),
+            Err(_) => Err(CarrierError::Device),
+        }
+    }
+}

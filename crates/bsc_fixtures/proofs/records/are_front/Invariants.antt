@@ -1,7 +1,0 @@
--- This many records are those of the characters.
-use Rattle.std.proofs.Common.{◌≡◌, take}
-use Rattle.bsc_fixtures.specs.Records.{values}
-use Rattle.bsc_fixtures.proofs.records.are_front.Given as goal
-
-abbrev pub invariant-loop-place : goal.invariant-loop-place
-invariant-loop-place l = take l.place (values l.expected) ≡ take l.place l.records

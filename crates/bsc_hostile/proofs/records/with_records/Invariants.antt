@@ -1,8 +1,0 @@
--- The records that are left go into the digest next.
-use Rattle.std.proofs.Common.{◌≡◌, drop}
-use Rattle.bsc_hostile.specs.Histories.{with_records}
-use Rattle.bsc_hostile.proofs.records.with_records.Given as goal
-
-abbrev pub invariant-loop-record : goal.invariant-loop-record
-invariant-loop-record l =
-    with_records l.fn.digest l.records ≡ with_records l.digest (drop l.record-index l.records)

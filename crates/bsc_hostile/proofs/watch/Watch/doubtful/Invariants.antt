@@ -1,9 +1,0 @@
--- The first channel in doubt is the first of those that are left.
-use Rattle.std.proofs.Common.{◌≡◌, drop}
-use Rattle.bsc_hostile.specs.Watches.{first_in_doubt}
-use Rattle.bsc_hostile.proofs.watch.Watch.doubtful.Given as goal
-
-abbrev pub invariant-loop-channel : goal.invariant-loop-channel
-invariant-loop-channel l =
-    first_in_doubt l.self.channels.items
-    ≡ first_in_doubt (drop l.channel-index l.self.channels.items)

@@ -1,7 +1,0 @@
--- The channels of this many terminals were added.
-use Rattle.std.proofs.Common.{◌≡◌}
-use Rattle.bsc_hostile.specs.NewWatches.{channels_to}
-use Rattle.bsc_hostile.proofs.watch.Watch.new.Given as goal
-
-abbrev pub invariant-loop-number : goal.invariant-loop-number
-invariant-loop-number l = l.channels.items ≡ channels_to l.terminals l.number

@@ -1,9 +1,0 @@
--- This many channels are as they were seen.
-use Rattle.std.proofs.Common.{take}
-use Rattle.std.specs.List.{All}
-use Rattle.bsc_hostile.specs.Histories.{IsAsSeen}
-use Rattle.bsc_hostile.proofs.watch.Watch.see_all.Given as goal
-
-abbrev pub invariant-loop-channel : goal.invariant-loop-channel
-invariant-loop-channel g l =
-    All (IsAsSeen l.line l.self.trusted) (take l.channel-index l.self.channels.items)

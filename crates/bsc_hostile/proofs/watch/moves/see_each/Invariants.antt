@@ -1,6 +1,0 @@
--- Only moves were counted.
-use Rattle.bsc_hostile.specs.Tallies.{SameAnswers}
-use Rattle.bsc_hostile.proofs.watch.moves.see_each.Given as goal
-
-abbrev pub invariant-loop-channel : goal.invariant-loop-channel
-invariant-loop-channel g l = SameAnswers l.fn.tally l.tally

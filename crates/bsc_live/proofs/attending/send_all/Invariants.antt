@@ -1,9 +1,0 @@
-use Rattle.bsc_live.specs.Connections.{Sends}
-use Rattle.bsc_live.proofs.Places.{IsPassed}
-use Rattle.bsc_live.proofs.attending.send_all.Given as goal
-
--- the connections so far have sent it, and the others are as they were
-abbrev pub invariant-connections : goal.invariant-connections
-invariant-connections g l =
-    IsPassed (Sends g.W.Write.contents g.F.Framing.framed l.octets) l.fn.connections l.connections
-    l.connection-index

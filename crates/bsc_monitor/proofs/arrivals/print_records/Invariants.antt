@@ -1,0 +1,13 @@
+use Rattle.std.proofs.Common.{take}
+use Rattle.std.specs.List.{flat_map}
+use Rattle.std.specs.Io.KnownBytes.{Appends}
+use Rattle.bsc_report.specs.Channels.{channel_name}
+use Rattle.bsc_monitor.specs.Printed.{arrival_line}
+use Rattle.bsc_monitor.proofs.arrivals.print_records.Given as goal
+
+abbrev pub invariant-records : goal.invariant-records
+invariant-records g l =
+    Appends (g.W.Write.contents l.initial.out) (g.W.Write.contents l.out)
+    (flat_map
+    (arrival_line l.form (channel_name l.channel.addresses l.channel.number l.channel.way))
+    (take l.record-index l.records))

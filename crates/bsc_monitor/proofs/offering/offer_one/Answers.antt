@@ -1,0 +1,7 @@
+use Rattle.bsc_monitor.proofs.Offered.{one_offered}
+use Rattle.bsc_monitor.proofs.offering.offer_one.Goals as goal
+
+pub returns-in-Ok : goal.returns-in-Ok
+returns-in-Ok g c =
+    one_offered c.args.control.now c.args.terminal c.args.select c.args.«record» c.offer.new.self
+    c.requires.terminal c.requires.select c.in-Ok.ensures.ok

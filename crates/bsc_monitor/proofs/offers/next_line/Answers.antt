@@ -1,0 +1,16 @@
+use Rattle.std.proofs.Common.{sym, ap, ◌∙◌, ◌∷◌}
+use Rattle.std.specs.Str.Lines.{lines}
+use Rattle.bsc_monitor.proofs.Firsts.{lines_more, lines_one}
+use Rattle.bsc_monitor.proofs.offers.next_line.Goals as goal
+
+pub returns-in-Some-clause-first : goal.returns-in-Some-clause-first
+returns-in-Some-clause-first c =
+    let rest = c.in-Some.rest.now in
+    lines_more c.args.text.now c.split_line.result.0.now rest
+    (rw c.in-Some.is at c.split_line.ensures.more)
+    ∙ ap (λ l. l ∷ lines rest) (sym c.without_return.ensures)
+
+pub returns-in-None-clause-first : goal.returns-in-None-clause-first
+returns-in-None-clause-first c =
+    lines_one c.args.text.now c.split_line.result.0.now c.requires
+    (c.split_line.ensures.last c.in-None.is)

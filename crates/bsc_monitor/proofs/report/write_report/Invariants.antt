@@ -1,0 +1,11 @@
+use Rattle.std.specs.Io.KnownBytes.{Appends}
+use Rattle.bsc_report.specs.Channels.{each_below}
+use Rattle.bsc_monitor.specs.Printed.{terminal_lines}
+use Rattle.bsc_monitor.proofs.report.write_report.Given as goal
+
+abbrev pub invariant-terminals : goal.invariant-terminals
+invariant-terminals g l =
+    let s = l.station in
+    Appends (g.W.Write.contents l.initial.out) (g.W.Write.contents l.out)
+    (each_below (λ t. terminal_lines (g.P.Party.selects s t) (g.P.Party.numbers s t)
+    (g.P.Party.ends s t)) l.terminal)

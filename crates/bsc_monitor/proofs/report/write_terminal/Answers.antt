@@ -1,0 +1,29 @@
+use Rattle.std.proofs.Common.{◌≡◌, arith}
+use Rattle.std.proofs.KnownBytes.{Appends-trans}
+use Rattle.bsc_directory.specs.declared.way.Way.TheVariants.{FromTerminal, ToTerminal}
+use Rattle.bsc_report.specs.Channels.{each_below}
+use Rattle.bsc_monitor.specs.Printed.{channel_lines}
+use Rattle.bsc_report.proofs.Appending.{each_below_more}
+use Rattle.bsc_monitor.proofs.report.write_terminal.Goals as goal
+
+pub selects-preserved : goal.selects-preserved
+selects-preserved g c =
+    let s = c.args.station.now in
+    let t = c.args.terminal in
+    each_below_more (g.W.Write.contents c.write_channel.new.out) (g.W.Write.contents c.selects.out)
+    (g.W.Write.contents c.write_channel-in-selects.new.out)
+    (λ n. channel_lines (g.P.Party.selects s t) (g.P.Party.numbers s t) (g.P.Party.ends s t)
+    (ToTerminal n)) c.selects.select c.selects.invariant c.in_ok-write_channel-2.ensures
+
+pub returns : goal.returns
+returns g c =
+    let s = c.args.station.now in
+    let t = c.args.terminal in
+    let line = channel_lines (g.P.Party.selects s t) (g.P.Party.numbers s t) (g.P.Party.ends s t) in
+    let all : c.selects.select ≡ g.P.Party.selects s t =
+    omega (arith, c.addresses-select-end.ensures) in
+    let selects = rw all at c.selects.invariant in
+    Appends-trans (g.W.Write.contents c.args.out.now) (g.W.Write.contents c.write_channel.new.out)
+    (g.W.Write.contents c.selects.out)
+    (line FromTerminal) (each_below (λ n. line (ToTerminal n)) (g.P.Party.selects s t))
+    c.in_ok-write_channel.ensures selects

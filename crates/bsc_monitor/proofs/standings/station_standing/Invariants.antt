@@ -1,0 +1,9 @@
+use Rattle.std.proofs.Common.{◌≡◌, false}
+use Rattle.bsc_monitor.specs.Ends.{standing_of, terminal_standing, together}
+use Rattle.bsc_monitor.proofs.standings.station_standing.Given as goal
+
+abbrev pub invariant-terminals : goal.invariant-terminals
+invariant-terminals g l =
+    l.standing ≡ together (standing_of false false)
+    (λ t. terminal_standing (g.P.Party.selects l.station t) (g.P.Party.ends l.station t))
+    l.terminal

@@ -1,0 +1,10 @@
+use Rattle.std.proofs.Common.{◌≡◌}
+use Rattle.bsc_directory.specs.declared.way.Way.TheVariants.{FromTerminal, ToTerminal}
+use Rattle.bsc_monitor.specs.Ends.{standing_at, together}
+use Rattle.bsc_monitor.proofs.standings.terminal_standing.Given as goal
+
+abbrev pub invariant-selects : goal.invariant-selects
+invariant-selects g l =
+    let ends = g.P.Party.ends l.station l.terminal in
+    l.standing ≡ together (standing_at (ends FromTerminal)) (λ s. standing_at (ends (ToTerminal s)))
+    l.select

@@ -1,0 +1,8 @@
+-- The end of a channel as a value (own).
+use Rattle.bsc_monitor.specs.Ends.{End, sending, receiving}
+use Rattle.bsc_monitor.specs.declared.channel_end.ChannelEnd.{ChannelEnd}
+use Rattle.bsc_monitor.specs.declared.channel_end.ChannelEnd.TheVariants.{Sending, Receiving}
+
+abbrev pub end_of : ChannelEnd → End
+end_of (Sending offered known doubt) = sending offered known doubt
+end_of (Receiving records) = receiving records.now

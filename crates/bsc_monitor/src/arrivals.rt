@@ -1,0 +1,155 @@
+//! The records that arrive at a station are printed.
+
+ghost use Rattle.std.specs.Prelude.{◌≡◌, ◌<◌, length, Ok, OnOk, false, true};
+ghost use Rattle.std.specs.List.{flat_map};
+ghost use Rattle.std.specs.Io.KnownBytes.{Appends};
+ghost use Rattle.bsc_report.specs.Channels.{channel_name, each_below};
+ghost use Rattle.bsc_monitor.specs.Printed.{arrival_line, record_shown};
+ghost use Rattle.bsc_monitor.specs.Arrivals.{AreCounted, AsManyArePrinted, MoreArePrinted, arrivals_of};
+ghost use Rattle.bsc_monitor.specs.Arrivals.{channel_arrivals, counted};
+
+use crate::{Party, Received};
+use bsc_block::Record;
+use bsc_control::Way;
+use bsc_print::{PrintError, write_chars};
+use bsc_report::{put, write_channel_name};
+use std::alloc::Allocator;
+use std::io::Write;
+
+/// How the characters of a record that arrives are printed (own).
+#[derive(Clone, Copy)]
+pub enum Form {
+    /// In hexadecimal text, as the report has them.
+    Hexadecimal,
+
+    /// As they stand.
+    Text,
+}
+
+/// A channel by what its name is made of.
+#[derive(Clone, Copy)]
+struct Channel {
+    addresses: usize,
+    number: usize,
+    way: Way,
+}
+
+/// Prints the records that arrived at a station beyond those printed before, in their order and a
+/// line each, channel by channel: `printed` has for each channel on which the station receives how
+/// many of its records were printed. What is written is flushed. True where a record was printed.
+/// After an error a part may have been written. (Own.)
+pub(crate) fn print_arrivals<A: Allocator + Copy, P: Party, W: Write>(
+    alloc: A,
+    form: Form,
+    station: &P,
+    printed: &mut [usize],
+    out: &mut W,
+) -> Result<bool, PrintError>
+    requires { length printed.old ≡ P.receives station.now }
+    ensures text { let s = station.now in OnOk result
+        (Appends (W.contents out.old) (W.contents out.new)
+        (each_below (arrivals_of form (P.selects s) (P.numbers s) (P.ends s) P.terminal_of P.way_of
+        printed.old) (P.receives s))) }
+    ensures counts { OnOk result (AreCounted (P.ends station.now) P.terminal_of P.way_of
+        printed.old printed.new (P.receives station.now)) }
+    ensures some { result ≡ Ok true →
+        MoreArePrinted printed.old printed.new (P.receives station.now) }
+    ensures none { result ≡ Ok false →
+        AsManyArePrinted printed.old printed.new (P.receives station.now) }
+{
+    let mut found = false;
+    'channels: for number in 0..station.spools() {
+        found |= print_channel(alloc, form, station, number, &mut printed[number], out)?;
+    }
+    if found && out.flush().is_err() {
+        return Err(PrintError::Output);
+    }
+    Ok(found)
+}
+
+/// Prints the records of one channel beyond those printed before, and counts them. True where there
+/// was one.
+fn print_channel<A: Allocator + Copy, P: Party, W: Write>(
+    alloc: A,
+    form: Form,
+    station: &P,
+    number: usize,
+    printed: &mut usize,
+    out: &mut W,
+) -> Result<bool, PrintError>
+    requires { number < P.receives station.now }
+    ensures text { let s = station.now in OnOk result
+        (Appends (W.contents out.old) (W.contents out.new)
+        (channel_arrivals form (P.selects s) (P.numbers s) (P.ends s) (P.terminal_of number)
+        (P.way_of number) printed.old)) }
+    ensures count { OnOk result (printed.new ≡ counted (P.ends station.now) (P.terminal_of number)
+        (P.way_of number) printed.old) }
+    ensures some { result ≡ Ok true → printed.old < printed.new }
+    ensures none { result ≡ Ok false → printed.new ≡ printed.old }
+{
+    let received = station.received(number);
+    let records = received.records;
+    if records.len() <= *printed {
+        return Ok(false);
+    }
+    let channel = Channel {
+        addresses: station.addresses(received.terminal),
+        number: station.number(received.terminal),
+        way: received.way,
+    };
+    print_records(alloc, form, channel, &records[*printed..], out)?;
+    *printed = records.len();
+    Ok(true)
+}
+
+/// Prints the lines of these records.
+fn print_records<A: Allocator + Copy, W: Write>(
+    alloc: A,
+    form: Form,
+    channel: Channel,
+    records: &[Record],
+    out: &mut W,
+) -> Result<(), PrintError>
+    ensures { OnOk result (Appends (W.contents out.old) (W.contents out.new)
+        (flat_map (arrival_line form (channel_name channel.addresses channel.number channel.way))
+        records.now)) }
+{
+    'records: for record in records {
+        print_record(alloc, form, channel, record.chars(), out)?;
+    }
+    Ok(())
+}
+
+/// Prints the line of a record of these characters.
+fn print_record<A: Allocator, W: Write>(
+    alloc: A,
+    form: Form,
+    channel: Channel,
+    chars: &[u8],
+    out: &mut W,
+) -> Result<(), PrintError>
+    ensures { OnOk result (Appends (W.contents out.old) (W.contents out.new)
+        (arrival_line form (channel_name channel.addresses channel.number channel.way)
+        chars.now)) }
+{
+    write_channel_name(channel.addresses, channel.number, channel.way, out)?;
+    put(b": ", out)?;
+    print_chars(alloc, form, chars, out)?;
+    put(b"\n", out)
+}
+
+/// Prints the characters of a record.
+fn print_chars<A: Allocator, W: Write>(
+    alloc: A,
+    form: Form,
+    chars: &[u8],
+    out: &mut W,
+) -> Result<(), PrintError>
+    ensures { OnOk result (Appends (W.contents out.old) (W.contents out.new)
+        (record_shown form chars.now)) }
+{
+    match form {
+        Form::Hexadecimal => write_chars(alloc, chars, out),
+        Form::Text => put(chars, out),
+    }
+}

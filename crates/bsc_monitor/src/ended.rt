@@ -1,0 +1,66 @@
+//! A control station that has ended, until its last call is answered.
+
+ghost use Rattle.std.specs.Prelude.{◌≡◌, false};
+
+use crate::Timer;
+use crate::trace::Who;
+use crate::watch::{Watch, live};
+use bsc_bid::Station;
+use bsc_connections::{LiveError, Monitor, Note};
+use bsc_frame::{Heard, Message};
+use std::alloc::Allocator;
+use std::io::Write;
+
+/// A station that hears and sends nothing (own). It stands in the place of a control station that
+/// has ended, so that the answer to its last call is read before its connections are closed; else a
+/// terminal would be told of a connection that failed.
+#[derive(Clone, Copy)]
+pub struct Ended;
+
+impl Station for Ended {
+    ghost use Rattle.std.specs.Prelude.{◌≡◌, false, None};
+
+    ghost hears = { λ old _ new sent. (new ≡ old) × (sent ≡ None) };
+
+    ghost acts = { λ old new sent. (new ≡ old) × (sent ≡ None) };
+
+    ghost holds = { λ _. false };
+
+    fn answer(&mut self, _heard: &Heard, sent: &mut Option<Message>) {
+        *sent = None;
+    }
+
+    fn act(&mut self, sent: &mut Option<Message>) {
+        *sent = None;
+    }
+
+    fn holds_line(&self) -> bool {
+        false
+    }
+
+    ghost ignores_noise = { λ old new sent hearing. hearing };
+}
+
+/// Prints what is heard last, and ends with it, or with a time-out or the end of a connection.
+#[derive(Drop)]
+pub struct LastWatch<'a, A: Allocator, T: Drop, W, D> {
+    /// What prints.
+    pub(crate) watch: Watch<'a, A, T, W, D>,
+
+    /// Whether it has ended.
+    pub(crate) ended: bool,
+}
+
+impl<'a, A: Allocator + Copy, T: Timer + Drop, W: Write, D: Write> Monitor<Ended>
+    for LastWatch<'a, A, T, W, D> {
+    ghost has_ended = { λ w. w.ended };
+
+    fn note(&mut self, _station: &Ended, note: Note<'_>) -> Result<bool, LiveError> {
+        live(self.watch.tell(Who::Control, &note))?;
+        match note {
+            Note::Heard { .. } | Note::Silence | Note::Closed { .. } => self.ended = true,
+            Note::Sent { .. } | Note::Joined { .. } => {}
+        }
+        Ok(!self.ended)
+    }
+}

@@ -1,0 +1,165 @@
+//! A terminal of a configured line.
+
+ghost use Rattle.std.specs.Prelude.{◌≡◌, ◌≤◌, ◌<◌, ◌++◌, ◌∷◌, [], length, OnOk};
+ghost use Rattle.bsc_monitor.specs.Ends.{IsWay};
+ghost use Rattle.bsc_monitor.specs.LineTerminal.{line_terminal_of};
+ghost use Rattle.bsc_bid.specs.Terminal.{HasDistinctAddresses};
+ghost use Rattle.bsc_tributary.specs.Kept.{IsNewTerminal};
+
+use crate::channel_end::queue_end;
+use crate::{ChannelEnd, Party, Received};
+use bsc_bid::{Setup, Station, Terminal};
+use bsc_block::Record;
+use bsc_control::Way;
+use bsc_frame::{Heard, Message};
+use bsc_tributary::Tributary;
+use std::alloc::Allocator;
+use std::marker::Model;
+
+/// A terminal, which knows its number and its addresses on the line (own).
+#[derive(Drop)]
+pub struct LineTerminal<A: Allocator> {
+    /// Its number on the line, counted from 0.
+    number: usize,
+
+    /// Its addresses.
+    terminal: Terminal,
+
+    /// The terminal.
+    tributary: Tributary<A>,
+}
+
+impl<A: Allocator> Model for LineTerminal<A> {
+    ghost use Rattle.std.specs.Prelude.{◌≡◌};
+    ghost use Rattle.bsc_monitor.specs.LineTerminal.{LineTerminalValue, line_terminal_of};
+
+    ghost Value = { LineTerminalValue };
+
+    ghost view = { λ l. line_terminal_of l.number l.tributary };
+
+    ghost invariant = { λ l. l.tributary.terminal ≡ l.terminal };
+}
+
+impl<A: Allocator> LineTerminal<A> {
+    /// The terminal of this number with these addresses, which all differ. It has nothing to send.
+    pub(crate) fn new(alloc: A, setup: Setup, number: usize, terminal: Terminal) -> LineTerminal<A>
+    where
+        A: Copy,
+        requires { HasDistinctAddresses terminal }
+        ensures number { result.number ≡ number }
+        ensures terminal { IsNewTerminal setup terminal result.tributary }
+    {
+        LineTerminal {
+            number,
+            terminal,
+            tributary: Tributary::new(alloc, setup, terminal),
+        }
+    }
+
+    /// Its number on the line, counted from 0.
+    pub fn line_number(&self) -> usize
+        ensures { result ≡ self.now.number }
+    {
+        // A field is read, so that the invariant is known here.
+        let _ = &self.terminal;
+        self.number
+    }
+
+    /// Adds a record to those that it has to send. It comes back where there is no memory for it,
+    /// and then nothing changed. Condition: it is not longer than the full length.
+    pub fn offer(&mut self, record: Record) -> Result<(), Record>
+        requires { length «record» ≤ self.old.tributary.queue.format.full }
+        ensures number { self.new.number ≡ self.old.number }
+        ensures format { self.new.tributary.queue.format ≡ self.old.tributary.queue.format }
+        ensures offered { OnOk result (self.new.tributary.queue.offered
+            ≡ self.old.tributary.queue.offered ++ «record» ∷ []) }
+    {
+        self.tributary.offer(record)
+    }
+}
+
+impl<A: Allocator> Station for LineTerminal<A> {
+    ghost use Rattle.std.specs.Prelude.{refl};
+    ghost use Rattle.std.proofs.Common.{ap₂};
+    ghost use Rattle.bsc_tributary.specs.Tributary.{holds};
+    ghost use Rattle.bsc_monitor.specs.LineTerminal.{Hears, Acts, line_terminal_of};
+
+    ghost hears = { Hears };
+
+    ghost acts = { Acts };
+
+    ghost holds = { λ l. holds l.tributary.mode };
+
+    fn answer(&mut self, heard: &Heard, sent: &mut Option<Message>) {
+        self.tributary.answer(heard, sent);
+    }
+
+    fn act(&mut self, sent: &mut Option<Message>) {
+        self.tributary.act(sent);
+    }
+
+    fn holds_line(&self) -> bool {
+        // A field is read, so that the invariant is known here.
+        let _ = &self.terminal;
+        self.tributary.holds_line()
+    }
+
+    ghost ignores_noise = { λ old new sent h. (
+      ap₂ line_terminal_of h.number (h.hearing.after.noise refl).0,
+      (h.hearing.after.noise refl).1,
+    ) };
+}
+
+impl<A: Allocator> Party for LineTerminal<A> {
+    ghost use Rattle.std.specs.Prelude.{length};
+    ghost use Rattle.bsc_directory.specs.declared.way.Way.TheVariants.{ToTerminal};
+    ghost use Rattle.bsc_monitor.specs.Ends.{terminal_end};
+
+    ghost count = { λ _. 1 };
+
+    ghost numbers = { λ l _. l.number };
+
+    ghost selects = { λ l _. length l.tributary.terminal.selects };
+
+    ghost ends = { λ l _ way. terminal_end l.tributary way };
+
+    ghost receives = { λ l. length l.tributary.terminal.selects };
+
+    ghost terminal_of = { λ _. 0 };
+
+    ghost way_of = { λ number. ToTerminal number };
+
+    fn terminals(&self) -> usize {
+        1
+    }
+
+    fn number(&self, _terminal: usize) -> usize {
+        LineTerminal::line_number(self)
+    }
+
+    fn addresses(&self, _terminal: usize) -> usize {
+        self.terminal.selects()
+    }
+
+    fn end(&self, _terminal: usize, way: Way) -> ChannelEnd<'_> {
+        let tributary = &self.tributary;
+        match way {
+            Way::FromTerminal => queue_end(tributary.queue(), tributary.in_doubt()),
+            Way::ToTerminal(select) => ChannelEnd::Receiving {
+                records: tributary.spool(select).records(),
+            },
+        }
+    }
+
+    fn spools(&self) -> usize {
+        self.terminal.selects()
+    }
+
+    fn received(&self, number: usize) -> Received<'_> {
+        Received {
+            terminal: 0,
+            way: Way::ToTerminal(number),
+            records: self.tributary.spool(number).records(),
+        }
+    }
+}

@@ -1,0 +1,151 @@
+//! The report of a station: what the channels have that end at it.
+
+ghost use Rattle.std.specs.Prelude.{◌≡◌, ◌++◌, ◌<◌, codes, length, OnOk};
+ghost use Rattle.std.specs.List.{flat_map};
+ghost use Rattle.std.specs.Fmt.{decimal};
+ghost use Rattle.std.specs.Io.KnownBytes.{Appends};
+ghost use Rattle.bsc_report.specs.Channels.{doubt_shown, record_line};
+ghost use Rattle.bsc_monitor.specs.Ends.{IsWay};
+ghost use Rattle.bsc_monitor.specs.EndValues.{end_of};
+ghost use Rattle.bsc_monitor.specs.Printed.{end_shown, channel_lines, terminal_lines};
+ghost use Rattle.bsc_monitor.specs.Printed.{station_report};
+
+use crate::{ChannelEnd, Party};
+use bsc_block::Record;
+use bsc_control::Way;
+use bsc_print::PrintError;
+use bsc_report::{doubt_text, put, write_channel_name, write_records};
+use std::alloc::Allocator;
+use std::io::Write;
+
+/// Writes the report of a station: for each channel on which it sends how many records were
+/// offered, how many of them are known to have arrived and whether it is in doubt; and for each on
+/// which it receives how many records arrived, and these. The channels stand in the order of the
+/// report of a run. After an error a part may have been written. (Own.)
+pub fn write_report<A: Allocator + Copy, P: Party, W: Write>(
+    alloc: A,
+    station: &P,
+    out: &mut W,
+) -> Result<(), PrintError>
+    ensures { let s = station.now in OnOk result
+        (Appends (W.contents out.old) (W.contents out.new)
+        (station_report (P.selects s) (P.numbers s) (P.ends s) (P.count s))) }
+{
+    'terminals: for terminal in 0..station.terminals() {
+        write_terminal(alloc, station, terminal, out)?;
+    }
+    Ok(())
+}
+
+/// Writes the lines of a terminal.
+fn write_terminal<A: Allocator + Copy, P: Party, W: Write>(
+    alloc: A,
+    station: &P,
+    terminal: usize,
+    out: &mut W,
+) -> Result<(), PrintError>
+    requires { terminal < P.count station.now }
+    ensures { let s = station.now in OnOk result
+        (Appends (W.contents out.old) (W.contents out.new)
+        (terminal_lines (P.selects s terminal) (P.numbers s terminal) (P.ends s terminal))) }
+{
+    write_channel(alloc, station, terminal, Way::FromTerminal, out)?;
+    'selects: for select in 0..station.addresses(terminal) {
+        write_channel(alloc, station, terminal, Way::ToTerminal(select), out)?;
+    }
+    Ok(())
+}
+
+/// Writes the lines of a channel.
+fn write_channel<A: Allocator + Copy, P: Party, W: Write>(
+    alloc: A,
+    station: &P,
+    terminal: usize,
+    way: Way,
+    out: &mut W,
+) -> Result<(), PrintError>
+    requires known { terminal < P.count station.now }
+    requires its_way { IsWay way (P.selects station.now terminal) }
+    ensures { let s = station.now in OnOk result
+        (Appends (W.contents out.old) (W.contents out.new)
+        (channel_lines (P.selects s terminal) (P.numbers s terminal) (P.ends s terminal) way)) }
+{
+    let addresses = station.addresses(terminal);
+    let number = station.number(terminal);
+    write_channel_name(addresses, number, way, out)?;
+    write_end(alloc, station.end(terminal, way), out)
+}
+
+/// Writes what a channel has at its end.
+fn write_end<A: Allocator + Copy, W: Write>(
+    alloc: A,
+    end: ChannelEnd<'_>,
+    out: &mut W,
+) -> Result<(), PrintError>
+    ensures { OnOk result
+        (Appends (W.contents out.old) (W.contents out.new) (end_shown (end_of end.entry))) }
+{
+    match end {
+        ChannelEnd::Sending {
+            offered,
+            known,
+            doubt,
+        } => write_sending(offered, known, doubt, out),
+        ChannelEnd::Receiving { records } => write_receiving(alloc, records, out),
+    }
+}
+
+/// Writes what a station knows of a channel on which it sends.
+fn write_sending<W: Write>(
+    offered: usize,
+    known: usize,
+    doubt: bool,
+    out: &mut W,
+) -> Result<(), PrintError>
+    ensures { OnOk result
+        (Appends (W.contents out.old) (W.contents out.new)
+        (codes ": offered " ++ decimal offered ++ codes ", known " ++ decimal known
+        ++ doubt_shown doubt)) }
+{
+    write_counts(offered, known, out)?;
+    put(doubt_text(doubt), out)
+}
+
+/// Writes how many records were offered, and how many of them are known to have arrived.
+fn write_counts<W: Write>(offered: usize, known: usize, out: &mut W) -> Result<(), PrintError>
+    ensures { OnOk result
+        (Appends (W.contents out.old) (W.contents out.new)
+        (codes ": offered " ++ decimal offered ++ codes ", known " ++ decimal known)) }
+{
+    match write!(out, ": offered {offered}, known {known}") {
+        Ok(()) => Ok(()),
+        Err(_) => Err(PrintError::Output),
+    }
+}
+
+/// Writes the records that arrived on a channel on which a station receives.
+fn write_receiving<A: Allocator + Copy, W: Write>(
+    alloc: A,
+    records: &[Record],
+    out: &mut W,
+) -> Result<(), PrintError>
+    ensures { OnOk result
+        (Appends (W.contents out.old) (W.contents out.new)
+        (codes ": spooled " ++ decimal (length records.now) ++ codes "\n"
+        ++ flat_map record_line records.now)) }
+{
+    write_count(records.len(), out)?;
+    write_records(alloc, records, out)
+}
+
+/// Writes how many records arrived.
+fn write_count<W: Write>(spooled: usize, out: &mut W) -> Result<(), PrintError>
+    ensures { OnOk result
+        (Appends (W.contents out.old) (W.contents out.new)
+        (codes ": spooled " ++ decimal spooled ++ codes "\n")) }
+{
+    match write!(out, ": spooled {spooled}\n") {
+        Ok(()) => Ok(()),
+        Err(_) => Err(PrintError::Output),
+    }
+}

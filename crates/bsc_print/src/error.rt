@@ -1,0 +1,27 @@
+//! Why a name was not printed.
+ghost use Rattle.std.specs.Prelude.{◌≡◌};
+
+use std::alloc::AllocError;
+use thiserror::Error;
+
+/// Why what is printed for a transmission was not written.
+#[derive(Clone, Copy, Debug, PartialEq, Eq, Error)]
+pub enum PrintError {
+    /// The writer did not take the text.
+    #[error("output fault")]
+    Output,
+
+    /// A growth was refused.
+    #[error("out of memory")]
+    Memory,
+}
+
+impl From<AllocError> for PrintError {
+    ghost use Rattle.bsc_print.specs.declared.error.PrintError.TheVariants.{Memory};
+
+    ghost from_gives = { λ _ error. error ≡ Memory };
+
+    fn from(_error: AllocError) -> PrintError {
+        PrintError::Memory
+    }
+}

@@ -1,0 +1,208 @@
+//! The text that is printed for what is heard.
+ghost use Rattle.std.specs.Prelude.{◌≡◌, ◌<◌, OnOk, IfErr, length};
+ghost use Rattle.std.specs.Io.KnownBytes.{Appends};
+ghost use Rattle.std.specs.List.{flat_map};
+ghost use Rattle.bsc_frame.specs.Units.{text_unit};
+ghost use Rattle.bsc_print.specs.Names.{end_name, message_name, message_units, name_of, name_line};
+ghost use Rattle.bsc_print.specs.Names.{chars_shown, em_shown, unit_line, shown, units_of};
+
+use crate::PrintError;
+use bsc_frame::{End, Heard, Message, Text, Unit};
+use std::alloc::Allocator;
+use std::io::Write;
+
+/// How much is printed for a transmission.
+#[derive(Clone, Copy, Debug, PartialEq, Eq)]
+pub enum Detail {
+    /// Its name.
+    Name,
+
+    /// Its name, and the units of a text.
+    Units,
+}
+
+/// Writes the octets.
+fn put<W: Write>(octets: &[u8], out: &mut W) -> Result<(), PrintError>
+    ensures ok { OnOk result (Appends (W.contents out.old) (W.contents out.new) octets.now) }
+    ensures err { IfErr result (λ error. error ≡ PrintError.Output) }
+{
+    match out.write_all(octets) {
+        Ok(()) => Ok(()),
+        Err(_) => Err(PrintError::Output),
+    }
+}
+
+/// The name of the character that ends a text.
+fn end_name(end: End) -> &'static str
+    ensures { result.now ≡ end_name end }
+{
+    match end {
+        End::Etb => "ETB",
+        End::Etx => "ETX",
+    }
+}
+
+/// Writes the name of a text.
+fn write_text_name<W: Write>(text: &Text, out: &mut W) -> Result<(), PrintError>
+    ensures ok { OnOk result
+        (Appends (W.contents out.old) (W.contents out.new) (message_name (Message.Text text.now))) }
+    ensures err { IfErr result (λ error. error ≡ PrintError.Output) }
+{
+    let end = end_name(text.end());
+    let count = text.count();
+    match write!(out, "TEXT {end} {count}") {
+        Ok(()) => Ok(()),
+        Err(_) => Err(PrintError::Output),
+    }
+}
+
+/// Writes the name of a message, without a line feed: a control sequence by its name, a call with
+/// its address, a text with its end and the number of its units. After an error a part of the name
+/// may have been written.
+pub fn write_name<W: Write>(message: &Message, out: &mut W) -> Result<(), PrintError>
+    ensures ok { OnOk result
+        (Appends (W.contents out.old) (W.contents out.new) (message_name message.now)) }
+    ensures err { IfErr result (λ error. error ≡ PrintError.Output) }
+{
+    match message {
+        Message::Eot => put(b"EOT", out),
+        Message::Call(address) => {
+            put(b"CALL ", out)?;
+            put(address.codes(), out)
+        }
+        Message::Enq => put(b"ENQ", out),
+        Message::Ack0 => put(b"ACK0", out),
+        Message::Ack1 => put(b"ACK1", out),
+        Message::Nak => put(b"NAK", out),
+        Message::Wack => put(b"WACK", out),
+        Message::Rvi => put(b"RVI", out),
+        Message::Text(text) => write_text_name(text, out),
+    }
+}
+
+/// Writes the name of what is heard.
+fn write_heard_name<W: Write>(heard: &Heard, out: &mut W) -> Result<(), PrintError>
+    ensures ok { OnOk result
+        (Appends (W.contents out.old) (W.contents out.new) (name_of heard.now)) }
+    ensures err { IfErr result (λ error. error ≡ PrintError.Output) }
+{
+    match heard {
+        Heard::Whole(message) => write_name(message, out),
+        Heard::Failed => put(b"FAILED", out),
+        Heard::Noise => put(b"NOISE", out),
+    }
+}
+
+/// Writes the name, and a line feed.
+fn write_name_line<W: Write>(heard: &Heard, out: &mut W) -> Result<(), PrintError>
+    ensures ok { OnOk result
+        (Appends (W.contents out.old) (W.contents out.new) (name_line heard.now)) }
+    ensures err { IfErr result (λ error. error ≡ PrintError.Output) }
+{
+    write_heard_name(heard, out)?;
+    put(b"\n", out)
+}
+
+/// Writes what is printed for what is heard: its name and a line feed, and with the units a line
+/// for each unit of a text. After an error a part may have been written.
+pub fn write_shown<A: Allocator + Copy, W: Write>(
+    alloc: A,
+    detail: Detail,
+    heard: &Heard,
+    out: &mut W,
+) -> Result<(), PrintError>
+    ensures ok { OnOk result
+        (Appends (W.contents out.old) (W.contents out.new) (shown detail heard.now)) }
+{
+    write_name_line(heard, out)?;
+    match detail {
+        Detail::Name => Ok(()),
+        Detail::Units => write_units(alloc, heard, out),
+    }
+}
+
+/// Writes a line for each unit of a text; nothing for what is no text.
+fn write_units<A: Allocator + Copy, W: Write>(
+    alloc: A,
+    heard: &Heard,
+    out: &mut W,
+) -> Result<(), PrintError>
+    ensures ok { OnOk result
+        (Appends (W.contents out.old) (W.contents out.new)
+        (flat_map unit_line (units_of heard.now))) }
+{
+    match heard {
+        Heard::Whole(message) => write_message_units(alloc, message, out),
+        _ => Ok(()),
+    }
+}
+
+/// Writes a line for each unit of a message.
+fn write_message_units<A: Allocator + Copy, W: Write>(
+    alloc: A,
+    message: &Message,
+    out: &mut W,
+) -> Result<(), PrintError>
+    ensures ok { OnOk result
+        (Appends (W.contents out.old) (W.contents out.new)
+        (flat_map unit_line (message_units message.now))) }
+{
+    if let Message::Text(text) = message {
+        return write_text_units(alloc, text, out);
+    }
+    Ok(())
+}
+
+/// Writes a line for each unit of a text.
+fn write_text_units<A: Allocator + Copy, W: Write>(
+    alloc: A,
+    text: &Text,
+    out: &mut W,
+) -> Result<(), PrintError>
+    ensures ok { OnOk result
+        (Appends (W.contents out.old) (W.contents out.new) (flat_map unit_line text.now.units)) }
+{
+    'units: for place in 0..text.count() {
+        write_unit(alloc, text.unit(place), out)?;
+    }
+    Ok(())
+}
+
+/// Writes the line of a unit.
+fn write_unit<A: Allocator, W: Write>(
+    alloc: A,
+    unit: Unit<'_>,
+    out: &mut W,
+) -> Result<(), PrintError>
+    ensures ok { OnOk result
+        (Appends (W.contents out.old) (W.contents out.new) (unit_line (text_unit unit.entry))) }
+{
+    put(b"unit ", out)?;
+    write_chars(alloc, unit.chars, out)?;
+    put(em_mark(unit.em), out)?;
+    put(b"\n", out)
+}
+
+/// Writes the codes of characters in lower case hexadecimal text, or a dash where there are none.
+/// After an error a part may have been written.
+pub fn write_chars<A: Allocator, W: Write>(
+    alloc: A,
+    chars: &[u8],
+    out: &mut W,
+) -> Result<(), PrintError>
+    ensures ok { OnOk result
+        (Appends (W.contents out.old) (W.contents out.new) (chars_shown chars.now)) }
+{
+    if chars.is_empty() {
+        return put(b"-", out);
+    }
+    let digits = hex::encode(alloc, chars)?;
+    put(digits.as_bytes(), out)
+}
+
+/// What says whether EM follows the characters of a unit.
+fn em_mark(em: bool) -> &'static [u8]
+    ensures { result.now ≡ em_shown em }
+{
+    if em { b" EM" } else { b"" }
+}

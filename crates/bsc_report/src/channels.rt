@@ -1,0 +1,80 @@
+//! The parts of the lines of a channel.
+
+ghost use Rattle.std.specs.Prelude.{◌≡◌, OnOk};
+ghost use Rattle.std.specs.List.{flat_map};
+ghost use Rattle.std.specs.Io.KnownBytes.{Appends};
+ghost use Rattle.bsc_report.specs.Channels.{channel_name, doubt_shown, record_line};
+
+use bsc_block::Record;
+use bsc_directory::Way;
+use bsc_print::{PrintError, write_chars};
+use std::alloc::Allocator;
+use std::io::Write;
+
+/// Writes the octets.
+pub fn put<W: Write>(octets: &[u8], out: &mut W) -> Result<(), PrintError>
+    ensures { OnOk result (Appends (W.contents out.old) (W.contents out.new) octets.now) }
+{
+    match out.write_all(octets) {
+        Ok(()) => Ok(()),
+        Err(_) => Err(PrintError::Output),
+    }
+}
+
+/// Writes the name of a channel of a terminal that has this many selection addresses. After an
+/// error a part of it may have been written.
+pub fn write_channel_name<W: Write>(
+    addresses: usize,
+    terminal: usize,
+    way: Way,
+    out: &mut W,
+) -> Result<(), PrintError>
+    ensures { OnOk result
+        (Appends (W.contents out.old) (W.contents out.new) (channel_name addresses terminal way)) }
+{
+    let written = match way {
+        Way::FromTerminal => write!(out, "from {terminal}"),
+        Way::ToTerminal(_) if addresses == 1 => write!(out, "to {terminal}"),
+        Way::ToTerminal(select) => write!(out, "to {terminal}.{select}"),
+    };
+    match written {
+        Ok(()) => Ok(()),
+        Err(_) => Err(PrintError::Output),
+    }
+}
+
+/// The end of the line of a channel, by whether its sending end is in doubt.
+pub fn doubt_text(doubt: bool) -> &'static [u8]
+    ensures { result.now ≡ doubt_shown doubt }
+{
+    if doubt { b", in doubt\n" } else { b"\n" }
+}
+
+/// Writes a line for each record. After an error a part of them may have been written.
+pub fn write_records<A: Allocator + Copy, W: Write>(
+    alloc: A,
+    records: &[Record],
+    out: &mut W,
+) -> Result<(), PrintError>
+    ensures { OnOk result
+        (Appends (W.contents out.old) (W.contents out.new) (flat_map record_line records.now)) }
+{
+    'records: for record in records {
+        write_record(alloc, record.chars(), out)?;
+    }
+    Ok(())
+}
+
+/// Writes the line of a record of these characters.
+fn write_record<A: Allocator, W: Write>(
+    alloc: A,
+    chars: &[u8],
+    out: &mut W,
+) -> Result<(), PrintError>
+    ensures { OnOk result
+        (Appends (W.contents out.old) (W.contents out.new) (record_line chars.now)) }
+{
+    put(b"  ", out)?;
+    write_chars(alloc, chars, out)?;
+    put(b"\n", out)
+}

@@ -1,0 +1,38 @@
+//! One terminal against the control station of another maker.
+
+use anyhow::bail;
+use bsc_bid::{Setup, Station, Terminal};
+use bsc_frame::{Address, Wire};
+use bsc_tributary::{Tributary, addresses_differ};
+use std::alloc::Allocator;
+use std::io::Write;
+
+/// Runs the terminal that is polled by `A` and selected by `a` on what it hears: the octets of one
+/// transmission after another, and None where nothing was heard for the time of a time-out. What it
+/// sends goes to `line`, and then the records that arrived to `printer`.
+pub fn run_terminal<A: Allocator + Copy, W: Write>(
+    alloc: A,
+    heard: &[Option<&[u8]>],
+    line: &mut W,
+    printer: &mut W,
+) -> anyhow::Result<()> {
+    let terminal = Terminal::new(Address::read(b"A")?, &[Address::read(b"a")?])?;
+    if !addresses_differ(&terminal) {
+        bail!("two addresses are the same");
+    }
+    let mut station = Tributary::new(alloc, Setup::new(80, 400, 3, 10)?, terminal);
+    let mut wire = Wire::new();
+    for transmission in heard {
+        let sends = match transmission {
+            Some(octets) => station.hear(octets, &mut wire),
+            None => station.silence(&mut wire),
+        };
+        if sends {
+            line.write_all(&wire)?;
+        }
+    }
+    for record in station.spool(0).records() {
+        printer.write_all(record.chars())?;
+    }
+    Ok(())
+}

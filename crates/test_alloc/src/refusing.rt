@@ -1,0 +1,144 @@
+//! The allocator, and the one place where the repository's tests own raw memory.
+ghost use Rattle.std.specs.Prelude.{◌≡◌};
+ghost use Rattle.test_alloc.specs.Turns.{new_turns};
+
+use crate::in_turn::InTurn;
+use crate::tally::{Rule, Tally};
+use std::alloc::{AllocError, Allocator, Global};
+use std::cell::Cell;
+use std::ops::Range;
+
+/// Which requests are refused, by a number that a test counts up.
+#[derive(Clone, Copy, Debug, PartialEq, Eq)]
+pub enum Refusal {
+    /// Only the request of the number, where 1 is the next one.
+    Nth,
+
+    /// The request of the number and each later one.
+    From,
+
+    /// Each request of more octets than the number times this many.
+    Above { octets: usize },
+}
+
+/// An allocator over `B` that refuses the requests that a test names. A test makes one over
+/// `rt.alloc()`, and hands `&refusing`, which is a `Copy` allocator, to what it tests.
+///
+/// A request is a call for a new block: an allocation, or a growth or a shrinking of a collection,
+/// since each of these moves to a new block. A refused request changes nothing, as if `B` were out
+/// of memory, and giving a block back is never refused.
+///
+/// Where `extend` and `from_iter` of std are refused once, they ask again for less: `refuse_nth`
+/// does not stop them, and `refuse_from` does.
+#[derive(Drop)]
+pub struct Refusing<B: Allocator = Global> {
+    inner: B,
+    tally: Cell<Tally>,
+}
+
+impl<B: Allocator> Refusing<B> {
+    /// Refuses nothing yet.
+    pub fn new(inner: B) -> Refusing<B> {
+        Refusing {
+            inner,
+            tally: Cell::new(Tally::new()),
+        }
+    }
+
+    fn set(&self, rule: Rule) {
+        let mut tally = self.tally.get();
+        tally.set(rule);
+        self.tally.set(tally);
+    }
+
+    /// From here on refuses nothing. Counting starts anew.
+    pub fn refuse_none(&self) {
+        self.set(Rule::Nothing);
+    }
+
+    /// From here on refuses only the request of this number, where 1 is the next one. Counting
+    /// starts anew.
+    pub fn refuse_nth(&self, request: usize) {
+        self.set(Rule::Nth { request });
+    }
+
+    /// From here on refuses the request of this number and each later one, where 1 is the next
+    /// one. Counting starts anew.
+    pub fn refuse_from(&self, request: usize) {
+        self.set(Rule::From { request });
+    }
+
+    /// From here on refuses each request of more than `size` octets. Counting starts anew.
+    pub fn refuse_larger(&self, size: usize) {
+        self.set(Rule::LargerThan { size });
+    }
+
+    /// From here on refuses the requests that the number names. Counting starts anew.
+    pub fn refuse(&self, refusal: Refusal, number: usize) {
+        match refusal {
+            Refusal::Nth => self.refuse_nth(number),
+            Refusal::From => self.refuse_from(number),
+            Refusal::Above { octets } => self.refuse_larger(number.saturating_mul(octets)),
+        }
+    }
+
+    /// Refuses by each number in turn, from 1 on, until a run meets no refusal. A test does one run
+    /// for each number that it is given:
+    ///
+    /// ```text
+    /// for number in alloc.in_turn(Refusal::Nth, 4..50) {
+    ///     let number = number?;
+    ///     let answer = make(&alloc);
+    ///     ..
+    /// }
+    /// ```
+    ///
+    /// `refused` says whether a run met a refusal, and `refuse` may begin its counting later. How
+    /// many runs meet a refusal has to be in this range, and at least 1: else the last item is an
+    /// error. After the last item nothing is refused.
+    pub fn in_turn(&self, refusal: Refusal, runs: Range<usize>) -> InTurn<'_, B>
+        ensures turns { result.turns ≡ new_turns runs.start runs.end }
+        ensures refusal { result.refusal ≡ refusal }
+    {
+        InTurn::new(self, refusal, runs)
+    }
+
+    /// How many requests there were since counting began, refused or not.
+    pub fn requests(&self) -> usize {
+        self.tally.get().requests
+    }
+
+    /// How many requests this allocator refused since counting began. One that `B` could not meet
+    /// is not among them.
+    pub fn refused(&self) -> usize {
+        self.tally.get().refused
+    }
+
+    /// How many requests this allocator ever refused.
+    pub(crate) fn ever_refused(&self) -> usize {
+        self.tally.get().ever_refused
+    }
+}
+
+// Takes only the cell, so that it is one function for every allocator.
+fn refuses(tally: &Cell<Tally>, size: usize) -> bool {
+    let mut now = tally.get();
+    let refused = now.ask(size);
+    tally.set(now);
+    refused
+}
+
+unsafe impl<B: Allocator> Allocator for Refusing<B> {
+    ghost dealloc_token = { λ refusing. B.dealloc_token refusing.inner };
+
+    fn allocate(&self, size: usize, align: usize) -> Result<*mut u8, AllocError> {
+        if refuses(&self.tally, size) {
+            return Err(AllocError);
+        }
+        self.inner.allocate(size, align)
+    }
+
+    unsafe fn deallocate(&self, ptr: *mut u8, size: usize, align: usize) {
+        self.inner.deallocate(ptr, size, align);
+    }
+}

@@ -1,0 +1,76 @@
+//! Which requests are refused, and the count of them. This is the whole decision of the allocator,
+//! kept apart from it so that its contract can be stated: no contract sees what a cell holds.
+ghost use Rattle.std.specs.Prelude.{◌≡◌, ◌↔◌, IsTrue};
+ghost use Rattle.test_alloc.specs.Refusals.{RefusesRequest, next_count, count_if};
+
+/// Which requests are refused. Requests are counted from 1, and sizes are in octets.
+#[derive(Clone, Copy, Debug, PartialEq, Eq)]
+pub(crate) enum Rule {
+    Nothing,
+    Nth { request: usize },
+    From { request: usize },
+    LargerThan { size: usize },
+}
+
+/// A rule, how many requests were made since it was set, how many of them were refused, and how
+/// many were ever refused.
+#[derive(Clone, Copy, Debug, PartialEq, Eq)]
+pub(crate) struct Tally {
+    pub(crate) rule: Rule,
+    pub(crate) requests: usize,
+    pub(crate) refused: usize,
+    pub(crate) ever_refused: usize,
+}
+
+impl Tally {
+    /// No rule, and nothing was asked yet.
+    pub(crate) fn new() -> Tally
+        ensures { result
+            ≡ record { rule = Rule.Nothing; requests = 0; refused = 0; ever_refused = 0 } }
+    {
+        Tally {
+            rule: Rule::Nothing,
+            requests: 0,
+            refused: 0,
+            ever_refused: 0,
+        }
+    }
+
+    /// From here on this rule. Counting starts anew, but for what was ever refused.
+    pub(crate) fn set(&mut self, rule: Rule)
+        ensures { self.new ≡ record {
+          rule = rule;
+          requests = 0;
+          refused = 0;
+          ever_refused = self.old.ever_refused;
+        } }
+    {
+        self.rule = rule;
+        self.requests = 0;
+        self.refused = 0;
+    }
+
+    /// Counts one more request, of `size` octets, and says whether it is refused. A count that is
+    /// at `usize::MAX` stays there.
+    pub(crate) fn ask(&mut self, size: usize) -> bool
+        ensures refuses { IsTrue result
+            ↔ RefusesRequest self.old.rule (next_count self.old.requests) size }
+        ensures rule { self.new.rule ≡ self.old.rule }
+        ensures requests { self.new.requests ≡ next_count self.old.requests }
+        ensures refused { self.new.refused ≡ count_if result self.old.refused }
+        ensures ever { self.new.ever_refused ≡ count_if result self.old.ever_refused }
+    {
+        self.requests = self.requests.saturating_add(1);
+        let refuses = match self.rule {
+            Rule::Nothing => false,
+            Rule::Nth { request } => self.requests == request,
+            Rule::From { request } => self.requests >= request,
+            Rule::LargerThan { size: most } => size > most,
+        };
+        if refuses {
+            self.refused = self.refused.saturating_add(1);
+            self.ever_refused = self.ever_refused.saturating_add(1);
+        }
+        refuses
+    }
+}

@@ -1,0 +1,7 @@
+-- This many records are those of the characters.
+use Rattle.std.proofs.Common.{◌≡◌, take}
+use Rattle.test_fixtures.specs.Records.{values}
+use Rattle.test_fixtures.proofs.records.are_front.Given as goal
+
+abbrev pub invariant-loop-place : goal.invariant-loop-place
+invariant-loop-place l = take l.place (values l.expected) ≡ take l.place l.records

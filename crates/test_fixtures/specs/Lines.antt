@@ -1,0 +1,23 @@
+-- The terminals of the line that the tests play on (own: tests).
+use Rattle.std.specs.Prelude.{ℕ, List, [], ◌∷◌}
+use Rattle.bsc_bid.specs.Terminal.{TerminalValue}
+
+-- a terminal that is polled by the first address and selected by each of the others
+abbrev pub terminal_value : List ℕ → List (List ℕ) → TerminalValue
+terminal_value poll selects = record { poll = poll; selects = selects }
+
+-- the address of one code
+abbrev pub one : ℕ → List ℕ
+one code = code ∷ []
+
+-- the terminal that is polled by B and selected by b
+abbrev pub terminal_b : TerminalValue
+terminal_b = terminal_value (one 0x42) (one 0x62 ∷ [])
+
+-- the terminal that is polled by A and selected by a, and the one that is polled by B
+abbrev pub two : List TerminalValue
+two = terminal_value (one 0x41) (one 0x61 ∷ []) ∷ terminal_b ∷ []
+
+-- these two terminals, where the first is also selected by c
+abbrev pub two_by_three : List TerminalValue
+two_by_three = terminal_value (one 0x41) (one 0x61 ∷ one 0x63 ∷ []) ∷ terminal_b ∷ []

@@ -1,0 +1,41 @@
+//! Records of a queue or of a spool, compared with the characters that are expected.
+ghost use Rattle.std.specs.Prelude.{◌≡◌, ◌↔◌, IsTrue, Some};
+ghost use Rattle.std.specs.List.{slice_get};
+ghost use Rattle.test_fixtures.specs.Records.{Begins, values};
+
+use bsc_block::Record;
+
+/// Whether these are the characters of the record.
+fn is_of(own: &Record, chars: &[u8]) -> bool
+    ensures { IsTrue result ↔ (own.now ≡ chars.now) }
+{
+    own.chars() == chars
+}
+
+/// Whether the characters at this place are those of the record.
+#[tactic(auto, using(crate::proofs::Fronts::value_steps))]
+fn has_at(expected: &[&[u8]], place: usize, own: &Record) -> bool
+    ensures { IsTrue result ↔ (slice_get (values expected.now) place ≡ Some own.now) }
+{
+    place < expected.len() && is_of(own, expected[place])
+}
+
+/// Whether the records are those of the first of these characters, in order.
+#[tactic(auto, using(crate::proofs::Fronts::front_more, crate::proofs::Fronts::front_at))]
+pub fn are_front(records: &[Record], expected: &[&[u8]]) -> bool
+    ensures { IsTrue result ↔ Begins records.now (values expected.now) }
+{
+    for (place, record) in records.iter().enumerate() {
+        if !has_at(expected, place, record) {
+            return false;
+        }
+    }
+    true
+}
+
+/// Whether the records are those of exactly these characters, in order.
+pub fn are_records(records: &[Record], expected: &[&[u8]]) -> bool
+    ensures { IsTrue result ↔ (records.now ≡ values expected.now) }
+{
+    records.len() == expected.len() && are_front(records, expected)
+}

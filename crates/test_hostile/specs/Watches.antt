@@ -1,0 +1,38 @@
+-- What a watch tells of a line, and what it keeps as events are played (own).
+use Rattle.std.specs.Prelude.{◌≡◌, ℕ, List, [], ◌∷◌, Option, None, Some, Result, if◌then◌else◌}
+use Rattle.bsc_directory.specs.declared.way.Way.{Way}
+use Rattle.bsc_line_model.specs.declared.error.LineError.{LineError}
+use Rattle.bsc_line_model.specs.Line.{LineValue}
+use Rattle.test_hostile.specs.declared.channel.Channel.{Channel}
+use Rattle.test_hostile.specs.declared.watch.Watch.{Watch}
+use Rattle.test_hostile.specs.declared.tally.Tally.{Tally}
+use Rattle.test_hostile.specs.Tallies.{answered, SameAnswers}
+
+-- the numbers of what was seen
+abbrev pub tally_of : Watch → Tally
+tally_of w = w.tally
+
+-- the terminal and the way of the first of these channels that is in doubt
+abbrev pub first_in_doubt : List Channel → Option (ℕ × Way)
+first_in_doubt [] = None
+first_in_doubt (c ∷ cs) =
+    if c.view.in_doubt then Some (c.terminal, c.way) else first_in_doubt cs
+
+abbrev pub first_doubt : Watch → Option (ℕ × Way)
+first_doubt w = first_in_doubt w.channels.items
+
+-- after an event that broke nothing: the watch is of the same line, has counted the answer, and
+-- holds all for heard fairly exactly where the line is trusted
+pub record HasSeen (answer : Result (Unit {0}) LineError) (old new : Watch) (l : LineValue)
+    : Type 0 where
+  pub setup : new.setup ≡ old.setup
+  pub terminals : new.terminals ≡ old.terminals
+  pub counted : SameAnswers (answered old.tally answer) new.tally
+  pub trusted : new.trusted ≡ l.trusted
+
+-- the watch is of the same line, trusts it as much, and has counted the same answers
+pub record SameBasis (old new : Watch) : Type 0 where
+  pub setup : new.setup ≡ old.setup
+  pub terminals : new.terminals ≡ old.terminals
+  pub counted : SameAnswers old.tally new.tally
+  pub trusted : new.trusted ≡ old.trusted

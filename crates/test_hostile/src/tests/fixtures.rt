@@ -1,0 +1,61 @@
+//! The line of these tests, and a player that watches it.
+
+use crate::tests::exchanges::Exchange;
+use crate::{Broken, Watch};
+use bsc_line::{Event, Line, LineError};
+use std::alloc::Global;
+use std::test::Fail;
+use test_fixtures::lines::{setup, two_terminals};
+
+/// A line with a watch on it. It is owned in short functions and lent to those that play on it.
+#[derive(Drop)]
+pub(crate) struct Watched {
+    pub(crate) line: Line<Global>,
+    watch: Watch,
+}
+
+impl Watched {
+    /// A new line: terminal 0 is polled by A and selected by a, terminal 1 is polled by B and
+    /// selected by b, and they are called in turn.
+    pub(crate) fn new(alloc: Global) -> Result<Watched, Fail> {
+        let (setup, terminals) = (setup(3)?, two_terminals());
+        let watch = Watch::new(alloc, setup, &terminals)?;
+        let line = Line::new(alloc, setup, &terminals, &[0, 1])?;
+        Ok(Watched { line, watch })
+    }
+
+    /// Plays an event.
+    pub(crate) fn play(&mut self, event: &Event<'_>) -> Result<Result<(), LineError>, Broken> {
+        self.watch.play(&mut self.line, event)
+    }
+
+    /// Plays an event this many times.
+    pub(crate) fn repeat(&mut self, count: usize, event: &Event<'_>) -> Result<(), Broken> {
+        for _ in 0..count {
+            let _ = self.play(event)?;
+        }
+        Ok(())
+    }
+
+    /// Plays the exchange until its transmission of this number, from 0, is pending.
+    pub(crate) fn begin(&mut self, exchange: &Exchange, place: usize) -> Result<(), Broken> {
+        for (count, event) in exchange.offers {
+            self.repeat(*count, event)?;
+        }
+        self.repeat(1, &Event::Silence)?;
+        self.repeat(place, &Event::CarrySent)
+    }
+
+    /// What is pending is heard as it was sent, this many times, or a silence passes where nothing
+    /// is pending. Then all records are compared.
+    pub(crate) fn go_on(&mut self, count: usize) -> Result<(), Broken> {
+        for _ in 0..count {
+            let event = match self.line.pending() {
+                Some(_) => Event::CarrySent,
+                None => Event::Silence,
+            };
+            let _ = self.play(&event)?;
+        }
+        self.watch.see_all(&self.line)
+    }
+}

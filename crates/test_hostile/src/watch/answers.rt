@@ -1,0 +1,209 @@
+//! What is addressed and what is pending after an event.
+
+ghost use Rattle.std.specs.Prelude.{◌≡◌};
+ghost use Rattle.test_hostile.specs.Watches.{SameBasis};
+
+use crate::broken::Broken;
+use crate::channel::Channel;
+use crate::heard::{Kind, kind_at};
+use crate::pending::{Sent, find, read_pending};
+use crate::step::Effect;
+use crate::watch::{Watch, octets_heard};
+use bsc_control::Way;
+use bsc_frame::{Address, Heard, Message, decode};
+use bsc_line::{Event, Line, Speaker};
+use std::alloc::Allocator;
+
+/// The address that a message calls.
+fn address_in(message: &Message) -> Option<Address> {
+    match message {
+        Message::Call(address) => Some(*address),
+        _ => None,
+    }
+}
+
+/// The address that these octets call.
+fn called(octets: &[u8]) -> Option<Address> {
+    match decode(octets) {
+        Heard::Whole(message) => address_in(&message),
+        _ => None,
+    }
+}
+
+/// How many hearings of an event may differ.
+fn hearers(event: &Event<'_>) -> usize {
+    match *event {
+        Event::CarryEach { heard } => heard.len(),
+        _ => 1,
+    }
+}
+
+/// The address that all terminals heard called, where these octets were sent; None where they heard
+/// different ones.
+fn called_alike(event: &Event<'_>, sent: &[u8]) -> Option<Address> {
+    let first = called(octets_heard(event, sent, 0));
+    for terminal in 1..hearers(event) {
+        if called(octets_heard(event, sent, terminal)) != first {
+            return None;
+        }
+    }
+    first
+}
+
+/// The channel that an address names, where the line has it.
+fn channel_of(channels: &[Channel], address: Address) -> Option<(usize, Way)> {
+    match find(channels, &address) {
+        Some(channel) => Some((channel.terminal, channel.way)),
+        None => None,
+    }
+}
+
+/// Who sent this.
+fn speaker_of(sent: &Option<Sent>) -> Option<Speaker> {
+    match sent {
+        Some(sent) => Some(sent.speaker),
+        None => None,
+    }
+}
+
+/// Whether the line still shows this.
+fn is_shown<A: Allocator>(line: &Line<A>, sent: &Option<Sent>) -> bool {
+    match (line.pending(), sent) {
+        (None, None) => true,
+        (Some((speaker, octets)), Some(sent)) => {
+            speaker == sent.speaker && octets == sent.octets.as_slice()
+        }
+        _ => false,
+    }
+}
+
+impl Watch {
+    /// Whether all terminals heard a message of this kind.
+    fn all_heard(&self, kind: Kind) -> bool {
+        self.hearings
+            .as_slice()
+            .iter()
+            .all(|hearing| hearing.kind == kind)
+    }
+
+    /// The channel that is addressed after a transmission of the control station.
+    pub(crate) fn see_addressed(&mut self, event: &Event<'_>, effect: Effect)
+        ensures { self.new ≡ record self.old { addressed = self.new.addressed } }
+    {
+        if effect != Effect::Down {
+            return;
+        }
+        if self.all_heard(Kind::Eot) {
+            self.addressed = None;
+        } else if self.all_heard(Kind::Call) {
+            self.see_call(event);
+        }
+    }
+
+    /// The channel that is addressed after all terminals heard a call, which may be different ones.
+    fn see_call(&mut self, event: &Event<'_>)
+        ensures { self.new ≡ record self.old { addressed = self.new.addressed } }
+    {
+        let sent = match &self.sent {
+            Some(sent) => sent.octets.as_slice(),
+            None => &[],
+        };
+        if let Some(address) = called_alike(event, sent) {
+            self.addressed = channel_of(&self.channels, address);
+        }
+    }
+
+    /// Whether what is pending may be pending after the event.
+    pub(crate) fn see_pending<A: Allocator>(
+        &mut self,
+        line: &Line<A>,
+        effect: Effect,
+    ) -> Result<(), Broken>
+        ensures { SameBasis self.old self.new }
+    {
+        if !matches!(effect, Effect::Silence | Effect::Down | Effect::Up) {
+            return if is_shown(line, &self.sent) {
+                Ok(())
+            } else {
+                Err(Broken::Pending)
+            };
+        }
+        let addressed = if self.trusted { self.addressed } else { None };
+        let next = read_pending(line, &self.channels, addressed)?;
+        if !self.may_follow(effect, speaker_of(&next)) {
+            return Err(Broken::Pending);
+        }
+        if let Some(next) = &next {
+            self.tally.count_sent(next.kind);
+        }
+        self.sent = next;
+        Ok(())
+    }
+
+    /// Whether this station may be the next that sends, after a silence or a transmission.
+    fn may_follow(&self, effect: Effect, next: Option<Speaker>) -> bool {
+        match effect {
+            Effect::Silence => self.may_act(next),
+            Effect::Down => self.may_answer_down(next),
+            Effect::Up => self.may_answer_up(next),
+            _ => false,
+        }
+    }
+
+    /// Whether only the addressed terminal can be out of control mode.
+    fn is_focused(&self) -> bool {
+        self.trusted || self.alike
+    }
+
+    /// Whether this station may act on a silence: some station does, and a terminal only where it
+    /// is addressed and sends.
+    fn may_act(&self, next: Option<Speaker>) -> bool {
+        match next {
+            None => false,
+            Some(Speaker::Control) => true,
+            Some(Speaker::Terminal(terminal)) => {
+                !self.is_focused() || self.addressed == Some((terminal, Way::FromTerminal))
+            }
+        }
+    }
+
+    /// Whether a call was heard by all terminals as it was sent.
+    fn was_called(&self) -> bool {
+        self.hearings
+            .as_slice()
+            .iter()
+            .all(|hearing| hearing.itself && hearing.kind == Kind::Call)
+    }
+
+    /// Whether this station may answer the control station: a terminal that heard more than noise;
+    /// where all heard a call, the one that was called, which has to.
+    fn may_answer_down(&self, next: Option<Speaker>) -> bool {
+        match next {
+            None => !self.was_called(),
+            Some(Speaker::Control) => false,
+            Some(Speaker::Terminal(terminal)) => {
+                let heard = kind_at(self.hearings.as_slice(), terminal);
+                heard != Kind::Noise && self.may_speak(terminal)
+            }
+        }
+    }
+
+    /// Whether the terminal is the addressed one, where only that one can answer.
+    fn may_speak(&self, terminal: usize) -> bool {
+        let addressed = match self.addressed {
+            Some((addressed, _)) => addressed == terminal,
+            None => false,
+        };
+        addressed || !(self.is_focused() || self.was_called())
+    }
+
+    /// Whether this station may answer a terminal: the control station does, where it heard more
+    /// than noise.
+    fn may_answer_up(&self, next: Option<Speaker>) -> bool {
+        match next {
+            None => true,
+            Some(Speaker::Control) => kind_at(self.hearings.as_slice(), 0) != Kind::Noise,
+            Some(Speaker::Terminal(_)) => false,
+        }
+    }
+}

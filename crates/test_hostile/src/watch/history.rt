@@ -1,0 +1,53 @@
+//! What was offered and what arrived, from the beginning.
+
+ghost use Rattle.std.specs.Prelude.{◌↔◌, IsOk, IfErr};
+ghost use Rattle.std.specs.List.{All};
+ghost use Rattle.test_hostile.specs.Histories.{IsAsSeen, IsTold, TellsOf, channels_of, is_trusting};
+
+use crate::broken::Broken;
+use crate::channel::{Channel, is_channel};
+use crate::records::{EMPTY, begins, with_records};
+use crate::watch::Watch;
+use bsc_line::Line;
+use std::alloc::Allocator;
+
+impl Watch {
+    /// Compares all records of the line with those that were seen one after the other, and where
+    /// the line is trusted what arrived with what was offered. In this order of each channel:
+    /// `Channel` where the line has no such channel, `Offered` or `Spooled` where other records
+    /// are there than were seen, `OtherRecords` where others arrived than were offered.
+    pub fn see_all<A: Allocator>(&self, line: &Line<A>) -> Result<(), Broken>
+        ensures seen { IsOk result ↔
+            All (IsAsSeen line.now (is_trusting self.now)) (channels_of self.now) }
+        ensures told { IfErr result
+            (TellsOf line.now (is_trusting self.now) (channels_of self.now)) }
+    {
+        for channel in self.channels.iter() {
+            see_records(line, channel, self.trusted)?;
+        }
+        Ok(())
+    }
+}
+
+/// Compares all records of a channel.
+fn see_records<A: Allocator>(line: &Line<A>, channel: &Channel, trusted: bool) -> Result<(), Broken>
+    ensures seen { IsOk result ↔ IsAsSeen line.now trusted channel.now }
+    ensures told { IfErr result (λ e. IsTold line.now trusted e channel.now) }
+{
+    let (terminal, way) = (channel.terminal, channel.way);
+    if !is_channel(line, terminal, way) {
+        return Err(Broken::Channel);
+    }
+    let offered = line.offered(terminal, way);
+    let spooled = line.spooled(terminal, way);
+    if with_records(EMPTY, offered) != channel.offered {
+        return Err(Broken::Offered);
+    }
+    if with_records(EMPTY, spooled) != channel.spooled {
+        return Err(Broken::Spooled);
+    }
+    if trusted && !begins(spooled, offered) {
+        return Err(Broken::OtherRecords);
+    }
+    Ok(())
+}

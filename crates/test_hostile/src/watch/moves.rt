@@ -1,0 +1,182 @@
+//! How the channels of the line move.
+
+ghost use Rattle.test_hostile.specs.Tallies.{SameAnswers};
+ghost use Rattle.test_hostile.specs.Watches.{SameBasis};
+
+use crate::broken::Broken;
+use crate::channel::{Channel, View, look, offered_from, spooled_from};
+use crate::heard::Hearing;
+use crate::records::{begins, is_text_of, with_records};
+use crate::step::{Effect, allowed, check, moved, steps};
+use crate::tally::Tally;
+use crate::watch::{Watch, octets_heard};
+use bsc_control::Way;
+use bsc_line::{Event, Line};
+use std::alloc::Allocator;
+
+/// An accepted event, and what is known of the line before it and of trust after it.
+#[derive(Clone, Copy)]
+struct Step<'a> {
+    event: &'a Event<'a>,
+    effect: Effect,
+    hearings: &'a [Hearing],
+    sent: &'a [u8],
+    trusted: bool,
+    alike: bool,
+    addressed: Option<(usize, Way)>,
+}
+
+impl Watch {
+    /// Whether each channel did only what the event may do to it.
+    pub(crate) fn see_channels<A: Allocator>(
+        &mut self,
+        line: &Line<A>,
+        event: &Event<'_>,
+        effect: Effect,
+    ) -> Result<(), Broken>
+        ensures { SameBasis self.old self.new }
+    {
+        let step = Step {
+            event,
+            effect,
+            hearings: self.hearings.as_slice(),
+            sent: match &self.sent {
+                Some(sent) => sent.octets.as_slice(),
+                None => &[],
+            },
+            trusted: self.trusted,
+            alike: self.alike,
+            addressed: self.addressed,
+        };
+        see_each(line, &step, &mut self.channels, &mut self.tally)
+    }
+}
+
+/// Whether each of these channels did only what it may, and no two moved that may not.
+fn see_each<A: Allocator>(
+    line: &Line<A>,
+    step: &Step<'_>,
+    channels: &mut [Channel],
+    tally: &mut Tally,
+) -> Result<(), Broken>
+    ensures { SameAnswers tally.old tally.new }
+{
+    let mut last = None;
+    for channel in channels.iter_mut() {
+        let before = channel.view;
+        see_channel(line, step, channel)?;
+        if moved(before, channel.view) {
+            tally.count_move(before, channel.view);
+            see_one(step, last, channel.terminal)?;
+            last = Some(channel.terminal);
+        }
+    }
+    Ok(())
+}
+
+/// Whether a channel of this terminal may move after one of the last terminal has: only where
+/// several terminals hear, each in a way of its own, and the line is not trusted.
+fn see_one(step: &Step<'_>, last: Option<usize>, terminal: usize) -> Result<(), Broken> {
+    let several = step.effect == Effect::Down && !step.trusted && !step.alike;
+    if last.is_none() || (several && last != Some(terminal)) {
+        Ok(())
+    } else {
+        Err(Broken::TwoMoved)
+    }
+}
+
+/// Whether this channel did only what the event may do to it.
+fn see_channel<A: Allocator>(
+    line: &Line<A>,
+    step: &Step<'_>,
+    channel: &mut Channel,
+) -> Result<(), Broken> {
+    let before = channel.view;
+    let Some(after) = look(line, channel.terminal, channel.way) else {
+        return Err(Broken::Channel);
+    };
+    let may = allowed(step.effect, step.hearings, channel.terminal, channel.way);
+    check(before, after, may)?;
+    if after == before {
+        return Ok(());
+    }
+    see_offered(line, step.event, channel)?;
+    see_arrived(line, step, channel)?;
+    see_addressed_only(step, channel, after)?;
+    channel.view = after;
+    Ok(())
+}
+
+/// Whether the records that were offered on a channel since it was last seen are that of the event.
+fn see_offered<A: Allocator>(
+    line: &Line<A>,
+    event: &Event<'_>,
+    channel: &mut Channel,
+) -> Result<(), Broken> {
+    let view = channel.view;
+    let records = offered_from(line, channel.terminal, channel.way, view.offered);
+    let codes = codes_of(event);
+    if !records.iter().all(|record| record.chars() == codes) {
+        return Err(Broken::Offered);
+    }
+    channel.offered = with_records(channel.offered, records);
+    Ok(())
+}
+
+/// The codes that the event offers.
+fn codes_of<'a>(event: &Event<'a>) -> &'a [u8] {
+    match *event {
+        Event::OfferAt { codes, .. } => codes,
+        Event::OfferFor { codes, .. } => codes,
+        _ => &[],
+    }
+}
+
+/// Whether the records that arrived on a channel since it was last seen are those of the text that
+/// was heard there, and on a trusted line those that were offered.
+fn see_arrived<A: Allocator>(
+    line: &Line<A>,
+    step: &Step<'_>,
+    channel: &mut Channel,
+) -> Result<(), Broken> {
+    let (terminal, way, from) = (channel.terminal, channel.way, channel.view.spooled);
+    let records = spooled_from(line, terminal, way, from);
+    if records.is_empty() {
+        return Ok(());
+    }
+    if !is_text_of(octets_heard(step.event, step.sent, terminal), records) {
+        return Err(Broken::Spooled);
+    }
+    if step.trusted && !begins(records, offered_from(line, terminal, way, from)) {
+        return Err(Broken::OtherRecords);
+    }
+    channel.spooled = with_records(channel.spooled, records);
+    Ok(())
+}
+
+/// Whether only the addressed channel moved, where the line is trusted; and whether a terminal took
+/// records only where it is addressed, where all terminals always heard the same.
+fn see_addressed_only(step: &Step<'_>, channel: &Channel, after: View) -> Result<(), Broken> {
+    let before = channel.view;
+    let addressed = step.addressed == Some((channel.terminal, channel.way));
+    let landed = after.spooled != before.spooled;
+    if step.alike && landed && !addressed && channel.way != Way::FromTerminal {
+        return Err(Broken::NotAddressed);
+    }
+    if !step.trusted || is_release(step.effect) || !moved(before, after) {
+        return Ok(());
+    }
+    if !addressed {
+        return Err(Broken::NotAddressed);
+    }
+    if steps(before, after) {
+        Ok(())
+    } else {
+        Err(Broken::NotSound)
+    }
+}
+
+/// Whether the event ended a doubt.
+fn is_release(effect: Effect) -> bool {
+    matches!(effect, Effect::Released { .. })
+}

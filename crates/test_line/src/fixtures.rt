@@ -1,0 +1,210 @@
+//! The lines of the worked exchanges.
+
+use bsc_bid::{Setup, Terminal};
+use bsc_control::SetupError;
+use bsc_frame::Address;
+use bsc_line::{Line, LineError};
+use std::alloc::{Allocator, Global};
+use std::test::Fail;
+use test_alloc::Refusing;
+use test_fixtures::lines::{setup, two_terminals, two_terminals_by_three};
+
+/// A terminal with this polling address and these selection addresses.
+pub(crate) fn terminal_of(poll: &[u8], selects: &[Address]) -> Result<Terminal, Fail> {
+    Ok(Terminal::new(Address::read(poll)?, selects)?)
+}
+
+/// The codes of a terminal's polling address, and those of its selection addresses.
+pub(crate) type Codes<'a> = (&'a [u8], &'a [&'a [u8]]);
+
+/// The codes of terminal 0, which is polled by A and selected by a.
+pub(crate) const FIRST: Codes<'static> = (b"A", &[b"a"]);
+
+/// The codes of terminal 1, which is polled by B and selected by b.
+pub(crate) const SECOND: Codes<'static> = (b"B", &[b"b"]);
+
+/// The addresses of these codes.
+fn addresses_of(alloc: Global, codes: &[&[u8]]) -> Result<Vec<Address>, Fail> {
+    let mut addresses = Vec::new(alloc);
+    for address in codes {
+        addresses.push(Address::read(address)?)?;
+    }
+    Ok(addresses)
+}
+
+/// The terminals of these codes.
+pub(crate) fn terminals_of(alloc: Global, codes: &[Codes<'_>]) -> Result<Vec<Terminal>, Fail> {
+    let mut terminals = Vec::new(alloc);
+    for (poll, selects) in codes {
+        terminals.push(terminal_of(poll, &addresses_of(alloc, selects)?)?)?;
+    }
+    Ok(terminals)
+}
+
+/// The code by which the addresses of the first of many terminals are told apart from those of the
+/// others.
+pub(crate) const FIRST_CODE: u8 = 0x21;
+
+/// A terminal whose polling address is P with this code, and whose selection addresses are a, b, c
+/// and d with it.
+fn coded_terminal(code: u8) -> Result<Terminal, Fail> {
+    let selects = [
+        Address::read(&[b'a', code])?,
+        Address::read(&[b'b', code])?,
+        Address::read(&[b'c', code])?,
+        Address::read(&[b'd', code])?,
+    ];
+    terminal_of(&[b'P', code], &selects)
+}
+
+/// As many terminals as a line may have, each with as many selection addresses as it may have.
+pub(crate) fn most_terminals() -> Result<[Terminal; 64], Fail> {
+    let mut terminals = [coded_terminal(FIRST_CODE)?; 64];
+    for (terminal, code) in terminals.iter_mut().zip(FIRST_CODE..=0x7e) {
+        *terminal = coded_terminal(code)?;
+    }
+    Ok(terminals)
+}
+
+/// The terminals of a line.
+#[derive(Clone, Copy)]
+enum Terminals {
+    /// Terminals 0 and 1, of one selection address each.
+    Two,
+
+    /// These, where terminal 0 has a second selection address.
+    TwoByThree,
+
+    /// This many of the most that there may be.
+    First(usize),
+}
+
+/// A line: its terminals, its poll list, how many failures in a row are borne, and how many
+/// characters a record may have.
+#[derive(Clone, Copy)]
+pub(crate) struct On<'a> {
+    terminals: Terminals,
+    poll_list: &'a [u8],
+    tries: u8,
+    chars: u8,
+}
+
+impl<'a> On<'a> {
+    /// This many of the most terminals with this poll list.
+    pub(crate) fn first(count: usize, poll_list: &'a [u8]) -> On<'a> {
+        On {
+            terminals: Terminals::First(count),
+            poll_list,
+            tries: 3,
+            chars: 80,
+        }
+    }
+}
+
+/// Terminals 0 and 1 polled in turn, and the default of three tries.
+pub(crate) const TWO: On<'static> = On {
+    terminals: Terminals::Two,
+    poll_list: &[0, 1],
+    tries: 3,
+    chars: 80,
+};
+
+/// These, with one try.
+pub(crate) const TWO_WITH_ONE_TRY: On<'static> = On {
+    terminals: Terminals::Two,
+    poll_list: &[0, 1],
+    tries: 1,
+    chars: 80,
+};
+
+/// These, with one try, where terminal 1 is polled first.
+pub(crate) const SECOND_FIRST: On<'static> = On {
+    terminals: Terminals::Two,
+    poll_list: &[1, 0],
+    tries: 1,
+    chars: 80,
+};
+
+/// Terminals 0 and 1 polled in turn, where terminal 0 has two selection addresses.
+pub(crate) const TWO_BY_THREE: On<'static> = On {
+    terminals: Terminals::TwoByThree,
+    poll_list: &[0, 1],
+    tries: 3,
+    chars: 80,
+};
+
+/// These, where terminal 0 has two entries of the poll list.
+pub(crate) const TWO_BY_THREE_ENTRIES: On<'static> = On {
+    terminals: Terminals::TwoByThree,
+    poll_list: &[0, 0, 1],
+    tries: 3,
+    chars: 80,
+};
+
+/// Terminals 0 and 1 polled in turn, with the longest records, of which two go in one block.
+pub(crate) const TWO_OF_LONGEST: On<'static> = On {
+    terminals: Terminals::Two,
+    poll_list: &[0, 1],
+    tries: 3,
+    chars: 144,
+};
+
+/// As many terminals as there may be, of which one is polled.
+pub(crate) const MOST: On<'static> = On {
+    terminals: Terminals::First(64),
+    poll_list: &[0],
+    tries: 3,
+    chars: 80,
+};
+
+/// A new line with these settings, terminals and poll list.
+fn line_of<A: Allocator + Copy>(
+    alloc: A,
+    setup: Setup,
+    terminals: &[Terminal],
+    poll_list: &[u8],
+) -> Result<Line<A>, Fail> {
+    Ok(Line::new(alloc, setup, terminals, poll_list)?)
+}
+
+/// A new line.
+fn line_on<A: Allocator + Copy>(alloc: A, on: &On<'_>) -> Result<Line<A>, Fail> {
+    let setup = Setup::new(on.chars, 400, on.tries, 10)?;
+    match on.terminals {
+        Terminals::Two => line_of(alloc, setup, &two_terminals(), on.poll_list),
+        Terminals::TwoByThree => line_of(alloc, setup, &two_terminals_by_three(), on.poll_list),
+        Terminals::First(count) => {
+            let most = most_terminals()?;
+            let first = most.get(..count).ok_or("too few terminals")?;
+            line_of(alloc, setup, first, on.poll_list)
+        }
+    }
+}
+
+/// What is played on a new line.
+pub(crate) trait Play {
+    /// What comes of it.
+    type Answer: Drop;
+
+    /// Plays it.
+    fn play<A: Allocator>(&self, line: &mut Line<A>) -> Self::Answer;
+}
+
+/// Whether a line did as it should, or which of its calls was refused.
+pub(crate) type Answer = Result<bool, LineError>;
+
+/// Plays this on a new line, for which no growth is refused.
+pub(crate) fn play_on<P: Play>(alloc: &Refusing, on: &On<'_>, play: &P) -> Result<P::Answer, Fail> {
+    alloc.refuse_none();
+    let mut line = line_on(alloc, on)?;
+    Ok(play.play(&mut line))
+}
+
+/// Why there is no line with these terminals and this poll list; None where there is one.
+pub(crate) fn refusal(
+    alloc: &Refusing,
+    terminals: &[Terminal],
+    poll_list: &[u8],
+) -> Result<Option<SetupError>, Fail> {
+    Ok(Line::new(alloc, setup(3)?, terminals, poll_list).err())
+}

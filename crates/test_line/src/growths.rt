@@ -1,0 +1,382 @@
+//! Each growth of whole exchanges refused in turn, all growths from one on, and all above a size.
+
+use crate::channels::{are_sound, is_channel, offer, offered_count};
+use crate::fixtures::{Play, TWO, play_on, refusal, terminals_of};
+use crate::limits::go_on;
+use crate::refusals::{SETTINGS, Setting};
+use bsc_bid::Terminal;
+use bsc_block::Record;
+use bsc_control::Way::{FromTerminal, ToTerminal};
+use bsc_control::{SetupError, Way};
+use bsc_line::{Line, LineError};
+use std::alloc::{Allocator, Global};
+use std::test::Fail;
+use test_alloc::{Refusal, Refusing};
+use test_fixtures::octets::{NAK, WACK};
+
+/// Growths of more octets than a number of units of 512: three records fill one.
+const ABOVE: Refusal = Refusal::Above { octets: 512 };
+
+/// Growths of more octets than a number of units of 64.
+const ABOVE_LITTLE: Refusal = Refusal::Above { octets: 64 };
+
+/// What is offered on channels: each one's terminal and way, and the characters of its records,
+/// which are of one character each.
+type Offered<'a> = &'a [(usize, Way, &'a [u8])];
+
+/// An exchange on a line of two terminals: what is offered, channel by channel, and whether
+/// terminal 0 then asks for the line.
+struct Exchange<'a> {
+    offered: Offered<'a>,
+    urgent: bool,
+}
+
+const ONE: &[u8] = b"H";
+
+/// As many as one block holds.
+const SEVEN: &[u8] = b"0123456";
+
+const EIGHT: &[u8] = b"01234567";
+
+/// Of three blocks.
+const CAPITALS: &[u8] = b"ABCDEFGHIJKLMNOPQRST";
+
+/// Others of three blocks, which are told apart from the capitals.
+const LETTERS: &[u8] = b"abcdefghijklmnopqrst";
+
+/// Of fifteen blocks.
+const HUNDRED: &[u8] = b"A record of each of these characters is offered, one after the other, \
+    each way of the first terminal";
+
+/// A record from terminal 0; one block to it; two blocks to it; two blocks to it, of which it
+/// interrupts the first to send a record; three blocks each way; and fifteen blocks each way.
+const EXCHANGES: &[Exchange<'static>] = &[
+    Exchange {
+        offered: &[
+            (0, FromTerminal, ONE),
+            (0, ToTerminal(0), b""),
+            (1, FromTerminal, b""),
+            (1, ToTerminal(0), b""),
+        ],
+        urgent: false,
+    },
+    Exchange {
+        offered: &[
+            (0, FromTerminal, b""),
+            (0, ToTerminal(0), SEVEN),
+            (1, FromTerminal, b""),
+            (1, ToTerminal(0), b""),
+        ],
+        urgent: false,
+    },
+    Exchange {
+        offered: &[
+            (0, FromTerminal, b""),
+            (0, ToTerminal(0), EIGHT),
+            (1, FromTerminal, b""),
+            (1, ToTerminal(0), b""),
+        ],
+        urgent: false,
+    },
+    Exchange {
+        offered: &[
+            (0, ToTerminal(0), EIGHT),
+            (0, FromTerminal, ONE),
+            (1, FromTerminal, b""),
+            (1, ToTerminal(0), b""),
+        ],
+        urgent: true,
+    },
+    Exchange {
+        offered: &[
+            (0, FromTerminal, CAPITALS),
+            (0, ToTerminal(0), LETTERS),
+            (1, FromTerminal, b""),
+            (1, ToTerminal(0), b""),
+        ],
+        urgent: false,
+    },
+    Exchange {
+        offered: &[(0, FromTerminal, HUNDRED), (0, ToTerminal(0), HUNDRED)],
+        urgent: false,
+    },
+];
+
+/// Offers a record, and says whether the answer was right: out of memory, and nothing more offered,
+/// exactly where a growth was refused.
+fn offers_rightly<A: Allocator>(
+    alloc: &Refusing,
+    line: &mut Line<A>,
+    terminal: usize,
+    way: Way,
+    codes: &[u8],
+) -> bool {
+    let refusals = alloc.refused();
+    let before = offered_count(line, terminal, way);
+    let answer = offer(line, terminal, way, codes);
+    let after = offered_count(line, terminal, way);
+    if alloc.refused() == refusals {
+        answer == Ok(()) && after == before.wrapping_add(1)
+    } else {
+        answer == Err(LineError::Memory) && after == before
+    }
+}
+
+/// Offers those records of a channel that were not yet offered, each again where it is refused, at
+/// most twice as often as there are records: whether each answer was right.
+fn offers_rest<A: Allocator>(
+    alloc: &Refusing,
+    line: &mut Line<A>,
+    terminal: usize,
+    way: Way,
+    codes: &[u8],
+) -> bool {
+    for _ in codes.iter().chain(codes) {
+        let Some(code) = codes.get(offered_count(line, terminal, way)) else {
+            return true;
+        };
+        if !offers_rightly(alloc, line, terminal, way, &[*code]) {
+            return false;
+        }
+    }
+    true
+}
+
+/// Whether the records that are left are offered rightly on each channel.
+fn offers_all<A: Allocator>(alloc: &Refusing, line: &mut Line<A>, offered: Offered<'_>) -> bool {
+    for (terminal, way, codes) in offered {
+        if !offers_rest(alloc, line, *terminal, *way, codes) {
+            return false;
+        }
+    }
+    true
+}
+
+/// Whether the receiver of a text or of a selection puts the sender off.
+fn is_put_off<A: Allocator>(line: &Line<A>) -> bool {
+    match line.pending() {
+        Some((_, octets)) => octets == NAK || octets == WACK,
+        None => false,
+    }
+}
+
+/// Goes on for 80 transmissions and silences, up to the first after which the line is not trusted
+/// or a channel is not sound, or the sender is put off though no growth was refused, or it is not
+/// though one was. The number of that one.
+fn wrong_step<A: Allocator>(
+    alloc: &Refusing,
+    line: &mut Line<A>,
+) -> Result<Option<usize>, LineError> {
+    for number in 0..80usize {
+        let refusals = alloc.refused();
+        go_on(line, false)?;
+        let is_refused = alloc.refused() != refusals;
+        if !line.trusted() || !are_sound(line) || is_put_off(line) != is_refused {
+            return Ok(Some(number));
+        }
+    }
+    Ok(None)
+}
+
+/// Whether these are the records of the first of these characters, in order.
+fn are_first(records: &[Record], codes: &[u8]) -> bool {
+    for (record, code) in records.iter().zip(codes) {
+        if record.chars() != [*code].as_slice() {
+            return false;
+        }
+    }
+    records.len() <= codes.len()
+}
+
+/// Whether the records of the first of these characters, and nothing else, were offered on each
+/// channel.
+fn are_fronts<A: Allocator>(line: &Line<A>, offered: Offered<'_>) -> bool {
+    for (terminal, way, codes) in offered {
+        if !is_channel(line, *terminal, *way) || !are_first(line.offered(*terminal, *way), codes) {
+            return false;
+        }
+    }
+    true
+}
+
+/// Whether as many records as there are characters were offered on a channel, arrived, and are
+/// known to have.
+fn has_count<A: Allocator>(line: &Line<A>, terminal: usize, way: Way, count: usize) -> bool {
+    is_channel(line, terminal, way)
+        && line.offered(terminal, way).len() == count
+        && line.spooled(terminal, way).len() == count
+        && line.known(terminal, way) == count
+        && !line.in_doubt(terminal, way)
+}
+
+/// Whether the records of all these characters were delivered on a line whose channels are sound.
+fn are_delivered<A: Allocator>(line: &Line<A>, offered: Offered<'_>) -> bool {
+    for (terminal, way, codes) in offered {
+        if !has_count(line, *terminal, *way, codes.len()) {
+            return false;
+        }
+    }
+    are_sound(line) && are_fronts(line, offered)
+}
+
+/// What was refused a growth in an exchange: an offer, a spool.
+type Refused = (bool, bool);
+
+/// Plays an exchange, growths of which may be refused: what was; None where something was wrong.
+fn refusals_in<A: Allocator>(
+    alloc: &Refusing,
+    line: &mut Line<A>,
+    exchange: &Exchange<'_>,
+) -> Result<Option<Refused>, LineError> {
+    let before = alloc.refused();
+    if !offers_all(alloc, line, exchange.offered) {
+        return Ok(None);
+    }
+    if exchange.urgent {
+        line.set_urgent_at(0)?;
+    }
+    let offered = alloc.refused();
+    if wrong_step(alloc, line)?.is_some() || !are_fronts(line, exchange.offered) {
+        return Ok(None);
+    }
+    let after = alloc.refused();
+    Ok(Some((offered != before, after != offered)))
+}
+
+/// Whether all records of an exchange are delivered once memory is there again.
+fn delivers_rest<A: Allocator>(
+    alloc: &Refusing,
+    line: &mut Line<A>,
+    offered: Offered<'_>,
+) -> Result<bool, LineError> {
+    alloc.refuse_none();
+    let is_offered = offers_all(alloc, line, offered);
+    let wrong = wrong_step(alloc, line)?;
+    Ok(is_offered && wrong.is_none() && are_delivered(line, offered))
+}
+
+/// An exchange while this allocator refuses growths by this number.
+#[derive(Clone, Copy)]
+struct Starved<'a> {
+    alloc: &'a Refusing,
+    which: Refusal,
+    number: usize,
+    exchange: &'a Exchange<'a>,
+}
+
+impl Starved<'_> {
+    /// Plays the exchange, and then what is left of it: what was refused; None where something was
+    /// wrong.
+    fn refused<A: Allocator>(&self, line: &mut Line<A>) -> Result<Option<Refused>, LineError> {
+        self.alloc.refuse(self.which, self.number);
+        let refused = refusals_in(self.alloc, line, self.exchange)?;
+        if delivers_rest(self.alloc, line, self.exchange.offered)? {
+            Ok(refused)
+        } else {
+            Ok(None)
+        }
+    }
+}
+
+impl Play for Starved<'_> {
+    /// What was refused; None where something was wrong.
+    type Answer = Option<Refused>;
+
+    fn play<A: Allocator>(&self, line: &mut Line<A>) -> Option<Refused> {
+        self.refused(line).ok().flatten()
+    }
+}
+
+/// Plays an exchange until nothing is refused a growth: what was.
+fn refused_in_turn<'a>(
+    alloc: &'a Refusing,
+    which: Refusal,
+    exchange: &'a Exchange<'a>,
+) -> Result<Refused, Fail> {
+    let (mut offers, mut rooms) = (false, false);
+    for number in alloc.in_turn(which, 1..999) {
+        let number = number?;
+        let starved = Starved {
+            alloc,
+            which,
+            number,
+            exchange,
+        };
+        let refused = play_on(alloc, &TWO, &starved)?;
+        let (offer, room) = refused.ok_or("not as expected")?;
+        offers |= offer;
+        rooms |= room;
+    }
+    Ok((offers, rooms))
+}
+
+/// The first exchange in which no growth of an offer or none of a spool was refused, while growths
+/// are refused in this way.
+fn wrong_exchange(alloc: &Refusing, which: Refusal) -> Result<Option<usize>, Fail> {
+    for (place, exchange) in EXCHANGES.iter().enumerate() {
+        if refused_in_turn(alloc, which, exchange)? != (true, true) {
+            return Ok(Some(place));
+        }
+    }
+    Ok(None)
+}
+
+#[test]
+fn each_growth_of_an_exchange_is_refused(rt: HostRuntime) -> Result<(), Fail> {
+    let alloc = Refusing::new(rt.alloc());
+    for which in [Refusal::Nth, Refusal::From, ABOVE] {
+        assert_eq!(rt; wrong_exchange(&alloc, which)?, None);
+    }
+    Ok(())
+}
+
+/// Asks for a line: whether it is answered as is due, which is out of memory where a growth is
+/// refused.
+fn is_answered(
+    alloc: &Refusing,
+    terminals: &[Terminal],
+    (_, poll_list, expected): &Setting<'_>,
+) -> Result<bool, Fail> {
+    let answer = refusal(alloc, terminals, poll_list)?;
+    Ok(if alloc.refused() > 0 {
+        answer == Some(SetupError::Memory)
+    } else {
+        answer == *expected
+    })
+}
+
+/// Asks for a line until nothing is refused a growth: whether each answer is as is due.
+fn are_answered(
+    global: Global,
+    alloc: &Refusing,
+    which: Refusal,
+    setting: &Setting<'_>,
+) -> Result<bool, Fail> {
+    let terminals = terminals_of(global, setting.0)?;
+    for number in alloc.in_turn(which, 1..999) {
+        number?;
+        if !is_answered(alloc, &terminals, setting)? {
+            return Ok(false);
+        }
+    }
+    Ok(true)
+}
+
+/// The first setting that is not answered as is due, while growths are refused in this way.
+fn wrong_setting(global: Global, alloc: &Refusing, which: Refusal) -> Result<Option<usize>, Fail> {
+    for (place, setting) in SETTINGS.iter().enumerate() {
+        if !are_answered(global, alloc, which, setting)? {
+            return Ok(Some(place));
+        }
+    }
+    Ok(None)
+}
+
+#[test]
+fn each_growth_of_a_new_line_is_refused(rt: HostRuntime) -> Result<(), Fail> {
+    let alloc = Refusing::new(rt.alloc());
+    for which in [Refusal::Nth, Refusal::From, ABOVE_LITTLE] {
+        assert_eq!(rt; wrong_setting(rt.alloc(), &alloc, which)?, None);
+    }
+    Ok(())
+}

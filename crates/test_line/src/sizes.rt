@@ -1,0 +1,281 @@
+//! That memory which is there is granted at any size: the longest lists of records, the longest
+//! records, and the longest text. The largest lines are in `limits.rt`.
+
+use crate::channels::Has::{Arrived, Delivered};
+use crate::channels::{has_left, is_channel, offer};
+use crate::events::{HI, NONE};
+use crate::fixtures::{Answer, Play, TWO, TWO_OF_LONGEST, play_on};
+use crate::limits::carry_on;
+use bsc_block::Record;
+use bsc_control::Way;
+use bsc_control::Way::{FromTerminal, ToTerminal};
+use bsc_line::Speaker::{Control, Terminal};
+use bsc_line::{Line, LineError, Speaker};
+use std::alloc::{AllocError, Allocator, Global};
+use std::test::Fail;
+use test_alloc::Refusing;
+use test_fixtures::octets::{ACK0, ACK1, CALL_POLL_A, CALL_POLL_B, CALL_SELECT_A};
+
+/// How many records are offered on a channel.
+const COUNT: u32 = 100_000;
+
+/// The decimal digits of a number below `COUNT`: the characters of another record for each.
+fn digits(number: u32) -> [u8; 5] {
+    let digit = |value: u32| b'0' + (value % 10) as u8;
+    [
+        digit(number / 10_000),
+        digit(number / 1000),
+        digit(number / 100),
+        digit(number / 10),
+        digit(number),
+    ]
+}
+
+/// Offers a record for each number below `COUNT` at terminal 0, and for it.
+fn offer_all<A: Allocator>(line: &mut Line<A>) -> Result<(), LineError> {
+    for number in 0..COUNT {
+        let codes = digits(number);
+        line.offer_at(0, &codes)?;
+        line.offer_for(0, 0, &codes)?;
+    }
+    Ok(())
+}
+
+/// Whether these are the records of the numbers below `COUNT`, in order.
+fn are_all(records: &[Record]) -> bool {
+    for (number, record) in (0..COUNT).zip(records) {
+        if record.chars() != digits(number).as_slice() {
+            return false;
+        }
+    }
+    records.len() == COUNT as usize
+}
+
+/// Whether they were offered on this way of terminal 0, and arrived, and are known to have.
+fn has_all<A: Allocator>(line: &Line<A>, way: Way) -> bool {
+    is_channel(line, 0, way)
+        && are_all(line.offered(0, way))
+        && are_all(line.spooled(0, way))
+        && line.known(0, way) == COUNT as usize
+}
+
+/// The records, delivered in as many transmissions as that takes.
+struct All;
+
+impl Play for All {
+    type Answer = Answer;
+
+    fn play<A: Allocator>(&self, line: &mut Line<A>) -> Answer {
+        offer_all(line)?;
+        line.silence()?;
+
+        // A selection and a poll, of two transmissions each and two for each of 14,286 blocks of
+        // seven.
+        carry_on(line, 2 * (2 + 2 * 14_286))?;
+        let is_polling = line.pending() == Some((Control, CALL_POLL_B));
+        let arrived = has_all(line, FromTerminal) && has_all(line, ToTerminal(0));
+        Ok(is_polling && line.trusted() && arrived)
+    }
+}
+
+#[test]
+fn a_hundred_thousand_records_arrive_each_way(rt: HostRuntime) -> Result<(), Fail> {
+    let alloc = Refusing::new(rt.alloc());
+    assert_eq!(rt; play_on(&alloc, &TWO, &All)?, Ok(true));
+    Ok(())
+}
+
+/// A record of as many characters as there may be.
+const LONGEST: &[u8] = &[b'A'; 144];
+
+/// As many of them as a text may have.
+const SEVEN_LONGEST: &[&[u8]] = &[LONGEST; 7];
+
+/// The octets of the text of these records, 1,033, the most that are sent: each unit is 144 times
+/// A, EM, the ending character and the check, to which the even number of A adds nothing.
+fn longest_text(alloc: Global) -> Result<Vec<u8>, AllocError> {
+    let mut octets = Vec::new(alloc);
+    octets.extend_from_slice(&[0x16, 0x16, 0x02])?;
+    for _ in 0..6u8 {
+        octets.extend_from_slice(&[0xc1; 144])?;
+        octets.extend_from_slice(&[0x19, 0x1f, 0x86])?;
+    }
+    octets.extend_from_slice(&[0xc1; 144])?;
+    octets.extend_from_slice(&[0x19, 0x83, 0x1a, 0xff])?;
+    Ok(octets)
+}
+
+/// Whether ACK1 is pending.
+fn is_acknowledged<A: Allocator>(line: &Line<A>) -> bool {
+    match line.pending() {
+        Some((_, octets)) => octets == ACK1,
+        None => false,
+    }
+}
+
+/// Each way of terminal 0, and after how many transmissions its text is pending.
+const WAYS: &[(Way, u64)] = &[(FromTerminal, 1), (ToTerminal(0), 2)];
+
+/// HI is offered on this way of terminal 0, and this many transmissions after the first call its
+/// text is heard as this one.
+#[derive(Clone, Copy)]
+struct Heard<'a> {
+    way: Way,
+    count: u64,
+    text: &'a [u8],
+}
+
+impl Heard<'_> {
+    /// Whether seven records of 144 characters are stored and acknowledged.
+    fn is_stored<A: Allocator>(&self, line: &Line<A>) -> bool {
+        let arrived = Arrived {
+            offered: HI,
+            known: 0,
+            spooled: SEVEN_LONGEST,
+        };
+        is_acknowledged(line) && has_left(line, 0, self.way, &arrived)
+    }
+}
+
+impl Play for Heard<'_> {
+    type Answer = Answer;
+
+    fn play<A: Allocator>(&self, line: &mut Line<A>) -> Answer {
+        offer(line, 0, self.way, b"HI")?;
+        line.silence()?;
+        carry_on(line, self.count)?;
+        line.carry(Some(self.text))?;
+        Ok(self.is_stored(line))
+    }
+}
+
+#[test]
+fn the_longest_text_is_stored_whole(rt: HostRuntime) -> Result<(), Fail> {
+    let text = longest_text(rt.alloc())?;
+    let text = text.as_slice();
+    assert_eq!(rt; text.len(), 1033);
+    let alloc = Refusing::new(rt.alloc());
+    for (way, count) in WAYS {
+        let (way, count) = (*way, *count);
+        assert_eq!(rt;
+            play_on(&alloc, &TWO, &Heard { way, count, text })?,
+            Ok(true)
+        );
+    }
+    Ok(())
+}
+
+/// Records of as many characters as there may be, each of another character.
+const LONG: &[&[u8]] = &[
+    &[b'A'; 144],
+    &[b'B'; 144],
+    &[b'C'; 144],
+    &[b'D'; 144],
+    &[b'E'; 144],
+    &[b'F'; 144],
+];
+
+/// The first octets of a text that begins with the first of them: SYN twice, STX and A.
+const TEXT_OF_A: &[u8] = &[0x16, 0x16, 0x02, 0xc1];
+
+/// What is pending at the moments of a bid at which records are offered: who sent it, and its first
+/// octets.
+type Moments<'a> = &'a [(Speaker, &'a [u8])];
+
+/// After the call, after the text and after the acknowledgement of a poll.
+const POLLED: Moments<'static> = &[
+    (Control, CALL_POLL_A),
+    (Terminal(0), TEXT_OF_A),
+    (Control, ACK1),
+];
+
+/// After each of these moments of a selection, which is acknowledged too.
+const SELECTED: Moments<'static> = &[
+    (Control, CALL_SELECT_A),
+    (Terminal(0), ACK0),
+    (Control, TEXT_OF_A),
+    (Terminal(0), ACK1),
+];
+
+/// A bid of a way of terminal 0 at whose moments records are offered, how many transmissions
+/// follow, and the call that is then pending.
+struct Bid<'a> {
+    way: Way,
+    moments: Moments<'a>,
+    further: u64,
+    call: &'a [u8],
+}
+
+/// After the second text come ACK0, the third text, ACK1, at a poll EOT, and the next call.
+const BIDS: &[Bid<'static>] = &[
+    Bid {
+        way: FromTerminal,
+        moments: POLLED,
+        further: 5,
+        call: CALL_POLL_B,
+    },
+    Bid {
+        way: ToTerminal(0),
+        moments: SELECTED,
+        further: 4,
+        call: CALL_POLL_A,
+    },
+];
+
+/// Whether this station sent what is pending, and that begins with these octets.
+fn is_pending<A: Allocator>(line: &Line<A>, speaker: Speaker, front: &[u8]) -> bool {
+    match line.pending() {
+        Some((sender, octets)) => sender == speaker && octets.starts_with(front),
+        None => false,
+    }
+}
+
+/// Offers the first two long records on this way of terminal 0.
+fn offer_two<A: Allocator>(line: &mut Line<A>, way: Way) -> Result<(), LineError> {
+    offer(line, 0, way, LONG[0])?;
+    offer(line, 0, way, LONG[1])
+}
+
+/// Offers one of the other long records at each of these moments: whether each of them came.
+fn offer_within<A: Allocator>(line: &mut Line<A>, way: Way, moments: Moments<'_>) -> Answer {
+    for ((speaker, front), record) in moments.iter().zip(&LONG[2..]) {
+        if !is_pending(line, *speaker, front) {
+            return Ok(false);
+        }
+        offer(line, 0, way, record)?;
+        line.carry_sent()?;
+    }
+    Ok(true)
+}
+
+impl Bid<'_> {
+    /// Whether each record was delivered, and the call is made.
+    fn is_done<A: Allocator>(&self, line: &Line<A>) -> bool {
+        let count = self.moments.len().saturating_add(2);
+        let delivered = Delivered(LONG.get(..count).unwrap_or(NONE));
+        line.pending() == Some((Control, self.call))
+            && line.trusted()
+            && has_left(line, 0, self.way, &delivered)
+    }
+}
+
+impl Play for Bid<'_> {
+    type Answer = Answer;
+
+    fn play<A: Allocator>(&self, line: &mut Line<A>) -> Answer {
+        offer_two(line, self.way)?;
+        line.silence()?;
+        let came = offer_within(line, self.way, self.moments)?;
+        carry_on(line, self.further)?;
+        Ok(came && self.is_done(line))
+    }
+}
+
+#[test]
+fn the_longest_records_are_taken_while_a_bid_goes_on(rt: HostRuntime) -> Result<(), Fail> {
+    let alloc = Refusing::new(rt.alloc());
+    for bid in BIDS {
+        assert_eq!(rt; play_on(&alloc, &TWO_OF_LONGEST, bid)?, Ok(true));
+    }
+    Ok(())
+}

@@ -1,0 +1,194 @@
+//! A control station attended over a scripted connection. The octets are those of docs/PROTOCOL.md.
+
+use crate::fakes::{Counting, Scripted, connections};
+use crate::stations::sending_control;
+use bsc_connections::attend;
+use bsc_control::Control;
+use bsc_monitor::{
+    ControlWatch, Ended, Form, Limits, Printing, Standing, Watch, station_standing, write_report,
+};
+use std::alloc::Global;
+use std::test::Fail;
+
+/// What terminals send to a control station: ACK0, ACK1, a text, EOT; and EOT to its last call.
+const TO_CONTROL: &[u8] = b"\x00\x05\x16\x16\x10\xB0\xFF\
+\x00\x05\x16\x16\x10\x31\xFF\
+\x00\x09\x16\x16\x02\xC8\x49\x19\x83\x9B\xFF\
+\x00\x04\x16\x16\x04\xFF\
+\x00\x04\x16\x16\x04\xFF";
+
+/// ACK0, and then no more.
+const ACK0_ALONE: &[u8] = b"\x00\x05\x16\x16\x10\xB0\xFF";
+
+/// The trace of the control station that hears what terminals send, and nothing of the terminal
+/// with the address B.
+const CONTROL_TRACE: &[u8] = b"+1 silence
++2 control sent CALL a 161604ff16166185ff
++3 connection 0 heard ACK0 161610b0ff
++4 control sent TEXT ETX 1 161602c84919839bff
++5 connection 0 heard ACK1 16161031ff
++6 control sent CALL A 161604ff1616c185ff
++7 connection 0 heard TEXT ETX 1 161602c84919839bff
++8 control sent ACK1 16161031ff
++9 connection 0 heard EOT 161604ff
++10 control sent CALL B 161604ff1616c285ff
++11 silence
++12 control sent CALL B 161604ff1616c285ff
++13 silence
++14 control sent CALL B 161604ff1616c285ff
++15 silence
++16 control sent CALL B 161604ff1616c285ff
++17 silence
++18 control sent CALL A 161604ff1616c185ff
++19 connection 0 heard EOT 161604ff
+";
+
+/// How the records of a control station are printed.
+const PRINTING: Printing = Printing {
+    form: Form::Hexadecimal,
+    trace: true,
+};
+
+/// When a control station ends, what it reads, and in which order: a time-out passes for each `t`
+/// of the steps, and there is something to read for each `r`.
+struct Attended {
+    limits: Limits,
+    octets: &'static [u8],
+    steps: &'static [u8],
+}
+
+/// Attends a control station until it ends, and then its connection until the last call is
+/// answered.
+fn attend_control(
+    alloc: Global,
+    control: &mut Control<Global>,
+    attended: &Attended,
+    out: &mut Vec<u8>,
+    trace: &mut Vec<u8>,
+) -> Result<(), Fail> {
+    let mut connections = connections(alloc, attended.octets)?;
+    let watch = Watch::new(alloc, control, PRINTING, Counting { asked: 0 }, out, trace)?;
+    let mut watch = ControlWatch::new(control, watch, attended.limits, false);
+    let mut waiter = Scripted {
+        steps: attended.steps,
+    };
+    attend(control, &mut connections, &mut waiter, &mut watch)?;
+    if !watch.is_closed() {
+        let mut last = watch.into_last();
+        attend(&mut Ended, &mut connections, &mut waiter, &mut last)?;
+    }
+    Ok(())
+}
+
+/// The same for a control station with one record for terminal 0, and its report: how its channels
+/// stand.
+fn attend_and_report(
+    alloc: Global,
+    attended: &Attended,
+    out: &mut Vec<u8>,
+    trace: &mut Vec<u8>,
+) -> Result<Standing, Fail> {
+    let mut control = sending_control(alloc)?;
+    attend_control(alloc, &mut control, attended, out, trace)?;
+    write_report(alloc, &control, out)?;
+    Ok(station_standing(&control))
+}
+
+/// Whether such a control station stands so in the end, prints these records with its report, and
+/// ends its trace with this.
+fn prints(
+    alloc: Global,
+    attended: &Attended,
+    standing: Standing,
+    printed: &[u8],
+    trace_end: &[u8],
+) -> Result<bool, Fail> {
+    let (mut out, mut trace) = (Vec::new(alloc), Vec::new(alloc));
+    let is_so = attend_and_report(alloc, attended, &mut out, &mut trace)? == standing;
+    Ok(is_so && out.as_slice() == printed && trace.ends_with(trace_end))
+}
+
+/// One round: a selection, a bid, a poll that is answered by a text, and four polls that nobody
+/// answers.
+#[test]
+fn a_control_station_ends_after_a_round(rt: HostRuntime) -> Result<(), Fail> {
+    const ATTENDED: Attended = Attended {
+        limits: Limits {
+            rounds: Some(1),
+            idle_rounds: 9,
+        },
+        octets: TO_CONTROL,
+        steps: b"trrrrrrrrttttrr",
+    };
+    const STANDING: Standing = Standing {
+        doubt: false,
+        waiting: false,
+    };
+    const PRINTED: &[u8] = b"from 0: 4849
+from 0: spooled 1
+  4849
+to 0: offered 1, known 1
+from 1: spooled 0
+to 1: offered 0, known 0
+";
+    assert!(rt; prints(rt.alloc(), &ATTENDED, STANDING, PRINTED, CONTROL_TRACE)?);
+    Ok(())
+}
+
+/// Nobody answers: the record waits, and no round is idle. The connection ends.
+#[test]
+fn a_control_station_ends_with_its_connection(rt: HostRuntime) -> Result<(), Fail> {
+    const ATTENDED: Attended = Attended {
+        limits: Limits {
+            rounds: None,
+            idle_rounds: 1,
+        },
+        octets: b"",
+        steps: b"ttttttttttttttttttttttttt",
+    };
+    const STANDING: Standing = Standing {
+        doubt: false,
+        waiting: true,
+    };
+    const PRINTED: &[u8] = b"from 0: spooled 0
+to 0: offered 1, known 0
+from 1: spooled 0
+to 1: offered 0, known 0
+";
+    assert!(rt;
+        prints(
+            rt.alloc(),
+            &ATTENDED,
+            STANDING,
+            PRINTED,
+            b" connection 0 closed\n"
+        )?
+    );
+    Ok(())
+}
+
+/// The selected terminal answers, and then no more: after four failures the record is in doubt.
+/// The round is idle, since nothing more can be sent.
+#[test]
+fn a_control_station_in_doubt_ends_idle(rt: HostRuntime) -> Result<(), Fail> {
+    const ATTENDED: Attended = Attended {
+        limits: Limits {
+            rounds: None,
+            idle_rounds: 1,
+        },
+        octets: ACK0_ALONE,
+        steps: b"trrttttttttttttttttttttttt",
+    };
+    const STANDING: Standing = Standing {
+        doubt: true,
+        waiting: false,
+    };
+    const PRINTED: &[u8] = b"from 0: spooled 0
+to 0: offered 1, known 0, in doubt
+from 1: spooled 0
+to 1: offered 0, known 0
+";
+    const END: &[u8] = b"+28 control sent CALL A 161604ff1616c185ff\n+29 silence\n";
+    assert!(rt; prints(rt.alloc(), &ATTENDED, STANDING, PRINTED, END)?);
+    Ok(())
+}

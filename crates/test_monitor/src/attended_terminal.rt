@@ -1,0 +1,110 @@
+//! A terminal attended over a scripted connection. The octets are those of docs/PROTOCOL.md.
+
+use crate::fakes::{Counting, Scripted, connections};
+use crate::stations::sending_terminal;
+use bsc_carrier::CarrierError;
+use bsc_connections::attend;
+use bsc_monitor::{Form, LineTerminal, Printing, TerminalWatch, Watch, write_report};
+use std::alloc::Global;
+use std::test::Fail;
+
+/// What a control station sends to a terminal: a poll, which is answered by a text; ACK1; a
+/// selection; a text; EOT.
+const TO_TERMINAL: &[u8] = b"\x00\x09\x16\x16\x04\xFF\x16\x16\xC1\x85\xFF\
+\x00\x05\x16\x16\x10\x31\xFF\
+\x00\x09\x16\x16\x04\xFF\x16\x16\x61\x85\xFF\
+\x00\x09\x16\x16\x02\xC8\x49\x19\x83\x9B\xFF\
+\x00\x04\x16\x16\x04\xFF";
+
+/// The trace of the terminal that hears this.
+const TERMINAL_TRACE: &[u8] = b"+1 control heard CALL A 161604ff1616c185ff
++2 terminal 0 sent TEXT ETX 1 161602c84919839bff
++3 control heard ACK1 16161031ff
++4 terminal 0 sent EOT 161604ff
++5 control heard CALL a 161604ff16166185ff
++6 terminal 0 sent ACK0 161610b0ff
++7 control heard TEXT ETX 1 161602c84919839bff
++8 terminal 0 sent ACK1 16161031ff
++9 control heard EOT 161604ff
++10 connection 0 closed
+";
+
+/// Attends a terminal over a connection that gives these octets: why the connection was closed,
+/// where it was a fault.
+fn attend_terminal(
+    alloc: Global,
+    terminal: &mut LineTerminal<Global>,
+    printing: Printing,
+    octets: &'static [u8],
+    out: &mut Vec<u8>,
+    trace: &mut Vec<u8>,
+) -> Result<Option<CarrierError>, Fail> {
+    let mut connections = connections(alloc, octets)?;
+    let watch = Watch::new(alloc, terminal, printing, Counting { asked: 0 }, out, trace)?;
+    let mut watch = TerminalWatch::new(watch);
+    let mut waiter = Scripted { steps: b"" };
+    attend(terminal, &mut connections, &mut waiter, &mut watch)?;
+    Ok(watch.closed())
+}
+
+/// The same for terminal 0 with one record to send, and its report.
+fn attend_and_report(
+    alloc: Global,
+    printing: Printing,
+    octets: &'static [u8],
+    out: &mut Vec<u8>,
+    trace: &mut Vec<u8>,
+) -> Result<Option<CarrierError>, Fail> {
+    let mut terminal = sending_terminal(alloc)?;
+    let closed = attend_terminal(alloc, &mut terminal, printing, octets, out, trace)?;
+    write_report(alloc, &terminal, out)?;
+    Ok(closed)
+}
+
+/// Whether such a terminal prints these records with its report, and this trace, and whether its
+/// connection is closed for this reason.
+fn prints(
+    alloc: Global,
+    printing: Printing,
+    octets: &'static [u8],
+    wanted: (&[u8], &[u8], Option<CarrierError>),
+) -> Result<bool, Fail> {
+    let (mut out, mut trace) = (Vec::new(alloc), Vec::new(alloc));
+    let closed = attend_and_report(alloc, printing, octets, &mut out, &mut trace)?;
+    Ok((out.as_slice(), trace.as_slice(), closed) == wanted)
+}
+
+#[test]
+fn a_terminal_sends_and_receives(rt: HostRuntime) -> Result<(), Fail> {
+    const PRINTING: Printing = Printing {
+        form: Form::Hexadecimal,
+        trace: true,
+    };
+    const PRINTED: &[u8] = b"to 0: 4849\nfrom 0: offered 1, known 1\nto 0: spooled 1\n  4849\n";
+    assert!(rt;
+        prints(
+            rt.alloc(),
+            PRINTING,
+            TO_TERMINAL,
+            (PRINTED, TERMINAL_TRACE, None)
+        )?
+    );
+    Ok(())
+}
+
+/// Without a trace only a fault of the connection is told, and characters may be printed as they
+/// stand.
+#[test]
+fn a_fault_of_a_connection_is_told(rt: HostRuntime) -> Result<(), Fail> {
+    const PRINTING: Printing = Printing {
+        form: Form::Text,
+        trace: false,
+    };
+    const PRINTED: &[u8] = b"to 0: HI\nfrom 0: offered 1, known 1\nto 0: spooled 1\n  4849\n";
+    const TOLD: &[u8] = b"connection 0 closed: the input ended within a record\n";
+    // The last record is cut.
+    let short = &TO_TERMINAL[..TO_TERMINAL.len() - 1];
+    let wanted = (PRINTED, TOLD, Some(CarrierError::Short));
+    assert!(rt; prints(rt.alloc(), PRINTING, short, wanted)?);
+    Ok(())
+}

@@ -1,0 +1,89 @@
+//! A connection that is scripted, and a clock that counts.
+
+use bsc_connections::{Awaited, Connection, LiveError, SocketRecords, Wait, Waiter};
+use bsc_monitor::Timer;
+use std::alloc::{AllocError, Global};
+use std::io;
+use std::io::{Read, Write};
+
+/// Gives these octets, and then the end.
+#[derive(Drop)]
+pub(crate) struct Told {
+    pub(crate) octets: &'static [u8],
+}
+
+impl Read for Told {
+    fn read(&mut self, buffer: &mut [u8]) -> io::Result<usize> {
+        let count = self.octets.len().min(buffer.len());
+        buffer[..count].copy_from_slice(&self.octets[..count]);
+        self.octets = &self.octets[count..];
+        Ok(count)
+    }
+}
+
+/// Takes all that is written.
+#[derive(Drop)]
+pub(crate) struct Taking;
+
+impl Write for Taking {
+    fn write(&mut self, octets: &[u8]) -> io::Result<usize> {
+        Ok(octets.len())
+    }
+
+    fn flush(&mut self) -> io::Result<()> {
+        Ok(())
+    }
+}
+
+/// One millisecond more each time that it is asked.
+#[derive(Drop)]
+pub(crate) struct Counting {
+    pub(crate) asked: u64,
+}
+
+impl Timer for Counting {
+    fn milliseconds(&mut self) -> u64 {
+        self.asked = self.asked.saturating_add(1);
+        self.asked
+    }
+}
+
+/// Has octets to read at the connection at place 0 for each `r` of a text, and lets a time-out pass
+/// for each `t`; after the text there is always something to read.
+#[derive(Drop)]
+pub(crate) struct Scripted {
+    pub(crate) steps: &'static [u8],
+}
+
+impl Waiter<Told, Taking> for Scripted {
+    ghost waits = { λ _ _ _ _. Unit {0} };
+
+    fn wait(&mut self, _wait: Wait) -> Result<Awaited, LiveError> {
+        let Some(&step) = self.steps.first() else {
+            return Ok(Awaited::Octets { connection: 0 });
+        };
+        self.steps = &self.steps[1..];
+        if step == b't' {
+            return Ok(Awaited::TimeOut);
+        }
+        Ok(Awaited::Octets { connection: 0 })
+    }
+
+    fn nothing_left(&mut self, _connection: usize) {}
+
+    fn join(&mut self, _connection: usize) -> Option<(Told, Taking)> {
+        None
+    }
+
+    fn turn_away(&mut self) {}
+}
+
+/// A connection over these octets.
+pub(crate) fn connections(
+    alloc: Global,
+    octets: &'static [u8],
+) -> Result<Vec<Connection<Told, Taking, SocketRecords>>, AllocError> {
+    let mut connections = Vec::new(alloc);
+    connections.push(Connection::new(Told { octets }, Taking))?;
+    Ok(connections)
+}

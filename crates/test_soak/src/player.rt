@@ -1,0 +1,114 @@
+//! A line that is played under a watch.
+
+use crate::events::{Events, Next, RELEASE};
+use crate::random::Random;
+use crate::setups::{poll_list, select_counts, setup, terminals};
+use bsc_bid::{Setup, Terminal};
+use bsc_line::{Event, Line};
+use std::alloc::{AllocError, Allocator, Global};
+use test_alloc::Refusing;
+use test_hostile::{Broken, Watch};
+
+/// A line, its watch, and its events. It is owned in short functions and lent to those that play.
+#[derive(Drop)]
+pub struct Player<'a> {
+    pub events: Events,
+    pub line: Line<&'a Refusing>,
+    pub watch: Watch,
+    memory: &'a Refusing,
+    starved: bool,
+}
+
+/// What a step answers: the outer error is that memory ran out outside the line.
+type Answer = Result<Result<(), Broken>, AllocError>;
+
+/// A new line and its watch.
+fn watched<'a>(
+    alloc: Global,
+    memory: &'a Refusing,
+    setup: Setup,
+    terminals: &[Terminal],
+    poll_list: &[u8],
+) -> anyhow::Result<(Watch, Line<&'a Refusing>)> {
+    let watch = Watch::new(alloc, setup, terminals)?;
+    let line = Line::new(memory, setup, terminals, poll_list)?;
+    Ok((watch, line))
+}
+
+/// Plays an event, whatever the line answers.
+fn play<A: Allocator>(
+    watch: &mut Watch,
+    line: &mut Line<A>,
+    event: &Event<'_>,
+) -> Result<(), Broken> {
+    match watch.play(line, event) {
+        Ok(_) => Ok(()),
+        Err(broken) => Err(broken),
+    }
+}
+
+/// What is pending is heard by each terminal as its one of these.
+fn play_each<A: Allocator>(
+    alloc: Global,
+    watch: &mut Watch,
+    line: &mut Line<A>,
+    hearings: &[Option<Vec<u8>>],
+) -> Answer {
+    let mut items = Vec::new(alloc);
+    for hearing in hearings {
+        items.push(match hearing {
+            Some(octets) => Some(octets.as_slice()),
+            None => None,
+        })?;
+    }
+    let heard = items.as_slice();
+    Ok(play(watch, line, &Event::CarryEach { heard }))
+}
+
+impl<'a> Player<'a> {
+    /// A new line made from this seed, whose records are kept in this memory.
+    pub fn new(alloc: Global, memory: &'a Refusing, seed: u64) -> anyhow::Result<Player<'a>> {
+        let mut random = Random::new(seed);
+        memory.refuse_none();
+        let setup = setup(&mut random)?;
+        let terminals = terminals(alloc, &mut random)?;
+        let poll_list = poll_list(alloc, &mut random, terminals.len())?;
+        let selects = select_counts(alloc, &terminals)?;
+        let (watch, line) = watched(alloc, memory, setup, &terminals, &poll_list)?;
+        let full = usize::from(setup.format().full());
+        Ok(Player {
+            events: Events::new(alloc, random, full, selects),
+            line,
+            watch,
+            memory,
+            starved: false,
+        })
+    }
+
+    /// The line finds no more memory, or finds it again.
+    fn feed(&mut self) {
+        if self.starved {
+            self.memory.refuse_none();
+        } else {
+            self.memory.refuse_from(1);
+        }
+        self.starved = !self.starved;
+    }
+
+    /// One event.
+    pub fn step(&mut self, alloc: Global) -> Answer {
+        if self.events.below(32) == 0 {
+            self.feed();
+        }
+        let choice = self.events.below(32);
+        let doubtful = if choice == RELEASE {
+            self.watch.doubtful()
+        } else {
+            None
+        };
+        match self.events.next(choice, doubtful, self.line.pending())? {
+            Next::Event(event) => Ok(play(&mut self.watch, &mut self.line, &event)),
+            Next::Each(hearings) => play_each(alloc, &mut self.watch, &mut self.line, hearings),
+        }
+    }
+}

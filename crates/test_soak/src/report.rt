@@ -1,0 +1,91 @@
+//! What was seen on all lines.
+
+use test_hostile::Tally;
+
+/// What the numbers of a report are of, in the order in which they are printed.
+const NAMES: [&str; 19] = [
+    "events",
+    "lines",
+    "lines not trusted",
+    "events accepted",
+    "events refused",
+    "refused by Memory",
+    "refused by CountMismatch",
+    "records offered",
+    "blocks arrived",
+    "records arrived",
+    "blocks known",
+    "doubts",
+    "releases",
+    "calls",
+    "texts",
+    "ENQ",
+    "NAK",
+    "WACK",
+    "RVI",
+];
+
+/// Numbers of what was seen.
+#[derive(Clone, Copy)]
+pub struct Report {
+    pub played: u64,
+    lines: u64,
+    untrusted: u64,
+    tally: Tally,
+}
+
+impl Report {
+    pub fn new() -> Report {
+        Report {
+            played: 0,
+            lines: 0,
+            untrusted: 0,
+            tally: Tally::default(),
+        }
+    }
+
+    /// Adds a line that was played for this many events, and what was seen on it.
+    pub fn add(&mut self, events: u64, trusted: bool, tally: &Tally) {
+        self.played = self.played.saturating_add(events);
+        self.lines = self.lines.saturating_add(1);
+        if !trusted {
+            self.untrusted = self.untrusted.saturating_add(1);
+        }
+        self.tally.add(tally);
+    }
+
+    /// The numbers of which [`NAMES`] says what they are of.
+    fn numbers(&self) -> [u64; 19] {
+        let tally = &self.tally;
+        [
+            self.played,
+            self.lines,
+            self.untrusted,
+            tally.accepted,
+            tally.refused,
+            tally.out_of_memory,
+            tally.mismatches,
+            tally.offers,
+            tally.blocks,
+            tally.records,
+            tally.learned,
+            tally.doubts,
+            tally.releases,
+            tally.calls,
+            tally.texts,
+            tally.enquiries,
+            tally.naks,
+            tally.wacks,
+            tally.rvis,
+        ]
+    }
+
+    /// Prints the numbers, a line for each.
+    pub fn print(&self, rt: &impl Print) -> anyhow::Result<()> {
+        let numbers = self.numbers();
+        for (place, name) in NAMES.iter().enumerate() {
+            println!(rt; "{name}: {}", numbers[place])?;
+        }
+        Ok(())
+    }
+}
