@@ -1,5 +1,5 @@
 -- Each octet of a body has odd parity, but for the PAD of a call.
-use Rattle.std.proofs.Common.{inl, inr, ℕ, false, refl, arith, List, [], ◌∷◌, ◌++◌, map, IsTrue}
+use Rattle.std.proofs.Common.{◌∙◌, inl, inr, ℕ, false, refl, arith, List, [], ◌∷◌, ◌++◌, map, IsTrue}
 use Rattle.std.specs.List.{AllByRecursion}
 use Rattle.std.specs.Int.Count.{ones}
 use Rattle.bsc_octet.specs.Octet.{IsOdd, odd_octet}
@@ -8,11 +8,10 @@ use Rattle.bsc_frame.specs.Addresses.{is_address_code}
 use Rattle.bsc_frame.specs.Spells.{AreAll, IsBody, IsCall}
 use Rattle.bsc_frame.specs.TurnedBits.{IsBodyOctet}
 use Rattle.bsc_frame.specs.declared.message.Message.{Message}
-use Rattle.bsc_frame.specs.declared.message.Message.TheVariants.{Eot, Call, Enq, Ack0, Ack1, Nak}
-use Rattle.bsc_frame.specs.declared.message.Message.TheVariants.{Wack, Rvi}
-use Rattle.bsc_frame.specs.declared.message.Message.TheVariants.{Text}
+use Rattle.bsc_frame.specs.declared.message.Message.TheVariants.{Eot, Call, Enq, Reply, Text}
 use Rattle.bsc_frame.proofs.ControlLemmas.{plain}
 use Rattle.bsc_frame.proofs.OddLemmas.{units_odd, fill_odd}
+use Rattle.bsc_frame.proofs.ReplyLemmas.{reply_form}
 use Rattle.bsc_octet.proofs.Elements.{all_append}
 
 pub eot_odd : IsOdd 0x04
@@ -34,22 +33,6 @@ dle_odd = is_odd_odd_octet 0x10 (omega arith)
 pub stx_odd : IsOdd 0x02
 unfolding odd_octet ones
 stx_odd = is_odd_odd_octet 0x02 (omega arith)
-
-pub ack0_odd : IsOdd 0xb0
-unfolding odd_octet ones
-ack0_odd = is_odd_odd_octet 0x30 (omega arith)
-
-pub ack1_odd : IsOdd 0x31
-unfolding odd_octet ones
-ack1_odd = is_odd_odd_octet 0x31 (omega arith)
-
-pub wack_odd : IsOdd 0x3b
-unfolding odd_octet ones
-wack_odd = is_odd_odd_octet 0x3b (omega arith)
-
-pub rvi_odd : IsOdd 0xbc
-unfolding odd_octet ones
-rvi_odd = is_odd_odd_octet 0x3c (omega arith)
 
 -- ---- calls
 
@@ -99,11 +82,10 @@ pub body_fits : (m : Message) (body : List ℕ) → IsBody m body → AllByRecur
 body_fits Eot body h = rw h (inl eot_odd, tt)
 body_fits (Call a) body h = call_fits a body h
 body_fits Enq body h = rw h (inl enq_odd, tt)
-body_fits Nak body h = rw h (inl nak_odd, tt)
-body_fits Ack0 body h = rw h (inl dle_odd, (inl ack0_odd, tt))
-body_fits Ack1 body h = rw h (inl dle_odd, (inl ack1_odd, tt))
-body_fits Wack body h = rw h (inl dle_odd, (inl wack_odd, tt))
-body_fits Rvi body h = rw h (inl dle_odd, (inl rvi_odd, tt))
+body_fits (Reply r) body h = elim (reply_form r) [
+  | inl k ↦ rw (h ∙ k) (inl nak_odd, tt)
+  | inr k ↦ rw (h ∙ k.whole) (inl dle_odd, (inl k.odd, tt))
+]
 body_fits (Text t) body h =
     rw h.whole (odd_fits (Text t) (0x02 ∷ h.rest)
     (stx_odd, units_odd false t.units t.end h.rest h.units h.text.each))

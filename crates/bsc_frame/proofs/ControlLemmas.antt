@@ -10,29 +10,23 @@ use Rattle.std.specs.List.{AllByRecursion, position_or_len}
 use Rattle.std.specs.Str.{bytes_eq}
 use Rattle.std.proofs.lemmas.Bool.{eqb-true, eqb-false}
 use Rattle.std.proofs.lemmas.Bool.Decides.{nat_tests}
-use Rattle.std.proofs.lemmas.Slice.Eq.{bytes_eq-Decides}
 use Rattle.bsc_octet.specs.Octet.{odd_octet, code_of}
 use Rattle.bsc_octet.proofs.ParityLemmas.{odd_cases, code_of_some, code_of_odd_octet}
 use Rattle.bsc_frame.specs.Addresses.{IsAddress, is_address_code}
 use Rattle.bsc_frame.specs.Message.{read_address, first_wrong}
 use Rattle.bsc_frame.specs.Spells.{AreAll, IsCall, IsBody}
 use Rattle.bsc_frame.specs.Reading.{skip, is_octet, begins, called, at_end, with_code, call}
-use Rattle.bsc_frame.specs.Reading.{call_to, control}
+use Rattle.bsc_frame.specs.Reading.{call_to, control, reply_or_call}
+use Rattle.bsc_frame.specs.Replies.{reply_spelled}
+use Rattle.bsc_frame.specs.declared.reply.Reply.{Reply as ReplyValue}
 use Rattle.bsc_frame.specs.declared.address.AddressError.{AddressError}
 use Rattle.bsc_frame.specs.declared.message.Message.{Message}
-use Rattle.bsc_frame.specs.declared.message.Message.TheVariants.{Eot, Call, Enq, Ack0, Ack1, Nak}
-use Rattle.bsc_frame.specs.declared.message.Message.TheVariants.{Wack, Rvi}
-use Rattle.bsc_frame.specs.declared.message.Message.TheVariants.{Text}
+use Rattle.bsc_frame.specs.declared.message.Message.TheVariants.{Eot, Call, Enq, Reply, Text}
 use Rattle.bsc_frame.proofs.AddressLemmas.{is_address}
-use Rattle.bsc_frame.proofs.ReadLemmas.{test_false, has_room}
+use Rattle.bsc_frame.proofs.ReadLemmas.{test_false, has_room, chosen, equal}
+use Rattle.bsc_frame.proofs.ReplyLemmas.{reply_read, reply_reads}
 use Rattle.bsc_frame.proofs.FrontLemmas.{parts, skip_pass, skip_none, pass_are, are_pass}
 use Rattle.bsc_frame.specs.declared.limits.TheConstants.{MAX_ADDRESS}
-
--- which way a test went
-pub chosen : {A : Type 0} (b : Bool) (x y z : A) → cond b x y ≡ z
-    → ((b ≡ true) × (x ≡ z)) ⊎ ((b ≡ false) × (y ≡ z))
-chosen true x y z h = inl (refl, h)
-chosen false x y z h = inr (refl, h)
 
 -- ---- the codes of a call
 
@@ -249,10 +243,6 @@ call_read rest a c =
 
 -- ---- all
 
--- lists that compare as equal are the same
-pub equal : (x y : List ℕ) → bytes_eq x y ≡ true → x ≡ y
-equal x y h = (bytes_eq-Decides x y).0 h
-
 -- what two options that are the same hold is the same
 pub some_is : {A : Type 0} (x y : A) → Some x ≡ Some y → x ≡ y
 some_is x y e = cc
@@ -266,6 +256,16 @@ by_eot (x ∷ rest) m h e =
     let k = call_reads rest m e in
     rw (k.1, eqb-true x 0x04 h) k.2
 
+-- a body that is read as a reply or as a call is that of its message
+replied : (body : List ℕ) (m : Message) (o : Option ReplyValue) → reply_spelled body ≡ o
+    → reply_or_call o body ≡ Some m → IsBody m body
+replied body m (Some r) s e =
+    subst (λ k. IsBody k body) (some_is _ _ e) (reply_reads body r s)
+replied body m None s e = elim (chosen (begins (is_octet 0x04) body) _ _ _ e) [
+  | inl h ↦ by_eot body m h.0 h.1
+  | inr e ↦ absurd (let h = e.1 in cc)
+]
+
 -- a body that is read as a control sequence is that of its message
 pub control_reads : (body : List ℕ) (m : Message) → control body ≡ Some m → IsBody m body
 unfolding control
@@ -273,25 +273,7 @@ control_reads body m e = elim (chosen (bytes_eq body (0x04 ∷ [])) _ _ _ e) [
   | inl h ↦ subst (λ k. IsBody k body) (some_is _ _ h.1) (equal _ _ h.0)
   | inr e ↦ elim (chosen (bytes_eq body (0x85 ∷ [])) _ _ _ e.1) [
     | inl h ↦ subst (λ k. IsBody k body) (some_is _ _ h.1) (equal _ _ h.0)
-    | inr e ↦ elim (chosen (bytes_eq body (0x15 ∷ [])) _ _ _ e.1) [
-      | inl h ↦ subst (λ k. IsBody k body) (some_is _ _ h.1) (equal _ _ h.0)
-      | inr e ↦ elim (chosen (bytes_eq body (0x10 ∷ 0xb0 ∷ [])) _ _ _ e.1) [
-        | inl h ↦ subst (λ k. IsBody k body) (some_is _ _ h.1) (equal _ _ h.0)
-        | inr e ↦ elim (chosen (bytes_eq body (0x10 ∷ 0x31 ∷ [])) _ _ _ e.1) [
-          | inl h ↦ subst (λ k. IsBody k body) (some_is _ _ h.1) (equal _ _ h.0)
-          | inr e ↦ elim (chosen (bytes_eq body (0x10 ∷ 0x3b ∷ [])) _ _ _ e.1) [
-            | inl h ↦ subst (λ k. IsBody k body) (some_is _ _ h.1) (equal _ _ h.0)
-            | inr e ↦ elim (chosen (bytes_eq body (0x10 ∷ 0xbc ∷ [])) _ _ _ e.1) [
-              | inl h ↦ subst (λ k. IsBody k body) (some_is _ _ h.1) (equal _ _ h.0)
-              | inr e ↦ elim (chosen (begins (is_octet 0x04) body) _ _ _ e.1) [
-                | inl h ↦ by_eot body m h.0 h.1
-                | inr e ↦ absurd (let h = e.1 in cc)
-              ]
-            ]
-          ]
-        ]
-      ]
-    ]
+    | inr e ↦ replied body m (reply_spelled body) refl e.1
   ]
 ]
 
@@ -318,11 +300,7 @@ abbrev pub IsControl : Message → Type 0
 IsControl Eot = Unit {0}
 IsControl (Call a) = Unit {0}
 IsControl Enq = Unit {0}
-IsControl Ack0 = Unit {0}
-IsControl Ack1 = Unit {0}
-IsControl Nak = Unit {0}
-IsControl Wack = Unit {0}
-IsControl Rvi = Unit {0}
+IsControl (Reply r) = Unit {0}
 IsControl (Text t) = ⊥
 
 -- the body of each message without a text is read as it
@@ -332,9 +310,5 @@ unfolding control
 control_read body Eot k h = rw h refl
 control_read body (Call a) k h = call_body a body h
 control_read body Enq k h = rw h refl
-control_read body Nak k h = rw h refl
-control_read body Ack0 k h = rw h refl
-control_read body Ack1 k h = rw h refl
-control_read body Wack k h = rw h refl
-control_read body Rvi k h = rw h refl
+control_read body (Reply r) k h = rw h (reply_read r)
 control_read body (Text t) k h = absurd k

@@ -6,7 +6,8 @@ use Rattle.bsc_frame.specs.Message.{IsMessage}
 use Rattle.bsc_frame.specs.Wire.{wire}
 use Rattle.bsc_frame.specs.Spells.{Spells}
 use Rattle.bsc_frame.specs.TurnedBits.{two_chars, with_ends_turned}
-use Rattle.bsc_frame.specs.declared.message.Message.TheVariants.{Ack0, Ack1}
+use Rattle.bsc_frame.specs.declared.message.Message.TheVariants as m
+use Rattle.bsc_frame.specs.declared.reply.Reply.TheVariants.{Ack0, Ack1}
 use Rattle.bsc_frame.proofs.HeardLemmas.{wire_spells}
 
 -- HI and IH are texts, of which the same is sent but for two octets
@@ -34,5 +35,5 @@ other_text =
     (wire_spells (two_chars 0x49 0x48) is_text)
 
 -- ACK1 is read where ACK0 was sent with both ends of its second octet turned
-pub other_reply : Spells (with_ends_turned 3 (wire Ack0)) Ack1
-other_reply = wire_spells Ack1 tt
+pub other_reply : Spells (with_ends_turned 3 (wire (m.Reply Ack0))) (m.Reply Ack1)
+other_reply = wire_spells (m.Reply Ack1) tt

@@ -12,10 +12,9 @@ use Rattle.bsc_frame.specs.Addresses.{IsAddress, is_address_code}
 use Rattle.bsc_frame.specs.Spells.{IsBody, AreAll}
 use Rattle.bsc_frame.specs.TurnedBits.{HaveOtherParity, IsCallFill}
 use Rattle.bsc_frame.specs.declared.message.Message.{Message}
-use Rattle.bsc_frame.specs.declared.message.Message.TheVariants.{Eot, Call, Enq, Ack0, Ack1, Nak}
-use Rattle.bsc_frame.specs.declared.message.Message.TheVariants.{Wack, Rvi}
-use Rattle.bsc_frame.specs.declared.message.Message.TheVariants.{Text}
+use Rattle.bsc_frame.specs.declared.message.Message.TheVariants.{Eot, Call, Enq, Reply, Text}
 use Rattle.bsc_frame.proofs.ControlLemmas.{plain, plain_odd}
+use Rattle.bsc_frame.proofs.ReplyLemmas.{reply_form}
 use Rattle.bsc_frame.proofs.OddLemmas.{syn_odd}
 use Rattle.bsc_frame.proofs.BodyOddLemmas.{called_odd, address_odd, enq_odd}
 use Rattle.bsc_frame.proofs.PlaceLemmas.{parted, all_here, all_after}
@@ -72,11 +71,10 @@ called_or_end n rest b = by_message n b.is_body
       are_trail = b.are_trail;
     })
     by_message Enq h = absurd (omega (arith, heads h))
-    by_message Nak h = absurd (omega (arith, heads h))
-    by_message Ack0 h = absurd (omega (arith, heads h))
-    by_message Ack1 h = absurd (omega (arith, heads h))
-    by_message Wack h = absurd (omega (arith, heads h))
-    by_message Rvi h = absurd (omega (arith, heads h))
+    by_message (Reply r) h = elim (reply_form r) [
+      | inl k ↦ absurd (omega (arith, heads (h ∙ k)))
+      | inr k ↦ absurd (omega (arith, heads (h ∙ k.whole)))
+    ]
     by_message (Text t) h = absurd (omega (arith, heads h.whole))
 
 -- the first octet after the PAD is odd

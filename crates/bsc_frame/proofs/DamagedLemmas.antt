@@ -1,6 +1,6 @@
 -- What is heard of a message of which one octet has the other parity.
 use Rattle.std.proofs.Common.{◌≡◌, ◌⊎◌, ◌↔◌, inl, inr, ℕ, zero, suc, ◌<◌, ◌≤◌, ◌==◌, false, refl}
-use Rattle.std.proofs.Common.{sym, subst, ◌∙◌, arith, List, [], ◌∷◌, ◌++◌, length, get_or, set}
+use Rattle.std.proofs.Common.{sym, ap, subst, ◌∙◌, arith, List, [], ◌∷◌, ◌++◌, length, get_or, set}
 use Rattle.std.proofs.Common.{length-set, map, append-nil}
 use Rattle.bsc_octet.specs.Octet.{IsOdd, odd_octet}
 use Rattle.bsc_frame.specs.Addresses.{IsAddress}
@@ -12,15 +12,16 @@ use Rattle.bsc_frame.specs.Spells.{Spells, IsBody, IsFailed}
 use Rattle.bsc_frame.specs.TurnedBits.{HaveOtherParity, IsSomeCall, IsSomeText, IsLeadingPad}
 use Rattle.bsc_frame.specs.TurnedBits.{IsCallFill, IsFillIn}
 use Rattle.bsc_frame.specs.declared.message.Message.{Message}
-use Rattle.bsc_frame.specs.declared.message.Message.TheVariants.{Eot, Call, Enq, Ack0, Ack1, Nak}
-use Rattle.bsc_frame.specs.declared.message.Message.TheVariants.{Wack, Rvi, Text}
+use Rattle.bsc_frame.specs.declared.message.Message.TheVariants.{Eot, Call, Enq, Reply, Text}
 use Rattle.bsc_frame.specs.declared.message.Heard.TheVariants.{Whole, Failed, Noise}
 use Rattle.bsc_frame.proofs.ReadLemmas.{test_false}
 use Rattle.bsc_frame.proofs.OddLemmas.{syn_odd}
 use Rattle.bsc_frame.proofs.HeardLemmas.{heard_spelled, heard_failed, length_wire, one_message}
 use Rattle.bsc_frame.proofs.TextUnits.{wire_units}
-use Rattle.bsc_frame.proofs.BodyOddLemmas.{eot_odd, enq_odd, nak_odd, dle_odd, stx_odd, ack0_odd}
-use Rattle.bsc_frame.proofs.BodyOddLemmas.{ack1_odd, wack_odd, rvi_odd}
+use Rattle.bsc_frame.proofs.BodyOddLemmas.{eot_odd, enq_odd, nak_odd, dle_odd, stx_odd}
+use Rattle.bsc_frame.proofs.ReplyLemmas.{IsPair, reply_form}
+use Rattle.bsc_frame.specs.Replies.{reply_octets}
+use Rattle.bsc_frame.specs.declared.reply.Reply.{Reply as ReplyValue}
 use Rattle.bsc_frame.proofs.PlaceLemmas.{around}
 use Rattle.bsc_frame.proofs.InsideLemmas.{Inside, inside, failed_inside, after_first, first_is_odd}
 use Rattle.bsc_frame.proofs.InsideLemmas.{starts_wrong, pad_or_not}
@@ -54,11 +55,7 @@ sent_of (Call a) h = record {
       };
 }
 sent_of Enq h = record { body = 0x85 ∷ []; whole = refl; is_body = refl }
-sent_of Nak h = record { body = 0x15 ∷ []; whole = refl; is_body = refl }
-sent_of Ack0 h = record { body = 0x10 ∷ 0xb0 ∷ []; whole = refl; is_body = refl }
-sent_of Ack1 h = record { body = 0x10 ∷ 0x31 ∷ []; whole = refl; is_body = refl }
-sent_of Wack h = record { body = 0x10 ∷ 0x3b ∷ []; whole = refl; is_body = refl }
-sent_of Rvi h = record { body = 0x10 ∷ 0xbc ∷ []; whole = refl; is_body = refl }
+sent_of (Reply r) h = record { body = reply_octets r; whole = refl; is_body = refl }
 sent_of (Text t) h = record {
   body = 0x02 ∷ units_wire t.units t.end;
   whole = refl;
@@ -90,6 +87,36 @@ record Shape (m : Message) : Type 0 where
   other : (x == 0x16) ≡ false
   lost : LostBehind m x tail
   starts_text : x ≡ 0x02 → IsSomeText m
+
+-- a reply of one octet
+shape_nak : (r : ReplyValue) → reply_octets r ≡ 0x15 ∷ [] → Shape (Reply r)
+shape_nak r k = record {
+  x = 0x15;
+  tail = 0xff ∷ [];
+  whole = ap framed k;
+  odd = nak_odd;
+  other = refl;
+  lost =
+      λ n before o after new w p i. absurd
+      (lost_single 0x15 n before o after new (λ e. omega (arith, e)) (λ e. omega (arith, e)) w p
+      (after_first 0x15 (before ++ new ∷ after) n i));
+  starts_text = λ e. absurd (omega (arith, e));
+}
+
+-- a reply of two octets
+shape_pair : (r : ReplyValue) → IsPair (reply_octets r) → Shape (Reply r)
+shape_pair r k = record {
+  x = 0x10;
+  tail = k.second ∷ 0xff ∷ [];
+  whole = ap framed k.whole;
+  odd = dle_odd;
+  other = refl;
+  lost =
+      λ n before o after new w p i. absurd
+      (lost_reply k.second n before o after new k.odd w p
+      (after_first 0x10 (before ++ new ∷ after) n i));
+  starts_text = λ e. absurd (omega (arith, e));
+}
 
 -- each message has its first octet, of odd parity and no SYN, and what is left of it
 shape : (m : Message) → IsMessage m → Shape m
@@ -130,66 +157,7 @@ shape Enq h = record {
       (after_first 0x85 (before ++ new ∷ after) n i));
   starts_text = λ e. absurd (omega (arith, e));
 }
-shape Nak h = record {
-  x = 0x15;
-  tail = 0xff ∷ [];
-  whole = refl;
-  odd = nak_odd;
-  other = refl;
-  lost =
-      λ n before o after new w p i. absurd
-      (lost_single 0x15 n before o after new (λ e. omega (arith, e)) (λ e. omega (arith, e)) w p
-      (after_first 0x15 (before ++ new ∷ after) n i));
-  starts_text = λ e. absurd (omega (arith, e));
-}
-shape Ack0 h = record {
-  x = 0x10;
-  tail = 0xb0 ∷ 0xff ∷ [];
-  whole = refl;
-  odd = dle_odd;
-  other = refl;
-  lost =
-      λ n before o after new w p i. absurd
-      (lost_reply 0xb0 n before o after new ack0_odd w p
-      (after_first 0x10 (before ++ new ∷ after) n i));
-  starts_text = λ e. absurd (omega (arith, e));
-}
-shape Ack1 h = record {
-  x = 0x10;
-  tail = 0x31 ∷ 0xff ∷ [];
-  whole = refl;
-  odd = dle_odd;
-  other = refl;
-  lost =
-      λ n before o after new w p i. absurd
-      (lost_reply 0x31 n before o after new ack1_odd w p
-      (after_first 0x10 (before ++ new ∷ after) n i));
-  starts_text = λ e. absurd (omega (arith, e));
-}
-shape Wack h = record {
-  x = 0x10;
-  tail = 0x3b ∷ 0xff ∷ [];
-  whole = refl;
-  odd = dle_odd;
-  other = refl;
-  lost =
-      λ n before o after new w p i. absurd
-      (lost_reply 0x3b n before o after new wack_odd w p
-      (after_first 0x10 (before ++ new ∷ after) n i));
-  starts_text = λ e. absurd (omega (arith, e));
-}
-shape Rvi h = record {
-  x = 0x10;
-  tail = 0xbc ∷ 0xff ∷ [];
-  whole = refl;
-  odd = dle_odd;
-  other = refl;
-  lost =
-      λ n before o after new w p i. absurd
-      (lost_reply 0xbc n before o after new rvi_odd w p
-      (after_first 0x10 (before ++ new ∷ after) n i));
-  starts_text = λ e. absurd (omega (arith, e));
-}
+shape (Reply r) h = elim (reply_form r) [ inl k ↦ shape_nak r k | inr k ↦ shape_pair r k ]
 shape (Text t) h = record {
   x = 0x02;
   tail = units_wire t.units t.end ++ 0xff ∷ [];

@@ -1,13 +1,12 @@
 -- Bodies of one and of two octets of which one has the other parity.
-use Rattle.std.proofs.Common.{◌≡◌, ◌≢◌, ℕ, ◌<◌, sym, ap, subst, ◌∙◌, arith, List, [], ◌∷◌, ◌++◌}
+use Rattle.std.proofs.Common.{◌≡◌, ◌≢◌, inl, inr, ℕ, ◌<◌, sym, ap, subst, ◌∙◌, arith, List, [], ◌∷◌, ◌++◌}
 use Rattle.std.proofs.Common.{length, map, length-append}
 use Rattle.bsc_octet.specs.Octet.{IsOdd, odd_octet}
 use Rattle.bsc_frame.specs.Spells.{IsBody, AreAll}
 use Rattle.bsc_frame.specs.TurnedBits.{HaveOtherParity}
 use Rattle.bsc_frame.specs.declared.message.Message.{Message}
-use Rattle.bsc_frame.specs.declared.message.Message.TheVariants.{Eot, Call, Enq, Ack0, Ack1, Nak}
-use Rattle.bsc_frame.specs.declared.message.Message.TheVariants.{Wack, Rvi, Text}
-use Rattle.bsc_frame.proofs.BodyOddLemmas.{ack0_odd, ack1_odd, wack_odd, rvi_odd}
+use Rattle.bsc_frame.specs.declared.message.Message.TheVariants.{Eot, Call, Enq, Reply, Text}
+use Rattle.bsc_frame.proofs.ReplyLemmas.{reply_form}
 use Rattle.bsc_frame.proofs.InsideLemmas.{AfterFirst}
 use Rattle.bsc_frame.proofs.DamagedText.{heads, tails, not_both_odd, not_same}
 
@@ -28,11 +27,10 @@ no_more x (Call a) y p q h =
     some_codes [] l = l
     some_codes (c ∷ b) l = omega arith
 no_more x Enq y p q h = omega (arith, ap length h)
-no_more x Nak y p q h = omega (arith, ap length h)
-no_more x Ack0 y p q h = p (heads h)
-no_more x Ack1 y p q h = p (heads h)
-no_more x Wack y p q h = p (heads h)
-no_more x Rvi y p q h = p (heads h)
+no_more x (Reply r) y p q h = elim (reply_form r) [
+  | inl k ↦ omega (arith, ap length (h ∙ k))
+  | inr k ↦ p (heads (h ∙ k.whole))
+]
 no_more x (Text t) y p q h = q (heads h.whole)
 
 -- a message of one octet is lost where the PAD after it is changed to the other parity
@@ -55,21 +53,20 @@ lost_single x n [] o after new p q whole other b =
     by_body (z ∷ w ∷ body) trail h e k d = omega (arith, ap length e)
 
 -- the rest of a reply after DLE
-record Reply (body : List ℕ) : Type 0 where
+record AfterDle (body : List ℕ) : Type 0 where
   second : ℕ
   whole : body ≡ second ∷ []
   odd : IsOdd second
 
 -- the body of a message that begins with DLE is that of a reply of two octets
-reply_body : (n : Message) (body : List ℕ) → IsBody n (0x10 ∷ body) → Reply body
+reply_body : (n : Message) (body : List ℕ) → IsBody n (0x10 ∷ body) → AfterDle body
 reply_body Eot body h = absurd (omega (arith, heads h))
 reply_body (Call a) body h = absurd (omega (arith, heads h.whole))
 reply_body Enq body h = absurd (omega (arith, heads h))
-reply_body Nak body h = absurd (omega (arith, heads h))
-reply_body Ack0 body h = record { second = 0xb0; whole = tails h; odd = ack0_odd }
-reply_body Ack1 body h = record { second = 0x31; whole = tails h; odd = ack1_odd }
-reply_body Wack body h = record { second = 0x3b; whole = tails h; odd = wack_odd }
-reply_body Rvi body h = record { second = 0xbc; whole = tails h; odd = rvi_odd }
+reply_body (Reply r) body h = elim (reply_form r) [
+  | inl k ↦ absurd (omega (arith, heads (h ∙ k)))
+  | inr k ↦ record { second = k.second; whole = tails (h ∙ k.whole); odd = k.odd }
+]
 reply_body (Text t) body h = absurd (omega (arith, heads h.whole))
 
 -- a reply of two octets is lost where one octet after its DLE is changed to the other parity

@@ -9,9 +9,8 @@ use Rattle.bsc_frame.specs.Units.{units_wire}
 use Rattle.bsc_frame.specs.Spells.{IsBody, AreAll, AreUnits}
 use Rattle.bsc_frame.specs.TurnedBits.{HaveOtherParity}
 use Rattle.bsc_frame.specs.declared.message.Message.{Message}
-use Rattle.bsc_frame.specs.declared.message.Message.TheVariants.{Eot, Call, Enq, Ack0, Ack1, Nak}
-use Rattle.bsc_frame.specs.declared.message.Message.TheVariants.{Wack, Rvi}
-use Rattle.bsc_frame.specs.declared.message.Message.TheVariants.{Text}
+use Rattle.bsc_frame.specs.declared.message.Message.TheVariants.{Eot, Call, Enq, Reply, Text}
+use Rattle.bsc_frame.proofs.ReplyLemmas.{reply_form}
 use Rattle.bsc_frame.proofs.TextUnits.{wire_units}
 use Rattle.bsc_frame.proofs.OddLemmas.{units_odd}
 use Rattle.bsc_frame.proofs.PlaceLemmas.{parted, all_here}
@@ -40,11 +39,10 @@ pub text_body : (n : Message) (body : List ℕ) → IsBody n (0x02 ∷ body)
 text_body Eot body h = absurd (omega (arith, heads h))
 text_body (Call a) body h = absurd (omega (arith, heads h.whole))
 text_body Enq body h = absurd (omega (arith, heads h))
-text_body Nak body h = absurd (omega (arith, heads h))
-text_body Ack0 body h = absurd (omega (arith, heads h))
-text_body Ack1 body h = absurd (omega (arith, heads h))
-text_body Wack body h = absurd (omega (arith, heads h))
-text_body Rvi body h = absurd (omega (arith, heads h))
+text_body (Reply r) body h = elim (reply_form r) [
+  | inl k ↦ absurd (omega (arith, heads (h ∙ k)))
+  | inr k ↦ absurd (omega (arith, heads (h ∙ k.whole)))
+]
 text_body (Text s) body h = (s, rw (tails h.whole) h.units, h.text)
 
 -- a list with an element in it is not empty

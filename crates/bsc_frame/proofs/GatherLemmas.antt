@@ -9,7 +9,7 @@ use Rattle.bsc_octet.proofs.ParityLemmas.{odd_cases, code_of_some, code_of_odd_o
 use Rattle.bsc_frame.specs.Spells.{AreAll, AreFilled}
 use Rattle.bsc_frame.specs.Reading.{is_ending_code, before_gathered, gather_code, gathered}
 use Rattle.bsc_frame.proofs.ReadLemmas.{test_false, has_room}
-use Rattle.bsc_frame.proofs.ControlLemmas.{chosen}
+use Rattle.bsc_frame.proofs.ReadLemmas.{chosen}
 
 -- the last of the codes is an ending character
 abbrev pub EndsUnit : List ℕ → Type 0

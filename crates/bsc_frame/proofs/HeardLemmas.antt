@@ -14,13 +14,13 @@ use Rattle.bsc_frame.specs.Spells.{Spells, IsBody, IsTextBody, Carries, IsFailed
 use Rattle.bsc_frame.specs.Reading.{is_octet, begins, control, heard, heard_body, whole_or_noise}
 use Rattle.bsc_frame.specs.Reading.{whole_or_failed, units_at}
 use Rattle.bsc_frame.specs.declared.message.Message.{Message}
-use Rattle.bsc_frame.specs.declared.message.Message.TheVariants.{Eot, Call, Enq, Ack0, Ack1, Nak}
-use Rattle.bsc_frame.specs.declared.message.Message.TheVariants.{Wack, Rvi}
-use Rattle.bsc_frame.specs.declared.message.Message.TheVariants.{Text}
+use Rattle.bsc_frame.specs.declared.message.Message.TheVariants.{Eot, Call, Enq, Reply, Text}
 use Rattle.bsc_frame.specs.declared.message.Heard.{Heard}
 use Rattle.bsc_frame.specs.declared.message.Heard.TheVariants.{Whole, Failed, Noise}
 use Rattle.bsc_frame.proofs.FrontLemmas.{bodies, heard_carried, Ends, trimmed_body, trimmed_begins}
-use Rattle.bsc_frame.proofs.ControlLemmas.{control_reads, control_read, IsControl, chosen}
+use Rattle.bsc_frame.proofs.ControlLemmas.{control_reads, control_read, IsControl}
+use Rattle.bsc_frame.proofs.ReadLemmas.{chosen}
+use Rattle.bsc_frame.proofs.ReplyLemmas.{reply_form}
 use Rattle.bsc_frame.proofs.TextUnits.{units_at_reads, units_at_read, units_end, wire_units}
 use Rattle.bsc_frame.proofs.TextUnits.{length_units_wire}
 use Rattle.bsc_frame.specs.declared.limits.TheConstants.{MAX_UNITS, MAX_SENT}
@@ -78,8 +78,8 @@ short x a c body e =
     }
 
 -- nor has one of DLE and an octet that is no PAD
-reply : (y : ℕ) → ((y == 0xff) ≡ false) → (body : List ℕ) → body ≡ 0x10 ∷ y ∷ [] → Plain body
-reply y c body e =
+pair : (y : ℕ) → ((y == 0xff) ≡ false) → (body : List ℕ) → body ≡ 0x10 ∷ y ∷ [] → Plain body
+pair y c body e =
     record {
       begins_other = (0x10, y ∷ [], e, refl);
       ends =
@@ -111,11 +111,10 @@ plain_body body (Call a) h = record {
       };
 }
 plain_body body Enq h = short 0x85 refl refl body h
-plain_body body Nak h = short 0x15 refl refl body h
-plain_body body Ack0 h = reply 0xb0 refl body h
-plain_body body Ack1 h = reply 0x31 refl body h
-plain_body body Wack h = reply 0x3b refl body h
-plain_body body Rvi h = reply 0xbc refl body h
+plain_body body (Reply r) h = elim (reply_form r) [
+  | inl k ↦ short 0x15 refl refl body (h ∙ k)
+  | inr k ↦ pair k.second k.no_pad body (h ∙ k.whole)
+]
 plain_body body (Text t) h = record {
   begins_other = (0x02, h.rest, h.whole, refl);
   ends = rw h.whole (ends_text h.rest (units_end false t.units t.end h.rest h.units h.text.some));
@@ -136,11 +135,10 @@ unfolding heard_body
 body_read body Eot h = control_body 0x04 [] Eot refl tt body h h
 body_read body (Call a) h = control_body 0x04 _ (Call a) refl tt body h.whole h
 body_read body Enq h = control_body 0x85 [] Enq refl tt body h h
-body_read body Nak h = control_body 0x15 [] Nak refl tt body h h
-body_read body Ack0 h = control_body 0x10 _ Ack0 refl tt body h h
-body_read body Ack1 h = control_body 0x10 _ Ack1 refl tt body h h
-body_read body Wack h = control_body 0x10 _ Wack refl tt body h h
-body_read body Rvi h = control_body 0x10 _ Rvi refl tt body h h
+body_read body (Reply r) h = elim (reply_form r) [
+  | inl k ↦ control_body 0x15 [] (Reply r) refl tt body (h ∙ k) h
+  | inr k ↦ control_body 0x10 (k.second ∷ []) (Reply r) refl tt body (h ∙ k.whole) h
+]
 body_read body (Text t) h =
     let units : units_at MAX_UNITS false h.rest ≡ Some t =
     units_at_read MAX_UNITS false t.units t.end h.rest h.units h.text.some h.text.most
@@ -266,11 +264,10 @@ length_wire (Call a) h =
       length-map a odd_octet,
     )
 length_wire Enq h = omega arith
-length_wire Nak h = omega arith
-length_wire Ack0 h = omega arith
-length_wire Ack1 h = omega arith
-length_wire Wack h = omega arith
-length_wire Rvi h = omega arith
+length_wire (Reply r) h = elim (reply_form r) [
+  | inl k ↦ rw k (omega arith)
+  | inr k ↦ rw k.whole (omega arith)
+]
 length_wire (Text t) h =
     omega (
       arith,
@@ -313,11 +310,7 @@ wire_spells (Call a) h =
       address = h;
     })
 wire_spells Enq h = sent _ Enq (length_wire Enq h) refl
-wire_spells Nak h = sent _ Nak (length_wire Nak h) refl
-wire_spells Ack0 h = sent _ Ack0 (length_wire Ack0 h) refl
-wire_spells Ack1 h = sent _ Ack1 (length_wire Ack1 h) refl
-wire_spells Wack h = sent _ Wack (length_wire Wack h) refl
-wire_spells Rvi h = sent _ Rvi (length_wire Rvi h) refl
+wire_spells (Reply r) h = sent _ (Reply r) (length_wire (Reply r) h) refl
 wire_spells (Text t) h =
     sent _ (Text t) (length_wire (Text t) h)
     (record {

@@ -8,13 +8,12 @@ use Rattle.bsc_frame.specs.Spells.{Spells, IsBody, Carries, AreAll, IsFailed}
 use Rattle.bsc_frame.specs.Reading.{skip, is_octet, is_pad_octet, begins, heard, heard_body}
 use Rattle.bsc_frame.specs.Reading.{trimmed}
 use Rattle.bsc_frame.specs.declared.message.Message.{Message}
-use Rattle.bsc_frame.specs.declared.message.Message.TheVariants.{Eot, Call, Enq, Ack0, Ack1, Nak}
-use Rattle.bsc_frame.specs.declared.message.Message.TheVariants.{Wack, Rvi}
-use Rattle.bsc_frame.specs.declared.message.Message.TheVariants.{Text}
+use Rattle.bsc_frame.specs.declared.message.Message.TheVariants.{Eot, Call, Enq, Reply, Text}
 use Rattle.bsc_frame.specs.declared.message.Heard.{Heard}
 use Rattle.bsc_frame.specs.declared.message.Heard.TheVariants.{Noise}
 use Rattle.bsc_frame.proofs.FrontLemmas.{heard_carried, trail_of}
 use Rattle.bsc_frame.proofs.HeardLemmas.{body_reads, heard_spelled, heard_failed, failed_begins}
+use Rattle.bsc_frame.proofs.ReplyLemmas.{reply_form}
 use Rattle.bsc_frame.proofs.BodyOddLemmas.{eot_odd, enq_odd, nak_odd, dle_odd, stx_odd}
 use Rattle.bsc_frame.specs.declared.limits.TheConstants.{MAX_HEARD}
 
@@ -92,11 +91,10 @@ first_of (Call a) body h =
       odd = eot_odd;
     }
 first_of Enq body h = record { first = 0x85; more = []; whole = h; odd = enq_odd }
-first_of Nak body h = record { first = 0x15; more = []; whole = h; odd = nak_odd }
-first_of Ack0 body h = record { first = 0x10; more = 0xb0 ∷ []; whole = h; odd = dle_odd }
-first_of Ack1 body h = record { first = 0x10; more = 0x31 ∷ []; whole = h; odd = dle_odd }
-first_of Wack body h = record { first = 0x10; more = 0x3b ∷ []; whole = h; odd = dle_odd }
-first_of Rvi body h = record { first = 0x10; more = 0xbc ∷ []; whole = h; odd = dle_odd }
+first_of (Reply r) body h = elim (reply_form r) [
+  | inl k ↦ record { first = 0x15; more = []; whole = h ∙ k; odd = nak_odd }
+  | inr k ↦ record { first = 0x10; more = k.second ∷ []; whole = h ∙ k.whole; odd = dle_odd }
+]
 first_of (Text t) body h = record { first = 0x02; more = h.rest; whole = h.whole; odd = stx_odd }
 
 -- the rest of a body, after its first octet

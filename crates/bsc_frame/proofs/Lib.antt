@@ -1,5 +1,6 @@
 pub mod AddressLemmas
 pub mod ReadLemmas
+pub mod ReplyLemmas
 pub mod CallLemmas
 pub mod FrontLemmas
 pub mod ControlLemmas

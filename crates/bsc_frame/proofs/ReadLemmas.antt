@@ -1,5 +1,5 @@
 -- The steps of reading.
-use Rattle.std.proofs.Common.{◌≡◌, ◌≢◌, ℕ, zero, suc, ◌+◌, ◌-◌, ◌<◌, ◌≤◌, ◌==◌, Bool, true, false}
+use Rattle.std.proofs.Common.{◌≡◌, ◌≢◌, ◌⊎◌, inl, inr, ℕ, zero, suc, ◌+◌, ◌-◌, ◌<◌, ◌≤◌, ◌==◌, Bool, true, false}
 use Rattle.std.proofs.Common.{cond, refl}
 use Rattle.std.proofs.Common.{sym, ap, ◌∙◌, arith, List, [], ◌∷◌, ◌++◌, length, take, drop, get_or}
 use Rattle.std.proofs.Common.{drop-cons}
@@ -9,6 +9,8 @@ use Rattle.std.proofs.Common.{None}
 use Rattle.std.proofs.lemmas.List.{drop_all, take_more, take_all}
 use Rattle.std.proofs.lemmas.Bool.Decides.{nat_tests}
 use Rattle.std.proofs.lemmas.Bool.{eqb-true}
+use Rattle.std.proofs.lemmas.Slice.Eq.{bytes_eq-Decides}
+use Rattle.std.specs.Str.{bytes_eq}
 use Rattle.bsc_octet.specs.Octet.{code_of}
 use Rattle.bsc_frame.specs.Reading.{trimmed, before_rest, called, with_code, at_end}
 use Rattle.bsc_frame.specs.declared.limits.TheConstants.{MAX_ADDRESS}
@@ -181,3 +183,13 @@ called_none front i s r l = from_rest front i s None r (rw (drop_all i s l) refl
 
 -- what a loop from the end back uses
 pub ruleset trim_steps = (trimmed_less, trimmed_done, trimmed_none)
+
+-- which way a test went
+pub chosen : {A : Type 0} (b : Bool) (x y z : A) → cond b x y ≡ z
+    → ((b ≡ true) × (x ≡ z)) ⊎ ((b ≡ false) × (y ≡ z))
+chosen true x y z h = inl (refl, h)
+chosen false x y z h = inr (refl, h)
+
+-- lists that compare as equal are the same
+pub equal : (x y : List ℕ) → bytes_eq x y ≡ true → x ≡ y
+equal x y h = (bytes_eq-Decides x y).0 h

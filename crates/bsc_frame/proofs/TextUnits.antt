@@ -18,7 +18,8 @@ use Rattle.bsc_frame.specs.Reading.{is_ending_code, unit_at, units_at, before_un
 use Rattle.bsc_frame.specs.declared.text.End.{End}
 use Rattle.bsc_frame.specs.declared.text.End.TheVariants.{Etb, Etx}
 use Rattle.bsc_frame.proofs.ReadLemmas.{test_false}
-use Rattle.bsc_frame.proofs.ControlLemmas.{chosen, some_is}
+use Rattle.bsc_frame.proofs.ControlLemmas.{some_is}
+use Rattle.bsc_frame.proofs.ReadLemmas.{chosen}
 use Rattle.bsc_frame.specs.declared.limits.TheConstants.{MAX_UNIT_SENT}
 use Rattle.bsc_frame.proofs.UnitLemmas.{bind_some, UnitAt, unit_at_reads, length_unit_codes}
 use Rattle.bsc_frame.proofs.UnitLemmas.{unit_at_read}

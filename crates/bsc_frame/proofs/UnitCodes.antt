@@ -14,7 +14,8 @@ use Rattle.bsc_frame.specs.Spells.{IsStart}
 use Rattle.bsc_frame.specs.Reading.{is_ending_code, is_octet, begins, after_start, read_unit}
 use Rattle.bsc_frame.specs.Reading.{unit_of_tail}
 use Rattle.bsc_frame.proofs.ReadLemmas.{test_false}
-use Rattle.bsc_frame.proofs.ControlLemmas.{chosen, some_is}
+use Rattle.bsc_frame.proofs.ControlLemmas.{some_is}
+use Rattle.bsc_frame.proofs.ReadLemmas.{chosen}
 use Rattle.bsc_frame.specs.declared.limits.TheConstants.{MAX_CHARS}
 
 -- one code more: the front of record characters has record characters only

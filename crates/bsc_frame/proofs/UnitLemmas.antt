@@ -11,7 +11,8 @@ use Rattle.bsc_frame.specs.Units.{unit_codes}
 use Rattle.bsc_frame.specs.Spells.{AreFilled, IsStart}
 use Rattle.bsc_frame.specs.Reading.{◌>>=◌, is_ending_code, gathered, after_check, after_start}
 use Rattle.bsc_frame.specs.Reading.{read_unit, unit_at}
-use Rattle.bsc_frame.proofs.ControlLemmas.{chosen, some_is}
+use Rattle.bsc_frame.proofs.ControlLemmas.{some_is}
+use Rattle.bsc_frame.proofs.ReadLemmas.{chosen}
 use Rattle.bsc_frame.proofs.GatherLemmas.{gathered_reads, gathered_read, ends_unit_last, IsOther}
 use Rattle.bsc_frame.proofs.GatherLemmas.{IsRun}
 use Rattle.bsc_frame.specs.declared.limits.TheConstants.{MAX_UNIT_CODES}

@@ -2,6 +2,7 @@ pub mod Addresses
 pub mod Texts
 pub mod Drafts
 pub mod Units
+pub mod Replies
 pub mod Message
 pub mod Wire
 pub mod Spells

@@ -7,8 +7,7 @@ use Rattle.bsc_frame.specs.declared.limits.TheConstants.{MAX_ADDRESS}
 use Rattle.bsc_frame.specs.declared.address.AddressError.{AddressError}
 use Rattle.bsc_frame.specs.declared.address.AddressError.TheVariants.{Empty, TooLong, BadChar}
 use Rattle.bsc_frame.specs.declared.message.Message.{Message}
-use Rattle.bsc_frame.specs.declared.message.Message.TheVariants.{Eot, Call, Enq, Ack0, Ack1, Nak}
-use Rattle.bsc_frame.specs.declared.message.Message.TheVariants.{Wack, Rvi, Text}
+use Rattle.bsc_frame.specs.declared.message.Message.TheVariants.{Eot, Call, Enq, Reply, Text}
 
 -- The codes, or the error that names the first wrong place.
 abbrev pub first_wrong : Option ℕ → List ℕ → Result (List ℕ) AddressError
@@ -27,9 +26,5 @@ abbrev pub IsMessage : Message → Type 0
 IsMessage Eot = Unit {0}
 IsMessage (Call a) = IsAddress a
 IsMessage Enq = Unit {0}
-IsMessage Ack0 = Unit {0}
-IsMessage Ack1 = Unit {0}
-IsMessage Nak = Unit {0}
-IsMessage Wack = Unit {0}
-IsMessage Rvi = Unit {0}
+IsMessage (Reply r) = Unit {0}
 IsMessage (Text t) = IsText t

@@ -10,10 +10,11 @@ use Rattle.bsc_frame.specs.declared.limits.TheConstants.{MAX_UNITS, MAX_CHARS, M
 use Rattle.bsc_frame.specs.declared.limits.TheConstants.{MAX_ADDRESS, MAX_HEARD}
 use Rattle.bsc_frame.specs.declared.text.End.TheVariants.{Etb, Etx}
 use Rattle.bsc_frame.specs.Message.{read_address}
+use Rattle.bsc_frame.specs.Replies.{reply_spelled}
+use Rattle.bsc_frame.specs.declared.reply.Reply.{Reply as ReplyValue}
 use Rattle.bsc_frame.specs.declared.address.AddressError.{AddressError}
 use Rattle.bsc_frame.specs.declared.message.Message.{Message}
-use Rattle.bsc_frame.specs.declared.message.Message.TheVariants.{Eot, Call, Enq, Ack0, Ack1, Nak}
-use Rattle.bsc_frame.specs.declared.message.Message.TheVariants.{Wack, Rvi, Text}
+use Rattle.bsc_frame.specs.declared.message.Message.TheVariants.{Eot, Call, Enq, Reply, Text}
 use Rattle.bsc_frame.specs.declared.message.Heard.{Heard}
 use Rattle.bsc_frame.specs.declared.message.Heard.TheVariants.{Whole, Failed, Noise}
 
@@ -78,23 +79,17 @@ abbrev pub begins : (ℕ → Bool) → List ℕ → Bool
 begins test [] = false
 begins test (x ∷ xs) = test x
 
--- a body that is no text and no message of one octet: a reply of two octets, or a call
-abbrev pub longer_control : List ℕ → Option Message
-longer_control body =
-    if bytes_eq body (0x10 ∷ 0xb0 ∷ []) then Some Ack0
-    else if bytes_eq body (0x10 ∷ 0x31 ∷ []) then Some Ack1
-    else if bytes_eq body (0x10 ∷ 0x3b ∷ []) then Some Wack
-    else if bytes_eq body (0x10 ∷ 0xbc ∷ []) then Some Rvi
-    else if begins (is_octet 0x04) body then call (drop 1 body)
-    else None
+-- the reply that a body spells, or else the call that it is
+abbrev pub reply_or_call : Option ReplyValue → List ℕ → Option Message
+reply_or_call (Some r) body = Some (Reply r)
+reply_or_call None body = if begins (is_octet 0x04) body then call (drop 1 body) else None
 
 -- a body that is no text
 unfoldable pub control : List ℕ → Option Message
 control body =
     if bytes_eq body (0x04 ∷ []) then Some Eot
     else if bytes_eq body (0x85 ∷ []) then Some Enq
-    else if bytes_eq body (0x15 ∷ []) then Some Nak
-    else longer_control body
+    else reply_or_call (reply_spelled body) body
 
 abbrev pub whole_or_noise : Option Message → Heard
 whole_or_noise (Some m) = Whole m

@@ -3,8 +3,7 @@ use Rattle.std.specs.Prelude.{◌≡◌, ◌⊎◌, ◌↔◌, List, ℕ}
 use Rattle.bsc_frame.specs.Texts.{TextValue}
 use Rattle.bsc_frame.specs.Spells.{Spells, IsFailed, IsNoise}
 use Rattle.bsc_frame.specs.declared.message.Message.{Message}
-use Rattle.bsc_frame.specs.declared.message.Message.TheVariants.{Eot, Call, Enq, Ack0, Ack1, Nak}
-use Rattle.bsc_frame.specs.declared.message.Message.TheVariants.{Wack, Rvi, Text}
+use Rattle.bsc_frame.specs.declared.message.Message.TheVariants.{Eot, Call, Enq, Reply, Text}
 use Rattle.bsc_frame.specs.declared.message.Heard.{Heard}
 use Rattle.bsc_frame.specs.declared.message.Heard.TheVariants.{Whole, Failed, Noise}
 use Rattle.bsc_frame.specs.declared.short.Short.{Short}
@@ -15,11 +14,7 @@ abbrev pub heard_as : Short → Heard
 heard_as short.Eot = Whole Eot
 heard_as (short.Call a) = Whole (Call a)
 heard_as short.Enq = Whole Enq
-heard_as short.Ack0 = Whole Ack0
-heard_as short.Ack1 = Whole Ack1
-heard_as short.Nak = Whole Nak
-heard_as short.Wack = Whole Wack
-heard_as short.Rvi = Whole Rvi
+heard_as (short.Reply r) = Whole (Reply r)
 heard_as short.Noise = Noise
 
 -- the octets are heard as this, by what they spell

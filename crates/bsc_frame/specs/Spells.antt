@@ -7,12 +7,12 @@ use Rattle.std.specs.List.{AllByRecursion}
 use Rattle.bsc_octet.specs.Octet.{odd_octet, longitudinal_sum}
 use Rattle.bsc_frame.specs.Addresses.{IsAddress}
 use Rattle.bsc_frame.specs.Texts.{TextUnit, TextValue, IsText}
+use Rattle.bsc_frame.specs.Replies.{reply_octets}
 use Rattle.bsc_frame.specs.Units.{unit_codes, ending}
 use Rattle.bsc_frame.specs.declared.limits.TheConstants.{MAX_HEARD}
 use Rattle.bsc_frame.specs.declared.text.End.{End}
 use Rattle.bsc_frame.specs.declared.message.Message.{Message}
-use Rattle.bsc_frame.specs.declared.message.Message.TheVariants.{Eot, Call, Enq, Ack0, Ack1, Nak}
-use Rattle.bsc_frame.specs.declared.message.Message.TheVariants.{Wack, Rvi, Text}
+use Rattle.bsc_frame.specs.declared.message.Message.TheVariants.{Eot, Call, Enq, Reply, Text}
 use Rattle.bsc_frame.specs.declared.message.Heard.{Heard}
 use Rattle.bsc_frame.specs.declared.message.Heard.TheVariants.{Whole, Failed, Noise}
 
@@ -71,11 +71,7 @@ abbrev pub IsBody : Message → List ℕ → Type 0
 IsBody Eot body = body ≡ 0x04 ∷ []
 IsBody (Call a) body = IsCall a body
 IsBody Enq body = body ≡ 0x85 ∷ []
-IsBody Nak body = body ≡ 0x15 ∷ []
-IsBody Ack0 body = body ≡ 0x10 ∷ 0xb0 ∷ []
-IsBody Ack1 body = body ≡ 0x10 ∷ 0x31 ∷ []
-IsBody Wack body = body ≡ 0x10 ∷ 0x3b ∷ []
-IsBody Rvi body = body ≡ 0x10 ∷ 0xbc ∷ []
+IsBody (Reply r) body = body ≡ reply_octets r
 IsBody (Text t) body = IsTextBody t body
 
 -- A transmission that carries a body: leading pads, at least one SYN, the body, any PAD.

@@ -6,6 +6,7 @@ use Rattle.bsc_frame.specs.Texts.{TextUnit}
 use Rattle.bsc_frame.specs.declared.text.End.{End}
 use Rattle.bsc_frame.specs.declared.text.End.TheVariants.{Etb, Etx}
 use Rattle.bsc_frame.specs.declared.text.Unit.{Unit as Lent}
+use Rattle.bsc_frame.specs.declared.octets.TheConstants.{EM_CODE, ETB_CODE, ETX_CODE, US_CODE}
 
 -- A lent unit, by its characters and mark.
 abbrev pub text_unit : Lent → TextUnit
@@ -13,18 +14,18 @@ text_unit u = record { chars = u.chars.now; em = u.em }
 
 -- The ending character of a text: ETB where more blocks follow, else ETX.
 abbrev pub end_code : End → ℕ
-end_code Etb = 0x17
-end_code Etx = 0x03
+end_code Etb = ETB_CODE
+end_code Etx = ETX_CODE
 
 -- The ending character of a unit that stands before these: US for each unit but the last.
 abbrev pub ending : List TextUnit → End → ℕ
 ending [] end = end_code end
-ending (u ∷ us) end = 0x1f
+ending (u ∷ us) end = US_CODE
 
 -- The codes of a unit: its characters, EM where it is marked, its ending character. These are in
 -- its check.
 abbrev pub unit_codes : TextUnit → ℕ → List ℕ
-unit_codes u e = u.chars ++ (if u.em then 0x19 ∷ [] else []) ++ e ∷ []
+unit_codes u e = u.chars ++ (if u.em then EM_CODE ∷ [] else []) ++ e ∷ []
 
 -- What is sent for a unit: each of its codes with odd parity, then the check octet, which is the
 -- longitudinal sum of the codes, itself with odd parity.

@@ -57,11 +57,7 @@ fn octets_heard(octets: &[u8]) -> Heard
         Short::Eot => return Heard::Whole(Message::Eot),
         Short::Call(address) => return Heard::Whole(Message::Call(address)),
         Short::Enq => return Heard::Whole(Message::Enq),
-        Short::Ack0 => return Heard::Whole(Message::Ack0),
-        Short::Ack1 => return Heard::Whole(Message::Ack1),
-        Short::Nak => return Heard::Whole(Message::Nak),
-        Short::Wack => return Heard::Whole(Message::Wack),
-        Short::Rvi => return Heard::Whole(Message::Rvi),
+        Short::Reply(reply) => return Heard::Whole(Message::Reply(reply)),
         Short::Noise => {}
     }
     Heard::Noise

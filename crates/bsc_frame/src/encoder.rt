@@ -9,10 +9,7 @@ ghost use Rattle.bsc_frame.specs.Wire.{wire as wire_of};
 
 use crate::buffer::append;
 use crate::limits::{MAX_SENT, MAX_UNIT_SENT};
-use crate::octets::{
-    ACK0, ACK1, CALL_START, EM_CODE, ENQ, EOT, ETB_CODE, ETX_CODE, NAK, PAD, RVI, START, STX,
-    US_CODE, WACK,
-};
+use crate::octets::{CALL_START, EM_CODE, ENQ, EOT, ETB_CODE, ETX_CODE, PAD, START, STX, US_CODE};
 use crate::unit_decoder::check_of;
 use crate::{End, Message, Text, Unit};
 use arrayvec::ArrayVec;
@@ -166,11 +163,7 @@ pub fn encode(message: &Message, wire: &mut Wire)
             append(wire, &[ENQ]);
         }
         Message::Enq => append(wire, &[ENQ]),
-        Message::Ack0 => append(wire, &ACK0),
-        Message::Ack1 => append(wire, &ACK1),
-        Message::Nak => append(wire, &[NAK]),
-        Message::Wack => append(wire, &WACK),
-        Message::Rvi => append(wire, &RVI),
+        Message::Reply(reply) => append(wire, reply.octets()),
         Message::Text(text) => {
             append(wire, &[STX]);
             append_units(wire, text);

@@ -1,11 +1,12 @@
 //! Short messages: all but texts. They are told without room for a text, which a `Heard` has.
 ghost use Rattle.std.specs.Prelude.{◌≡◌, IfSome, IfNone};
 ghost use Rattle.bsc_frame.specs.Short.{heard_as, IsHeard, BeginsText};
-ghost use Rattle.bsc_frame.specs.Reading.{call, control, longer_control, whole_or_noise};
+ghost use Rattle.bsc_frame.specs.Reading.{call, control, reply_or_call, whole_or_noise};
+ghost use Rattle.bsc_frame.specs.Replies.{reply_spelled};
 
-use crate::Address;
 use crate::body::{after_all, body_of, starts_with};
-use crate::octets::{ACK0, ACK1, ENQ, EOT, NAK, PAD, RVI, STX, SYN, WACK};
+use crate::octets::{ENQ, EOT, PAD, STX, SYN};
+use crate::{Address, Reply};
 
 /// What octets are heard as that do not begin as a text: a message without a text, or noise.
 #[derive(Clone, Copy, Debug, PartialEq, Eq)]
@@ -13,11 +14,7 @@ pub enum Short {
     Eot,
     Call(Address),
     Enq,
-    Ack0,
-    Ack1,
-    Nak,
-    Wack,
-    Rvi,
+    Reply(Reply),
 
     /// They spell nothing.
     Noise,
@@ -47,31 +44,23 @@ pub(crate) fn short_of(body: &[u8]) -> Short
         Short::Eot
     } else if body == [ENQ].as_slice() {
         Short::Enq
-    } else if body == [NAK].as_slice() {
-        Short::Nak
     } else {
-        longer_of(body)
+        reply_or_call_of(body)
     }
 }
 
-/// What a body is that is no text and no message of one octet.
+/// The reply or the call that a body is which is neither EOT nor ENQ nor a text.
 #[inline(always)]
-fn longer_of(body: &[u8]) -> Short
-    ensures { heard_as result ≡ whole_or_noise (longer_control body.now) }
+fn reply_or_call_of(body: &[u8]) -> Short
+    ensures { heard_as result ≡ whole_or_noise (reply_or_call (reply_spelled body.now) body.now) }
 {
-    if body == ACK0.as_slice() {
-        Short::Ack0
-    } else if body == ACK1.as_slice() {
-        Short::Ack1
-    } else if body == WACK.as_slice() {
-        Short::Wack
-    } else if body == RVI.as_slice() {
-        Short::Rvi
-    } else if starts_with(body, EOT) {
-        short_call(&body[1..])
-    } else {
-        Short::Noise
+    if let Some(reply) = Reply::spelled(body) {
+        return Short::Reply(reply);
     }
+    if starts_with(body, EOT) {
+        return short_call(&body[1..]);
+    }
+    Short::Noise
 }
 
 /// What the octets are heard as where they do not begin as a text; `None` where they do, and then
