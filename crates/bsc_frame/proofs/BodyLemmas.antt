@@ -7,6 +7,7 @@ use Rattle.bsc_frame.specs.Reading.{skip, is_pad_octet, is_octet, trimmed, begin
 use Rattle.bsc_frame.specs.Reading.{heard_body}
 use Rattle.bsc_frame.specs.declared.message.Heard.TheVariants.{Noise}
 use Rattle.bsc_frame.specs.declared.limits.TheConstants.{MAX_HEARD}
+use Rattle.bsc_frame.specs.declared.octets.TheConstants.{SYN}
 use Rattle.bsc_frame.proofs.FrontLemmas.{skip_none, within}
 
 -- the empty body is noise
@@ -23,7 +24,7 @@ heard_too_many s h =
 
 -- octets with no SYN after their pads are heard as the empty body
 pub heard_no_syn : (s rest : List ℕ) (syn : Bool) → rest ≡ skip is_pad_octet s
-    → syn ≡ begins (is_octet 0x16) rest → syn ≡ false → heard s ≡ heard_body []
+    → syn ≡ begins (is_octet SYN) rest → syn ≡ false → heard s ≡ heard_body []
 unfolding heard
 heard_no_syn s rest syn e b f =
     rw (← e, ← b, f) (by_size (nat_lt MAX_HEARD (length s)))
@@ -33,15 +34,15 @@ heard_no_syn s rest syn e b f =
     by_size false = sym empty_is_noise
 
 -- octets that begin with neither a pad nor SYN are heard as the empty body
-pub heard_no_front : (s : List ℕ) (syn pad : Bool) → syn ≡ begins (is_octet 0x16) s → syn ≡ false
+pub heard_no_front : (s : List ℕ) (syn pad : Bool) → syn ≡ begins (is_octet SYN) s → syn ≡ false
     → pad ≡ begins is_pad_octet s → pad ≡ false → heard s ≡ heard_body []
 heard_no_front s syn pad b f p g =
     heard_no_syn s s syn (sym (skip_none is_pad_octet s (sym p ∙ g))) b f
 
 -- other octets are heard as what stands between their SYN and the PAD at their end
 pub heard_after_syn : (s rest body : List ℕ) (syn : Bool) → length s ≤ MAX_HEARD
-    → rest ≡ skip is_pad_octet s → syn ≡ begins (is_octet 0x16) rest → syn ≡ true
-    → body ≡ trimmed (skip (is_octet 0x16) rest) → heard s ≡ heard_body body
+    → rest ≡ skip is_pad_octet s → syn ≡ begins (is_octet SYN) rest → syn ≡ true
+    → body ≡ trimmed (skip (is_octet SYN) rest) → heard s ≡ heard_body body
 unfolding heard
 heard_after_syn s rest body syn l e b t c =
     rw (within (length s) l, ← e, ← b, t) (ap heard_body (sym c))

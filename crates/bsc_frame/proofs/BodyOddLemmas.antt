@@ -9,30 +9,31 @@ use Rattle.bsc_frame.specs.Spells.{AreAll, IsBody, IsCall}
 use Rattle.bsc_frame.specs.TurnedBits.{IsBodyOctet}
 use Rattle.bsc_frame.specs.declared.message.Message.{Message}
 use Rattle.bsc_frame.specs.declared.message.Message.TheVariants.{Eot, Call, Enq, Reply, Text}
+use Rattle.bsc_frame.specs.declared.octets.TheConstants.{DLE, ENQ, EOT, NAK, PAD, STX, SYN}
 use Rattle.bsc_frame.proofs.ControlLemmas.{plain}
 use Rattle.bsc_frame.proofs.OddLemmas.{units_odd, fill_odd}
 use Rattle.bsc_frame.proofs.ReplyLemmas.{reply_form}
 use Rattle.bsc_octet.proofs.Elements.{all_append}
 
-pub eot_odd : IsOdd 0x04
+pub eot_odd : IsOdd EOT
 unfolding odd_octet ones
-eot_odd = is_odd_odd_octet 0x04 (omega arith)
+eot_odd = is_odd_odd_octet EOT (omega arith)
 
-pub enq_odd : IsOdd 0x85
+pub enq_odd : IsOdd ENQ
 unfolding odd_octet ones
 enq_odd = is_odd_odd_octet 0x05 (omega arith)
 
-pub nak_odd : IsOdd 0x15
+pub nak_odd : IsOdd NAK
 unfolding odd_octet ones
-nak_odd = is_odd_odd_octet 0x15 (omega arith)
+nak_odd = is_odd_odd_octet NAK (omega arith)
 
-pub dle_odd : IsOdd 0x10
+pub dle_odd : IsOdd DLE
 unfolding odd_octet ones
-dle_odd = is_odd_odd_octet 0x10 (omega arith)
+dle_odd = is_odd_odd_octet DLE (omega arith)
 
-pub stx_odd : IsOdd 0x02
+pub stx_odd : IsOdd STX
 unfolding odd_octet ones
-stx_odd = is_odd_odd_octet 0x02 (omega arith)
+stx_odd = is_odd_odd_octet STX (omega arith)
 
 -- ---- calls
 
@@ -44,11 +45,11 @@ address_odd (c ∷ a) h = let k = plain c h.0 in
     (is_odd_odd_octet c (omega (arith, k.high)), address_odd a h.1)
 
 -- the octets of a call after its EOT and PAD
-pub called_odd : (syns a : List ℕ) → AreAll 0x16 syns
+pub called_odd : (syns a : List ℕ) → AreAll SYN syns
     → AllByRecursion (λ c. IsTrue (is_address_code c)) a
-    → AllByRecursion IsOdd (syns ++ map odd_octet a ++ 0x85 ∷ [])
+    → AllByRecursion IsOdd (syns ++ map odd_octet a ++ ENQ ∷ [])
 called_odd syns a s h =
-    all_append IsOdd (syns ++ map odd_octet a) (0x85 ∷ [])
+    all_append IsOdd (syns ++ map odd_octet a) (ENQ ∷ [])
     (all_append IsOdd syns (map odd_octet a) (fill_odd syns s) (address_odd a h)) (enq_odd, tt)
 
 -- ---- all
@@ -60,7 +61,7 @@ odd_fits m [] h = tt
 odd_fits m (x ∷ octets) h = (inl h.0, odd_fits m octets h.1)
 
 -- so may PAD in the body of a call
-pads_fit : (a pads : List ℕ) → AreAll 0xff pads → AllByRecursion (IsBodyOctet (Call a)) pads
+pads_fit : (a pads : List ℕ) → AreAll PAD pads → AllByRecursion (IsBodyOctet (Call a)) pads
 pads_fit a [] h = tt
 pads_fit a (x ∷ pads) h = (inr ((a, refl), h.0), pads_fit a pads h.1)
 
@@ -69,7 +70,7 @@ call_fits : (a body : List ℕ) → IsCall a body → AllByRecursion (IsBodyOcte
 call_fits a body c =
     rw c.whole (
       inl eot_odd,
-      all_append (IsBodyOctet (Call a)) (c.pads ++ c.syns ++ map odd_octet a) (0x85 ∷ [])
+      all_append (IsBodyOctet (Call a)) (c.pads ++ c.syns ++ map odd_octet a) (ENQ ∷ [])
           (all_append (IsBodyOctet (Call a)) (c.pads ++ c.syns) (map odd_octet a)
           (all_append (IsBodyOctet (Call a)) c.pads c.syns (pads_fit a c.pads c.are_pads)
           (odd_fits (Call a) c.syns (fill_odd c.syns c.are_syns)))
@@ -87,5 +88,5 @@ body_fits (Reply r) body h = elim (reply_form r) [
   | inr k ↦ rw (h ∙ k.whole) (inl dle_odd, (inl k.odd, tt))
 ]
 body_fits (Text t) body h =
-    rw h.whole (odd_fits (Text t) (0x02 ∷ h.rest)
+    rw h.whole (odd_fits (Text t) (STX ∷ h.rest)
     (stx_odd, units_odd false t.units t.end h.rest h.units h.text.each))

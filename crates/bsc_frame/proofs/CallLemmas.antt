@@ -15,6 +15,7 @@ use Rattle.bsc_frame.specs.Reading.{called, call_of, call_to}
 use Rattle.bsc_frame.specs.declared.address.AddressError.{AddressError}
 use Rattle.bsc_frame.specs.declared.limits.TheConstants.{MAX_ADDRESS}
 use Rattle.bsc_frame.specs.declared.message.Message.TheVariants.{Call}
+use Rattle.bsc_frame.specs.declared.octets.TheConstants.{ENQ}
 use Rattle.bsc_frame.proofs.ControlLemmas.{address_read, address_reads}
 use Rattle.bsc_frame.proofs.ReadLemmas.{Reads, with_codes, called_end, called_early, called_full}
 use Rattle.bsc_frame.proofs.ReadLemmas.{called_wrong}
@@ -48,7 +49,7 @@ message s o e = ap (option_and_then (λ codes. call_to (read_address codes))) e
 
 -- an ENQ at the end, after codes, ends the call
 pub call_ends : (b : List ℕ) (i : ℕ) (s : List ℕ) → Called b i s → i < length s → get_or s i 0
-    ≡ 0x85
+    ≡ ENQ
     → 0 < i → i + 1 ≡ length s → Some (Call (take i b)) ≡ call_of s
 call_ends b i s c l e some last =
     sym (ap call_to (address_read (take i b) (front_is b i s c some)))
@@ -56,14 +57,14 @@ call_ends b i s c l e some last =
 
 -- before the end it ends none
 pub call_early : (b : List ℕ) (i : ℕ) (s : List ℕ) → Called b i s → i < length s → get_or s i 0
-    ≡ 0x85
+    ≡ ENQ
     → (i + 1 ≡ length s → ⊥) → None ≡ call_of s
 call_early b i s c l e more = message s None (called_early (take i b) i s c.reads l e more)
 
 -- nor does it before any code
 pub call_empty : (b : List ℕ) (i : ℕ) (s : List ℕ) (last : Bool) → (i + 1 == length s) ≡ last
     → Called b i s
-    → i < length s → get_or s i 0 ≡ 0x85 → i ≡ 0 → None ≡ call_of s
+    → i < length s → get_or s i 0 ≡ ENQ → i ≡ 0 → None ≡ call_of s
 call_empty b i s true t c l e none =
     let nothing : [] ≡ take i b = rw none refl in
     message s (Some []) (ap Some nothing
@@ -72,14 +73,14 @@ call_empty b i s false t c l e none = call_early b i s c l e (eqb-false (i + 1) 
 
 -- more codes than an address has are no address
 pub call_full : (b : List ℕ) (i : ℕ) (s : List ℕ) → Called b i s → i < length s
-    → (get_or s i 0 ≡ 0x85 → ⊥)
+    → (get_or s i 0 ≡ ENQ → ⊥)
     → i ≡ MAX_ADDRESS → None ≡ call_of s
 call_full b i s c l e full =
     message s None (called_full (take i b) i s c.reads l e (called_front_length b i s c ∙ full))
 
 -- nor is an octet of even parity in one
 pub call_wrong : (b : List ℕ) (i : ℕ) (s : List ℕ) → Called b i s → i < length s
-    → (get_or s i 0 ≡ 0x85 → ⊥)
+    → (get_or s i 0 ≡ ENQ → ⊥)
     → (i ≡ MAX_ADDRESS → ⊥) → code_of (get_or s i 0) ≡ None → None ≡ call_of s
 call_wrong b i s c l e less k =
     message s None (called_wrong (take i b) i s c.reads l e
@@ -116,7 +117,7 @@ with_wrong front c (Some cs) e = rw (append_assoc front (c ∷ []) cs)
 
 -- one code more was read
 code_more : (b : List ℕ) (i : ℕ) (s : List ℕ) (k : ℕ) → Called b i s → i < length s
-    → (get_or s i 0 ≡ 0x85 → ⊥) → (i ≡ MAX_ADDRESS → ⊥) → code_of (get_or s i 0) ≡ Some k
+    → (get_or s i 0 ≡ ENQ → ⊥) → (i ≡ MAX_ADDRESS → ⊥) → code_of (get_or s i 0) ≡ Some k
     → Reads (take i b ++ k ∷ []) (i + 1) s
 code_more b i s k c l e less h =
     called_more (take i b) i s k c.reads l e
@@ -124,14 +125,14 @@ code_more b i s k c l e less h =
 
 -- where it may not stand in an address, there is no call
 pub call_wrong_code : (b : List ℕ) (i : ℕ) (s : List ℕ) (k : ℕ) → Called b i s → i < length s
-    → (get_or s i 0 ≡ 0x85 → ⊥) → (i ≡ MAX_ADDRESS → ⊥) → code_of (get_or s i 0) ≡ Some k
+    → (get_or s i 0 ≡ ENQ → ⊥) → (i ≡ MAX_ADDRESS → ⊥) → code_of (get_or s i 0) ≡ Some k
     → is_address_code k ≡ false → None ≡ call_of s
 call_wrong_code b i s k c l e less h wrong =
     sym (with_wrong (take i b) k _ wrong) ∙ message s _ (code_more b i s k c l e less h).rest
 
 -- and where it may, the loop goes on
 pub call_goes_on : (b : List ℕ) (i : ℕ) (s : List ℕ) (k : ℕ) → Called b i s → i < length s
-    → (get_or s i 0 ≡ 0x85 → ⊥) → (i ≡ MAX_ADDRESS → ⊥) → code_of (get_or s i 0) ≡ Some k
+    → (get_or s i 0 ≡ ENQ → ⊥) → (i ≡ MAX_ADDRESS → ⊥) → code_of (get_or s i 0) ≡ Some k
     → is_address_code k ≡ true → Called (set b i k) (i + 1) s
 call_goes_on b i s k c l e less h right =
     let front : take (i + 1) (set b i k) ≡ take i b ++ k ∷ [] =

@@ -12,6 +12,8 @@ use Rattle.bsc_octet.specs.Octet.{IsOdd, odd_octet, code_of, longitudinal_sum, w
 use Rattle.bsc_octet.proofs.ParityLemmas.{code_of_odd, code_of_some}
 use Rattle.bsc_frame.specs.Reading.{low_bits, is_ending_code, is_ending_octet, after_start}
 use Rattle.bsc_frame.specs.Reading.{after_check}
+use Rattle.bsc_frame.specs.declared.octets.TheConstants.{EM_CODE, ETB, ETB_CODE, ETX, ETX_CODE, STX}
+use Rattle.bsc_frame.specs.declared.octets.TheConstants.{US_CODE}
 
 -- each octet carries its low seven bits
 abbrev pub AreCarried : List ℕ → Type 0
@@ -52,20 +54,20 @@ pub ending_same : (x : ℕ) → code_of x ≡ Some (low_bits x) → is_ending_co
 unfolding odd_octet ones
 ending_same x c =
     rw (
-      low_test x 0x1f 0x1f c refl refl,
-      low_test x 0x17 0x97 c refl refl,
-      low_test x 0x03 0x83 c refl refl,
+      low_test x US_CODE US_CODE c refl refl,
+      low_test x ETB_CODE ETB c refl refl,
+      low_test x ETX_CODE ETX c refl refl,
     ) refl
 
 -- and STX where it is the octet of STX
-pub stx_same : (x : ℕ) → code_of x ≡ Some (low_bits x) → (low_bits x == 0x02) ≡ (x == 0x02)
+pub stx_same : (x : ℕ) → code_of x ≡ Some (low_bits x) → (low_bits x == STX) ≡ (x == STX)
 unfolding odd_octet ones
-stx_same x c = low_test x 0x02 0x02 c refl refl
+stx_same x c = low_test x STX STX c refl refl
 
 -- and EM only where it is the octet of EM
-pub em_is : (x : ℕ) → code_of x ≡ Some (low_bits x) → low_bits x ≡ 0x19 → x ≡ 0x19
+pub em_is : (x : ℕ) → code_of x ≡ Some (low_bits x) → low_bits x ≡ EM_CODE → x ≡ EM_CODE
 unfolding odd_octet ones
-em_is x c h = low_is x 0x19 0x19 c refl h
+em_is x c h = low_is x EM_CODE EM_CODE c refl h
 
 -- ---- sums
 
@@ -110,4 +112,4 @@ pub start_low : (after_us : Bool) (s : List ℕ) → AreCarried s
     → after_start after_us (map low_bits s) ≡ map low_bits (after_start after_us s)
 start_low false s c = refl
 start_low true [] c = refl
-start_low true (x ∷ s) c = rw (stx_same x c.0) (by_stx (x == 0x02) x s)
+start_low true (x ∷ s) c = rw (stx_same x c.0) (by_stx (x == STX) x s)

@@ -21,11 +21,12 @@ use Rattle.bsc_frame.proofs.DamagedText.{heads, tails, text_body, some_after}
 use Rattle.bsc_frame.proofs.DamagedCall.{pad_even}
 use Rattle.bsc_frame.proofs.ChangedUnits.{changed_units}
 use Rattle.bsc_frame.specs.declared.limits.TheConstants.{MAX_UNITS}
+use Rattle.bsc_frame.specs.declared.octets.TheConstants.{PAD, STX, SYN}
 
 -- octets with odd parity and the PAD after them part in one way
 same_fronts : (xs ys p q : List ℕ) → AllByRecursion IsOdd xs → AllByRecursion IsOdd ys
-    → AreAll 0xff p
-    → AreAll 0xff q → xs ++ p ≡ ys ++ q → xs ≡ ys
+    → AreAll PAD p
+    → AreAll PAD q → xs ++ p ≡ ys ++ q → xs ≡ ys
 same_fronts [] [] p q h k a b e = refl
 same_fronts [] (y ∷ ys) [] q h k a b e = absurd (omega (arith, ap length e))
 same_fronts [] (y ∷ ys) (z ∷ p) q h k a b e =
@@ -39,11 +40,11 @@ same_fronts (x ∷ xs) (y ∷ ys) p q h k a b e =
 changed_text : (t : TextValue) (n : Message) (before : List ℕ) (old : ℕ) (after : List ℕ) (new : ℕ)
     → IsText t
     → IsOtherOctet old new
-    → units_wire t.units t.end ++ 0xff ∷ [] ≡ before ++ old ∷ after
-    → Inside (0x02 ∷ before ++ new ∷ after) n
+    → units_wire t.units t.end ++ PAD ∷ [] ≡ before ++ old ∷ after
+    → Inside (STX ∷ before ++ new ∷ after) n
     → ⊥
 changed_text t n before old after new h o whole i =
-    let b = after_first 0x02 (before ++ new ∷ after) n i in
+    let b = after_first STX (before ++ new ∷ after) n i in
     let s = text_body n b.body b.is_body in
     let sent : AreUnits false t.units t.end (units_wire t.units t.end) =
     wire_units false t.units t.end in
@@ -53,9 +54,9 @@ changed_text t n before old after new h o whole i =
     units_odd false s.0.units s.0.end b.body s.1 s.2.each in
     elim (parted b.body b.trail before new after (sym b.whole)) [
       | inr q ↦ pad_even
-          (subst IsOdd (all_here (λ x. x ≡ 0xff) q.more new after
-          (subst (AreAll 0xff) q.rest b.are_trail)) o.odd)
-      | inl q ↦ elim (parted (units_wire t.units t.end) (0xff ∷ []) before old after whole) [
+          (subst IsOdd (all_here (λ x. x ≡ PAD) q.more new after
+          (subst (AreAll PAD) q.rest b.are_trail)) o.odd)
+      | inl q ↦ elim (parted (units_wire t.units t.end) (PAD ∷ []) before old after whole) [
         | inl p ↦
             let sent_after : AllByRecursion IsOdd p.more =
             (all_after IsOdd before (old ∷ p.more)
@@ -64,7 +65,7 @@ changed_text t n before old after new h o whole i =
             (all_after IsOdd before (new ∷ q.more)
             (subst (λ z. AllByRecursion IsOdd z) q.first body_odd)).1 in
             let same : q.more ≡ p.more =
-            same_fronts q.more p.more b.trail (0xff ∷ []) heard_after sent_after b.are_trail
+            same_fronts q.more p.more b.trail (PAD ∷ []) heard_after sent_after b.are_trail
             (refl, tt) (sym q.rest ∙ p.rest) in
             let none : units_at MAX_UNITS false b.body ≡ None =
             ap (units_at MAX_UNITS false) (q.first ∙ ap (λ z. before ++ new ∷ z) same)
@@ -92,8 +93,8 @@ other_octet_lost t n zero new h u l o k = omega arith
 other_octet_lost t n (suc zero) new h u l o k = omega arith
 other_octet_lost t n (suc (suc zero)) new h u l o k = omega arith
 other_octet_lost t n (suc (suc (suc place))) new h u l o k =
-    let r = around (units_wire t.units t.end ++ 0xff ∷ []) place (omega arith) in
+    let r = around (units_wire t.units t.end ++ PAD ∷ []) place (omega arith) in
     let i =
-    inside (0x16 ∷ 0x16 ∷ []) (0x02 ∷ r.before ++ new ∷ r.after) n (refl, (refl, tt)) (λ e. cc)
+    inside (SYN ∷ SYN ∷ []) (STX ∷ r.before ++ new ∷ r.after) n (refl, (refl, tt)) (λ e. cc)
     refl (rw (r.changed new) at k) in
     changed_text t n r.before r.here r.after new h (rw r.is_here at o) r.whole i

@@ -25,6 +25,7 @@ use Rattle.bsc_frame.proofs.UnitSteps.{units_stop}
 use Rattle.bsc_frame.proofs.PlaceLemmas.{parted}
 use Rattle.bsc_frame.proofs.SumChanges.{one_changed}
 use Rattle.bsc_frame.specs.declared.limits.TheConstants.{MAX_UNIT_CODES}
+use Rattle.bsc_frame.specs.declared.octets.TheConstants.{SYN, US_CODE}
 
 -- ---- the codes of a unit with one of them changed
 
@@ -131,7 +132,7 @@ mapped (c ∷ codes) (x ∷ before) o after e =
     }
 
 -- SYN is carried as it is
-syn_octet : odd_octet 0x16 ≡ 0x16
+syn_octet : odd_octet SYN ≡ SYN
 unfolding odd_octet ones
 syn_octet = refl
 
@@ -259,17 +260,17 @@ unfolding units_at
 later_unit n after_us u [] end before old new after h w none =
     absurd (omega (arith, ap length w, length-append before (old ∷ after)))
 later_unit n after_us u (v ∷ us) end before old new after h w none =
-    let first : unit_at after_us (unit_wire u 0x1f ++ (before ++ new ∷ after))
-    ≡ Some (u, 0x1f, before ++ new ∷ after) =
-    unit_at_read after_us (unit_wire u 0x1f ++ (before ++ new ∷ after)) u 0x1f
+    let first : unit_at after_us (unit_wire u US_CODE ++ (before ++ new ∷ after))
+    ≡ Some (u, US_CODE, before ++ new ∷ after) =
+    unit_at_read after_us (unit_wire u US_CODE ++ (before ++ new ∷ after)) u US_CODE
     (before ++ new ∷ after) (record {
       start = [];
-      front = map odd_octet (unit_codes u 0x1f);
+      front = map odd_octet (unit_codes u US_CODE);
       is_start = inl refl;
-      filled = filled_plain (unit_codes u 0x1f);
+      filled = filled_plain (unit_codes u US_CODE);
       whole =
-          append_assoc (map odd_octet (unit_codes u 0x1f))
-          (odd_octet (longitudinal_sum (unit_codes u 0x1f)) ∷ []) (before ++ new ∷ after);
+          append_assoc (map odd_octet (unit_codes u US_CODE))
+          (odd_octet (longitudinal_sum (unit_codes u US_CODE)) ∷ []) (before ++ new ∷ after);
       unit = h;
       ends = refl;
     }) in

@@ -27,6 +27,7 @@ use Rattle.bsc_frame.proofs.ReadLemmas.{test_false, has_room, chosen, equal}
 use Rattle.bsc_frame.proofs.ReplyLemmas.{reply_read, reply_reads}
 use Rattle.bsc_frame.proofs.FrontLemmas.{parts, skip_pass, skip_none, pass_are, are_pass}
 use Rattle.bsc_frame.specs.declared.limits.TheConstants.{MAX_ADDRESS}
+use Rattle.bsc_frame.specs.declared.octets.TheConstants.{ENQ, EOT, PAD, SYN}
 
 -- ---- the codes of a call
 
@@ -45,7 +46,7 @@ pub plain : (c : ℕ) → IsTrue (is_address_code c) → IsPlain c
 plain c h = plain_from c (nat_le 33 c) refl h
 
 -- the octet of a plain code is no ENQ, SYN or PAD
-pub plain_odd : (c o : ℕ) → IsPlain c → (o ≡ 0x85) ⊎ ((o ≡ 0x16) ⊎ (o ≡ 0xff)) → (odd_octet c == o)
+pub plain_odd : (c o : ℕ) → IsPlain c → (o ≡ ENQ) ⊎ ((o ≡ SYN) ⊎ (o ≡ PAD)) → (odd_octet c == o)
     ≡ false
 plain_odd c o p h = test_false (odd_octet c) o (λ e. elim (odd_cases c) [
   | inl k ↦ elim h [
@@ -63,15 +64,15 @@ plain_odd c o p h = test_false (odd_octet c) o (λ e. elim (odd_cases c) [
 -- what is sent for an address and ENQ is read as its codes
 pub called_wire : (room : ℕ) (a : List ℕ) → length a ≤ room
     → AllByRecursion (λ c. IsTrue (is_address_code c)) a
-    → called room (map odd_octet a ++ 0x85 ∷ []) ≡ Some a
+    → called room (map odd_octet a ++ ENQ ∷ []) ≡ Some a
 unfolding called
 called_wire room [] h p = refl
 called_wire room (c ∷ a) h p =
     let k : IsPlain c = plain c p.0 in
-    let no : (odd_octet c == 0x85) ≡ false = plain_odd c 0x85 k (inl refl) in
+    let no : (odd_octet c == ENQ) ≡ false = plain_odd c ENQ k (inl refl) in
     let some : (room == 0) ≡ false = test_false room 0 (has_room (length a) room h) in
     let code : code_of (odd_octet c) ≡ Some c = code_of_odd_octet c (omega (arith, k.high)) in
-    let rest : called (room - 1) (map odd_octet a ++ 0x85 ∷ []) ≡ Some a =
+    let rest : called (room - 1) (map odd_octet a ++ ENQ ∷ []) ≡ Some a =
     called_wire (room - 1) a (omega arith) p.1 in
     rw (no, some, code, rest) refl
 
@@ -83,8 +84,8 @@ ended (x ∷ s) codes e = cc
 -- one octet more: the codes that are read up to an ENQ are those that the octets carry
 coded : (x : ℕ) (s codes : List ℕ) (room : ℕ) (o : Option ℕ) (r : Option (List ℕ)) → code_of x ≡ o
     → called room s ≡ r
-    → ((cs : List ℕ) → called room s ≡ Some cs → s ≡ map odd_octet cs ++ 0x85 ∷ [])
-    → with_code o r ≡ Some codes → x ∷ s ≡ map odd_octet codes ++ 0x85 ∷ []
+    → ((cs : List ℕ) → called room s ≡ Some cs → s ≡ map odd_octet cs ++ ENQ ∷ [])
+    → with_code o r ≡ Some codes → x ∷ s ≡ map odd_octet codes ++ ENQ ∷ []
 coded x s codes room None r k q f e = cc
 coded x s codes room (Some c) None k q f e = cc
 coded x s codes room (Some c) (Some cs) k q f e =
@@ -94,14 +95,14 @@ coded x s codes room (Some c) (Some cs) k q f e =
 
 -- one code more before codes that are read
 called_step : (room : ℕ) (x : ℕ) (s codes : List ℕ)
-    → ((cs : List ℕ) → called (room - 1) s ≡ Some cs → s ≡ map odd_octet cs ++ 0x85 ∷ [])
-    → cond (x == 0x85) (at_end s) (cond (room == 0) None
+    → ((cs : List ℕ) → called (room - 1) s ≡ Some cs → s ≡ map odd_octet cs ++ ENQ ∷ [])
+    → cond (x == ENQ) (at_end s) (cond (room == 0) None
     (with_code (code_of x) (called (room - 1) s))) ≡ Some codes
-    → x ∷ s ≡ map odd_octet codes ++ 0x85 ∷ []
-called_step room x s codes f e = elim (chosen (x == 0x85) _ _ _ e) [
+    → x ∷ s ≡ map odd_octet codes ++ ENQ ∷ []
+called_step room x s codes f e = elim (chosen (x == ENQ) _ _ _ e) [
   | inl h ↦
       let k = ended s codes h.1 in
-      rw (k.0, k.1, eqb-true x 0x85 h.0) refl
+      rw (k.0, k.1, eqb-true x ENQ h.0) refl
   | inr h ↦ elim (chosen (room == 0) _ _ _ h.1) [
     | inl q ↦ cc
     | inr q ↦ coded x s codes (room - 1) (code_of x) (called (room - 1) s) refl refl f q.1
@@ -110,7 +111,7 @@ called_step room x s codes f e = elim (chosen (x == 0x85) _ _ _ e) [
 
 -- octets that are read as codes are these and ENQ
 pub called_reads : (room : ℕ) (s : List ℕ) (codes : List ℕ) → called room s ≡ Some codes
-    → s ≡ map odd_octet codes ++ 0x85 ∷ []
+    → s ≡ map odd_octet codes ++ ENQ ∷ []
 unfolding called
 called_reads room [] codes e = cc
 called_reads room (x ∷ s) codes e = called_step room x s codes (called_reads (room - 1) s) e
@@ -180,60 +181,60 @@ to_call (Err x) m e = cc
 
 -- octets after EOT that are read as a call are one
 pub call_reads : (rest : List ℕ) (m : Message) → call rest ≡ Some m
-    → (a : List ℕ) × (m ≡ Call a) × IsCall a (0x04 ∷ rest)
+    → (a : List ℕ) × (m ≡ Call a) × IsCall a (EOT ∷ rest)
 unfolding call
 call_reads rest m e =
-    let p = parts (is_octet 0xff) rest in
-    let q = parts (is_octet 0x16) (skip (is_octet 0xff) rest) in
-    let u = called_to (called MAX_ADDRESS (skip (is_octet 0x16) (skip (is_octet 0xff) rest))) m e in
+    let p = parts (is_octet PAD) rest in
+    let q = parts (is_octet SYN) (skip (is_octet PAD) rest) in
+    let u = called_to (called MAX_ADDRESS (skip (is_octet SYN) (skip (is_octet PAD) rest))) m e in
     let v = to_call (read_address u.0) m u.2 in
     let w = address_reads u.0 v.0 v.1 in
-    let body : skip (is_octet 0x16) (skip (is_octet 0xff) rest) ≡ map odd_octet v.0 ++ 0x85 ∷ [] =
-    called_reads MAX_ADDRESS _ u.0 u.1 ∙ ap (λ x. map odd_octet x ++ 0x85 ∷ []) w.0 in (
+    let body : skip (is_octet SYN) (skip (is_octet PAD) rest) ≡ map odd_octet v.0 ++ ENQ ∷ [] =
+    called_reads MAX_ADDRESS _ u.0 u.1 ∙ ap (λ x. map odd_octet x ++ ENQ ∷ []) w.0 in (
       v.0,
       v.2,
       record {
         pads = p.front;
         syns = q.front;
         whole =
-            ap (λ x. 0x04 ∷ x) (p.whole ∙ ap (λ x. p.front ++ x)
+            ap (λ x. EOT ∷ x) (p.whole ∙ ap (λ x. p.front ++ x)
             (q.whole ∙ ap (λ x. q.front ++ x) body)
-            ∙ sym (append_assoc p.front q.front (map odd_octet v.0 ++ 0x85 ∷ []))
-            ∙ sym (append_assoc (p.front ++ q.front) (map odd_octet v.0) (0x85 ∷ [])));
-        are_pads = pass_are 0xff p.front p.passes;
-        are_syns = pass_are 0x16 q.front q.passes;
+            ∙ sym (append_assoc p.front q.front (map odd_octet v.0 ++ ENQ ∷ []))
+            ∙ sym (append_assoc (p.front ++ q.front) (map odd_octet v.0) (ENQ ∷ [])));
+        are_pads = pass_are PAD p.front p.passes;
+        are_syns = pass_are SYN q.front q.passes;
         address = w.1;
       },
     )
 
 -- what stands after the fills begins with neither
-begins_address : (o : ℕ) (a : List ℕ) → (o ≡ 0x16) ⊎ (o ≡ 0xff) → IsAddress a
-    → begins (is_octet o) (map odd_octet a ++ 0x85 ∷ []) ≡ false
+begins_address : (o : ℕ) (a : List ℕ) → (o ≡ SYN) ⊎ (o ≡ PAD) → IsAddress a
+    → begins (is_octet o) (map odd_octet a ++ ENQ ∷ []) ≡ false
 begins_address o [] h p = absurd (omega (arith, p.some))
 begins_address o (c ∷ a) h p = plain_odd c o (plain c p.each.0) (inr h)
 
 -- SYN before an address is no PAD
-begins_syns : (syns rest : List ℕ) → AreAll 0x16 syns → begins (is_octet 0xff) rest ≡ false
-    → begins (is_octet 0xff) (syns ++ rest) ≡ false
+begins_syns : (syns rest : List ℕ) → AreAll SYN syns → begins (is_octet PAD) rest ≡ false
+    → begins (is_octet PAD) (syns ++ rest) ≡ false
 begins_syns [] rest h e = e
 begins_syns (x ∷ syns) rest h e = rw h.0 refl
 
 -- from octets that are a call, that call is read
-pub call_read : (rest a : List ℕ) → IsCall a (0x04 ∷ rest) → call rest ≡ Some (Call a)
+pub call_read : (rest a : List ℕ) → IsCall a (EOT ∷ rest) → call rest ≡ Some (Call a)
 unfolding call
 call_read rest a c =
-    let tail : List ℕ = map odd_octet a ++ 0x85 ∷ [] in
+    let tail : List ℕ = map odd_octet a ++ ENQ ∷ [] in
     let grouped : rest ≡ c.pads ++ (c.syns ++ tail) =
-    ap (drop 1) c.whole ∙ append_assoc (c.pads ++ c.syns) (map odd_octet a) (0x85 ∷ [])
+    ap (drop 1) c.whole ∙ append_assoc (c.pads ++ c.syns) (map odd_octet a) (ENQ ∷ [])
     ∙ append_assoc c.pads c.syns tail in
-    let first : skip (is_octet 0xff) rest ≡ c.syns ++ tail =
-    ap (skip (is_octet 0xff)) grouped ∙ skip_pass (is_octet 0xff) c.pads (c.syns ++ tail)
-    (are_pass 0xff c.pads c.are_pads)
-    ∙ skip_none (is_octet 0xff) (c.syns ++ tail)
-    (begins_syns c.syns tail c.are_syns (begins_address 0xff a (inr refl) c.address)) in
-    let second : skip (is_octet 0x16) (c.syns ++ tail) ≡ tail =
-    skip_pass (is_octet 0x16) c.syns tail (are_pass 0x16 c.syns c.are_syns)
-    ∙ skip_none (is_octet 0x16) tail (begins_address 0x16 a (inl refl) c.address) in
+    let first : skip (is_octet PAD) rest ≡ c.syns ++ tail =
+    ap (skip (is_octet PAD)) grouped ∙ skip_pass (is_octet PAD) c.pads (c.syns ++ tail)
+    (are_pass PAD c.pads c.are_pads)
+    ∙ skip_none (is_octet PAD) (c.syns ++ tail)
+    (begins_syns c.syns tail c.are_syns (begins_address PAD a (inr refl) c.address)) in
+    let second : skip (is_octet SYN) (c.syns ++ tail) ≡ tail =
+    skip_pass (is_octet SYN) c.syns tail (are_pass SYN c.syns c.are_syns)
+    ∙ skip_none (is_octet SYN) tail (begins_address SYN a (inl refl) c.address) in
     rw (
       first,
       second,
@@ -248,20 +249,20 @@ pub some_is : {A : Type 0} (x y : A) → Some x ≡ Some y → x ≡ y
 some_is x y e = cc
 
 -- a body that begins with EOT and is read as a message is that of a call
-by_eot : (body : List ℕ) (m : Message) → begins (is_octet 0x04) body ≡ true → call (drop 1 body)
+by_eot : (body : List ℕ) (m : Message) → begins (is_octet EOT) body ≡ true → call (drop 1 body)
     ≡ Some m
     → IsBody m body
 by_eot [] m h e = cc
 by_eot (x ∷ rest) m h e =
     let k = call_reads rest m e in
-    rw (k.1, eqb-true x 0x04 h) k.2
+    rw (k.1, eqb-true x EOT h) k.2
 
 -- a body that is read as a reply or as a call is that of its message
 replied : (body : List ℕ) (m : Message) (o : Option ReplyValue) → reply_spelled body ≡ o
     → reply_or_call o body ≡ Some m → IsBody m body
 replied body m (Some r) s e =
     subst (λ k. IsBody k body) (some_is _ _ e) (reply_reads body r s)
-replied body m None s e = elim (chosen (begins (is_octet 0x04) body) _ _ _ e) [
+replied body m None s e = elim (chosen (begins (is_octet EOT) body) _ _ _ e) [
   | inl h ↦ by_eot body m h.0 h.1
   | inr e ↦ absurd (let h = e.1 in cc)
 ]
@@ -269,22 +270,22 @@ replied body m None s e = elim (chosen (begins (is_octet 0x04) body) _ _ _ e) [
 -- a body that is read as a control sequence is that of its message
 pub control_reads : (body : List ℕ) (m : Message) → control body ≡ Some m → IsBody m body
 unfolding control
-control_reads body m e = elim (chosen (bytes_eq body (0x04 ∷ [])) _ _ _ e) [
+control_reads body m e = elim (chosen (bytes_eq body (EOT ∷ [])) _ _ _ e) [
   | inl h ↦ subst (λ k. IsBody k body) (some_is _ _ h.1) (equal _ _ h.0)
-  | inr e ↦ elim (chosen (bytes_eq body (0x85 ∷ [])) _ _ _ e.1) [
+  | inr e ↦ elim (chosen (bytes_eq body (ENQ ∷ [])) _ _ _ e.1) [
     | inl h ↦ subst (λ k. IsBody k body) (some_is _ _ h.1) (equal _ _ h.0)
     | inr e ↦ replied body m (reply_spelled body) refl e.1
   ]
 ]
 
 -- a call is longer than EOT
-call_control : (a rest : List ℕ) → IsCall a (0x04 ∷ rest) → control (0x04 ∷ rest) ≡ Some (Call a)
+call_control : (a rest : List ℕ) → IsCall a (EOT ∷ rest) → control (EOT ∷ rest) ≡ Some (Call a)
 unfolding control
 call_control a [] c =
     absurd (omega (
       arith,
       ap length c.whole,
-      length-append (0x04 ∷ c.pads ++ c.syns ++ map odd_octet a) (0x85 ∷ []),
+      length-append (EOT ∷ c.pads ++ c.syns ++ map odd_octet a) (ENQ ∷ []),
     ))
 call_control a (x ∷ xs) c = call_read (x ∷ xs) a c
 
@@ -292,7 +293,7 @@ call_control a (x ∷ xs) c = call_read (x ∷ xs) a c
 call_body : (a body : List ℕ) → IsCall a body → control body ≡ Some (Call a)
 call_body a [] c = absurd (let h = c.whole in cc)
 call_body a (o ∷ rest) c =
-    let eot : o ≡ 0x04 = let h = c.whole in cc in
+    let eot : o ≡ EOT = let h = c.whole in cc in
     rw eot (call_control a rest (rw eot at c))
 
 -- a message that is no text

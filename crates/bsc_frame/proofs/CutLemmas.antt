@@ -9,11 +9,12 @@ use Rattle.bsc_octet.specs.Octet.{code_of}
 use Rattle.bsc_frame.specs.Reading.{low_bits, is_other, is_before_ending, is_ending_octet}
 use Rattle.bsc_frame.specs.Reading.{before_gathered}
 use Rattle.bsc_frame.specs.Reading.{gathered}
+use Rattle.bsc_frame.specs.declared.octets.TheConstants.{SYN}
 use Rattle.bsc_frame.proofs.CarriedLemmas.{AreCarried, ending_same}
 
 -- gathering goes by three tests: fill, room, an ending octet
 gather_step : (room x : ℕ) (s : List ℕ) → code_of x ≡ Some (low_bits x)
-    → gathered room (x ∷ s) ≡ cond (x == 0x16) (gathered room s)
+    → gathered room (x ∷ s) ≡ cond (x == SYN) (gathered room s)
     (cond (room == 0) None (cond (is_ending_octet x) (Some (low_bits x ∷ [], s))
     (before_gathered (low_bits x) (gathered (room - 1) s))))
 unfolding gathered
@@ -40,7 +41,7 @@ gathered_none room [] c e = refl
 gathered_none room (x ∷ s) c e =
     let k = goes_on x (prefix_len is_before_ending s) (length s) (is_ending_octet x) e in
     gather_step room x s c.0 ∙ rw (gathered_none room s c.1 k.1, gathered_none (room - 1) s c.1 k.1)
-    (no_ending (low_bits x) s (x == 0x16) (room == 0) (is_ending_octet x) (low_bits x ∷ [], s)
+    (no_ending (low_bits x) s (x == SYN) (room == 0) (is_ending_octet x) (low_bits x ∷ [], s)
     k.0)
 
 -- one more in front of what is cut
@@ -50,7 +51,7 @@ pub record CutTo (m room : ℕ) (s : List ℕ) : Type 0 where
   pub full : room < length (filter is_other (take m s)) → gathered room s ≡ None
 
 -- a SYN at the front changes nothing but the place of the cut
-cut_fill : (m room : ℕ) (s : List ℕ) → CutTo m room s → CutTo (suc m) room (0x16 ∷ s)
+cut_fill : (m room : ℕ) (s : List ℕ) → CutTo m room s → CutTo (suc m) room (SYN ∷ s)
 unfolding gathered
 cut_fill m room s c = record { fits = c.fits; full = c.full }
 
@@ -63,7 +64,7 @@ last_room room r false e =
     (λ l. refl, λ l. let z : room ≡ 0 = omega arith in let t : (room == 0) ≡ true = rw z refl in cc)
 
 -- the cut after an octet that carries an ending character
-cut_last : (room x : ℕ) (s : List ℕ) → code_of x ≡ Some (low_bits x) → (x == 0x16) ≡ false
+cut_last : (room x : ℕ) (s : List ℕ) → code_of x ≡ Some (low_bits x) → (x == SYN) ≡ false
     → is_ending_octet x ≡ true → CutTo 1 room (x ∷ s)
 cut_last room x s c f e =
     let step : gathered room (x ∷ s) ≡ cond (room == 0) None (Some (low_bits x ∷ [], s)) =
@@ -91,7 +92,7 @@ more_room x room n o r false e fits full = (
     above l = omega (arith, some)
 
 -- the cut one octet further, after a code that ends nothing
-cut_code : (m room x : ℕ) (s : List ℕ) → code_of x ≡ Some (low_bits x) → (x == 0x16) ≡ false
+cut_code : (m room x : ℕ) (s : List ℕ) → code_of x ≡ Some (low_bits x) → (x == SYN) ≡ false
     → is_ending_octet x ≡ false → CutTo m (room - 1) s → CutTo (suc m) room (x ∷ s)
 cut_code m room x s c f e k =
     let step : gathered room (x ∷ s) ≡ cond (room == 0) None
@@ -104,14 +105,14 @@ cut_code m room x s c f e k =
 
 -- the cut one octet further, whatever the octet is
 cut_octet : (m room x : ℕ) (s : List ℕ) (fill ending : Bool) → code_of x ≡ Some (low_bits x)
-    → (x == 0x16) ≡ fill → is_ending_octet x ≡ ending
+    → (x == SYN) ≡ fill → is_ending_octet x ≡ ending
     → suc m ≡ cond (not ending) (1 + prefix_len is_before_ending s) 0 + 1
     → ((room : ℕ) → m ≡ prefix_len is_before_ending s + 1 → CutTo m room s)
     → CutTo (suc m) room (x ∷ s)
 cut_octet m room x s true true c f e n more =
-    let z : x ≡ 0x16 = eqb-true x 0x16 f in let t : is_ending_octet x ≡ false = rw z refl in cc
+    let z : x ≡ SYN = eqb-true x SYN f in let t : is_ending_octet x ≡ false = rw z refl in cc
 cut_octet m room x s true false c f e n more =
-    rw (eqb-true x 0x16 f) (cut_fill m room s (more room (omega arith)))
+    rw (eqb-true x SYN f) (cut_fill m room s (more room (omega arith)))
 cut_octet m room x s false true c f e n more = let z : m ≡ 0 = omega arith in
     rw z (cut_last room x s c f e)
 cut_octet m room x s false false c f e n more =
@@ -124,5 +125,5 @@ pub cut : (m room : ℕ) (s : List ℕ) → AreCarried s → m ≡ prefix_len is
 cut zero room s c e l = absurd (omega arith)
 cut (suc m) room [] c e l = absurd (omega arith)
 cut (suc m) room (x ∷ s) c e l =
-    cut_octet m room x s (x == 0x16) (is_ending_octet x) c.0 refl refl e
+    cut_octet m room x s (x == SYN) (is_ending_octet x) c.0 refl refl e
     (λ r k. cut m r s c.1 k (omega arith))

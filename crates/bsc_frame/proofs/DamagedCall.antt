@@ -13,6 +13,7 @@ use Rattle.bsc_frame.specs.Spells.{IsBody, AreAll}
 use Rattle.bsc_frame.specs.TurnedBits.{HaveOtherParity, IsCallFill}
 use Rattle.bsc_frame.specs.declared.message.Message.{Message}
 use Rattle.bsc_frame.specs.declared.message.Message.TheVariants.{Eot, Call, Enq, Reply, Text}
+use Rattle.bsc_frame.specs.declared.octets.TheConstants.{ENQ, EOT, PAD, SYN}
 use Rattle.bsc_frame.proofs.ControlLemmas.{plain, plain_odd}
 use Rattle.bsc_frame.proofs.ReplyLemmas.{reply_form}
 use Rattle.bsc_frame.proofs.OddLemmas.{syn_odd}
@@ -23,14 +24,14 @@ use Rattle.bsc_frame.proofs.DamagedText.{heads, tails, not_both_odd, not_same}
 use Rattle.bsc_octet.proofs.Elements.{all_append}
 
 -- PAD has no odd parity
-pub pad_even : IsOdd 0xff → ⊥
-pad_even h = let eight : count_ones 0xff ≡ 8 = ones-ones 8 in omega (arith, eight, h)
+pub pad_even : IsOdd PAD → ⊥
+pad_even h = let eight : count_ones PAD ≡ 8 = ones-ones 8 in omega (arith, eight, h)
 
 -- ---- what is heard of a call after its EOT
 
 -- no octet is ENQ
 abbrev NoEnq : List ℕ → Type 0
-NoEnq = AllByRecursion (λ x. x ≡ 0x85 → ⊥)
+NoEnq = AllByRecursion (λ x. x ≡ ENQ → ⊥)
 
 -- PAD, then octets with odd parity of which the last is the only ENQ, then PAD
 record Called (rest : List ℕ) : Type 0 where
@@ -38,21 +39,21 @@ record Called (rest : List ℕ) : Type 0 where
   syns : List ℕ
   address : List ℕ
   trail : List ℕ
-  whole : rest ≡ pads ++ ((syns ++ map odd_octet address ++ 0x85 ∷ []) ++ trail)
-  are_pads : AreAll 0xff pads
-  are_syns : AreAll 0x16 syns
+  whole : rest ≡ pads ++ ((syns ++ map odd_octet address ++ ENQ ∷ []) ++ trail)
+  are_pads : AreAll PAD pads
+  are_syns : AreAll SYN syns
   is_address : IsAddress address
-  are_trail : AreAll 0xff trail
+  are_trail : AreAll PAD trail
 
 -- after EOT a message goes on as a call, or there is only PAD
-called_or_end : (n : Message) (rest : List ℕ) → AfterFirst 0x04 rest n → Called rest
-    ⊎ AreAll 0xff rest
+called_or_end : (n : Message) (rest : List ℕ) → AfterFirst EOT rest n → Called rest
+    ⊎ AreAll PAD rest
 called_or_end n rest b = by_message n b.is_body
   where
-    ended : b.body ≡ [] → AreAll 0xff rest
+    ended : b.body ≡ [] → AreAll PAD rest
     ended e = rw (b.whole, e) b.are_trail
 
-    by_message : (k : Message) → IsBody k (0x04 ∷ b.body) → Called rest ⊎ AreAll 0xff rest
+    by_message : (k : Message) → IsBody k (EOT ∷ b.body) → Called rest ⊎ AreAll PAD rest
     by_message Eot h = inr (ended (tails h))
     by_message (Call a) h = inl (record {
       pads = h.pads;
@@ -61,10 +62,10 @@ called_or_end n rest b = by_message n b.is_body
       trail = b.trail;
       whole =
           b.whole ∙ ap (λ z. z ++ b.trail)
-          (tails h.whole ∙ append_assoc (h.pads ++ h.syns) (map odd_octet a) (0x85 ∷ [])
-          ∙ append_assoc h.pads h.syns (map odd_octet a ++ 0x85 ∷ [])
-          ∙ ap (λ z. h.pads ++ z) (sym (append_assoc h.syns (map odd_octet a) (0x85 ∷ []))))
-          ∙ append_assoc h.pads (h.syns ++ map odd_octet a ++ 0x85 ∷ []) b.trail;
+          (tails h.whole ∙ append_assoc (h.pads ++ h.syns) (map odd_octet a) (ENQ ∷ [])
+          ∙ append_assoc h.pads h.syns (map odd_octet a ++ ENQ ∷ [])
+          ∙ ap (λ z. h.pads ++ z) (sym (append_assoc h.syns (map odd_octet a) (ENQ ∷ []))))
+          ∙ append_assoc h.pads (h.syns ++ map odd_octet a ++ ENQ ∷ []) b.trail;
       are_pads = h.are_pads;
       are_syns = h.are_syns;
       is_address = h.address;
@@ -78,8 +79,8 @@ called_or_end n rest b = by_message n b.is_body
     by_message (Text t) h = absurd (omega (arith, heads h.whole))
 
 -- the first octet after the PAD is odd
-first_odd : (syns a trail : List ℕ) (o : ℕ) (rest : List ℕ) → AreAll 0x16 syns → IsAddress a
-    → o ∷ rest ≡ (syns ++ map odd_octet a ++ 0x85 ∷ []) ++ trail → IsOdd o
+first_odd : (syns a trail : List ℕ) (o : ℕ) (rest : List ℕ) → AreAll SYN syns → IsAddress a
+    → o ∷ rest ≡ (syns ++ map odd_octet a ++ ENQ ∷ []) ++ trail → IsOdd o
 first_odd (s ∷ syns) a trail o rest k h e = rw (heads e, k.0) syn_odd
 first_odd [] [] trail o rest k h e = rw (heads e) enq_odd
 first_odd [] (c ∷ a) trail o rest k h e = rw (heads e) (address_odd (c ∷ a) h.each).0
@@ -88,46 +89,46 @@ first_odd [] (c ∷ a) trail o rest k h e = rw (heads e) (address_odd (c ∷ a) 
 no_enq : (a : List ℕ) → AllByRecursion (λ c. IsTrue (is_address_code c)) a → NoEnq (map odd_octet a)
 no_enq [] h = tt
 no_enq (c ∷ a) h =
-    (eqb-false (odd_octet c) 0x85 (plain_odd c 0x85 (plain c h.0) (inl refl)), no_enq a h.1)
+    (eqb-false (odd_octet c) ENQ (plain_odd c ENQ (plain c h.0) (inl refl)), no_enq a h.1)
 
 -- nor among SYN
-syns_no_enq : (syns : List ℕ) → AreAll 0x16 syns → NoEnq syns
+syns_no_enq : (syns : List ℕ) → AreAll SYN syns → NoEnq syns
 syns_no_enq [] h = tt
 syns_no_enq (s ∷ syns) h = ((λ e. absurd (omega (arith, h.0, e))), syns_no_enq syns h.1)
 
 -- one ENQ does not stand before another
-one_enq : (xs front more : List ℕ) (o : ℕ) → NoEnq xs → xs ++ 0x85 ∷ [] ≡ front ++ 0x85 ∷ (o ∷ more)
+one_enq : (xs front more : List ℕ) (o : ℕ) → NoEnq xs → xs ++ ENQ ∷ [] ≡ front ++ ENQ ∷ (o ∷ more)
     → ⊥
-one_enq xs front more o h e = elim (parted xs (0x85 ∷ []) front 0x85 (o ∷ more) e) [
-  | inl p ↦ all_here (λ x. x ≡ 0x85 → ⊥) front 0x85 p.more (rw p.first at h) refl
-  | inr p ↦ omega (arith, ap length p.rest, length-append p.more (0x85 ∷ o ∷ more))
+one_enq xs front more o h e = elim (parted xs (ENQ ∷ []) front ENQ (o ∷ more) e) [
+  | inl p ↦ all_here (λ x. x ≡ ENQ → ⊥) front ENQ p.more (rw p.first at h) refl
+  | inr p ↦ omega (arith, ap length p.rest, length-append p.more (ENQ ∷ o ∷ more))
 ]
 
 -- ---- in place of the PAD after EOT
 
 -- the octet before a SYN, at the front of what follows the PAD of a call, is SYN
-third_syn : (syns a trail : List ℕ) (o : ℕ) (rest : List ℕ) → AreAll 0x16 syns → IsAddress a
-    → o ∷ 0x16 ∷ rest ≡ (syns ++ map odd_octet a ++ 0x85 ∷ []) ++ trail → o ≡ 0x16
+third_syn : (syns a trail : List ℕ) (o : ℕ) (rest : List ℕ) → AreAll SYN syns → IsAddress a
+    → o ∷ SYN ∷ rest ≡ (syns ++ map odd_octet a ++ ENQ ∷ []) ++ trail → o ≡ SYN
 third_syn (s ∷ syns) a trail o rest k h e = heads e ∙ k.0
 third_syn [] [] trail o rest k h e = absurd (omega (arith, h.some))
 third_syn [] (c ∷ []) trail o rest k h e = absurd (omega (arith, heads (tails e)))
 third_syn [] (c ∷ d ∷ a) trail o rest k h e =
-    absurd (eqb-false (odd_octet d) 0x16 (plain_odd d 0x16 (plain d h.each.1.0) (inr (inl refl)))
+    absurd (eqb-false (odd_octet d) SYN (plain_odd d SYN (plain d h.each.1.0) (inr (inl refl)))
     (sym (heads (tails e))))
 
 -- the octet after EOT, of other parity than PAD, is SYN where a SYN follows and it is a call
-third_pads : (pads syns a trail : List ℕ) (o : ℕ) (rest : List ℕ) → AreAll 0xff pads
-    → AreAll 0x16 syns
-    → IsAddress a → HaveOtherParity o 0xff
-    → o ∷ 0x16 ∷ rest ≡ pads ++ ((syns ++ map odd_octet a ++ 0x85 ∷ []) ++ trail) → o ≡ 0x16
+third_pads : (pads syns a trail : List ℕ) (o : ℕ) (rest : List ℕ) → AreAll PAD pads
+    → AreAll SYN syns
+    → IsAddress a → HaveOtherParity o PAD
+    → o ∷ SYN ∷ rest ≡ pads ++ ((syns ++ map odd_octet a ++ ENQ ∷ []) ++ trail) → o ≡ SYN
 third_pads [] syns a trail o rest p k h other e = third_syn syns a trail o rest k h e
 third_pads (x ∷ pads) syns a trail o rest p k h other e =
-    absurd (not_same o 0xff other (heads e ∙ p.0))
+    absurd (not_same o PAD other (heads e ∙ p.0))
 
 -- the octet after EOT is SYN whatever message is read
-third : (new : ℕ) (rest : List ℕ) (n : Message) → HaveOtherParity new 0xff
-    → AfterFirst 0x04 (new ∷ 0x16 ∷ rest) n → new ≡ 0x16
-third new rest n other b = elim (called_or_end n (new ∷ 0x16 ∷ rest) b) [
+third : (new : ℕ) (rest : List ℕ) (n : Message) → HaveOtherParity new PAD
+    → AfterFirst EOT (new ∷ SYN ∷ rest) n → new ≡ SYN
+third new rest n other b = elim (called_or_end n (new ∷ SYN ∷ rest) b) [
   | inl c ↦ third_pads c.pads c.syns c.address c.trail new rest c.are_pads c.are_syns c.is_address
       other c.whole
   | inr e ↦ absurd (omega (arith, e.1.0))
@@ -136,21 +137,21 @@ third new rest n other b = elim (called_or_end n (new ∷ 0x16 ∷ rest) b) [
 -- ---- in place of the SYN after that
 
 -- the octet after PAD, of other parity than SYN, is PAD where it is a call
-fourth_pads : (pads syns a trail : List ℕ) (new : ℕ) (rest : List ℕ) → AreAll 0xff pads
-    → AreAll 0x16 syns
-    → IsAddress a → HaveOtherParity new 0x16
-    → 0xff ∷ new ∷ rest ≡ pads ++ ((syns ++ map odd_octet a ++ 0x85 ∷ []) ++ trail) → new ≡ 0xff
+fourth_pads : (pads syns a trail : List ℕ) (new : ℕ) (rest : List ℕ) → AreAll PAD pads
+    → AreAll SYN syns
+    → IsAddress a → HaveOtherParity new SYN
+    → PAD ∷ new ∷ rest ≡ pads ++ ((syns ++ map odd_octet a ++ ENQ ∷ []) ++ trail) → new ≡ PAD
 fourth_pads [] syns a trail new rest p k h other e =
-    absurd (pad_even (first_odd syns a trail 0xff (new ∷ rest) k h e))
+    absurd (pad_even (first_odd syns a trail PAD (new ∷ rest) k h e))
 fourth_pads (x ∷ []) syns a trail new rest p k h other e =
-    absurd (not_both_odd new 0x16 other (first_odd syns a trail new rest k h (tails e)) syn_odd)
+    absurd (not_both_odd new SYN other (first_odd syns a trail new rest k h (tails e)) syn_odd)
 fourth_pads (x ∷ y ∷ pads) syns a trail new rest p k h other e = heads (tails e) ∙ p.1.0
 
 -- the octet after the pad is a pad whatever message is read
-fourth : (new : ℕ) (rest : List ℕ) (n : Message) → HaveOtherParity new 0x16
-    → AfterFirst 0x04 (0xff ∷ new ∷ 0x16 ∷ rest) n → new ≡ 0xff
-fourth new rest n other b = elim (called_or_end n (0xff ∷ new ∷ 0x16 ∷ rest) b) [
-  | inl c ↦ fourth_pads c.pads c.syns c.address c.trail new (0x16 ∷ rest) c.are_pads c.are_syns
+fourth : (new : ℕ) (rest : List ℕ) (n : Message) → HaveOtherParity new SYN
+    → AfterFirst EOT (PAD ∷ new ∷ SYN ∷ rest) n → new ≡ PAD
+fourth new rest n other b = elim (called_or_end n (PAD ∷ new ∷ SYN ∷ rest) b) [
+  | inl c ↦ fourth_pads c.pads c.syns c.address c.trail new (SYN ∷ rest) c.are_pads c.are_syns
       c.is_address other c.whole
   | inr e ↦ absurd (omega (arith, e.1.1.0))
 ]
@@ -158,101 +159,101 @@ fourth new rest n other b = elim (called_or_end n (0xff ∷ new ∷ 0x16 ∷ res
 -- ---- after that
 
 -- one PAD stands before the first SYN
-one_pad : (pads syns a trail : List ℕ) (rest : List ℕ) → AreAll 0xff pads → AreAll 0x16 syns
+one_pad : (pads syns a trail : List ℕ) (rest : List ℕ) → AreAll PAD pads → AreAll SYN syns
     → IsAddress a
-    → 0xff ∷ 0x16 ∷ rest ≡ pads ++ ((syns ++ map odd_octet a ++ 0x85 ∷ []) ++ trail)
-    → 0x16 ∷ rest ≡ (syns ++ map odd_octet a ++ 0x85 ∷ []) ++ trail
+    → PAD ∷ SYN ∷ rest ≡ pads ++ ((syns ++ map odd_octet a ++ ENQ ∷ []) ++ trail)
+    → SYN ∷ rest ≡ (syns ++ map odd_octet a ++ ENQ ∷ []) ++ trail
 one_pad [] syns a trail rest p k h e =
-    absurd (pad_even (first_odd syns a trail 0xff (0x16 ∷ rest) k h e))
+    absurd (pad_even (first_odd syns a trail PAD (SYN ∷ rest) k h e))
 one_pad (x ∷ []) syns a trail rest p k h e = tails e
 one_pad (x ∷ y ∷ pads) syns a trail rest p k h e = absurd (omega (arith, heads (tails e), p.1.0))
 
 -- the octets of a call after the first SYN of it, as they were sent and as they are heard
 record Later (a front : List ℕ) (o : ℕ) (after : List ℕ) (new : ℕ) : Type 0 where
-  sent : 0x16 ∷ map odd_octet a ++ 0x85 ∷ 0xff ∷ [] ≡ front ++ o ∷ after
+  sent : SYN ∷ map odd_octet a ++ ENQ ∷ PAD ∷ [] ≡ front ++ o ∷ after
   is_address : IsAddress a
   syns : List ℕ
   other_address : List ℕ
   trail : List ℕ
-  heard : (syns ++ map odd_octet other_address ++ 0x85 ∷ []) ++ trail ≡ 0x16 ∷ front ++ new ∷ after
-  are_syns : AreAll 0x16 syns
+  heard : (syns ++ map odd_octet other_address ++ ENQ ∷ []) ++ trail ≡ SYN ∷ front ++ new ∷ after
+  are_syns : AreAll SYN syns
   is_other : IsAddress other_address
-  are_trail : AreAll 0xff trail
+  are_trail : AreAll PAD trail
 
 -- the octet stood in the address, or was the SYN before it
 later_address : (a front : List ℕ) (o : ℕ) (after : List ℕ) (new : ℕ) (more : List ℕ)
     → Later a front o after new → HaveOtherParity new o
-    → 0x16 ∷ map odd_octet a ≡ front ++ o ∷ more → after ≡ more ++ 0x85 ∷ 0xff ∷ [] → ⊥
+    → SYN ∷ map odd_octet a ≡ front ++ o ∷ more → after ≡ more ++ ENQ ∷ PAD ∷ [] → ⊥
 later_address a front o after new more l other first rest =
-    let sent_odd : AllByRecursion IsOdd (0x16 ∷ map odd_octet a) =
+    let sent_odd : AllByRecursion IsOdd (SYN ∷ map odd_octet a) =
     (syn_odd, address_odd a l.is_address.each) in
     let was : IsOdd o =
     all_here IsOdd front o more (subst (λ z. AllByRecursion IsOdd z) first sent_odd) in
-    elim (parted (l.syns ++ map odd_octet l.other_address ++ 0x85 ∷ []) l.trail (0x16 ∷ front) new
+    elim (parted (l.syns ++ map odd_octet l.other_address ++ ENQ ∷ []) l.trail (SYN ∷ front) new
     after l.heard) [
       | inl q ↦ not_both_odd new o other
-          (all_here IsOdd (0x16 ∷ front) new q.more
+          (all_here IsOdd (SYN ∷ front) new q.more
           (rw q.first at (called_odd l.syns l.other_address l.are_syns l.is_other.each))) was
       | inr q ↦
-          let pads : AreAll 0xff after =
-          (all_after (λ x. x ≡ 0xff) q.more (new ∷ after) (rw q.rest at l.are_trail)).1 in
-          omega (arith, all_here (λ x. x ≡ 0xff) more 0x85 (0xff ∷ []) (rw rest at pads))
+          let pads : AreAll PAD after =
+          (all_after (λ x. x ≡ PAD) q.more (new ∷ after) (rw q.rest at l.are_trail)).1 in
+          omega (arith, all_here (λ x. x ≡ PAD) more ENQ (PAD ∷ []) (rw rest at pads))
     ]
 
 -- there is no ENQ before the end of the address of a call
-line_no_enq : (syns a : List ℕ) → AreAll 0x16 syns → IsAddress a → NoEnq (syns ++ map odd_octet a)
+line_no_enq : (syns a : List ℕ) → AreAll SYN syns → IsAddress a → NoEnq (syns ++ map odd_octet a)
 line_no_enq syns a k h =
-    all_append (λ x. x ≡ 0x85 → ⊥) syns (map odd_octet a) (syns_no_enq syns k) (no_enq a h.each)
+    all_append (λ x. x ≡ ENQ → ⊥) syns (map odd_octet a) (syns_no_enq syns k) (no_enq a h.each)
 
 -- the octet was the ENQ
-later_enq : (a front : List ℕ) (after : List ℕ) (new : ℕ) → Later a front 0x85 after new
-    → HaveOtherParity new 0x85 → front ≡ 0x16 ∷ map odd_octet a → ⊥
+later_enq : (a front : List ℕ) (after : List ℕ) (new : ℕ) → Later a front ENQ after new
+    → HaveOtherParity new ENQ → front ≡ SYN ∷ map odd_octet a → ⊥
 later_enq a front after new l other first =
-    elim (parted (l.syns ++ map odd_octet l.other_address ++ 0x85 ∷ []) l.trail (0x16 ∷ front) new
+    elim (parted (l.syns ++ map odd_octet l.other_address ++ ENQ ∷ []) l.trail (SYN ∷ front) new
     after l.heard) [
-      | inl q ↦ not_both_odd new 0x85 other
-          (all_here IsOdd (0x16 ∷ front) new q.more
+      | inl q ↦ not_both_odd new ENQ other
+          (all_here IsOdd (SYN ∷ front) new q.more
           (rw q.first at (called_odd l.syns l.other_address l.are_syns l.is_other.each))) enq_odd
       | inr q ↦
-          let all : NoEnq (0x16 ∷ 0x16 ∷ map odd_octet a) =
+          let all : NoEnq (SYN ∷ SYN ∷ map odd_octet a) =
           ((λ e. omega (arith, e)), ((λ e. omega (arith, e)), no_enq a l.is_address.each)) in
-          let none : NoEnq (0x16 ∷ front) = subst (λ z. NoEnq (0x16 ∷ z)) (sym first) all in
-          let there : 0x16 ∷ front ≡ (l.syns ++ map odd_octet l.other_address) ++ 0x85 ∷ q.more =
-          q.first ∙ append_assoc (l.syns ++ map odd_octet l.other_address) (0x85 ∷ []) q.more in
-          all_here (λ x. x ≡ 0x85 → ⊥) (l.syns ++ map odd_octet l.other_address) 0x85 q.more
+          let none : NoEnq (SYN ∷ front) = subst (λ z. NoEnq (SYN ∷ z)) (sym first) all in
+          let there : SYN ∷ front ≡ (l.syns ++ map odd_octet l.other_address) ++ ENQ ∷ q.more =
+          q.first ∙ append_assoc (l.syns ++ map odd_octet l.other_address) (ENQ ∷ []) q.more in
+          all_here (λ x. x ≡ ENQ → ⊥) (l.syns ++ map odd_octet l.other_address) ENQ q.more
           (subst (λ z. NoEnq z) there none) refl
     ]
 
 -- the octet was the PAD at the end
-later_pad : (a front : List ℕ) (after : List ℕ) (new : ℕ) → Later a front 0xff after new
-    → HaveOtherParity new 0xff → front ≡ 0x16 ∷ map odd_octet a ++ 0x85 ∷ [] → ⊥
+later_pad : (a front : List ℕ) (after : List ℕ) (new : ℕ) → Later a front PAD after new
+    → HaveOtherParity new PAD → front ≡ SYN ∷ map odd_octet a ++ ENQ ∷ [] → ⊥
 later_pad a front after new l other first =
-    elim (parted (l.syns ++ map odd_octet l.other_address ++ 0x85 ∷ []) l.trail (0x16 ∷ front) new
+    elim (parted (l.syns ++ map odd_octet l.other_address ++ ENQ ∷ []) l.trail (SYN ∷ front) new
     after l.heard) [
       | inl q ↦
-          let there : (l.syns ++ map odd_octet l.other_address) ++ 0x85 ∷ []
-          ≡ (0x16 ∷ 0x16 ∷ map odd_octet a) ++ 0x85 ∷ (new ∷ q.more) =
-          q.first ∙ ap (λ z. 0x16 ∷ z ++ new ∷ q.more) first
-          ∙ append_assoc (0x16 ∷ 0x16 ∷ map odd_octet a) (0x85 ∷ []) (new ∷ q.more) in
-          one_enq (l.syns ++ map odd_octet l.other_address) (0x16 ∷ 0x16 ∷ map odd_octet a) q.more
+          let there : (l.syns ++ map odd_octet l.other_address) ++ ENQ ∷ []
+          ≡ (SYN ∷ SYN ∷ map odd_octet a) ++ ENQ ∷ (new ∷ q.more) =
+          q.first ∙ ap (λ z. SYN ∷ z ++ new ∷ q.more) first
+          ∙ append_assoc (SYN ∷ SYN ∷ map odd_octet a) (ENQ ∷ []) (new ∷ q.more) in
+          one_enq (l.syns ++ map odd_octet l.other_address) (SYN ∷ SYN ∷ map odd_octet a) q.more
           new (line_no_enq l.syns l.other_address l.are_syns l.is_other) there
-      | inr q ↦ not_same new 0xff other
-          (all_here (λ x. x ≡ 0xff) q.more new after (rw q.rest at l.are_trail))
+      | inr q ↦ not_same new PAD other
+          (all_here (λ x. x ≡ PAD) q.more new after (rw q.rest at l.are_trail))
     ]
 
 -- a change in the ENQ of a call, or in the PAD after it, leaves no call
 later_end : (a front : List ℕ) (o : ℕ) (after : List ℕ) (new : ℕ) (more : List ℕ)
     → Later a front o after new
     → HaveOtherParity new o
-    → front ≡ (0x16 ∷ map odd_octet a) ++ more → 0x85 ∷ 0xff ∷ [] ≡ more ++ o ∷ after → ⊥
+    → front ≡ (SYN ∷ map odd_octet a) ++ more → ENQ ∷ PAD ∷ [] ≡ more ++ o ∷ after → ⊥
 later_end a front o after new [] l other first rest =
-    let was : o ≡ 0x85 = sym (heads rest) in
+    let was : o ≡ ENQ = sym (heads rest) in
     later_enq a front after new (rw was at l) (rw was at other)
-    (first ∙ append-nil (0x16 ∷ map odd_octet a))
+    (first ∙ append-nil (SYN ∷ map odd_octet a))
 later_end a front o after new (x ∷ []) l other first rest =
-    let was : o ≡ 0xff = sym (heads (tails rest)) in
+    let was : o ≡ PAD = sym (heads (tails rest)) in
     later_pad a front after new (rw was at l) (rw was at other)
-    (first ∙ ap (λ z. (0x16 ∷ map odd_octet a) ++ z ∷ []) (sym (heads rest)))
+    (first ∙ ap (λ z. (SYN ∷ map odd_octet a) ++ z ∷ []) (sym (heads rest)))
 later_end a front o after new (x ∷ y ∷ more) l other first rest =
     omega (arith, ap length rest, length-append more (o ∷ after))
 
@@ -260,7 +261,7 @@ later_end a front o after new (x ∷ y ∷ more) l other first rest =
 later : (a front : List ℕ) (o : ℕ) (after : List ℕ) (new : ℕ) → Later a front o after new
     → HaveOtherParity new o → ⊥
 later a front o after new l other =
-    elim (parted (0x16 ∷ map odd_octet a) (0x85 ∷ 0xff ∷ []) front o after l.sent) [
+    elim (parted (SYN ∷ map odd_octet a) (ENQ ∷ PAD ∷ []) front o after l.sent) [
       | inl p ↦ later_address a front o after new p.more l other p.first p.rest
       | inr p ↦ later_end a front o after new p.more l other p.first p.rest
     ]
@@ -269,42 +270,42 @@ later a front o after new l other =
 
 -- what is sent of a call after its EOT
 abbrev pub call_tail : List ℕ → List ℕ
-call_tail a = 0xff ∷ 0x16 ∷ 0x16 ∷ (map odd_octet a ++ 0x85 ∷ []) ++ 0xff ∷ []
+call_tail a = PAD ∷ SYN ∷ SYN ∷ (map odd_octet a ++ ENQ ∷ []) ++ PAD ∷ []
 
 -- where a call with one octet of other parity is read as a message, the octet is fill
 pub spared_call : (a : List ℕ) (n : Message) (before : List ℕ) (o : ℕ) (after : List ℕ) (new : ℕ)
     → IsAddress a
     → call_tail a ≡ before ++ o ∷ after → HaveOtherParity new o
-    → AfterFirst 0x04 (before ++ new ∷ after) n
+    → AfterFirst EOT (before ++ new ∷ after) n
     → IsCallFill (suc (suc (suc (length before)))) new
 spared_call a n [] o after new h whole other b =
-    let was : o ≡ 0xff = sym (heads whole) in
-    let then : after ≡ 0x16 ∷ 0x16 ∷ (map odd_octet a ++ 0x85 ∷ []) ++ 0xff ∷ [] =
+    let was : o ≡ PAD = sym (heads whole) in
+    let then : after ≡ SYN ∷ SYN ∷ (map odd_octet a ++ ENQ ∷ []) ++ PAD ∷ [] =
     sym (tails whole) in
     inl (
       refl,
-      third new (0x16 ∷ (map odd_octet a ++ 0x85 ∷ []) ++ 0xff ∷ []) n (rw was at other)
+      third new (SYN ∷ (map odd_octet a ++ ENQ ∷ []) ++ PAD ∷ []) n (rw was at other)
           (rw then at b),
     )
 spared_call a n (x ∷ []) o after new h whole other b =
-    let first : x ≡ 0xff = sym (heads whole) in
-    let was : o ≡ 0x16 = sym (heads (tails whole)) in
-    let then : after ≡ 0x16 ∷ (map odd_octet a ++ 0x85 ∷ []) ++ 0xff ∷ [] =
+    let first : x ≡ PAD = sym (heads whole) in
+    let was : o ≡ SYN = sym (heads (tails whole)) in
+    let then : after ≡ SYN ∷ (map odd_octet a ++ ENQ ∷ []) ++ PAD ∷ [] =
     sym (tails (tails whole)) in
     inr (
       refl,
-      fourth new ((map odd_octet a ++ 0x85 ∷ []) ++ 0xff ∷ []) n (rw was at other)
+      fourth new ((map odd_octet a ++ ENQ ∷ []) ++ PAD ∷ []) n (rw was at other)
           (rw (first, then) at b),
     )
 spared_call a n (x ∷ y ∷ front) o after new h whole other b =
-    let first : x ≡ 0xff = sym (heads whole) in
-    let second : y ≡ 0x16 = sym (heads (tails whole)) in
-    let then : 0x16 ∷ (map odd_octet a ++ 0x85 ∷ []) ++ 0xff ∷ [] ≡ front ++ o ∷ after =
+    let first : x ≡ PAD = sym (heads whole) in
+    let second : y ≡ SYN = sym (heads (tails whole)) in
+    let then : SYN ∷ (map odd_octet a ++ ENQ ∷ []) ++ PAD ∷ [] ≡ front ++ o ∷ after =
     tails (tails whole) in
-    let heard : AfterFirst 0x04 (0xff ∷ 0x16 ∷ front ++ new ∷ after) n = rw (first, second) at b in
-    elim (called_or_end n (0xff ∷ 0x16 ∷ front ++ new ∷ after) heard) [
+    let heard : AfterFirst EOT (PAD ∷ SYN ∷ front ++ new ∷ after) n = rw (first, second) at b in
+    elim (called_or_end n (PAD ∷ SYN ∷ front ++ new ∷ after) heard) [
       | inl c ↦ absurd (later a front o after new (record {
-        sent = sym (append_assoc (0x16 ∷ map odd_octet a) (0x85 ∷ []) (0xff ∷ [])) ∙ then;
+        sent = sym (append_assoc (SYN ∷ map odd_octet a) (ENQ ∷ []) (PAD ∷ [])) ∙ then;
         is_address = h;
         syns = c.syns;
         other_address = c.address;

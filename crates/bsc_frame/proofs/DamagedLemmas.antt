@@ -28,6 +28,7 @@ use Rattle.bsc_frame.proofs.InsideLemmas.{starts_wrong, pad_or_not}
 use Rattle.bsc_frame.proofs.DamagedText.{heads, not_both_odd, not_same, lost_text}
 use Rattle.bsc_frame.proofs.DamagedCall.{call_tail, spared_call}
 use Rattle.bsc_frame.specs.declared.limits.TheConstants.{MAX_HEARD}
+use Rattle.bsc_frame.specs.declared.octets.TheConstants.{DLE, ENQ, EOT, NAK, PAD, STX, SYN}
 use Rattle.bsc_frame.proofs.DamagedReply.{lost_single, lost_reply}
 
 -- ---- what is sent for each message
@@ -40,24 +41,24 @@ pub record Sent (m : Message) : Type 0 where
 
 -- what is sent for a message is its body between two SYN and a PAD
 pub sent_of : (m : Message) → IsMessage m → Sent m
-sent_of Eot h = record { body = 0x04 ∷ []; whole = refl; is_body = refl }
+sent_of Eot h = record { body = EOT ∷ []; whole = refl; is_body = refl }
 sent_of (Call a) h = record {
-  body = 0x04 ∷ 0xff ∷ 0x16 ∷ 0x16 ∷ [] ++ map odd_octet a ++ 0x85 ∷ [];
+  body = EOT ∷ PAD ∷ SYN ∷ SYN ∷ [] ++ map odd_octet a ++ ENQ ∷ [];
   whole = refl;
   is_body =
       record {
-        pads = 0xff ∷ [];
-        syns = 0x16 ∷ 0x16 ∷ [];
+        pads = PAD ∷ [];
+        syns = SYN ∷ SYN ∷ [];
         whole = refl;
         are_pads = (refl, tt);
         are_syns = (refl, (refl, tt));
         address = h;
       };
 }
-sent_of Enq h = record { body = 0x85 ∷ []; whole = refl; is_body = refl }
+sent_of Enq h = record { body = ENQ ∷ []; whole = refl; is_body = refl }
 sent_of (Reply r) h = record { body = reply_octets r; whole = refl; is_body = refl }
 sent_of (Text t) h = record {
-  body = 0x02 ∷ units_wire t.units t.end;
+  body = STX ∷ units_wire t.units t.end;
   whole = refl;
   is_body =
       record {
@@ -82,58 +83,58 @@ LostBehind m x tail =
 record Shape (m : Message) : Type 0 where
   x : ℕ
   tail : List ℕ
-  whole : wire m ≡ 0x16 ∷ 0x16 ∷ x ∷ tail
+  whole : wire m ≡ SYN ∷ SYN ∷ x ∷ tail
   odd : IsOdd x
-  other : (x == 0x16) ≡ false
+  other : (x == SYN) ≡ false
   lost : LostBehind m x tail
-  starts_text : x ≡ 0x02 → IsSomeText m
+  starts_text : x ≡ STX → IsSomeText m
 
 -- a reply of one octet
-shape_nak : (r : ReplyValue) → reply_octets r ≡ 0x15 ∷ [] → Shape (Reply r)
+shape_nak : (r : ReplyValue) → reply_octets r ≡ NAK ∷ [] → Shape (Reply r)
 shape_nak r k = record {
-  x = 0x15;
-  tail = 0xff ∷ [];
+  x = NAK;
+  tail = PAD ∷ [];
   whole = ap framed k;
   odd = nak_odd;
   other = refl;
   lost =
       λ n before o after new w p i. absurd
-      (lost_single 0x15 n before o after new (λ e. omega (arith, e)) (λ e. omega (arith, e)) w p
-      (after_first 0x15 (before ++ new ∷ after) n i));
+      (lost_single NAK n before o after new (λ e. omega (arith, e)) (λ e. omega (arith, e)) w p
+      (after_first NAK (before ++ new ∷ after) n i));
   starts_text = λ e. absurd (omega (arith, e));
 }
 
 -- a reply of two octets
 shape_pair : (r : ReplyValue) → IsPair (reply_octets r) → Shape (Reply r)
 shape_pair r k = record {
-  x = 0x10;
-  tail = k.second ∷ 0xff ∷ [];
+  x = DLE;
+  tail = k.second ∷ PAD ∷ [];
   whole = ap framed k.whole;
   odd = dle_odd;
   other = refl;
   lost =
       λ n before o after new w p i. absurd
       (lost_reply k.second n before o after new k.odd w p
-      (after_first 0x10 (before ++ new ∷ after) n i));
+      (after_first DLE (before ++ new ∷ after) n i));
   starts_text = λ e. absurd (omega (arith, e));
 }
 
 -- each message has its first octet, of odd parity and no SYN, and what is left of it
 shape : (m : Message) → IsMessage m → Shape m
 shape Eot h = record {
-  x = 0x04;
-  tail = 0xff ∷ [];
+  x = EOT;
+  tail = PAD ∷ [];
   whole = refl;
   odd = eot_odd;
   other = refl;
   lost =
       λ n before o after new w p i. absurd
-      (lost_single 0x04 n before o after new (λ e. omega (arith, e)) (λ e. omega (arith, e)) w p
-      (after_first 0x04 (before ++ new ∷ after) n i));
+      (lost_single EOT n before o after new (λ e. omega (arith, e)) (λ e. omega (arith, e)) w p
+      (after_first EOT (before ++ new ∷ after) n i));
   starts_text = λ e. absurd (omega (arith, e));
 }
 shape (Call a) h = record {
-  x = 0x04;
+  x = EOT;
   tail = call_tail a;
   whole = refl;
   odd = eot_odd;
@@ -141,26 +142,26 @@ shape (Call a) h = record {
   lost =
       λ n before o after new w p i. (
         (a, refl),
-        spared_call a n before o after new h w p (after_first 0x04 (before ++ new ∷ after) n i),
+        spared_call a n before o after new h w p (after_first EOT (before ++ new ∷ after) n i),
       );
   starts_text = λ e. absurd (omega (arith, e));
 }
 shape Enq h = record {
-  x = 0x85;
-  tail = 0xff ∷ [];
+  x = ENQ;
+  tail = PAD ∷ [];
   whole = refl;
   odd = enq_odd;
   other = refl;
   lost =
       λ n before o after new w p i. absurd
-      (lost_single 0x85 n before o after new (λ e. omega (arith, e)) (λ e. omega (arith, e)) w p
-      (after_first 0x85 (before ++ new ∷ after) n i));
+      (lost_single ENQ n before o after new (λ e. omega (arith, e)) (λ e. omega (arith, e)) w p
+      (after_first ENQ (before ++ new ∷ after) n i));
   starts_text = λ e. absurd (omega (arith, e));
 }
 shape (Reply r) h = elim (reply_form r) [ inl k ↦ shape_nak r k | inr k ↦ shape_pair r k ]
 shape (Text t) h = record {
-  x = 0x02;
-  tail = units_wire t.units t.end ++ 0xff ∷ [];
+  x = STX;
+  tail = units_wire t.units t.end ++ PAD ∷ [];
   whole = refl;
   odd = stx_odd;
   other = refl;
@@ -172,31 +173,31 @@ shape (Text t) h = record {
 
 -- a change that leaves a message is fill, by the place where it stands
 by_place : (m : Message) (s : Shape m) (place new : ℕ) (n : Message)
-    → place < length (0x16 ∷ 0x16 ∷ s.x ∷ s.tail)
-    → HaveOtherParity new (get_or (0x16 ∷ 0x16 ∷ s.x ∷ s.tail) place 0)
-    → Spells (set (0x16 ∷ 0x16 ∷ s.x ∷ s.tail) place new) n → IsFillIn m place new
+    → place < length (SYN ∷ SYN ∷ s.x ∷ s.tail)
+    → HaveOtherParity new (get_or (SYN ∷ SYN ∷ s.x ∷ s.tail) place 0)
+    → Spells (set (SYN ∷ SYN ∷ s.x ∷ s.tail) place new) n → IsFillIn m place new
 by_place m s zero new n l p h = elim (pad_or_not new) [
   | inl k ↦ inl (refl, k)
   | inr k ↦
       let noise =
-      starts_wrong new (0x16 ∷ s.x ∷ s.tail) k (test_false new 0x16 (not_same new 0x16 p)) in
-      let whole = heard_spelled (new ∷ 0x16 ∷ s.x ∷ s.tail) n h in
+      starts_wrong new (SYN ∷ s.x ∷ s.tail) k (test_false new SYN (not_same new SYN p)) in
+      let whole = heard_spelled (new ∷ SYN ∷ s.x ∷ s.tail) n h in
       absurd (let both : Whole n ≡ Noise = sym whole ∙ noise in cc)
 ]
 by_place m s (suc zero) new n l p h =
     let i =
-    inside (0x16 ∷ []) (new ∷ s.x ∷ s.tail) n (refl, tt) (λ e. cc)
-    (test_false new 0x16 (not_same new 0x16 p)) h in
-    absurd (not_both_odd new 0x16 p (first_is_odd new (s.x ∷ s.tail) n i) syn_odd)
+    inside (SYN ∷ []) (new ∷ s.x ∷ s.tail) n (refl, tt) (λ e. cc)
+    (test_false new SYN (not_same new SYN p)) h in
+    absurd (not_both_odd new SYN p (first_is_odd new (s.x ∷ s.tail) n i) syn_odd)
 by_place m s (suc (suc zero)) new n l p h =
     let i =
-    inside (0x16 ∷ 0x16 ∷ []) (new ∷ s.tail) n (refl, (refl, tt)) (λ e. cc)
-    (test_false new 0x16 (λ e. not_both_odd new s.x p (rw e syn_odd) s.odd)) h in
+    inside (SYN ∷ SYN ∷ []) (new ∷ s.tail) n (refl, (refl, tt)) (λ e. cc)
+    (test_false new SYN (λ e. not_both_odd new s.x p (rw e syn_odd) s.odd)) h in
     absurd (not_both_odd new s.x p (first_is_odd new s.tail n i) s.odd)
 by_place m s (suc (suc (suc place))) new n l p h =
     let r = around s.tail place (omega arith) in
     let i =
-    inside (0x16 ∷ 0x16 ∷ []) (s.x ∷ r.before ++ new ∷ r.after) n (refl, (refl, tt)) (λ e. cc)
+    inside (SYN ∷ SYN ∷ []) (s.x ∷ r.before ++ new ∷ r.after) n (refl, (refl, tt)) (λ e. cc)
     s.other (rw (r.changed new) at h) in
     let k = s.lost n r.before r.here r.after new r.whole (rw r.is_here at p) i in
     inr (rw r.long at k)
@@ -223,8 +224,8 @@ pad_spells m body new l h k = record {
   carried =
       record {
         pads = new ∷ [];
-        syns = 0x16 ∷ [];
-        trail = 0xff ∷ [];
+        syns = SYN ∷ [];
+        trail = PAD ∷ [];
         whole = refl;
         are_pads =
             (k, tt);
@@ -244,8 +245,8 @@ call_spells a body l h = record {
   carried =
       record {
         pads = [];
-        syns = 0x16 ∷ 0x16 ∷ [];
-        trail = 0xff ∷ [];
+        syns = SYN ∷ SYN ∷ [];
+        trail = PAD ∷ [];
         whole = refl;
         are_pads = tt;
         are_syns = (refl, (refl, tt));
@@ -259,11 +260,11 @@ call_spells a body l h = record {
 fill_in_call : (a : List ℕ) (h : IsAddress a) (place new : ℕ) → IsCallFill place new
     → Spells (set (wire (Call a)) place new) (Call a)
 fill_in_call a h place new (inl k) =
-    rw (k.0, k.1) (call_spells a (0x04 ∷ 0x16 ∷ 0x16 ∷ 0x16 ∷ [] ++ map odd_octet a ++ 0x85 ∷ [])
-    (small (Call a) h 3 0x16)
+    rw (k.0, k.1) (call_spells a (EOT ∷ SYN ∷ SYN ∷ SYN ∷ [] ++ map odd_octet a ++ ENQ ∷ [])
+    (small (Call a) h 3 SYN)
     (record {
       pads = [];
-      syns = 0x16 ∷ 0x16 ∷ 0x16 ∷ [];
+      syns = SYN ∷ SYN ∷ SYN ∷ [];
       whole = refl;
       are_pads = tt;
       are_syns =
@@ -271,11 +272,11 @@ fill_in_call a h place new (inl k) =
       address = h;
     }))
 fill_in_call a h place new (inr k) =
-    rw (k.0, k.1) (call_spells a (0x04 ∷ 0xff ∷ 0xff ∷ 0x16 ∷ [] ++ map odd_octet a ++ 0x85 ∷ [])
-    (small (Call a) h 4 0xff)
+    rw (k.0, k.1) (call_spells a (EOT ∷ PAD ∷ PAD ∷ SYN ∷ [] ++ map odd_octet a ++ ENQ ∷ [])
+    (small (Call a) h 4 PAD)
     (record {
-      pads = 0xff ∷ 0xff ∷ [];
-      syns = 0x16 ∷ [];
+      pads = PAD ∷ PAD ∷ [];
+      syns = SYN ∷ [];
       whole = refl;
       are_pads =
           (refl, (refl, tt));
@@ -307,10 +308,10 @@ text_fails t h (suc zero) new u l p = absurd (omega arith)
 text_fails t h (suc (suc zero)) new u l p = absurd (omega arith)
 text_fails t h (suc (suc (suc place))) new u l p = record {
   small = small (Text t) h (suc (suc (suc place))) new;
-  rest = set (units_wire t.units t.end ++ 0xff ∷ []) place new;
+  rest = set (units_wire t.units t.end ++ PAD ∷ []) place new;
   carried = record {
     pads = [];
-    syns = 0x16 ∷ 0x16 ∷ [];
+    syns = SYN ∷ SYN ∷ [];
     trail = [];
     whole = sym (append-nil (set (wire (Text t)) (suc (suc (suc place))) new));
     are_pads = tt;
@@ -326,30 +327,30 @@ text_fails t h (suc (suc (suc place))) new u l p = record {
 
 -- what fails begins as a text, so the change stands after the STX, by the place where it stands
 by_failed_place : (m : Message) (s : Shape m) (place new : ℕ) → (IsLeadingPad place new → ⊥)
-    → place < length (0x16 ∷ 0x16 ∷ s.x ∷ s.tail)
-    → HaveOtherParity new (get_or (0x16 ∷ 0x16 ∷ s.x ∷ s.tail) place 0)
-    → IsFailed (set (0x16 ∷ 0x16 ∷ s.x ∷ s.tail) place new) → (2 < place) × IsSomeText m
+    → place < length (SYN ∷ SYN ∷ s.x ∷ s.tail)
+    → HaveOtherParity new (get_or (SYN ∷ SYN ∷ s.x ∷ s.tail) place 0)
+    → IsFailed (set (SYN ∷ SYN ∷ s.x ∷ s.tail) place new) → (2 < place) × IsSomeText m
 by_failed_place m s zero new q l p f = elim (pad_or_not new) [
   | inl k ↦ absurd (q (refl, k))
   | inr k ↦
       let noise =
-      starts_wrong new (0x16 ∷ s.x ∷ s.tail) k (test_false new 0x16 (not_same new 0x16 p)) in
-      let failed = heard_failed (new ∷ 0x16 ∷ s.x ∷ s.tail) f in
+      starts_wrong new (SYN ∷ s.x ∷ s.tail) k (test_false new SYN (not_same new SYN p)) in
+      let failed = heard_failed (new ∷ SYN ∷ s.x ∷ s.tail) f in
       absurd (let both : Failed ≡ Noise = sym failed ∙ noise in cc)
 ]
 by_failed_place m s (suc zero) new q l p f =
     let k =
-    failed_inside (0x16 ∷ []) (new ∷ s.x ∷ s.tail) (refl, tt) (λ e. cc)
-    (test_false new 0x16 (not_same new 0x16 p)) f in
-    absurd (not_both_odd new 0x16 p (rw (heads k.1) stx_odd) syn_odd)
+    failed_inside (SYN ∷ []) (new ∷ s.x ∷ s.tail) (refl, tt) (λ e. cc)
+    (test_false new SYN (not_same new SYN p)) f in
+    absurd (not_both_odd new SYN p (rw (heads k.1) stx_odd) syn_odd)
 by_failed_place m s (suc (suc zero)) new q l p f =
     let k =
-    failed_inside (0x16 ∷ 0x16 ∷ []) (new ∷ s.tail) (refl, (refl, tt)) (λ e. cc)
-    (test_false new 0x16 (λ e. not_both_odd new s.x p (rw e syn_odd) s.odd)) f in
+    failed_inside (SYN ∷ SYN ∷ []) (new ∷ s.tail) (refl, (refl, tt)) (λ e. cc)
+    (test_false new SYN (λ e. not_both_odd new s.x p (rw e syn_odd) s.odd)) f in
     absurd (not_both_odd new s.x p (rw (heads k.1) stx_odd) s.odd)
 by_failed_place m s (suc (suc (suc place))) new q l p f =
     let k =
-    failed_inside (0x16 ∷ 0x16 ∷ []) (s.x ∷ set s.tail place new) (refl, (refl, tt)) (λ e. cc)
+    failed_inside (SYN ∷ SYN ∷ []) (s.x ∷ set s.tail place new) (refl, (refl, tt)) (λ e. cc)
     s.other f in
     (omega arith, s.starts_text (heads k.1))
 

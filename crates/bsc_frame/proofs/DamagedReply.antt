@@ -6,20 +6,21 @@ use Rattle.bsc_frame.specs.Spells.{IsBody, AreAll}
 use Rattle.bsc_frame.specs.TurnedBits.{HaveOtherParity}
 use Rattle.bsc_frame.specs.declared.message.Message.{Message}
 use Rattle.bsc_frame.specs.declared.message.Message.TheVariants.{Eot, Call, Enq, Reply, Text}
+use Rattle.bsc_frame.specs.declared.octets.TheConstants.{DLE, ENQ, EOT, PAD, STX}
 use Rattle.bsc_frame.proofs.ReplyLemmas.{reply_form}
 use Rattle.bsc_frame.proofs.InsideLemmas.{AfterFirst}
 use Rattle.bsc_frame.proofs.DamagedText.{heads, tails, not_both_odd, not_same}
 
 -- the rest of a body is empty that begins with the octet of a control character
-no_more : (x : ℕ) (n : Message) (y : ℕ) → x ≢ 0x10 → x ≢ 0x02 → IsBody n (x ∷ y ∷ []) → ⊥
+no_more : (x : ℕ) (n : Message) (y : ℕ) → x ≢ DLE → x ≢ STX → IsBody n (x ∷ y ∷ []) → ⊥
 no_more x Eot y p q h = omega (arith, ap length h)
 no_more x (Call a) y p q h =
     omega (
       arith,
       ap length h.whole,
       h.address.some,
-      length-append (0x04 ∷ h.pads ++ h.syns ++ map odd_octet a) (0x85 ∷ []),
-      length-append (0x04 ∷ h.pads ++ h.syns) (map odd_octet a),
+      length-append (EOT ∷ h.pads ++ h.syns ++ map odd_octet a) (ENQ ∷ []),
+      length-append (EOT ∷ h.pads ++ h.syns) (map odd_octet a),
       some_codes a h.address.some,
     )
   where
@@ -35,20 +36,20 @@ no_more x (Text t) y p q h = q (heads h.whole)
 
 -- a message of one octet is lost where the PAD after it is changed to the other parity
 pub lost_single : (x : ℕ) (n : Message) (before : List ℕ) (o : ℕ) (after : List ℕ) (new : ℕ)
-    → x ≢ 0x10 → x ≢ 0x02
-    → 0xff ∷ [] ≡ before ++ o ∷ after → HaveOtherParity new o
+    → x ≢ DLE → x ≢ STX
+    → PAD ∷ [] ≡ before ++ o ∷ after → HaveOtherParity new o
     → AfterFirst x (before ++ new ∷ after) n → ⊥
 lost_single x n (y ∷ before) o after new p q whole other b =
     omega (arith, ap length whole, length-append before (o ∷ after))
 lost_single x n [] o after new p q whole other b =
-    let was : o ≡ 0xff = sym (heads whole) in
+    let was : o ≡ PAD = sym (heads whole) in
     let none : after ≡ [] = sym (tails whole) in
     by_body b.body b.trail (b.is_body) (sym (rw none at b.whole)) b.are_trail (rw was at other)
   where
     by_body : (body trail : List ℕ) → IsBody n (x ∷ body) → body ++ trail ≡ new ∷ []
-        → AreAll 0xff trail → HaveOtherParity new 0xff → ⊥
+        → AreAll PAD trail → HaveOtherParity new PAD → ⊥
     by_body [] [] h e k d = omega (arith, ap length e)
-    by_body [] (t ∷ trail) h e k d = not_same new 0xff d (sym (heads e) ∙ k.0)
+    by_body [] (t ∷ trail) h e k d = not_same new PAD d (sym (heads e) ∙ k.0)
     by_body (z ∷ []) trail h e k d = no_more x n z p q h
     by_body (z ∷ w ∷ body) trail h e k d = omega (arith, ap length e)
 
@@ -59,7 +60,7 @@ record AfterDle (body : List ℕ) : Type 0 where
   odd : IsOdd second
 
 -- the body of a message that begins with DLE is that of a reply of two octets
-reply_body : (n : Message) (body : List ℕ) → IsBody n (0x10 ∷ body) → AfterDle body
+reply_body : (n : Message) (body : List ℕ) → IsBody n (DLE ∷ body) → AfterDle body
 reply_body Eot body h = absurd (omega (arith, heads h))
 reply_body (Call a) body h = absurd (omega (arith, heads h.whole))
 reply_body Enq body h = absurd (omega (arith, heads h))
@@ -71,8 +72,8 @@ reply_body (Text t) body h = absurd (omega (arith, heads h.whole))
 
 -- a reply of two octets is lost where one octet after its DLE is changed to the other parity
 pub lost_reply : (y : ℕ) (n : Message) (before : List ℕ) (o : ℕ) (after : List ℕ) (new : ℕ)
-    → IsOdd y → y ∷ 0xff ∷ [] ≡ before ++ o ∷ after → HaveOtherParity new o
-    → AfterFirst 0x10 (before ++ new ∷ after) n
+    → IsOdd y → y ∷ PAD ∷ [] ≡ before ++ o ∷ after → HaveOtherParity new o
+    → AfterFirst DLE (before ++ new ∷ after) n
     → ⊥
 lost_reply y n [] o after new odd whole other b =
     let r = reply_body n b.body b.is_body in
@@ -81,9 +82,9 @@ lost_reply y n [] o after new odd whole other b =
     not_both_odd new o other (subst IsOdd (sym (heads all)) r.odd) (subst IsOdd was odd)
 lost_reply y n (x ∷ []) o after new odd whole other b =
     let r = reply_body n b.body b.is_body in
-    let was : 0xff ≡ o = heads (tails whole) in
+    let was : PAD ≡ o = heads (tails whole) in
     let all : x ∷ new ∷ after ≡ r.second ∷ b.trail = b.whole ∙ ap (λ z. z ++ b.trail) r.whole in
-    let pads : AreAll 0xff (new ∷ after) = subst (AreAll 0xff) (sym (tails all)) b.are_trail in
+    let pads : AreAll PAD (new ∷ after) = subst (AreAll PAD) (sym (tails all)) b.are_trail in
     not_same new o other (pads.0 ∙ was)
 lost_reply y n (x ∷ z ∷ before) o after new odd whole other b =
     omega (arith, ap length whole, length-append before (o ∷ after))

@@ -10,6 +10,7 @@ use Rattle.bsc_frame.specs.Spells.{IsBody, AreAll, AreUnits}
 use Rattle.bsc_frame.specs.TurnedBits.{HaveOtherParity}
 use Rattle.bsc_frame.specs.declared.message.Message.{Message}
 use Rattle.bsc_frame.specs.declared.message.Message.TheVariants.{Eot, Call, Enq, Reply, Text}
+use Rattle.bsc_frame.specs.declared.octets.TheConstants.{PAD, STX}
 use Rattle.bsc_frame.proofs.ReplyLemmas.{reply_form}
 use Rattle.bsc_frame.proofs.TextUnits.{wire_units}
 use Rattle.bsc_frame.proofs.OddLemmas.{units_odd}
@@ -34,7 +35,7 @@ pub not_same : (a b : ℕ) → HaveOtherParity a b → a ≡ b → ⊥
 not_same a b h e = h (ap (λ x. count_ones x % 2) e)
 
 -- a body that begins with STX
-pub text_body : (n : Message) (body : List ℕ) → IsBody n (0x02 ∷ body)
+pub text_body : (n : Message) (body : List ℕ) → IsBody n (STX ∷ body)
     → (s : TextValue) × AreUnits false s.units s.end body × IsText s
 text_body Eot body h = absurd (omega (arith, heads h))
 text_body (Call a) body h = absurd (omega (arith, heads h.whole))
@@ -52,10 +53,10 @@ some_after front back o = omega (arith, length-append front (o ∷ back))
 -- a text with one octet after its STX changed to the other parity is in no transmission
 pub lost_text : (t : TextValue) (n : Message) (before : List ℕ) (o : ℕ) (after : List ℕ) (new : ℕ)
     → IsText t
-    → units_wire t.units t.end ++ 0xff ∷ [] ≡ before ++ o ∷ after → HaveOtherParity new o
-    → Inside (0x02 ∷ before ++ new ∷ after) n → ⊥
+    → units_wire t.units t.end ++ PAD ∷ [] ≡ before ++ o ∷ after → HaveOtherParity new o
+    → Inside (STX ∷ before ++ new ∷ after) n → ⊥
 lost_text t n before o after new h whole other i =
-    let b = after_first 0x02 (before ++ new ∷ after) n i in
+    let b = after_first STX (before ++ new ∷ after) n i in
     let s = text_body n b.body b.is_body in
     let sent : AreUnits false t.units t.end (units_wire t.units t.end) =
     wire_units false t.units t.end in
@@ -63,7 +64,7 @@ lost_text t n before o after new h whole other i =
     units_odd false t.units t.end (units_wire t.units t.end) sent h.each in
     let body_odd : AllByRecursion IsOdd b.body =
     units_odd false s.0.units s.0.end b.body s.1 s.2.each in
-    elim (parted (units_wire t.units t.end) (0xff ∷ []) before o after whole) [
+    elim (parted (units_wire t.units t.end) (PAD ∷ []) before o after whole) [
       | inl p ↦
           let was : IsOdd o =
           all_here IsOdd before o p.more (subst (λ z. AllByRecursion IsOdd z) p.first
@@ -80,8 +81,8 @@ lost_text t n before o after new h whole other i =
                 s.2 (subst (λ z. AreUnits false t.units t.end z) longer sent) h
           ]
       | inr p ↦
-          let was : 0xff ≡ o =
-          sym (all_here (λ x. x ≡ 0xff) p.more o after (subst (AreAll 0xff) p.rest pad_all)) in
+          let was : PAD ≡ o =
+          sym (all_here (λ x. x ≡ PAD) p.more o after (subst (AreAll PAD) p.rest pad_all)) in
           elim (parted b.body b.trail before new after (sym b.whole)) [
             | inl q ↦
                 let longer : b.body ≡ units_wire t.units t.end ++ (p.more ++ new ∷ q.more) =
@@ -90,10 +91,10 @@ lost_text t n before o after new h whole other i =
                 no_longer_units t s.0 (units_wire t.units t.end) (p.more ++ new ∷ q.more)
                 (some_after p.more q.more new) sent h
                 (subst (λ z. AreUnits false s.0.units s.0.end z) longer s.1) s.2
-            | inr q ↦ not_same new o other (all_here (λ x. x ≡ 0xff) q.more new after
-                (subst (AreAll 0xff) q.rest b.are_trail) ∙ was)
+            | inr q ↦ not_same new o other (all_here (λ x. x ≡ PAD) q.more new after
+                (subst (AreAll PAD) q.rest b.are_trail) ∙ was)
           ]
     ]
   where
-    pad_all : AreAll 0xff (0xff ∷ [])
+    pad_all : AreAll PAD (PAD ∷ [])
     pad_all = (refl, tt)

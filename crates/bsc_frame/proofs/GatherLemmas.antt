@@ -8,6 +8,7 @@ use Rattle.bsc_octet.specs.Octet.{odd_octet, code_of}
 use Rattle.bsc_octet.proofs.ParityLemmas.{odd_cases, code_of_some, code_of_odd_octet}
 use Rattle.bsc_frame.specs.Spells.{AreAll, AreFilled}
 use Rattle.bsc_frame.specs.Reading.{is_ending_code, before_gathered, gather_code, gathered}
+use Rattle.bsc_frame.specs.declared.octets.TheConstants.{SYN}
 use Rattle.bsc_frame.proofs.ReadLemmas.{test_false, has_room}
 use Rattle.bsc_frame.proofs.ReadLemmas.{chosen}
 
@@ -32,16 +33,16 @@ pub record Gathers (octets codes rest : List ℕ) : Type 0 where
 
 -- one more fill
 filled_more : (octets codes rest : List ℕ) → Gathers octets codes rest
-    → Gathers (0x16 ∷ octets) codes rest
+    → Gathers (SYN ∷ octets) codes rest
 filled_more octets [] rest g = absurd g.ends
 filled_more octets (c ∷ cs) rest g = record {
-  front = 0x16 ∷ g.front;
-  whole = ap (λ x. 0x16 ∷ x) g.whole;
+  front = SYN ∷ g.front;
+  whole = ap (λ x. SYN ∷ x) g.whole;
   filled = (
-    0x16 ∷ g.filled.0,
+    SYN ∷ g.filled.0,
     g.filled.1,
     (refl, g.filled.2),
-    ap (λ x. 0x16 ∷ x) g.filled.3,
+    ap (λ x. SYN ∷ x) g.filled.3,
     g.filled.4,
   );
   ends = g.ends;
@@ -97,11 +98,11 @@ gathers_code x xs (Some c) more g k f e = elim (chosen (is_ending_code c) _ _ _ 
 gathers_octet : (room x : ℕ) (xs : List ℕ) (g : List ℕ × List ℕ)
     → (gathered room xs ≡ Some g → Gathers xs g.0 g.1)
     → ((h : List ℕ × List ℕ) → gathered (room - 1) xs ≡ Some h → Gathers xs h.0 h.1)
-    → cond (x == 0x16) (gathered room xs)
+    → cond (x == SYN) (gathered room xs)
     (cond (room == 0) None (gather_code (code_of x) xs (gathered (room - 1) xs))) ≡ Some g
     → Gathers (x ∷ xs) g.0 g.1
-gathers_octet room x xs g same more e = elim (chosen (x == 0x16) _ _ _ e) [
-  | inl h ↦ rw (eqb-true x 0x16 h.0) (filled_more xs g.0 g.1 (same h.1))
+gathers_octet room x xs g same more e = elim (chosen (x == SYN) _ _ _ e) [
+  | inl h ↦ rw (eqb-true x SYN h.0) (filled_more xs g.0 g.1 (same h.1))
   | inr h ↦ elim (chosen (room == 0) _ _ _ h.1) [
     | inl q ↦ let w = q.1 in cc
     | inr q ↦ gathers_code x xs (code_of x) (gathered (room - 1) xs) g refl more q.1
@@ -122,7 +123,7 @@ gathered_reads room (x ∷ xs) g e =
 -- a code that is no SYN
 pub record IsOther (c : ℕ) : Type 0 where
   pub code : c < 128
-  pub other : c ≢ 0x16
+  pub other : c ≢ SYN
 
 -- codes of which only the last is an ending character, and none is SYN
 abbrev pub IsRun : List ℕ → Type 0
@@ -131,13 +132,13 @@ IsRun (c ∷ []) = IsOther c × (is_ending_code c ≡ true)
 IsRun (c ∷ d ∷ cs) = IsOther c × (is_ending_code c ≡ false) × IsRun (d ∷ cs)
 
 -- the octet of a code that is no SYN is no SYN
-odd_other : (c : ℕ) → IsOther c → (odd_octet c == 0x16) ≡ false
+odd_other : (c : ℕ) → IsOther c → (odd_octet c == SYN) ≡ false
 odd_other c o =
-    test_false (odd_octet c) 0x16 (λ e. elim (odd_cases c)
+    test_false (odd_octet c) SYN (λ e. elim (odd_cases c)
     [ inl k ↦ absurd (o.other (sym k.0 ∙ e)) | inr k ↦ absurd (omega arith) ])
 
 -- fill before the octets changes nothing of what is read
-after_fill : (room : ℕ) (fill rest : List ℕ) → AreAll 0x16 fill
+after_fill : (room : ℕ) (fill rest : List ℕ) → AreAll SYN fill
     → gathered room (fill ++ rest) ≡ gathered room rest
 unfolding gathered
 after_fill room [] rest h = refl

@@ -24,6 +24,7 @@ use Rattle.bsc_frame.proofs.ReplyLemmas.{reply_form}
 use Rattle.bsc_frame.proofs.TextUnits.{units_at_reads, units_at_read, units_end, wire_units}
 use Rattle.bsc_frame.proofs.TextUnits.{length_units_wire}
 use Rattle.bsc_frame.specs.declared.limits.TheConstants.{MAX_UNITS, MAX_SENT}
+use Rattle.bsc_frame.specs.declared.octets.TheConstants.{DLE, ENQ, EOT, NAK, PAD, STX, SYN}
 
 -- ---- bodies
 
@@ -39,14 +40,14 @@ or_failed None m e = cc
 or_failed (Some t) m e = (t, refl, cc)
 
 -- a body that is read as a text is that of the text
-text_reads : (body : List ℕ) (t : TextValue) → begins (is_octet 0x02) body ≡ true
+text_reads : (body : List ℕ) (t : TextValue) → begins (is_octet STX) body ≡ true
     → units_at MAX_UNITS false (drop 1 body) ≡ Some t → IsTextBody t body
 text_reads [] t h e = cc
 text_reads (x ∷ rest) t h e =
     let r = units_at_reads MAX_UNITS false rest t e in
     record {
       rest = rest;
-      whole = ap (λ z. z ∷ rest) (eqb-true x 0x02 h);
+      whole = ap (λ z. z ∷ rest) (eqb-true x STX h);
       units = r.units;
       text =
           record { some = r.some; most = r.most; each = r.each };
@@ -55,7 +56,7 @@ text_reads (x ∷ rest) t h e =
 -- a body that is heard as a message is that of the message
 pub body_reads : (body : List ℕ) (m : Message) → heard_body body ≡ Whole m → IsBody m body
 unfolding heard_body
-body_reads body m e = elim (chosen (begins (is_octet 0x02) body) _ _ _ e) [
+body_reads body m e = elim (chosen (begins (is_octet STX) body) _ _ _ e) [
   | inl h ↦
       let t = or_failed (units_at MAX_UNITS false (drop 1 body)) m h.1 in
       subst (λ k. IsBody k body) t.2 (text_reads body t.0 h.0 t.1)
@@ -64,11 +65,11 @@ body_reads body m e = elim (chosen (begins (is_octet 0x02) body) _ _ _ e) [
 
 -- what the bodies have in common: no SYN first, no PAD last
 record Plain (body : List ℕ) : Type 0 where
-  begins_other : (x : ℕ) × (rest : List ℕ) × (body ≡ x ∷ rest) × ((x == 0x16) ≡ false)
+  begins_other : (x : ℕ) × (rest : List ℕ) × (body ≡ x ∷ rest) × ((x == SYN) ≡ false)
   ends : Ends body
 
 -- a body of one octet that is neither SYN nor PAD has no SYN first and no PAD last
-short : (x : ℕ) → ((x == 0x16) ≡ false) → ((x == 0xff) ≡ false) → (body : List ℕ) → body ≡ x ∷ []
+short : (x : ℕ) → ((x == SYN) ≡ false) → ((x == PAD) ≡ false) → (body : List ℕ) → body ≡ x ∷ []
     → Plain body
 short x a c body e =
     record {
@@ -78,66 +79,66 @@ short x a c body e =
     }
 
 -- nor has one of DLE and an octet that is no PAD
-pair : (y : ℕ) → ((y == 0xff) ≡ false) → (body : List ℕ) → body ≡ 0x10 ∷ y ∷ [] → Plain body
+pair : (y : ℕ) → ((y == PAD) ≡ false) → (body : List ℕ) → body ≡ DLE ∷ y ∷ [] → Plain body
 pair y c body e =
     record {
-      begins_other = (0x10, y ∷ [], e, refl);
+      begins_other = (DLE, y ∷ [], e, refl);
       ends =
-          record { front = 0x10 ∷ []; last = y; whole = e; other = c };
+          record { front = DLE ∷ []; last = y; whole = e; other = c };
     }
 
 -- a text ends as its units do
-ends_text : (rest : List ℕ) → Ends rest → Ends (0x02 ∷ rest)
+ends_text : (rest : List ℕ) → Ends rest → Ends (STX ∷ rest)
 ends_text rest e =
     record {
-      front = 0x02 ∷ e.front;
+      front = STX ∷ e.front;
       last = e.last;
-      whole = ap (λ z. 0x02 ∷ z) e.whole;
+      whole = ap (λ z. STX ∷ z) e.whole;
       other =
           e.other;
     }
 
 -- the body of a message neither begins with SYN nor ends with PAD
 plain_body : (body : List ℕ) (m : Message) → IsBody m body → Plain body
-plain_body body Eot h = short 0x04 refl refl body h
+plain_body body Eot h = short EOT refl refl body h
 plain_body body (Call a) h = record {
-  begins_other = (0x04, h.pads ++ h.syns ++ map odd_octet a ++ 0x85 ∷ [], h.whole, refl);
+  begins_other = (EOT, h.pads ++ h.syns ++ map odd_octet a ++ ENQ ∷ [], h.whole, refl);
   ends =
       record {
-        front = 0x04 ∷ h.pads ++ h.syns ++ map odd_octet a;
-        last = 0x85;
+        front = EOT ∷ h.pads ++ h.syns ++ map odd_octet a;
+        last = ENQ;
         whole = h.whole;
         other = refl;
       };
 }
-plain_body body Enq h = short 0x85 refl refl body h
+plain_body body Enq h = short ENQ refl refl body h
 plain_body body (Reply r) h = elim (reply_form r) [
-  | inl k ↦ short 0x15 refl refl body (h ∙ k)
+  | inl k ↦ short NAK refl refl body (h ∙ k)
   | inr k ↦ pair k.second k.no_pad body (h ∙ k.whole)
 ]
 plain_body body (Text t) h = record {
-  begins_other = (0x02, h.rest, h.whole, refl);
+  begins_other = (STX, h.rest, h.whole, refl);
   ends = rw h.whole (ends_text h.rest (units_end false t.units t.end h.rest h.units h.text.some));
 }
 
 -- the body of a message without a text is heard as it
-control_body : (x : ℕ) (rest : List ℕ) (m : Message) → (x == 0x02) ≡ false → IsControl m
+control_body : (x : ℕ) (rest : List ℕ) (m : Message) → (x == STX) ≡ false → IsControl m
     → (body : List ℕ)
     → body ≡ x ∷ rest → IsBody m body → heard_body body ≡ Whole m
 unfolding heard_body
 control_body x rest m n k body e h =
-    let other : begins (is_octet 0x02) body ≡ false = ap (begins (is_octet 0x02)) e ∙ n in
+    let other : begins (is_octet STX) body ≡ false = ap (begins (is_octet STX)) e ∙ n in
     rw (other, control_read body m k h) refl
 
 -- the body of each message is heard as it
 pub body_read : (body : List ℕ) (m : Message) → IsBody m body → heard_body body ≡ Whole m
 unfolding heard_body
-body_read body Eot h = control_body 0x04 [] Eot refl tt body h h
-body_read body (Call a) h = control_body 0x04 _ (Call a) refl tt body h.whole h
-body_read body Enq h = control_body 0x85 [] Enq refl tt body h h
+body_read body Eot h = control_body EOT [] Eot refl tt body h h
+body_read body (Call a) h = control_body EOT _ (Call a) refl tt body h.whole h
+body_read body Enq h = control_body ENQ [] Enq refl tt body h h
 body_read body (Reply r) h = elim (reply_form r) [
-  | inl k ↦ control_body 0x15 [] (Reply r) refl tt body (h ∙ k) h
-  | inr k ↦ control_body 0x10 (k.second ∷ []) (Reply r) refl tt body (h ∙ k.whole) h
+  | inl k ↦ control_body NAK [] (Reply r) refl tt body (h ∙ k) h
+  | inr k ↦ control_body DLE (k.second ∷ []) (Reply r) refl tt body (h ∙ k.whole) h
 ]
 body_read body (Text t) h =
     let units : units_at MAX_UNITS false h.rest ≡ Some t =
@@ -151,8 +152,8 @@ body_read body (Text t) h =
 pub heard_spelled : (octets : List ℕ) (m : Message) → Spells octets m → heard octets ≡ Whole m
 heard_spelled octets m s =
     let p = plain_body s.body m s.is_body in
-    let stops : begins (is_octet 0x16) (s.body ++ s.carried.trail) ≡ false =
-    ap (λ b. begins (is_octet 0x16) (b ++ s.carried.trail)) p.begins_other.2 ∙ p.begins_other.3 in
+    let stops : begins (is_octet SYN) (s.body ++ s.carried.trail) ≡ false =
+    ap (λ b. begins (is_octet SYN) (b ++ s.carried.trail)) p.begins_other.2 ∙ p.begins_other.3 in
     heard_carried octets s.body s.carried s.small stops
     ∙ ap heard_body (trimmed_body s.body s.carried.trail p.ends s.carried.are_trail)
     ∙ body_read s.body m s.is_body
@@ -177,11 +178,11 @@ spelled_heard octets m e =
 
 -- a body that failed begins with STX
 pub failed_begins : (body : List ℕ) → heard_body body ≡ Failed → (rest : List ℕ)
-    × (body ≡ 0x02 ∷ rest)
+    × (body ≡ STX ∷ rest)
 unfolding heard_body control
 failed_begins [] e = absurd cc
-failed_begins (x ∷ rest) e = elim (chosen (x == 0x02) _ _ _ e) [
-  | inl h ↦ (rest, ap (λ o. o ∷ rest) (eqb-true x 0x02 h.0))
+failed_begins (x ∷ rest) e = elim (chosen (x == STX) _ _ _ e) [
+  | inl h ↦ (rest, ap (λ o. o ∷ rest) (eqb-true x STX h.0))
   | inr h ↦ absurd (not_failed (control (x ∷ rest)) h.1)
 ]
   where
@@ -191,7 +192,7 @@ failed_begins (x ∷ rest) e = elim (chosen (x == 0x02) _ _ _ e) [
 
 -- a body that begins with STX is never noise
 text_loud : (rest : List ℕ)
-    → (heard_body (0x02 ∷ rest) ≡ Failed) ⊎ ((m : Message) × (heard_body (0x02 ∷ rest) ≡ Whole m))
+    → (heard_body (STX ∷ rest) ≡ Failed) ⊎ ((m : Message) × (heard_body (STX ∷ rest) ≡ Whole m))
 unfolding heard_body
 text_loud rest = by_units (units_at MAX_UNITS false rest)
   where
@@ -219,9 +220,9 @@ failed_heard octets e =
 -- octets that are failed by the relation are heard as failed
 pub heard_failed : (octets : List ℕ) → IsFailed octets → heard octets ≡ Failed
 heard_failed octets f =
-    let t = trimmed_begins 0x02 (f.rest ++ f.carried.trail) refl in
-    let same : heard octets ≡ heard_body (0x02 ∷ t.0) =
-    heard_carried octets (0x02 ∷ f.rest) f.carried f.small refl ∙ ap heard_body t.1 in
+    let t = trimmed_begins STX (f.rest ++ f.carried.trail) refl in
+    let same : heard octets ≡ heard_body (STX ∷ t.0) =
+    heard_carried octets (STX ∷ f.rest) f.carried f.small refl ∙ ap heard_body t.1 in
     elim (text_loud t.0) [
       | inl h ↦ same ∙ h
       | inr h ↦ absurd (f.none h.0 (spelled_heard octets h.0 (same ∙ h.1)))
@@ -259,8 +260,8 @@ length_wire (Call a) h =
     omega (
       arith,
       h.most,
-      length-append (map odd_octet a ++ 0x85 ∷ []) (0xff ∷ []),
-      length-append (map odd_octet a) (0x85 ∷ []),
+      length-append (map odd_octet a ++ ENQ ∷ []) (PAD ∷ []),
+      length-append (map odd_octet a) (ENQ ∷ []),
       length-map a odd_octet,
     )
 length_wire Enq h = omega arith
@@ -273,7 +274,7 @@ length_wire (Text t) h =
       arith,
       h.most,
       length_units_wire t.units t.end h.each,
-      length-append (units_wire t.units t.end) (0xff ∷ []),
+      length-append (units_wire t.units t.end) (PAD ∷ []),
     )
 
 -- two SYN, a body and one PAD spell the message of the body
@@ -285,8 +286,8 @@ sent body m short h = record {
   carried =
       record {
         pads = [];
-        syns = 0x16 ∷ 0x16 ∷ [];
-        trail = 0xff ∷ [];
+        syns = SYN ∷ SYN ∷ [];
+        trail = PAD ∷ [];
         whole = refl;
         are_pads = tt;
         are_syns = (refl, (refl, tt));
@@ -302,8 +303,8 @@ wire_spells Eot h = sent _ Eot (length_wire Eot h) refl
 wire_spells (Call a) h =
     sent _ (Call a) (length_wire (Call a) h)
     (record {
-      pads = 0xff ∷ [];
-      syns = 0x16 ∷ 0x16 ∷ [];
+      pads = PAD ∷ [];
+      syns = SYN ∷ SYN ∷ [];
       whole = refl;
       are_pads = (refl, tt);
       are_syns = (refl, (refl, tt));

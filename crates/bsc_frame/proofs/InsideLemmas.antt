@@ -16,17 +16,18 @@ use Rattle.bsc_frame.proofs.HeardLemmas.{body_reads, heard_spelled, heard_failed
 use Rattle.bsc_frame.proofs.ReplyLemmas.{reply_form}
 use Rattle.bsc_frame.proofs.BodyOddLemmas.{eot_odd, enq_odd, nak_odd, dle_odd, stx_odd}
 use Rattle.bsc_frame.specs.declared.limits.TheConstants.{MAX_HEARD}
+use Rattle.bsc_frame.specs.declared.octets.TheConstants.{DLE, ENQ, EOT, NAK, PAD, STX, SYN}
 
 -- a body and the PAD after it
 pub record Inside (rest : List ℕ) (n : Message) : Type 0 where
   pub body : List ℕ
   pub trail : List ℕ
   pub whole : rest ≡ body ++ trail
-  pub are_trail : AreAll 0xff trail
+  pub are_trail : AreAll PAD trail
   pub is_body : IsBody n body
 
 -- a body after SYN without pads is heard as itself, without PAD at its end
-heard_syns : (syns rest : List ℕ) → AreAll 0x16 syns → syns ≢ [] → begins (is_octet 0x16) rest
+heard_syns : (syns rest : List ℕ) → AreAll SYN syns → syns ≢ [] → begins (is_octet SYN) rest
     ≡ false
     → length (syns ++ rest) ≤ MAX_HEARD
     → heard (syns ++ rest) ≡ heard_body (trimmed rest)
@@ -42,12 +43,12 @@ heard_syns syns rest are some stops small =
       are_trail = tt;
     } in
     heard_carried (syns ++ rest) rest c small
-    (ap (begins (is_octet 0x16)) (append-nil rest) ∙ stops)
+    (ap (begins (is_octet SYN)) (append-nil rest) ∙ stops)
     ∙ ap (λ z. heard_body (trimmed z)) (append-nil rest)
 
 -- what is after SYN carries the body of the message that is spelled
-pub inside : (syns rest : List ℕ) (n : Message) → AreAll 0x16 syns → syns ≢ []
-    → begins (is_octet 0x16) rest ≡ false → Spells (syns ++ rest) n → Inside rest n
+pub inside : (syns rest : List ℕ) (n : Message) → AreAll SYN syns → syns ≢ []
+    → begins (is_octet SYN) rest ≡ false → Spells (syns ++ rest) n → Inside rest n
 inside syns rest n are some stops s =
     let t = trail_of rest in
     record {
@@ -61,9 +62,9 @@ inside syns rest n are some stops s =
     }
 
 -- what failed has STX after its SYN
-pub failed_inside : (syns rest : List ℕ) → AreAll 0x16 syns → syns ≢ []
-    → begins (is_octet 0x16) rest ≡ false
-    → IsFailed (syns ++ rest) → (more : List ℕ) × (rest ≡ 0x02 ∷ more)
+pub failed_inside : (syns rest : List ℕ) → AreAll SYN syns → syns ≢ []
+    → begins (is_octet SYN) rest ≡ false
+    → IsFailed (syns ++ rest) → (more : List ℕ) × (rest ≡ STX ∷ more)
 failed_inside syns rest are some stops f =
     let t = trail_of rest in
     let k =
@@ -82,27 +83,27 @@ pub record First (body : List ℕ) : Type 0 where
 
 -- a body has a first octet, and this has odd parity
 pub first_of : (n : Message) (body : List ℕ) → IsBody n body → First body
-first_of Eot body h = record { first = 0x04; more = []; whole = h; odd = eot_odd }
+first_of Eot body h = record { first = EOT; more = []; whole = h; odd = eot_odd }
 first_of (Call a) body h =
     record {
-      first = 0x04;
-      more = h.pads ++ h.syns ++ map odd_octet a ++ 0x85 ∷ [];
+      first = EOT;
+      more = h.pads ++ h.syns ++ map odd_octet a ++ ENQ ∷ [];
       whole = h.whole;
       odd = eot_odd;
     }
-first_of Enq body h = record { first = 0x85; more = []; whole = h; odd = enq_odd }
+first_of Enq body h = record { first = ENQ; more = []; whole = h; odd = enq_odd }
 first_of (Reply r) body h = elim (reply_form r) [
-  | inl k ↦ record { first = 0x15; more = []; whole = h ∙ k; odd = nak_odd }
-  | inr k ↦ record { first = 0x10; more = k.second ∷ []; whole = h ∙ k.whole; odd = dle_odd }
+  | inl k ↦ record { first = NAK; more = []; whole = h ∙ k; odd = nak_odd }
+  | inr k ↦ record { first = DLE; more = k.second ∷ []; whole = h ∙ k.whole; odd = dle_odd }
 ]
-first_of (Text t) body h = record { first = 0x02; more = h.rest; whole = h.whole; odd = stx_odd }
+first_of (Text t) body h = record { first = STX; more = h.rest; whole = h.whole; odd = stx_odd }
 
 -- the rest of a body, after its first octet
 pub record AfterFirst (x : ℕ) (rest : List ℕ) (n : Message) : Type 0 where
   pub body : List ℕ
   pub trail : List ℕ
   pub whole : rest ≡ body ++ trail
-  pub are_trail : AreAll 0xff trail
+  pub are_trail : AreAll PAD trail
   pub is_body : IsBody n (x ∷ body)
 
 -- what is left of the message after its first octet
@@ -136,7 +137,7 @@ either_noise true h e = refl
 either_noise false h e = e
 
 -- octets that begin with neither a pad nor SYN are noise
-pub starts_wrong : (o : ℕ) (rest : List ℕ) → is_pad_octet o ≡ false → (o == 0x16) ≡ false
+pub starts_wrong : (o : ℕ) (rest : List ℕ) → is_pad_octet o ≡ false → (o == SYN) ≡ false
     → heard (o ∷ rest) ≡ Noise
 unfolding heard skip
 starts_wrong o rest p s = rw p (either_noise (nat_lt MAX_HEARD (length (o ∷ rest))) _ (rw s refl))

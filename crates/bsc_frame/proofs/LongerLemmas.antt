@@ -13,6 +13,7 @@ use Rattle.bsc_frame.proofs.TextUnits.{units_at_read}
 use Rattle.bsc_frame.proofs.UnitLemmas.{bind_some}
 use Rattle.bsc_frame.proofs.TextUnits.{before_units_some}
 use Rattle.bsc_frame.specs.declared.limits.TheConstants.{MAX_UNITS}
+use Rattle.bsc_frame.specs.declared.octets.TheConstants.{US_CODE}
 
 -- a unit is still read with more octets after it, which are left
 unit_longer : (after_us : Bool) (octets more : List ℕ) (u : TextUnit) (e : ℕ) (rest : List ℕ)
@@ -45,7 +46,7 @@ units_longer (suc n) after_us octets t y ys e =
     let first : unit_at after_us (octets ++ y ∷ ys) ≡ Some (u.0, u.1, u.2 ++ y ∷ ys) =
     unit_at_read after_us (octets ++ y ∷ ys) u.0 u.1 (u.2 ++ y ∷ ys)
     (unit_longer after_us octets (y ∷ ys) u.0 u.1 u.2 (unit_at_reads after_us octets u b.1)) in
-    elim (chosen (u.1 == 0x1f) _ _ _ b.2) [
+    elim (chosen (u.1 == US_CODE) _ _ _ b.2) [
       | inl h ↦
           let r = before_units_some u.0 (units_at n true u.2) t h.1 in
           let none : units_at n true (u.2 ++ y ∷ ys) ≡ None =

@@ -18,14 +18,15 @@ use Rattle.bsc_frame.proofs.TextUnits.{units_at_reads, ending_is}
 use Rattle.bsc_frame.proofs.GatherLemmas.{IsRun}
 use Rattle.std.specs.Int.Count.{ones}
 use Rattle.bsc_frame.specs.declared.limits.TheConstants.{MAX_UNITS}
+use Rattle.bsc_frame.specs.declared.octets.TheConstants.{SYN}
 use Rattle.bsc_octet.proofs.Elements.{all_append}
 
-pub syn_odd : IsOdd 0x16
+pub syn_odd : IsOdd SYN
 unfolding odd_octet ones
-syn_odd = is_odd_odd_octet 0x16 (omega arith)
+syn_odd = is_odd_odd_octet SYN (omega arith)
 
 -- fill has odd parity
-pub fill_odd : (fill : List ℕ) → AreAll 0x16 fill → AllByRecursion IsOdd fill
+pub fill_odd : (fill : List ℕ) → AreAll SYN fill → AllByRecursion IsOdd fill
 fill_odd [] h = tt
 fill_odd (x ∷ fill) h = (rw h.0 syn_odd, fill_odd fill h.1)
 

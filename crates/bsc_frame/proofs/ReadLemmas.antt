@@ -14,6 +14,7 @@ use Rattle.std.specs.Str.{bytes_eq}
 use Rattle.bsc_octet.specs.Octet.{code_of}
 use Rattle.bsc_frame.specs.Reading.{trimmed, before_rest, called, with_code, at_end}
 use Rattle.bsc_frame.specs.declared.limits.TheConstants.{MAX_ADDRESS}
+use Rattle.bsc_frame.specs.declared.octets.TheConstants.{ENQ, PAD}
 
 -- numbers that differ fail the test
 pub test_false : (a b : ℕ) → (a ≡ b → ⊥) → (a == b) ≡ false
@@ -26,35 +27,35 @@ rest_is s i = take_all (length s - i) (drop i s) (omega (arith, length-drop i s)
 -- ---- trimmed
 
 -- one PAD more at the end changes nothing
-pub trimmed_push_pad : (xs : List ℕ) → trimmed (xs ++ 0xff ∷ []) ≡ trimmed xs
+pub trimmed_push_pad : (xs : List ℕ) → trimmed (xs ++ PAD ∷ []) ≡ trimmed xs
 unfolding trimmed
 trimmed_push_pad [] = refl
 trimmed_push_pad (x ∷ xs) = ap (before_rest x) (trimmed_push_pad xs)
 
 -- an octet that is no PAD stays
-other_stays : (x : ℕ) (b : Bool) → (x == 0xff) ≡ b → x ≢ 0xff → cond b [] (x ∷ []) ≡ x ∷ []
-other_stays x true e h = absurd (h (eqb-true x 0xff e))
+other_stays : (x : ℕ) (b : Bool) → (x == PAD) ≡ b → x ≢ PAD → cond b [] (x ∷ []) ≡ x ∷ []
+other_stays x true e h = absurd (h (eqb-true x PAD e))
 other_stays x false e h = refl
 
 -- a list that ends with another octet than PAD is left whole
-pub trimmed_push_other : (xs : List ℕ) (x : ℕ) → x ≢ 0xff → trimmed (xs ++ x ∷ []) ≡ xs ++ x ∷ []
+pub trimmed_push_other : (xs : List ℕ) (x : ℕ) → x ≢ PAD → trimmed (xs ++ x ∷ []) ≡ xs ++ x ∷ []
 unfolding trimmed
-trimmed_push_other [] x h = other_stays x (x == 0xff) refl h
-trimmed_push_other (y ∷ []) x h = rw (other_stays x (x == 0xff) refl h) refl
+trimmed_push_other [] x h = other_stays x (x == PAD) refl h
+trimmed_push_other (y ∷ []) x h = rw (other_stays x (x == PAD) refl h) refl
 trimmed_push_other (y ∷ z ∷ xs) x h = rw (trimmed_push_other (z ∷ xs) x h) refl
 
 -- a front that ends with PAD may be taken one shorter
-pub trimmed_less : (s : List ℕ) (n : ℕ) → 0 < n → n ≤ length s → get_or s (n - 1) 0 ≡ 0xff
+pub trimmed_less : (s : List ℕ) (n : ℕ) → 0 < n → n ≤ length s → get_or s (n - 1) 0 ≡ PAD
     → trimmed (take (n - 1) s) ≡ trimmed (take n s)
 trimmed_less s n p l e =
     let back : n ≡ (n - 1) + 1 = omega arith in
-    let split : take n s ≡ take (n - 1) s ++ 0xff ∷ [] =
+    let split : take n s ≡ take (n - 1) s ++ PAD ∷ [] =
     ap (λ k. take k s) back ∙ take_more s (n - 1) 0 (omega arith) ∙ rw e refl in
     rw split (sym (trimmed_push_pad (take (n - 1) s)))
 
 -- and one that does not is what is left
 pub trimmed_done : (s : List ℕ) (n : ℕ) → trimmed (take n s) ≡ trimmed s → 0 < n → n ≤ length s
-    → get_or s (n - 1) 0 ≢ 0xff → take n s ≡ trimmed s
+    → get_or s (n - 1) 0 ≢ PAD → take n s ≡ trimmed s
 trimmed_done s n same p l e =
     let back : n ≡ (n - 1) + 1 = omega arith in
     let split : take n s ≡ take (n - 1) s ++ get_or s (n - 1) 0 ∷ [] =
@@ -79,7 +80,7 @@ with_codes front (Some codes) = Some (front ++ codes)
 
 -- the codes of a call from a place on, by the octet there
 pub called_at : (room : ℕ) (s : List ℕ) (i : ℕ) → i < length s
-    → called room (drop i s) ≡ cond (get_or s i 0 == 0x85) (at_end (drop (i + 1) s))
+    → called room (drop i s) ≡ cond (get_or s i 0 == ENQ) (at_end (drop (i + 1) s))
     (cond (room == 0) None (with_code (code_of (get_or s i 0))
     (called (room - 1) (drop (i + 1) s))))
 unfolding called
@@ -107,7 +108,7 @@ from_rest front i s x r e = ap (with_codes front) (sym e) ∙ r.rest
 
 -- an ENQ at the end ends the address
 pub called_end : (front : List ℕ) (i : ℕ) (s : List ℕ) → Reads front i s → i < length s
-    → get_or s i 0 ≡ 0x85
+    → get_or s i 0 ≡ ENQ
     → i + 1 ≡ length s → Some front ≡ called MAX_ADDRESS s
 called_end front i s r l e last =
     let all : drop (i + 1) s ≡ [] = drop_all (i + 1) s (omega arith) in
@@ -117,7 +118,7 @@ called_end front i s r l e last =
 
 -- an ENQ before the end ends no address
 pub called_early : (front : List ℕ) (i : ℕ) (s : List ℕ) → Reads front i s → i < length s
-    → get_or s i 0 ≡ 0x85 → (i + 1 ≡ length s → ⊥) → None ≡ called MAX_ADDRESS s
+    → get_or s i 0 ≡ ENQ → (i + 1 ≡ length s → ⊥) → None ≡ called MAX_ADDRESS s
 called_early front i s r l e more =
     let here : called (MAX_ADDRESS - length front) (drop i s) ≡ None =
     called_at (MAX_ADDRESS - length front) s i l
@@ -126,16 +127,16 @@ called_early front i s r l e more =
 
 -- there are more codes than an address has
 pub called_full : (front : List ℕ) (i : ℕ) (s : List ℕ) → Reads front i s → i < length s
-    → (get_or s i 0 ≡ 0x85 → ⊥) → length front ≡ MAX_ADDRESS → None ≡ called MAX_ADDRESS s
+    → (get_or s i 0 ≡ ENQ → ⊥) → length front ≡ MAX_ADDRESS → None ≡ called MAX_ADDRESS s
 called_full front i s r l e full =
     let here : called (MAX_ADDRESS - length front) (drop i s) ≡ None =
     called_at (MAX_ADDRESS - length front) s i l
-    ∙ rw (test_false (get_or s i 0) 0x85 e, full) refl in
+    ∙ rw (test_false (get_or s i 0) ENQ e, full) refl in
     from_rest front i s None r here
 
 -- an octet of even parity is in no address
 pub called_wrong : (front : List ℕ) (i : ℕ) (s : List ℕ) → Reads front i s → i < length s
-    → (get_or s i 0 ≡ 0x85 → ⊥) → length front < MAX_ADDRESS → code_of (get_or s i 0) ≡ None
+    → (get_or s i 0 ≡ ENQ → ⊥) → length front < MAX_ADDRESS → code_of (get_or s i 0) ≡ None
     → None ≡ called MAX_ADDRESS s
 called_wrong front i s r l e less k =
     let some : (MAX_ADDRESS - length front == 0) ≡ false =
@@ -143,7 +144,7 @@ called_wrong front i s r l e less k =
     (has_room 0 (MAX_ADDRESS - length front) (omega (arith, less))) in
     let here : called (MAX_ADDRESS - length front) (drop i s) ≡ None =
     called_at (MAX_ADDRESS - length front) s i l
-    ∙ rw (test_false (get_or s i 0) 0x85 e, some, k) refl in
+    ∙ rw (test_false (get_or s i 0) ENQ e, some, k) refl in
     from_rest front i s None r here
 
 -- one code more before the rest
@@ -154,7 +155,7 @@ with_one front c (Some cs) = ap Some (append_assoc front (c ∷ []) cs)
 
 -- one code more of the address is read
 pub called_more : (front : List ℕ) (i : ℕ) (s : List ℕ) (c : ℕ) → Reads front i s → i < length s
-    → (get_or s i 0 ≡ 0x85 → ⊥) → length front < MAX_ADDRESS → code_of (get_or s i 0) ≡ Some c
+    → (get_or s i 0 ≡ ENQ → ⊥) → length front < MAX_ADDRESS → code_of (get_or s i 0) ≡ Some c
     → Reads (front ++ c ∷ []) (i + 1) s
 called_more front i s c r l e less k =
     let some : (MAX_ADDRESS - length front == 0) ≡ false =
@@ -167,7 +168,7 @@ called_more front i s c r l e less k =
     let here : called (MAX_ADDRESS - length front) (drop i s)
     ≡ with_code (Some c) (called (MAX_ADDRESS - length front - 1) (drop (i + 1) s))
     = called_at (MAX_ADDRESS - length front) s i l
-    ∙ rw (test_false (get_or s i 0) 0x85 e, some, k) refl in
+    ∙ rw (test_false (get_or s i 0) ENQ e, some, k) refl in
     record {
       room = omega arith;
       rest =

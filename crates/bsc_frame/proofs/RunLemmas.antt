@@ -12,6 +12,7 @@ use Rattle.std.proofs.lemmas.Bool.{eqb-true}
 use Rattle.bsc_frame.specs.Reading.{skip, is_either, is_octet, is_pad_octet, trimmed}
 use Rattle.bsc_frame.proofs.ReadLemmas.{rest_is, trimmed_push_pad}
 use Rattle.bsc_frame.specs.declared.front.TheConstants.{LANES}
+use Rattle.bsc_frame.specs.declared.octets.TheConstants.{PAD}
 
 -- what a loop over the octets keeps: at of them were counted
 pub record CountedTo (p : ℕ → Bool) (at : ℕ) (s : List ℕ) : Type 0 where
@@ -135,28 +136,28 @@ skip_all s n octet e =
 -- ---- what is trimmed
 
 -- one PAD more at the end changes nothing, and so on for all of them
-pad_head : (front : List ℕ) (x : ℕ) (pads : List ℕ) (b : Bool) → (x == 0xff) ≡ b
-    → (length pads ≤ prefix_len (is_either 0xff 0xff) pads → trimmed ((front ++ x ∷ []) ++ pads)
+pad_head : (front : List ℕ) (x : ℕ) (pads : List ℕ) (b : Bool) → (x == PAD) ≡ b
+    → (length pads ≤ prefix_len (is_either PAD PAD) pads → trimmed ((front ++ x ∷ []) ++ pads)
     ≡ trimmed (front ++ x ∷ []))
-    → suc (length pads) ≤ cond (b || b) (1 + prefix_len (is_either 0xff 0xff) pads) 0
+    → suc (length pads) ≤ cond (b || b) (1 + prefix_len (is_either PAD PAD) pads) 0
     → trimmed (front ++ x ∷ pads) ≡ trimmed front
 pad_head front x pads true e h l =
-    let pad : x ≡ 0xff = eqb-true x 0xff e in
+    let pad : x ≡ PAD = eqb-true x PAD e in
     ap trimmed (sym (append_assoc front (x ∷ []) pads)) ∙ h (omega arith)
     ∙ ap (λ z. trimmed (front ++ z ∷ [])) pad ∙ trimmed_push_pad front
 pad_head front x pads false e h l = absurd (omega arith)
 
 -- PAD at the end changes nothing
-trimmed_pads : (front pads : List ℕ) → length pads ≤ prefix_len (is_either 0xff 0xff) pads
+trimmed_pads : (front pads : List ℕ) → length pads ≤ prefix_len (is_either PAD PAD) pads
     → trimmed (front ++ pads) ≡ trimmed front
 trimmed_pads front [] l = ap trimmed (append-nil front)
 trimmed_pads front (x ∷ pads) l =
-    pad_head front x pads (x == 0xff) refl (trimmed_pads (front ++ x ∷ []) pads) l
+    pad_head front x pads (x == PAD) refl (trimmed_pads (front ++ x ∷ []) pads) l
 
 -- lanes of PAD at the end change nothing
 pub trim_more : (s : List ℕ) (end run : ℕ) → trimmed (take end s) ≡ trimmed s → end ≤ length s
     → LANES ≤ end
-    → run ≡ prefix_len (is_either 0xff 0xff) (take LANES (drop (end - LANES) s)) → LANES ≤ run
+    → run ≡ prefix_len (is_either PAD PAD) (take LANES (drop (end - LANES) s)) → LANES ≤ run
     → trimmed (take (end - LANES) s) ≡ trimmed s
 trim_more s end run same within l e all =
     let back : (end - LANES) + LANES ≡ end = omega arith in

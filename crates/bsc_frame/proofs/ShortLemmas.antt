@@ -10,6 +10,7 @@ use Rattle.bsc_frame.specs.declared.message.Heard.{Heard}
 use Rattle.bsc_frame.proofs.HeardLemmas.{spelled_heard, heard_spelled, failed_heard, heard_failed}
 use Rattle.bsc_frame.proofs.HeardLemmas.{noise_heard, heard_noise}
 use Rattle.bsc_frame.specs.declared.limits.TheConstants.{MAX_UNITS}
+use Rattle.bsc_frame.specs.declared.octets.TheConstants.{STX}
 
 -- what is read from left to right is what is heard by the relations
 is_heard : (octets : List ℕ) (h : Heard) → heard octets ≡ h → IsHeard octets h
@@ -21,13 +22,13 @@ is_heard octets h e = record {
 
 -- a body that is no text is heard as what it reads as
 pub short_is_heard : (octets body : List ℕ) (h : Heard) → heard octets ≡ heard_body body
-    → false ≡ begins (is_octet 0x02) body → h ≡ whole_or_noise (control body) → IsHeard octets h
+    → false ≡ begins (is_octet STX) body → h ≡ whole_or_noise (control body) → IsHeard octets h
 unfolding heard_body
 short_is_heard octets body h e n k = is_heard octets h (e ∙ rw (← n) (sym k))
 
 -- a body that begins with STX is a text, or failed as one
 pub text_begins : (octets body : List ℕ) → heard octets ≡ heard_body body → true
-    ≡ begins (is_octet 0x02) body
+    ≡ begins (is_octet STX) body
     → BeginsText octets
 unfolding heard_body
 text_begins octets body e b = by_units (units_at MAX_UNITS false (drop 1 body)) (e ∙ rw (← b) refl)

@@ -13,15 +13,16 @@ use Rattle.std.proofs.lemmas.List.Folds.{list_any_more, list_all_more}
 use Rattle.bsc_frame.specs.Reading.{low_bits, is_octet, is_other, is_char_octet}
 use Rattle.bsc_frame.specs.declared.limits.TheConstants.{MAX_CHARS, MAX_UNIT_CODES}
 use Rattle.bsc_frame.specs.declared.squeeze.TheConstants.{PART, TOO_MANY, UNIT_ROOM}
+use Rattle.bsc_frame.specs.declared.octets.TheConstants.{SYN}
 
 -- ---- fill
 
 -- one octet more is looked at for fill
-pub fill_more : (found : Bool) (i : ℕ) (s : List ℕ) → found ≡ list_any (is_octet 0x16) (take i s)
+pub fill_more : (found : Bool) (i : ℕ) (s : List ℕ) → found ≡ list_any (is_octet SYN) (take i s)
     → i < length s
-    → (found || (get_or s i 0 == 0x16)) ≡ list_any (is_octet 0x16) (take (i + 1) s)
-fill_more found i s e l = ap (λ b. b || (get_or s i 0 == 0x16)) e
-    ∙ sym (list_any_more (is_octet 0x16) s i 0 l)
+    → (found || (get_or s i 0 == SYN)) ≡ list_any (is_octet SYN) (take (i + 1) s)
+fill_more found i s e l = ap (λ b. b || (get_or s i 0 == SYN)) e
+    ∙ sym (list_any_more (is_octet SYN) s i 0 l)
 
 -- ---- squeezing
 
@@ -62,7 +63,7 @@ stored first start count buffer x i s k less false e =
 -- one octet more is squeezed
 pub squeeze_more : (first : List ℕ) (start count : ℕ) (buffer : List ℕ) (i : ℕ) (s : List ℕ)
     → SqueezedTo first start count buffer i s → i < length s → length s ≤ PART → start ≤ TOO_MANY
-    → SqueezedTo first start (count + cond (not (get_or s i 0 == 0x16)) 1 0)
+    → SqueezedTo first start (count + cond (not (get_or s i 0 == SYN)) 1 0)
     (set buffer count (get_or s i 0)) (i + 1) s
 squeeze_more first start count buffer i s k l part few =
     stored first start count buffer (get_or s i 0) i s k (omega (arith, k.room))

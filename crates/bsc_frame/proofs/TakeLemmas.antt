@@ -22,6 +22,7 @@ use Rattle.bsc_frame.proofs.UnitCodes.{unit_of_reads, unit_of_read}
 use Rattle.bsc_frame.proofs.CarriedLemmas.{AreCarried, ending_same, em_is, check_low, start_low}
 use Rattle.bsc_frame.proofs.CutLemmas.{gathered_none, cut}
 use Rattle.bsc_frame.specs.declared.limits.TheConstants.{MAX_CHARS, MAX_UNIT_CODES}
+use Rattle.bsc_frame.specs.declared.octets.TheConstants.{EM_CODE, STX, SYN}
 
 -- ---- the front
 
@@ -30,7 +31,7 @@ length_after_start : (after_us : Bool) (codes : List ℕ) → length codes
     ≤ length (after_start after_us codes) + 1
 length_after_start false codes = omega arith
 length_after_start true [] = omega arith
-length_after_start true (x ∷ codes) = by_test (x == 0x02)
+length_after_start true (x ∷ codes) = by_test (x == STX)
   where
     by_test : (b : Bool) → suc (length codes) ≤ length (cond b codes (x ∷ codes)) + 1
     by_test true = omega arith
@@ -87,22 +88,22 @@ at_front after_us s m c e l =
     ]
 
 -- without SYN nothing is filtered out
-pub filter_no_fill : (s : List ℕ) → list_any (is_octet 0x16) s ≡ false → filter is_other s ≡ s
+pub filter_no_fill : (s : List ℕ) → list_any (is_octet SYN) s ≡ false → filter is_other s ≡ s
 filter_no_fill [] h = refl
-filter_no_fill (x ∷ s) h = by_test (x == 0x16) refl h (filter_no_fill s)
+filter_no_fill (x ∷ s) h = by_test (x == SYN) refl h (filter_no_fill s)
   where
-    by_test : (b : Bool) → (x == 0x16) ≡ b → (b || list_any (is_octet 0x16) s) ≡ false
-        → (list_any (is_octet 0x16) s ≡ false → filter is_other s ≡ s)
+    by_test : (b : Bool) → (x == SYN) ≡ b → (b || list_any (is_octet SYN) s) ≡ false
+        → (list_any (is_octet SYN) s ≡ false → filter is_other s ≡ s)
         → cond (not b) (x ∷ filter is_other s) (filter is_other s) ≡ x ∷ s
     by_test true e h f = cc
     by_test false e h f = ap (λ t. x ∷ t) (f h)
 
 -- an octet that carries an ending character is no SYN
 ending_octet_other : (x : ℕ) → is_ending_octet x ≡ true → is_other x ≡ true
-ending_octet_other x e = by_test (x == 0x16) refl
+ending_octet_other x e = by_test (x == SYN) refl
   where
-    by_test : (b : Bool) → (x == 0x16) ≡ b → not b ≡ true
-    by_test true f = let z : x ≡ 0x16 = eqb-true x 0x16 f in let t : is_ending_octet x ≡ false =
+    by_test : (b : Bool) → (x == SYN) ≡ b → not b ≡ true
+    by_test true f = let z : x ≡ SYN = eqb-true x SYN f in let t : is_ending_octet x ≡ false =
         rw z refl in cc
     by_test false f = refl
 
@@ -140,17 +141,17 @@ ends_filtered s e = record {
 pub ends_start : (after_us : Bool) (s : List ℕ) → IsFront s → IsFront (after_start after_us s)
 ends_start false s e = e
 ends_start true [] e = e
-ends_start true (x ∷ s) e = by_test (x == 0x02) refl
+ends_start true (x ∷ s) e = by_test (x == STX) refl
   where
-    without : (front : List ℕ) → x ∷ s ≡ front ++ e.last ∷ [] → x ≡ 0x02 → IsFront s
+    without : (front : List ℕ) → x ∷ s ≡ front ++ e.last ∷ [] → x ≡ STX → IsFront s
     without [] w z =
-        let same : e.last ≡ 0x02 = cc in
+        let same : e.last ≡ STX = cc in
         let t : is_ending_octet e.last ≡ false = rw same refl in
         absurd (let f = e.ends in cc)
     without (y ∷ ys) w z = record { front = ys; last = e.last; whole = cc; ends = e.ends }
 
-    by_test : (b : Bool) → (x == 0x02) ≡ b → IsFront (cond b s (x ∷ s))
-    by_test true t = without e.front e.whole (eqb-true x 0x02 t)
+    by_test : (b : Bool) → (x == STX) ≡ b → IsFront (cond b s (x ∷ s))
+    by_test true t = without e.front e.whole (eqb-true x STX t)
     by_test false t = e
 
 -- ---- the unit of the front
@@ -172,7 +173,7 @@ pub last_ends : (octets chars : List ℕ) (em : Bool) (last : ℕ) → IsFront o
     → AreParts octets chars em last → is_ending_octet last ≡ true
 last_ends octets chars em last e p =
     let k =
-    snoc_same e.front (chars ++ cond em (0x19 ∷ []) []) e.last last (sym e.whole ∙ p.whole) in
+    snoc_same e.front (chars ++ cond em (EM_CODE ∷ []) []) e.last last (sym e.whole ∙ p.whole) in
     rw (← k.1) e.ends
 
 -- an octet in a list of odd parity carries its low bits
@@ -190,11 +191,11 @@ carried_front (x ∷ xs) ys c = (c.0, carried_front xs ys c.1)
 pub last_code : (octets chars : List ℕ) (em : Bool) (last : ℕ) → AreCarried octets → IsFront octets
     → AreParts octets chars em last → is_ending_code (low_bits last) ≡ true
 last_code octets chars em last c e p =
-    ending_same last (carried_last (chars ++ cond em (0x19 ∷ []) []) last [] (rw p.whole at c))
+    ending_same last (carried_last (chars ++ cond em (EM_CODE ∷ []) []) last [] (rw p.whole at c))
     ∙ last_ends octets chars em last e p
 
 -- the low bits of EM are EM
-low_em : (em : Bool) → map low_bits (cond em (0x19 ∷ []) []) ≡ cond em (0x19 ∷ []) []
+low_em : (em : Bool) → map low_bits (cond em (EM_CODE ∷ []) []) ≡ cond em (EM_CODE ∷ []) []
 low_em true = refl
 low_em false = refl
 
@@ -203,9 +204,9 @@ low_parts : (octets chars : List ℕ) (em : Bool) (last : ℕ) → AreParts octe
     → map low_bits octets ≡ unit_codes (record { chars = map low_bits chars; em = em })
     (low_bits last)
 low_parts octets chars em last p =
-    ap (map low_bits) p.whole ∙ map-append low_bits (chars ++ cond em (0x19 ∷ []) []) (last ∷ [])
+    ap (map low_bits) p.whole ∙ map-append low_bits (chars ++ cond em (EM_CODE ∷ []) []) (last ∷ [])
     ∙ ap (λ z. z ++ low_bits last ∷ [])
-    (map-append low_bits chars (cond em (0x19 ∷ []) [])
+    (map-append low_bits chars (cond em (EM_CODE ∷ []) [])
     ∙ ap (λ z. map low_bits chars ++ z) (low_em em))
 
 -- one octet more that carries a record character
@@ -255,34 +256,34 @@ all_last [] x h = h.0
 all_last (y ∷ xs) x h = all_last xs x h.1
 
 -- EM is no record character
-em_no_char : is_record_char 0x19 ≡ false
+em_no_char : is_record_char EM_CODE ≡ false
 unfolding is_record_char
 em_no_char = refl
 
 -- characters and EM after them are cut in one way
 same_chars : (chars : List ℕ) (em : Bool) (more : List ℕ) (marked : Bool)
-    → chars ++ cond em (0x19 ∷ []) [] ≡ more ++ cond marked (0x19 ∷ []) []
+    → chars ++ cond em (EM_CODE ∷ []) [] ≡ more ++ cond marked (EM_CODE ∷ []) []
     → AllByRecursion (λ c. IsTrue (is_record_char c)) more
-    → (em ≡ false → (front : List ℕ) → chars ≡ front ++ 0x19 ∷ [] → ⊥) → chars ≡ more
-same_chars chars true more true e h n = append_cancel_right chars more (0x19 ∷ []) e
+    → (em ≡ false → (front : List ℕ) → chars ≡ front ++ EM_CODE ∷ [] → ⊥) → chars ≡ more
+same_chars chars true more true e h n = append_cancel_right chars more (EM_CODE ∷ []) e
 same_chars chars false more false e h n = sym (append-nil chars) ∙ e ∙ append-nil more
 same_chars chars true more false e h n =
-    let last : is_record_char 0x19 ≡ true =
-    all_last chars 0x19 (subst (AllByRecursion (λ c. IsTrue (is_record_char c)))
+    let last : is_record_char EM_CODE ≡ true =
+    all_last chars EM_CODE (subst (AllByRecursion (λ c. IsTrue (is_record_char c)))
     (sym (append-nil more) ∙ sym e) h) in
     absurd (let k = em_no_char in cc)
 same_chars chars false more true e h n = absurd (n refl more (sym (append-nil chars) ∙ e))
 
 -- EM at the end of the codes is EM at the end of the octets
-last_em : (xs front : List ℕ) → AreCarried xs → map low_bits xs ≡ front ++ 0x19 ∷ []
-    → (before : List ℕ) × (xs ≡ before ++ 0x19 ∷ [])
+last_em : (xs front : List ℕ) → AreCarried xs → map low_bits xs ≡ front ++ EM_CODE ∷ []
+    → (before : List ℕ) × (xs ≡ before ++ EM_CODE ∷ [])
 last_em [] [] c e = absurd cc
 last_em [] (y ∷ front) c e = absurd cc
 last_em (x ∷ []) [] c e =
-    ([], let k = em_is x c.0 (let w : low_bits x ≡ 0x19 = cc in w) in ap (λ z. z ∷ []) k)
+    ([], let k = em_is x c.0 (let w : low_bits x ≡ EM_CODE = cc in w) in ap (λ z. z ∷ []) k)
 last_em (x ∷ z ∷ xs) [] c e = absurd cc
 last_em (x ∷ xs) (y ∷ front) c e =
-    let k = last_em xs front c.1 (let w : map low_bits xs ≡ front ++ 0x19 ∷ [] = cc in w) in
+    let k = last_em xs front c.1 (let w : map low_bits xs ≡ front ++ EM_CODE ∷ [] = cc in w) in
     (x ∷ k.0, ap (λ t. x ∷ t) k.1)
 
 -- parts of which the characters are too many, or no record characters, are no unit
@@ -294,16 +295,16 @@ parts_none octets chars em last c p n = by_unit (read_unit (map low_bits octets)
   where
     carried_chars : AreCarried chars
     carried_chars =
-        carried_front chars (cond em (0x19 ∷ []) [] ++ last ∷ [])
-        (rw (p.whole ∙ append_assoc chars (cond em (0x19 ∷ []) []) (last ∷ [])) at c)
+        carried_front chars (cond em (EM_CODE ∷ []) [] ++ last ∷ [])
+        (rw (p.whole ∙ append_assoc chars (cond em (EM_CODE ∷ []) []) (last ∷ [])) at c)
 
     by_unit : (o : Option (TextUnit × ℕ)) → read_unit (map low_bits octets) ≡ o → o ≡ None
     by_unit None e = refl
     by_unit (Some f) e =
         let r = unit_of_reads (map low_bits octets) f e in
         let k =
-        snoc_same (map low_bits chars ++ cond em (0x19 ∷ []) [])
-        (f.0.chars ++ cond f.0.em (0x19 ∷ []) []) (low_bits last) f.1
+        snoc_same (map low_bits chars ++ cond em (EM_CODE ∷ []) [])
+        (f.0.chars ++ cond f.0.em (EM_CODE ∷ []) []) (low_bits last) f.1
         (sym (low_parts octets chars em last p) ∙ r.0) in
         let same : map low_bits chars ≡ f.0.chars =
         same_chars (map low_bits chars) em f.0.chars f.0.em k.0 r.1.each
@@ -337,7 +338,7 @@ right_unit after_us front octets rest u k c e n =
 
 -- octets with odd parity have it without an STX too
 pub odd_start : (after_us : Bool) (s : List ℕ) → All IsOdd s → All IsOdd (after_start after_us s)
-odd_start after_us s h = by_test (after_us && begins (is_octet 0x02) s)
+odd_start after_us s h = by_test (after_us && begins (is_octet STX) s)
   where
     by_test : (b : Bool) → All IsOdd (cond b (drop 1 s) s)
     by_test true = All-drop IsOdd 1 s h
@@ -348,7 +349,7 @@ odd_start after_us s h = by_test (after_us && begins (is_octet 0x02) s)
 -- where there is no fill, the unit is read from the front
 pub front_without_fill : (after_us : Bool) (s : List ℕ) (place : ℕ) → AreCarried s
     → place ≡ prefix_len is_before_ending s → place < length s
-    → list_any (is_octet 0x16) (take (place + 1) s) ≡ false
+    → list_any (is_octet SYN) (take (place + 1) s) ≡ false
     → unit_before after_us (map low_bits (take (place + 1) s)) (drop (place + 1) s)
     ≡ unit_at after_us s
 front_without_fill after_us s place c e l n =

@@ -21,6 +21,7 @@ use Rattle.bsc_frame.proofs.ReadLemmas.{test_false}
 use Rattle.bsc_frame.proofs.ControlLemmas.{some_is}
 use Rattle.bsc_frame.proofs.ReadLemmas.{chosen}
 use Rattle.bsc_frame.specs.declared.limits.TheConstants.{MAX_UNIT_SENT}
+use Rattle.bsc_frame.specs.declared.octets.TheConstants.{ETB_CODE, PAD, US_CODE}
 use Rattle.bsc_frame.proofs.UnitLemmas.{bind_some, UnitAt, unit_at_reads, length_unit_codes}
 use Rattle.bsc_frame.proofs.UnitLemmas.{unit_at_read}
 use Rattle.bsc_frame.proofs.UnitCodes.{ending_cases}
@@ -40,37 +41,37 @@ before_units_some u None t e = cc
 before_units_some u (Some s) t e = (s, refl, some_is _ _ e)
 
 -- a unit that others follow ends with US
-more_end : (us : List TextUnit) (end : End) → 0 < length us → ending us end ≡ 0x1f
+more_end : (us : List TextUnit) (end : End) → 0 < length us → ending us end ≡ US_CODE
 more_end [] end h = absurd (omega arith)
 more_end (u ∷ us) end h = refl
 
 -- the last unit ends with ETB or ETX, and nothing follows its check
 last_some : (u : TextUnit) (e : ℕ) (rest : List ℕ) (t : TextValue) → last_unit u e rest ≡ Some t
-    → (rest ≡ []) × (record { units = u ∷ []; end = cond (e == 0x17) Etb Etx } ≡ t)
+    → (rest ≡ []) × (record { units = u ∷ []; end = cond (e == ETB_CODE) Etb Etx } ≡ t)
 last_some u e [] t h = (refl, some_is _ _ h)
 last_some u e (x ∷ rest) t h = cc
 
 -- the code of the end that an ending code other than US tells is that code
-last_end : (e : ℕ) (b : Bool) → (e == 0x17) ≡ b → is_ending_code e ≡ true → (e == 0x1f) ≡ false
+last_end : (e : ℕ) (b : Bool) → (e == ETB_CODE) ≡ b → is_ending_code e ≡ true → (e == US_CODE) ≡ false
     → end_code (cond b Etb Etx) ≡ e
-last_end e true k h n = sym (eqb-true e 0x17 k)
+last_end e true k h n = sym (eqb-true e ETB_CODE k)
 last_end e false k h n = elim (ending_cases e h) [
-  | inl w ↦ absurd (eqb-false e 0x1f n w)
-  | inr v ↦ elim v [ inl w ↦ absurd (eqb-false e 0x17 k w) | inr w ↦ sym w ]
+  | inl w ↦ absurd (eqb-false e US_CODE n w)
+  | inr v ↦ elim v [ inl w ↦ absurd (eqb-false e ETB_CODE k w) | inr w ↦ sym w ]
 ]
 
 -- one unit more before units that are read
 units_step : (n : ℕ) (after_us : Bool) (octets : List ℕ) (t : TextValue) (f : TextUnit × ℕ × List ℕ)
     → UnitAt after_us octets f.0 f.1 f.2
     → ((s : TextValue) → units_at n true f.2 ≡ Some s → ReadsUnits n true f.2 s)
-    → cond (f.1 == 0x1f) (before_units f.0 (units_at n true f.2)) (last_unit f.0 f.1 f.2) ≡ Some t
+    → cond (f.1 == US_CODE) (before_units f.0 (units_at n true f.2)) (last_unit f.0 f.1 f.2) ≡ Some t
     → ReadsUnits (suc n) after_us octets t
-units_step n after_us octets t f a more e = elim (chosen (f.1 == 0x1f) _ _ _ e) [
+units_step n after_us octets t f a more e = elim (chosen (f.1 == US_CODE) _ _ _ e) [
   | inl h ↦
       let b = before_units_some f.0 (units_at n true f.2) t h.1 in
       let r = more b.0 b.1 in
       let us : ending b.0.units b.0.end ≡ f.1 = more_end b.0.units b.0.end r.some
-      ∙ sym (eqb-true f.1 0x1f h.0) in
+      ∙ sym (eqb-true f.1 US_CODE h.0) in
       let all : ReadsUnits (suc n) after_us octets
       (record { units = f.0 ∷ b.0.units; end = b.0.end }) = record {
         units = rw us (a.start, a.front, f.2, a.is_start, a.filled, a.whole, r.units);
@@ -81,10 +82,10 @@ units_step n after_us octets t f a more e = elim (chosen (f.1 == 0x1f) _ _ _ e) 
       subst (ReadsUnits (suc n) after_us octets) b.2 all
   | inr h ↦
       let b = last_some f.0 f.1 f.2 t h.1 in
-      let us : end_code (cond (f.1 == 0x17) Etb Etx) ≡ f.1 =
-      last_end f.1 (f.1 == 0x17) refl a.ends h.0 in
+      let us : end_code (cond (f.1 == ETB_CODE) Etb Etx) ≡ f.1 =
+      last_end f.1 (f.1 == ETB_CODE) refl a.ends h.0 in
       let all : ReadsUnits (suc n) after_us octets
-      (record { units = f.0 ∷ []; end = cond (f.1 == 0x17) Etb Etx }) = record {
+      (record { units = f.0 ∷ []; end = cond (f.1 == ETB_CODE) Etb Etx }) = record {
         units = rw us (a.start, a.front, f.2, a.is_start, a.filled, a.whole, b.0);
         some = omega arith;
         most = omega arith;
@@ -111,7 +112,7 @@ ending_is [] Etx = refl
 
 -- a text of one unit is read by its last unit
 last_of : (u : TextUnit) (end : End) (o : Option TextValue)
-    → cond (end_code end == 0x1f) o (last_unit u (end_code end) [])
+    → cond (end_code end == US_CODE) o (last_unit u (end_code end) [])
     ≡ Some (record { units = u ∷ []; end = end })
 last_of u Etb o = refl
 last_of u Etx o = refl
@@ -138,8 +139,8 @@ units_at_read (suc n) after_us (u ∷ []) end octets a some most each =
     }) in
     rw (first, a.6) (last_of u end (before_units u (units_at n true [])))
 units_at_read (suc n) after_us (u ∷ v ∷ us) end octets a some most each =
-    let first : unit_at after_us octets ≡ Some (u, 0x1f, a.2) =
-    unit_at_read after_us octets u 0x1f a.2
+    let first : unit_at after_us octets ≡ Some (u, US_CODE, a.2) =
+    unit_at_read after_us octets u US_CODE a.2
     (record {
       start = a.0;
       front = a.1;
@@ -202,8 +203,8 @@ length_units_wire (u ∷ us) end h =
 -- ---- the last octet of a text
 
 -- no octet of a code is PAD
-odd_no_pad : (c : ℕ) → c < 128 → (odd_octet c == 0xff) ≡ false
-odd_no_pad c h = test_false (odd_octet c) 0xff (λ e. elim (odd_cases c) [
+odd_no_pad : (c : ℕ) → c < 128 → (odd_octet c == PAD) ≡ false
+odd_no_pad c h = test_false (odd_octet c) PAD (λ e. elim (odd_cases c) [
   | inl k ↦ absurd (omega arith)
   | inr k ↦ let full : c ≡ 127 = omega arith in let seven : count_ones c ≡ 7 = ap count_ones full
       ∙ ones-ones 7 in absurd (omega arith)
@@ -235,5 +236,5 @@ units_end after_us (u ∷ []) end octets a h =
     }
 units_end after_us (u ∷ v ∷ us) end octets a h =
     rw a.5
-    (ends_after a.1 _ (ends_after (odd_octet (longitudinal_sum (a.0 ++ unit_codes u 0x1f)) ∷ [])
+    (ends_after a.1 _ (ends_after (odd_octet (longitudinal_sum (a.0 ++ unit_codes u US_CODE)) ∷ [])
     a.2 (units_end true (v ∷ us) end a.2 a.6 (omega arith))))

@@ -8,6 +8,7 @@ use Rattle.std.specs.Int.Count.{ones-ones}
 use lib.Bits.{xor_block}
 use Rattle.bsc_octet.specs.Octet.{IsOdd}
 use Rattle.bsc_frame.specs.TurnedBits.{turned, HaveOtherParity, IsLeadingPad}
+use Rattle.bsc_frame.specs.declared.octets.TheConstants.{PAD, SYN}
 
 ones_zero : count_ones 0 ≡ 0
 ones_zero = omega (arith, ones_le_self 0)
@@ -80,7 +81,7 @@ turned_other bit octet e =
 
 -- no turned bit makes SYN a leading pad or PAD
 turned_syn : (bit : ℕ) → bit < 8
-    → ((turned bit 0x16 ≡ 0x55) ⊎ (turned bit 0x16 ≡ 0xaa)) ⊎ (turned bit 0x16 ≡ 0xff) → ⊥
+    → ((turned bit SYN ≡ 0x55) ⊎ (turned bit SYN ≡ 0xaa)) ⊎ (turned bit SYN ≡ PAD) → ⊥
 turned_syn zero l e =
     elim e [ inl k ↦ elim k [ inl w ↦ omega arith | inr w ↦ omega arith ] | inr w ↦ omega arith ]
 turned_syn (suc zero) l e =
@@ -100,7 +101,7 @@ turned_syn (suc (suc (suc (suc (suc (suc (suc zero))))))) l e =
 turned_syn (suc (suc (suc (suc (suc (suc (suc (suc bit)))))))) l e = omega arith
 
 -- no turned bit makes PAD SYN
-pub pad_no_fill : (bit : ℕ) → bit < 8 → turned bit 0xff ≡ 0x16 → ⊥
+pub pad_no_fill : (bit : ℕ) → bit < 8 → turned bit PAD ≡ SYN → ⊥
 pad_no_fill zero l e = omega arith
 pad_no_fill (suc zero) l e = omega arith
 pad_no_fill (suc (suc zero)) l e = omega arith
@@ -112,9 +113,9 @@ pad_no_fill (suc (suc (suc (suc (suc (suc (suc zero))))))) l e = omega arith
 pad_no_fill (suc (suc (suc (suc (suc (suc (suc (suc bit)))))))) l e = omega arith
 
 -- a SYN with one bit turned is no leading pad, and no PAD
-pub syn_no_pad : (bit place : ℕ) → bit < 8 → IsLeadingPad place (turned bit 0x16) → ⊥
+pub syn_no_pad : (bit place : ℕ) → bit < 8 → IsLeadingPad place (turned bit SYN) → ⊥
 syn_no_pad bit place l h = turned_syn bit l (inl h.1)
 
 -- no turned bit makes SYN PAD
-pub syn_no_fill : (bit : ℕ) → bit < 8 → turned bit 0x16 ≡ 0xff → ⊥
+pub syn_no_fill : (bit : ℕ) → bit < 8 → turned bit SYN ≡ PAD → ⊥
 syn_no_fill bit l h = turned_syn bit l (inr h)

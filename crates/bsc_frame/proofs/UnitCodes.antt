@@ -17,6 +17,7 @@ use Rattle.bsc_frame.proofs.ReadLemmas.{test_false}
 use Rattle.bsc_frame.proofs.ControlLemmas.{some_is}
 use Rattle.bsc_frame.proofs.ReadLemmas.{chosen}
 use Rattle.bsc_frame.specs.declared.limits.TheConstants.{MAX_CHARS}
+use Rattle.bsc_frame.specs.declared.octets.TheConstants.{EM_CODE, ETB_CODE, ETX_CODE, STX, US_CODE}
 
 -- one code more: the front of record characters has record characters only
 pass_head : (c : ℕ) (cs : List ℕ) (b : Bool) → is_record_char c ≡ b
@@ -48,10 +49,10 @@ tail_reads chars [] f h = cc
 tail_reads chars (e ∷ []) f h =
     subst (IsTail chars (e ∷ [])) (some_is _ _ h)
     (ap (λ z. z ++ e ∷ []) (sym (append-nil chars)), refl)
-tail_reads chars (m ∷ e ∷ []) f h = elim (chosen (m == 0x19) _ _ _ h) [
+tail_reads chars (m ∷ e ∷ []) f h = elim (chosen (m == EM_CODE) _ _ _ h) [
   | inl k ↦ subst (IsTail chars (m ∷ e ∷ [])) (some_is _ _ k.1) (
-    ap (λ z. chars ++ z ∷ e ∷ []) (eqb-true m 0x19 k.0)
-        ∙ sym (append_assoc chars (0x19 ∷ []) (e ∷ [])),
+    ap (λ z. chars ++ z ∷ e ∷ []) (eqb-true m EM_CODE k.0)
+        ∙ sym (append_assoc chars (EM_CODE ∷ []) (e ∷ [])),
     refl,
   )
   | inr k ↦ let w = k.1 in cc
@@ -92,18 +93,18 @@ unit_of_reads codes f h =
     ]
 
 -- an ending character is one of three
-pub ending_cases : (e : ℕ) → is_ending_code e ≡ true → (e ≡ 0x1f) ⊎ ((e ≡ 0x17) ⊎ (e ≡ 0x03))
-ending_cases e h = by_first (e == 0x1f) refl h
+pub ending_cases : (e : ℕ) → is_ending_code e ≡ true → (e ≡ US_CODE) ⊎ ((e ≡ ETB_CODE) ⊎ (e ≡ ETX_CODE))
+ending_cases e h = by_first (e == US_CODE) refl h
   where
-    by_second : (b : Bool) → (e == 0x17) ≡ b → (b || (e == 0x03)) ≡ true → (e ≡ 0x1f)
-        ⊎ ((e ≡ 0x17) ⊎ (e ≡ 0x03))
-    by_second true k h = inr (inl (eqb-true e 0x17 k))
-    by_second false k h = inr (inr (eqb-true e 0x03 h))
+    by_second : (b : Bool) → (e == ETB_CODE) ≡ b → (b || (e == ETX_CODE)) ≡ true → (e ≡ US_CODE)
+        ⊎ ((e ≡ ETB_CODE) ⊎ (e ≡ ETX_CODE))
+    by_second true k h = inr (inl (eqb-true e ETB_CODE k))
+    by_second false k h = inr (inr (eqb-true e ETX_CODE h))
 
-    by_first : (b : Bool) → (e == 0x1f) ≡ b → (b || ((e == 0x17) || (e == 0x03))) ≡ true
-        → (e ≡ 0x1f) ⊎ ((e ≡ 0x17) ⊎ (e ≡ 0x03))
-    by_first true k h = inl (eqb-true e 0x1f k)
-    by_first false k h = by_second (e == 0x17) refl h
+    by_first : (b : Bool) → (e == US_CODE) ≡ b → (b || ((e == ETB_CODE) || (e == ETX_CODE))) ≡ true
+        → (e ≡ US_CODE) ⊎ ((e ≡ ETB_CODE) ⊎ (e ≡ ETX_CODE))
+    by_first true k h = inl (eqb-true e US_CODE k)
+    by_first false k h = by_second (e == ETB_CODE) refl h
 
 -- an ending character is no record character
 pub ending_no_char : (e : ℕ) → is_ending_code e ≡ true → is_record_char e ≡ false
@@ -141,7 +142,7 @@ unit_read : (chars : List ℕ) (em : Bool) (e : ℕ)
     ≡ Some (record { chars = chars; em = em }, e)
 unfolding is_record_char
 unit_read chars true e h l k =
-    ap read_unit (append_assoc chars (0x19 ∷ []) (e ∷ [])) ∙ unit_of_at chars 0x19 (e ∷ []) h l refl
+    ap read_unit (append_assoc chars (EM_CODE ∷ []) (e ∷ [])) ∙ unit_of_at chars EM_CODE (e ∷ []) h l refl
 unit_read chars false e h l k =
     ap (λ z. read_unit (z ++ e ∷ [])) (append-nil chars)
     ∙ unit_of_at chars e [] h l (ending_no_char e k)
@@ -154,9 +155,9 @@ unit_of_read u e h k = unit_read u.chars u.em e h.each h.most k
 -- ---- an STX after a check
 
 -- an STX at the front after a check is parted from the codes
-start_by : (c : ℕ) (cs : List ℕ) (b : Bool) → (c == 0x02) ≡ b
+start_by : (c : ℕ) (cs : List ℕ) (b : Bool) → (c == STX) ≡ b
     → (start : List ℕ) × IsStart true start × (c ∷ cs ≡ start ++ cond b cs (c ∷ cs))
-start_by c cs true e = (0x02 ∷ [], inr (refl, refl), ap (λ z. z ∷ cs) (eqb-true c 0x02 e))
+start_by c cs true e = (STX ∷ [], inr (refl, refl), ap (λ z. z ∷ cs) (eqb-true c STX e))
 start_by c cs false e = ([], inl refl, refl)
 
 -- codes after a check are an STX, or none, and the rest
@@ -164,11 +165,11 @@ pub start_of : (after_us : Bool) (codes : List ℕ)
     → (start : List ℕ) × IsStart after_us start × (codes ≡ start ++ after_start after_us codes)
 start_of false codes = ([], inl refl, refl)
 start_of true [] = ([], inl refl, refl)
-start_of true (c ∷ cs) = start_by c cs (c == 0x02) refl
+start_of true (c ∷ cs) = start_by c cs (c == STX) refl
 
 -- an STX after a check is dropped, and no other is there
 pub start_read : (after_us : Bool) (start codes : List ℕ) → IsStart after_us start
-    → begins (is_octet 0x02) codes ≡ false → after_start after_us (start ++ codes) ≡ codes
+    → begins (is_octet STX) codes ≡ false → after_start after_us (start ++ codes) ≡ codes
 start_read after_us start codes (inl e) other = rw e (stays after_us)
   where
     stays : (b : Bool) → after_start b codes ≡ codes
@@ -186,22 +187,22 @@ char_not c k h n e =
     apart e = subst (λ b. cond b (Unit {0}) ⊥) e tt
 
 -- STX is no record character
-stx_no_char : is_record_char 0x02 ≡ false
+stx_no_char : is_record_char STX ≡ false
 unfolding is_record_char
 stx_no_char = refl
 
 -- no unit begins with STX
 pub not_stx : (u : TextUnit) (e : ℕ) → IsUnit u → is_ending_code e ≡ true
-    → begins (is_octet 0x02) (unit_codes u e) ≡ false
+    → begins (is_octet STX) (unit_codes u e) ≡ false
 not_stx u e h k = by_chars u.chars u.em h.each
   where
-    ending_no_start : (e ≡ 0x1f) ⊎ ((e ≡ 0x17) ⊎ (e ≡ 0x03)) → (e == 0x02) ≡ false
+    ending_no_start : (e ≡ US_CODE) ⊎ ((e ≡ ETB_CODE) ⊎ (e ≡ ETX_CODE)) → (e == STX) ≡ false
     ending_no_start (inl k) = rw k refl
     ending_no_start (inr (inl k)) = rw k refl
     ending_no_start (inr (inr k)) = rw k refl
 
     by_chars : (chars : List ℕ) (em : Bool) → AllByRecursion (λ c. IsTrue (is_record_char c)) chars
-        → begins (is_octet 0x02) (unit_codes (record { chars = chars; em = em }) e) ≡ false
+        → begins (is_octet STX) (unit_codes (record { chars = chars; em = em }) e) ≡ false
     by_chars [] true p = refl
     by_chars [] false p = ending_no_start (ending_cases e k)
-    by_chars (c ∷ chars) em p = test_false c 0x02 (char_not c 0x02 p.0 stx_no_char)
+    by_chars (c ∷ chars) em p = test_false c STX (char_not c STX p.0 stx_no_char)

@@ -16,6 +16,7 @@ use Rattle.bsc_frame.proofs.ReadLemmas.{chosen}
 use Rattle.bsc_frame.proofs.GatherLemmas.{gathered_reads, gathered_read, ends_unit_last, IsOther}
 use Rattle.bsc_frame.proofs.GatherLemmas.{IsRun}
 use Rattle.bsc_frame.specs.declared.limits.TheConstants.{MAX_UNIT_CODES}
+use Rattle.bsc_frame.specs.declared.octets.TheConstants.{EM_CODE, STX, SYN}
 use Rattle.bsc_frame.proofs.UnitCodes.{unit_of_reads, ending_cases, ending_no_char, unit_of_read}
 use Rattle.bsc_frame.proofs.UnitCodes.{start_of, start_read, char_not, not_stx}
 
@@ -74,9 +75,9 @@ unit_at_reads after_us octets f h =
           (check_reads g.0.0 g.0.1 r.0 r.1
           ∙ ap (λ z. odd_octet (longitudinal_sum z) ∷ r.0) all);
       unit = codes.1;
-      ends = ends_unit_last (start.0 ++ (w.0.0.chars ++ cond w.0.0.em (0x19 ∷ []) [])) w.0.1
+      ends = ends_unit_last (start.0 ++ (w.0.0.chars ++ cond w.0.0.em (EM_CODE ∷ []) [])) w.0.1
           (rw (all
-          ∙ sym (append_assoc start.0 (w.0.0.chars ++ cond w.0.0.em (0x19 ∷ []) [])
+          ∙ sym (append_assoc start.0 (w.0.0.chars ++ cond w.0.0.em (EM_CODE ∷ []) [])
           (w.0.1 ∷ []))) at gathers.ends);
     } in
     subst (λ x. UnitAt after_us octets x.0 x.1 x.2) found unit
@@ -100,13 +101,13 @@ char_lt c h = by_size (nat_lt c 128) refl h
     by_size false e h = cc
 
 -- SYN is no record character
-syn_no_char : is_record_char 0x16 ≡ false
+syn_no_char : is_record_char SYN ≡ false
 unfolding is_record_char
 syn_no_char = refl
 
 -- a record character is no SYN and below 128
 char_other : (c : ℕ) → is_record_char c ≡ true → IsOther c
-char_other c h = record { code = char_lt c h; other = char_not c 0x16 h syn_no_char }
+char_other c h = record { code = char_lt c h; other = char_not c SYN h syn_no_char }
 
 -- a record character ends no unit
 char_no_end : (c : ℕ) (b : Bool) → is_ending_code c ≡ b → is_record_char c ≡ true → is_ending_code c
@@ -135,7 +136,7 @@ run_chars (c ∷ chars) codes h r =
     (run_chars chars codes h.1 r)
 
 -- so are EM, where it is marked, and the ending character
-run_em : (em : Bool) (e : ℕ) → is_ending_code e ≡ true → IsRun (cond em (0x19 ∷ []) [] ++ e ∷ [])
+run_em : (em : Bool) (e : ℕ) → is_ending_code e ≡ true → IsRun (cond em (EM_CODE ∷ []) [] ++ e ∷ [])
 run_em true e h =
     (record { code = lit< tt; other = λ z. omega arith }, refl, (ending_code_other e h, h))
 run_em false e h = (ending_code_other e h, h)
@@ -143,7 +144,7 @@ run_em false e h = (ending_code_other e h, h)
 -- the codes of a unit are a run: only the last ends it, and none is SYN
 pub run_unit : (u : TextUnit) (e : ℕ) → IsUnit u → is_ending_code e ≡ true → IsRun (unit_codes u e)
 run_unit u e h k =
-    rw append_assoc (run_chars u.chars (cond u.em (0x19 ∷ []) [] ++ e ∷ []) h.each
+    rw append_assoc (run_chars u.chars (cond u.em (EM_CODE ∷ []) [] ++ e ∷ []) h.each
     (run_em u.em e k))
 
 -- the codes of a unit with an STX before them are a run too
@@ -151,10 +152,10 @@ pub run_start : (after_us : Bool) (start codes : List ℕ) → IsStart after_us 
     → IsRun (start ++ codes)
 run_start after_us start codes (inl e) r = rw e r
 run_start after_us start codes (inr e) r =
-    rw e.1 (is_run_cons 0x02 codes (record { code = lit< tt; other = λ z. omega arith }) refl r)
+    rw e.1 (is_run_cons STX codes (record { code = lit< tt; other = λ z. omega arith }) refl r)
 
 -- EM is at most one code
-length_em : (b : Bool) → length {A = ℕ} (cond b (0x19 ∷ []) []) ≤ 1
+length_em : (b : Bool) → length {A = ℕ} (cond b (EM_CODE ∷ []) []) ≤ 1
 length_em true = omega arith
 length_em false = omega arith
 
@@ -169,8 +170,8 @@ length_unit_codes u e =
     omega (
       arith,
       length_em u.em,
-      length-append (u.chars ++ cond u.em (0x19 ∷ []) []) (e ∷ []),
-      length-append u.chars (cond u.em (0x19 ∷ []) []),
+      length-append (u.chars ++ cond u.em (EM_CODE ∷ []) []) (e ∷ []),
+      length-append u.chars (cond u.em (EM_CODE ∷ []) []),
     )
 
 -- from octets that are a unit and the rest, that unit is read

@@ -20,6 +20,7 @@ use Rattle.bsc_frame.specs.declared.text.Draft.{Draft}
 use Rattle.bsc_frame.proofs.ReadLemmas.{test_false, rest_is}
 use Rattle.bsc_frame.proofs.UnitLemmas.{unit_at_reads}
 use Rattle.bsc_frame.specs.declared.limits.TheConstants.{MAX_UNITS}
+use Rattle.bsc_frame.specs.declared.octets.TheConstants.{ETB_CODE, US_CODE}
 
 -- ---- the check
 
@@ -78,7 +79,7 @@ before_more us u (Some t) =
 -- what is read where a first unit is read, by its ending character
 units_next : (n : ℕ) (after_us : Bool) (s : List ℕ) (u : TextUnit) (e : ℕ) (rest : List ℕ) → 0 < n
     → unit_at after_us s ≡ Some (u, e, rest)
-    → units_at n after_us s ≡ cond (e == 0x1f) (before_units u (units_at (n - 1) true rest))
+    → units_at n after_us s ≡ cond (e == US_CODE) (before_units u (units_at (n - 1) true rest))
     (last_unit u e rest)
 unfolding units_at
 units_next zero after_us s u e rest p h = absurd (omega arith)
@@ -101,7 +102,7 @@ read_stop d count rest s r h =
 
 -- one unit more is read that ends with US
 pub read_more : (d new : Draft) (count e : ℕ) (rest more s : List ℕ) → ReadTo d count rest s
-    → count < MAX_UNITS → TakesUnit d new (unit_at (nat_lt 0 count) rest) e more → e ≡ 0x1f
+    → count < MAX_UNITS → TakesUnit d new (unit_at (nat_lt 0 count) rest) e more → e ≡ US_CODE
     → ReadTo new (count + 1) more s
 read_more d new count e rest more s r l t us =
     let next : units_at (MAX_UNITS - count) (nat_lt 0 count) rest
@@ -124,17 +125,17 @@ read_more d new count e rest more s r l t us =
 -- the last unit of a text is read
 read_last : (d new : Draft) (count e : ℕ) (rest more s : List ℕ) → ReadTo d count rest s → count
     < MAX_UNITS
-    → (t : TakesUnit d new (unit_at (nat_lt 0 count) rest) e more) → (e ≡ 0x1f → ⊥)
+    → (t : TakesUnit d new (unit_at (nat_lt 0 count) rest) e more) → (e ≡ US_CODE → ⊥)
     → before_all (draft_units d) (last_unit t.unit e more) ≡ units_at MAX_UNITS false s
 read_last d new count e rest more s r l t us =
     let next : units_at (MAX_UNITS - count) (nat_lt 0 count) rest ≡ last_unit t.unit e more =
     units_next (MAX_UNITS - count) (nat_lt 0 count) rest t.unit e more (omega arith) t.reads
-    ∙ rw (test_false e 0x1f us) refl in
+    ∙ rw (test_false e US_CODE us) refl in
     ap (before_all (draft_units d)) (sym next) ∙ r.same
 
 -- octets after the last unit leave no text
 pub read_extra : (d new : Draft) (count e : ℕ) (rest more s : List ℕ) → ReadTo d count rest s
-    → count < MAX_UNITS → TakesUnit d new (unit_at (nat_lt 0 count) rest) e more → (e ≡ 0x1f → ⊥)
+    → count < MAX_UNITS → TakesUnit d new (unit_at (nat_lt 0 count) rest) e more → (e ≡ US_CODE → ⊥)
     → (length more ≡ 0 → ⊥) → None ≡ units_at MAX_UNITS false s
 read_extra d new count e rest [] s r l t us p = absurd (p refl)
 read_extra d new count e rest (x ∷ more) s r l t us p =
@@ -143,8 +144,8 @@ read_extra d new count e rest (x ∷ more) s r l t us p =
 -- the last unit ends the text
 pub read_whole : (d new : Draft) (count e : ℕ) (rest more s : List ℕ) (end : End)
     → ReadTo d count rest s
-    → count < MAX_UNITS → TakesUnit d new (unit_at (nat_lt 0 count) rest) e more → (e ≡ 0x1f → ⊥)
-    → length more ≡ 0 → cond (e == 0x17) Etb Etx ≡ end
+    → count < MAX_UNITS → TakesUnit d new (unit_at (nat_lt 0 count) rest) e more → (e ≡ US_CODE → ⊥)
+    → length more ≡ 0 → cond (e == ETB_CODE) Etb Etx ≡ end
     → ReadsText new end (units_at MAX_UNITS false s)
 read_whole d new count e rest (x ∷ more) s end r l t us p q = absurd (omega arith)
 read_whole d new count e rest [] s end r l t us p q = record {

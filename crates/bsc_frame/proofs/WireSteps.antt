@@ -19,6 +19,7 @@ use Rattle.bsc_frame.specs.Texts.{TextUnit, IsUnit}
 use Rattle.bsc_frame.specs.Units.{unit_codes, unit_wire, units_wire, ending, end_code}
 use Rattle.bsc_frame.specs.declared.limits.TheConstants.{MAX_UNITS, MAX_UNIT_SENT, MAX_SENT}
 use Rattle.bsc_frame.specs.declared.text.End.{End}
+use Rattle.bsc_frame.specs.declared.octets.TheConstants.{EM_CODE, US_CODE}
 use Rattle.bsc_frame.proofs.UnitLemmas.{char_lt}
 use Rattle.bsc_frame.proofs.TextUnits.{length_units_wire}
 
@@ -29,15 +30,15 @@ all_small [] h = tt
 all_small (c ∷ chars) h = (char_lt c h.0, all_small chars h.1)
 
 -- so is EM
-em_small : (b : Bool) → All (λ c. c < 128) (cond b (0x19 ∷ []) [])
-em_small true = All-cons (λ c. c < 128) 0x19 [] (lit< tt) (All-nil (λ c. c < 128))
+em_small : (b : Bool) → All (λ c. c < 128) (cond b (EM_CODE ∷ []) [])
+em_small true = All-cons (λ c. c < 128) EM_CODE [] (lit< tt) (All-nil (λ c. c < 128))
 em_small false = All-nil (λ c. c < 128)
 
 -- so are all codes of a unit
 codes_small : (u : TextUnit) (e : ℕ) → IsUnit u → e < 128 → All (λ c. c < 128) (unit_codes u e)
 codes_small u e h l =
-    All-append (λ c. c < 128) (u.chars ++ cond u.em (0x19 ∷ []) []) (e ∷ [])
-    (All-append (λ c. c < 128) u.chars (cond u.em (0x19 ∷ []) [])
+    All-append (λ c. c < 128) (u.chars ++ cond u.em (EM_CODE ∷ []) []) (e ∷ [])
+    (All-append (λ c. c < 128) u.chars (cond u.em (EM_CODE ∷ []) [])
     (All-from_recursion (λ c. c < 128) u.chars (all_small u.chars h.each)) (em_small u.em))
     (All-cons (λ c. c < 128) e [] l (All-nil (λ c. c < 128)))
 
@@ -89,23 +90,23 @@ sum_odd codes h =
     ∙ ap longitudinal_sum (low_odd codes (recursion_from_All (λ c. c < 128) codes h))
 
 -- EM is carried as it is
-odd_em : (em : Bool) → map odd_octet (cond em (0x19 ∷ []) []) ≡ cond em (0x19 ∷ []) []
+odd_em : (em : Bool) → map odd_octet (cond em (EM_CODE ∷ []) []) ≡ cond em (EM_CODE ∷ []) []
 unfolding odd_octet ones
 odd_em true = refl
 odd_em false = refl
 
 -- the octets of the codes of a unit, by its parts
 odd_codes : (u : TextUnit) (e : ℕ)
-    → map odd_octet (unit_codes u e) ≡ (map odd_octet u.chars ++ cond u.em (0x19 ∷ []) [])
+    → map odd_octet (unit_codes u e) ≡ (map odd_octet u.chars ++ cond u.em (EM_CODE ∷ []) [])
     ++ odd_octet e ∷ []
 odd_codes u e =
-    map-append odd_octet (u.chars ++ cond u.em (0x19 ∷ []) []) (e ∷ [])
-    ∙ ap (λ z. z ++ odd_octet e ∷ []) (map-append odd_octet u.chars (cond u.em (0x19 ∷ []) [])
+    map-append odd_octet (u.chars ++ cond u.em (EM_CODE ∷ []) []) (e ∷ [])
+    ∙ ap (λ z. z ++ odd_octet e ∷ []) (map-append odd_octet u.chars (cond u.em (EM_CODE ∷ []) [])
     ∙ ap (λ z. map odd_octet u.chars ++ z) (odd_em u.em))
 
 -- the octets of the codes and the check after them
 pub unit_wire_is : (u : TextUnit) (e : ℕ) (line : List ℕ) → IsUnit u → e < 128
-    → line ≡ (map odd_octet u.chars ++ cond u.em (0x19 ∷ []) []) ++ odd_octet e ∷ []
+    → line ≡ (map odd_octet u.chars ++ cond u.em (EM_CODE ∷ []) []) ++ odd_octet e ∷ []
     → line ++ odd_octet (longitudinal_sum line) ∷ [] ≡ unit_wire u e
 unit_wire_is u e line h l w =
     let same : line ≡ map odd_octet (unit_codes u e) = w ∙ sym (odd_codes u e) in
@@ -116,7 +117,7 @@ unit_wire_is u e line h l w =
 -- ---- which character ends a unit
 
 -- a unit that others follow ends with US
-pub ending_more : (us : List TextUnit) (i : ℕ) (end : End) → i < length us → 0x1f
+pub ending_more : (us : List TextUnit) (i : ℕ) (end : End) → i < length us → US_CODE
     ≡ ending (drop i us) end
 ending_more [] i end l = absurd (omega arith)
 ending_more (u ∷ us) zero end l = refl

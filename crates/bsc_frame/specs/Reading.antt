@@ -17,6 +17,8 @@ use Rattle.bsc_frame.specs.declared.message.Message.{Message}
 use Rattle.bsc_frame.specs.declared.message.Message.TheVariants.{Eot, Call, Enq, Reply, Text}
 use Rattle.bsc_frame.specs.declared.message.Heard.{Heard}
 use Rattle.bsc_frame.specs.declared.message.Heard.TheVariants.{Whole, Failed, Noise}
+use Rattle.bsc_frame.specs.declared.octets.TheConstants.{EM_CODE, ENQ, EOT, ETB, ETB_CODE, ETX}
+use Rattle.bsc_frame.specs.declared.octets.TheConstants.{ETX_CODE, PAD, STX, SYN, US, US_CODE}
 
 -- what stands after the front of octets that pass the test
 unfoldable pub skip : (ℕ → Bool) → List ℕ → List ℕ
@@ -35,7 +37,7 @@ is_either one other x = (x == one) || (x == other)
 
 -- x before what is left of the rest
 abbrev pub before_rest : ℕ → List ℕ → List ℕ
-before_rest x [] = if x == 0xff then [] else x ∷ []
+before_rest x [] = if x == PAD then [] else x ∷ []
 before_rest x (y ∷ ys) = x ∷ y ∷ ys
 
 -- without the PAD at the end
@@ -57,7 +59,7 @@ with_code (Some c) (Some codes) = Some (c ∷ codes)
 unfoldable pub called : ℕ → List ℕ → Option (List ℕ)
 called room [] = None
 called room (x ∷ xs) =
-    if x == 0x85 then at_end xs
+    if x == ENQ then at_end xs
     else if room == 0 then None
     else with_code (code_of x) (called (room - 1) xs)
 
@@ -72,7 +74,7 @@ call_of octets =
 
 -- a call, after its EOT
 unfoldable pub call : List ℕ → Option Message
-call rest = call_of (skip (is_octet 0x16) (skip (is_octet 0xff) rest))
+call rest = call_of (skip (is_octet SYN) (skip (is_octet PAD) rest))
 
 -- whether the first octet is there and passes
 abbrev pub begins : (ℕ → Bool) → List ℕ → Bool
@@ -82,13 +84,13 @@ begins test (x ∷ xs) = test x
 -- the reply that a body spells, or else the call that it is
 abbrev pub reply_or_call : Option ReplyValue → List ℕ → Option Message
 reply_or_call (Some r) body = Some (Reply r)
-reply_or_call None body = if begins (is_octet 0x04) body then call (drop 1 body) else None
+reply_or_call None body = if begins (is_octet EOT) body then call (drop 1 body) else None
 
 -- a body that is no text
 unfoldable pub control : List ℕ → Option Message
 control body =
-    if bytes_eq body (0x04 ∷ []) then Some Eot
-    else if bytes_eq body (0x85 ∷ []) then Some Enq
+    if bytes_eq body (EOT ∷ []) then Some Eot
+    else if bytes_eq body (ENQ ∷ []) then Some Enq
     else reply_or_call (reply_spelled body) body
 
 abbrev pub whole_or_noise : Option Message → Heard
@@ -104,11 +106,11 @@ None >>= f = None
 
 -- US, ETB or ETX
 abbrev pub is_ending_code : ℕ → Bool
-is_ending_code c = (c == 0x1f) || ((c == 0x17) || (c == 0x03))
+is_ending_code c = (c == US_CODE) || ((c == ETB_CODE) || (c == ETX_CODE))
 
 -- the octets that carry US, ETB and ETX
 abbrev pub is_ending_octet : ℕ → Bool
-is_ending_octet x = (x == 0x1f) || ((x == 0x97) || (x == 0x83))
+is_ending_octet x = (x == US) || ((x == ETB) || (x == ETX))
 
 -- any other octet
 abbrev pub is_before_ending : ℕ → Bool
@@ -120,7 +122,7 @@ low_bits x = x % 128
 
 -- any octet but SYN
 abbrev pub is_other : ℕ → Bool
-is_other x = not (x == 0x16)
+is_other x = not (x == SYN)
 
 -- an octet that carries a record character
 abbrev pub is_char_octet : ℕ → Bool
@@ -140,7 +142,7 @@ gather_code (Some c) rest more =
 unfoldable pub gathered : ℕ → List ℕ → Option (List ℕ × List ℕ)
 gathered room [] = None
 gathered room (x ∷ xs) =
-    if x == 0x16 then gathered room xs
+    if x == SYN then gathered room xs
     else if room == 0 then None
     else gather_code (code_of x) xs (gathered (room - 1) xs)
 
@@ -152,14 +154,14 @@ after_check codes (k ∷ rest) = if odd_octet (longitudinal_sum codes) == k then
 -- the codes without an STX after a check
 abbrev pub after_start : Bool → List ℕ → List ℕ
 after_start after_us codes =
-    if after_us && begins (is_octet 0x02) codes then drop 1 codes else codes
+    if after_us && begins (is_octet STX) codes then drop 1 codes else codes
 
 -- the unit of these characters with its ending character, by what stands after the characters
 abbrev pub unit_of_tail : List ℕ → List ℕ → Option (TextUnit × ℕ)
 unit_of_tail chars [] = None
 unit_of_tail chars (e ∷ []) = Some (record { chars = chars; em = false }, e)
 unit_of_tail chars (m ∷ e ∷ []) =
-    if m == 0x19 then Some (record { chars = chars; em = true }, e) else None
+    if m == EM_CODE then Some (record { chars = chars; em = true }, e) else None
 unit_of_tail chars (m ∷ e ∷ x ∷ xs) = None
 
 unfoldable pub read_unit : List ℕ → Option (TextUnit × ℕ)
@@ -178,8 +180,8 @@ pub record IsFront (octets : List ℕ) : Type 0 where
 
 -- characters, EM where it is marked, and one octet more
 pub record AreParts (octets chars : List ℕ) (em : Bool) (last : ℕ) : Type 0 where
-  pub whole : octets ≡ chars ++ (if em then 0x19 ∷ [] else []) ++ last ∷ []
-  pub no_em : em ≡ false → (front : List ℕ) → chars ≡ front ++ 0x19 ∷ [] → ⊥
+  pub whole : octets ≡ chars ++ (if em then EM_CODE ∷ [] else []) ++ last ∷ []
+  pub no_em : em ≡ false → (front : List ℕ) → chars ≡ front ++ EM_CODE ∷ [] → ⊥
 
 -- the unit of the codes before these octets, its ending character, and the octets after its check
 abbrev pub unit_before : Bool → List ℕ → List ℕ → Option (TextUnit × ℕ × List ℕ)
@@ -200,7 +202,7 @@ before_units u (Some t) = Some (record { units = u ∷ t.units; end = t.end })
 
 -- nothing may follow the last unit
 abbrev pub last_unit : TextUnit → ℕ → List ℕ → Option TextValue
-last_unit u e [] = Some (record { units = u ∷ []; end = if e == 0x17 then Etb else Etx })
+last_unit u e [] = Some (record { units = u ∷ []; end = if e == ETB_CODE then Etb else Etx })
 last_unit u e (x ∷ xs) = None
 
 -- at most this many units
@@ -208,7 +210,7 @@ unfoldable pub units_at : ℕ → Bool → List ℕ → Option TextValue
 units_at zero after_us octets = None
 units_at (suc n) after_us octets = do
   u ← unit_at after_us octets
-  if u.1 == 0x1f then before_units u.0 (units_at n true u.2) else last_unit u.0 u.1 u.2
+  if u.1 == US_CODE then before_units u.0 (units_at n true u.2) else last_unit u.0 u.1 u.2
 
 abbrev pub whole_or_failed : Option TextValue → Heard
 whole_or_failed (Some t) = Whole (Text t)
@@ -217,13 +219,13 @@ whole_or_failed None = Failed
 -- what a body is heard as
 unfoldable pub heard_body : List ℕ → Heard
 heard_body body =
-    if begins (is_octet 0x02) body then whole_or_failed (units_at MAX_UNITS false (drop 1 body))
+    if begins (is_octet STX) body then whole_or_failed (units_at MAX_UNITS false (drop 1 body))
     else whole_or_noise (control body)
 
 -- what is heard of what stands after the leading pads
 abbrev pub heard_from_syn : List ℕ → Heard
 heard_from_syn rest =
-    if begins (is_octet 0x16) rest then heard_body (trimmed (skip (is_octet 0x16) rest)) else Noise
+    if begins (is_octet SYN) rest then heard_body (trimmed (skip (is_octet SYN) rest)) else Noise
 
 unfoldable pub heard : List ℕ → Heard
 heard octets =

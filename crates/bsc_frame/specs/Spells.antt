@@ -15,6 +15,7 @@ use Rattle.bsc_frame.specs.declared.message.Message.{Message}
 use Rattle.bsc_frame.specs.declared.message.Message.TheVariants.{Eot, Call, Enq, Reply, Text}
 use Rattle.bsc_frame.specs.declared.message.Heard.{Heard}
 use Rattle.bsc_frame.specs.declared.message.Heard.TheVariants.{Whole, Failed, Noise}
+use Rattle.bsc_frame.specs.declared.octets.TheConstants.{ENQ, EOT, PAD, STX, SYN}
 
 -- Leading pads: only octets 55 and AA (GA27-3004: pad format).
 abbrev pub ArePads : List ℕ → Type 0
@@ -29,9 +30,9 @@ AreAll octet = AllByRecursion (λ x. x ≡ octet)
 pub record IsCall (a body : List ℕ) : Type 0 where
   pub pads : List ℕ
   pub syns : List ℕ
-  pub whole : body ≡ 0x04 ∷ pads ++ syns ++ map odd_octet a ++ 0x85 ∷ []
-  pub are_pads : AreAll 0xff pads
-  pub are_syns : AreAll 0x16 syns
+  pub whole : body ≡ EOT ∷ pads ++ syns ++ map odd_octet a ++ ENQ ∷ []
+  pub are_pads : AreAll PAD pads
+  pub are_syns : AreAll SYN syns
   pub address : IsAddress a
 
 -- Codes with odd parity, each preceded by any SYN, which are fill and in no sum (GA27-3004: SYN
@@ -39,13 +40,13 @@ pub record IsCall (a body : List ℕ) : Type 0 where
 abbrev pub AreFilled : List ℕ → List ℕ → Type 0
 AreFilled [] octets = octets ≡ []
 AreFilled (c ∷ cs) octets =
-    (fill rest : List ℕ) × AreAll 0x16 fill × (octets ≡ fill ++ odd_octet c ∷ rest)
+    (fill rest : List ℕ) × AreAll SYN fill × (octets ≡ fill ++ odd_octet c ∷ rest)
     × AreFilled cs rest
 
 -- What may stand before the codes of a unit and in its sum: nothing, and after the check of a US
 -- one STX.
 abbrev pub IsStart : Bool → List ℕ → Type 0
-IsStart after_us start = (start ≡ []) ⊎ ((after_us ≡ true) × (start ≡ 0x02 ∷ []))
+IsStart after_us start = (start ≡ []) ⊎ ((after_us ≡ true) × (start ≡ STX ∷ []))
 
 -- The units of a text: for each its codes with fills, and at once, without fill, the check of these
 -- codes. An STX after the check of a US is the first code of the next sum (GA27-3004: intermediate
@@ -62,15 +63,15 @@ AreUnits after_us (u ∷ us) end octets =
 -- The body of a text: STX, then its units.
 pub record IsTextBody (t : TextValue) (body : List ℕ) : Type 0 where
   pub rest : List ℕ
-  pub whole : body ≡ 0x02 ∷ rest
+  pub whole : body ≡ STX ∷ rest
   pub units : AreUnits false t.units t.end rest
   pub text : IsText t
 
 -- The body of a message, a line each.
 abbrev pub IsBody : Message → List ℕ → Type 0
-IsBody Eot body = body ≡ 0x04 ∷ []
+IsBody Eot body = body ≡ EOT ∷ []
 IsBody (Call a) body = IsCall a body
-IsBody Enq body = body ≡ 0x85 ∷ []
+IsBody Enq body = body ≡ ENQ ∷ []
 IsBody (Reply r) body = body ≡ reply_octets r
 IsBody (Text t) body = IsTextBody t body
 
@@ -81,9 +82,9 @@ pub record Carries (octets body : List ℕ) : Type 0 where
   pub trail : List ℕ
   pub whole : octets ≡ pads ++ syns ++ body ++ trail
   pub are_pads : ArePads pads
-  pub are_syns : AreAll 0x16 syns
+  pub are_syns : AreAll SYN syns
   pub some_syn : syns ≢ []
-  pub are_trail : AreAll 0xff trail
+  pub are_trail : AreAll PAD trail
 
 -- The octets spell the message: they carry its body, and are at most MAX_HEARD (the limit is own).
 pub record Spells (octets : List ℕ) (m : Message) : Type 0 where
@@ -97,7 +98,7 @@ pub record Spells (octets : List ℕ) (m : Message) : Type 0 where
 pub record IsFailed (octets : List ℕ) : Type 0 where
   pub small : length octets ≤ MAX_HEARD
   pub rest : List ℕ
-  pub carried : Carries octets (0x02 ∷ rest)
+  pub carried : Carries octets (STX ∷ rest)
   pub none : (m : Message) → Spells octets m → ⊥
 
 -- Noise: the octets spell no message and have not failed as a text.

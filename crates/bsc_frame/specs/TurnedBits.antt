@@ -8,6 +8,7 @@ use Rattle.bsc_frame.specs.Reading.{is_ending_octet}
 use Rattle.bsc_frame.specs.declared.message.Message.{Message}
 use Rattle.bsc_frame.specs.declared.message.Message.TheVariants.{Call, Text}
 use Rattle.bsc_frame.specs.declared.text.End.TheVariants.{Etx}
+use Rattle.bsc_frame.specs.declared.octets.TheConstants.{PAD, SYN}
 
 -- The octets with another octet at the place.
 abbrev pub with_octet : ℕ → ℕ → List ℕ → List ℕ
@@ -35,7 +36,7 @@ IsSomeText m = (t : TextValue) × (m ≡ Text t)
 
 -- An octet that may stand in the body of a message: one of odd parity, and in a call also PAD.
 abbrev pub IsBodyOctet : Message → ℕ → Type 0
-IsBodyOctet m octet = IsOdd octet ⊎ (IsSomeCall m × (octet ≡ 0xff))
+IsBodyOctet m octet = IsOdd octet ⊎ (IsSomeCall m × (octet ≡ PAD))
 
 -- A leading pad in place of the first SYN.
 abbrev pub IsLeadingPad : ℕ → ℕ → Type 0
@@ -43,7 +44,7 @@ IsLeadingPad place octet = (place ≡ 0) × ((octet ≡ 0x55) ⊎ (octet ≡ 0xa
 
 -- In a call, SYN in place of the PAD after EOT, or PAD in place of the SYN after that.
 abbrev pub IsCallFill : ℕ → ℕ → Type 0
-IsCallFill place octet = ((place ≡ 3) × (octet ≡ 0x16)) ⊎ ((place ≡ 4) × (octet ≡ 0xff))
+IsCallFill place octet = ((place ≡ 3) × (octet ≡ SYN)) ⊎ ((place ≡ 4) × (octet ≡ PAD))
 
 -- The octet, put in this place of what is sent for the message, is still fill there.
 abbrev pub IsFillIn : Message → ℕ → ℕ → Type 0
@@ -62,6 +63,6 @@ pub record IsOtherOctet (old new : ℕ) : Type 0 where
   pub octet : new < 256
   pub odd : IsOdd new
   pub differs : new ≢ old
-  pub no_fill : new ≢ 0x16
+  pub no_fill : new ≢ SYN
   pub no_end : is_ending_octet new ≡ false
   pub was_no_end : is_ending_octet old ≡ false

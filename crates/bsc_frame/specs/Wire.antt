@@ -6,16 +6,17 @@ use Rattle.bsc_frame.specs.Replies.{reply_octets}
 use Rattle.bsc_frame.specs.Units.{units_wire}
 use Rattle.bsc_frame.specs.declared.message.Message.{Message}
 use Rattle.bsc_frame.specs.declared.message.Message.TheVariants.{Eot, Call, Enq, Reply, Text}
+use Rattle.bsc_frame.specs.declared.octets.TheConstants.{ENQ, EOT, PAD, STX, SYN}
 
 -- A body between two SYN and one PAD.
 abbrev pub framed : List ℕ → List ℕ
-framed body = 0x16 ∷ 0x16 ∷ [] ++ body ++ 0xff ∷ []
+framed body = SYN ∷ SYN ∷ [] ++ body ++ PAD ∷ []
 
 -- What is sent for a message, a line each. A call is EOT with its PAD, two SYN, the address and
 -- ENQ.
 abbrev pub wire : Message → List ℕ
-wire Eot = framed (0x04 ∷ [])
-wire (Call a) = framed (0x04 ∷ 0xff ∷ 0x16 ∷ 0x16 ∷ [] ++ map odd_octet a ++ 0x85 ∷ [])
-wire Enq = framed (0x85 ∷ [])
+wire Eot = framed (EOT ∷ [])
+wire (Call a) = framed (EOT ∷ PAD ∷ SYN ∷ SYN ∷ [] ++ map odd_octet a ++ ENQ ∷ [])
+wire Enq = framed (ENQ ∷ [])
 wire (Reply r) = framed (reply_octets r)
-wire (Text t) = framed (0x02 ∷ units_wire t.units t.end)
+wire (Text t) = framed (STX ∷ units_wire t.units t.end)

@@ -1,5 +1,6 @@
 use Rattle.std.proofs.Common.{◌∙◌, ap, arith}
 use Rattle.bsc_frame.specs.Reading.{trimmed}
+use Rattle.bsc_frame.specs.declared.octets.TheConstants.{SYN}
 use Rattle.bsc_frame.proofs.RunLemmas.{skip_pads, skip_all}
 use Rattle.bsc_frame.proofs.BodyLemmas.{heard_no_syn, heard_after_syn}
 use Rattle.bsc_frame.proofs.body.body_of_few.Goals as goal
@@ -17,4 +18,4 @@ returns c =
     (skip_pads c.args.octets.now c.either_rest-pads.result c.either_rest-pads.ensures.count)
     c.starts_with.ensures c.if-not-starts_with.false
     (c.trim_rest.ensures
-    ∙ ap trimmed (skip_all _ c.either_rest-syns.result 0x16 c.either_rest-syns.ensures.count))
+    ∙ ap trimmed (skip_all _ c.either_rest-syns.result SYN c.either_rest-syns.ensures.count))

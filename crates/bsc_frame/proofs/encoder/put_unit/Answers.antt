@@ -1,6 +1,7 @@
 use Rattle.std.proofs.Common.{◌≡◌, ◌∙◌, ℕ, List, ◌++◌, [], ◌∷◌, refl, ap, take, map, cond}
 use Rattle.bsc_octet.specs.Octet.{odd_octet}
 use Rattle.bsc_frame.specs.Units.{text_unit}
+use Rattle.bsc_frame.specs.declared.octets.TheConstants.{EM_CODE}
 use Rattle.bsc_frame.proofs.WireSteps.{chars_small, unit_wire_is}
 use Rattle.bsc_frame.proofs.encoder.put_unit.Goals as goal
 
@@ -10,7 +11,7 @@ put_codes-requires-clause-codes c = chars_small (text_unit c.args.unit) c.requir
 pub returns-clause-octets : goal.returns-clause-octets
 returns-clause-octets c =
     let line : List ℕ = take c.put-count.result c.put-count.new.octets in
-    let codes : line ≡ (map odd_octet c.args.unit.chars.now ++ cond c.args.unit.em (0x19 ∷ []) [])
+    let codes : line ≡ (map odd_octet c.args.unit.chars.now ++ cond c.args.unit.em (EM_CODE ∷ []) [])
     ++ odd_octet c.args.ending ∷ [] =
     c.put-count.ensures.octets ∙ rw (
       c.put_em-count.ensures.octets,

@@ -1,6 +1,7 @@
 use Rattle.std.proofs.Common.{refl}
 use Rattle.bsc_frame.proofs.ReadLemmas.{test_false}
 use Rattle.bsc_frame.specs.Reading.{is_before_ending}
+use Rattle.bsc_frame.specs.declared.octets.TheConstants.{ETB, ETX, US_CODE}
 use Rattle.bsc_frame.proofs.RunLemmas.{run_more, run_stop, run_end}
 use Rattle.bsc_frame.proofs.front.before_ending_rest.Goals as goal
 use Rattle.bsc_frame.proofs.front.before_ending_rest.Goals.{then-octet-eq-US-via-then-octet-eq-US}
@@ -21,9 +22,9 @@ pub loop-i-preserved : goal.loop-i-preserved
 loop-i-preserved c =
     run_more is_before_ending c.loop-i.i c.args.octets.now c.loop-i.invariant
     c.loop-i-test.true (rw (
-      test_false _ 0x1f c.if-octet-eq-US.false,
-      test_false _ 0x97 c.if-octet.false,
-      test_false _ 0x83 c.if-octet-2.false,
+      test_false _ US_CODE c.if-octet-eq-US.false,
+      test_false _ ETB c.if-octet.false,
+      test_false _ ETX c.if-octet-2.false,
     ) refl)
 
 pub returns-clause-count : goal.returns-clause-count

@@ -1,7 +1,8 @@
 use Rattle.std.proofs.Common.{◌≡◌, take}
 use Rattle.std.specs.List.{list_any}
 use Rattle.bsc_frame.specs.Reading.{is_octet}
+use Rattle.bsc_frame.specs.declared.octets.TheConstants.{SYN}
 use Rattle.bsc_frame.proofs.squeeze.has_fill.Given as goal
 
 abbrev pub invariant-loop-octet : goal.invariant-loop-octet
-invariant-loop-octet l = l.found ≡ list_any (is_octet 0x16) (take l.octet-index l.octets)
+invariant-loop-octet l = l.found ≡ list_any (is_octet SYN) (take l.octet-index l.octets)

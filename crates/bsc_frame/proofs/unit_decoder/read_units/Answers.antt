@@ -1,6 +1,7 @@
 use Rattle.std.proofs.Common.{nat_lt, refl, sym}
 use Rattle.std.proofs.lemmas.Bool.{eqb-true, eqb-false, eq-eqb}
 use Rattle.bsc_frame.specs.declared.text.End.TheVariants.{Etb, Etx}
+use Rattle.bsc_frame.specs.declared.octets.TheConstants.{ETB_CODE}
 use Rattle.bsc_frame.proofs.ReadLemmas.{test_false}
 use Rattle.bsc_frame.proofs.UnitSteps.{read_start, read_stop, read_more, read_extra, read_whole}
 use Rattle.bsc_frame.proofs.UnitSteps.{read_all, rest_odd}
@@ -30,7 +31,7 @@ returns-then-ending-eq-ETB_CODE-clause-found c =
     c.loop-count.rest.now c.in-Some.left.now c.args.octets.now Etb c.loop-count.invariant.read
     c.loop-count-test.true c.in-Some.ensures.found c.if-ending-ne-US_CODE.true
     (eqb-true _ 0 (sym c.if-not-is_empty.ensures))
-    (rw (eq-eqb _ 0x17 c.if-ending-eq-ETB_CODE.true) refl)
+    (rw (eq-eqb _ ETB_CODE c.if-ending-eq-ETB_CODE.true) refl)
 
 pub returns-else-ending-eq-ETB_CODE-clause-found : goal.returns-else-ending-eq-ETB_CODE-clause-found
 returns-else-ending-eq-ETB_CODE-clause-found c =
@@ -38,7 +39,7 @@ returns-else-ending-eq-ETB_CODE-clause-found c =
     c.loop-count.rest.now c.in-Some.left.now c.args.octets.now Etx c.loop-count.invariant.read
     c.loop-count-test.true c.in-Some.ensures.found c.if-ending-ne-US_CODE.true
     (eqb-true _ 0 (sym c.if-not-is_empty.ensures))
-    (rw (test_false _ 0x17 c.if-ending-eq-ETB_CODE.false) refl)
+    (rw (test_false _ ETB_CODE c.if-ending-eq-ETB_CODE.false) refl)
 
 pub loop-count-preserved : goal.loop-count-preserved
 loop-count-preserved c = record {
