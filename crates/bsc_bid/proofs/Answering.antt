@@ -12,12 +12,13 @@ use Rattle.bsc_bid.specs.Act.{Act}
 use Rattle.bsc_bid.specs.Act as a
 use Rattle.bsc_bid.specs.declared.alternation.Alternation.{Alternation}
 use Rattle.bsc_bid.specs.declared.alternation.Alternation.TheVariants.{Even, Odd}
-use Rattle.bsc_bid.specs.declared.reply.Reply.{Reply}
-use Rattle.bsc_bid.specs.declared.reply.Reply.TheVariants.{Ack0, Ack1, Nak, Wack, Rvi}
+use Rattle.bsc_frame.specs.declared.reply.Reply.{Reply}
+use Rattle.bsc_frame.specs.declared.reply.Reply.TheVariants.{Ack0, Ack1, Nak, Wack, Rvi}
 use Rattle.bsc_bid.specs.declared.phase.SentBlock.{SentBlock}
 use Rattle.bsc_bid.specs.declared.phase.Phase.{Phase}
 use Rattle.bsc_bid.specs.declared.phase.Phase.TheVariants.{Idle, Unanswered, Held, InDoubt}
-use Rattle.bsc_bid.specs.Reply.{answer_of, message_of, reply_in, reply_heard}
+use Rattle.bsc_frame.specs.Replies.{reply_in}
+use Rattle.bsc_bid.specs.Answer.{answer_of}
 use Rattle.bsc_bid.specs.Sender.{SenderValue, SenderStep, unmoved, text_of, begin_step, accepted}
 use Rattle.bsc_bid.specs.Sender.{failed, delayed, unanswered_step, held_step, answered_step}
 use Rattle.bsc_bid.specs.Sender.{reply_step, silence_in}
@@ -202,39 +203,17 @@ silent_keeps s (Unanswered b) q alternation last spooled e i =
       refl,
     )
 
-no_text : (r : Reply) → IsTextMessage (message_of r) → ⊥
-no_text Ack0 f = f
-no_text Ack1 f = f
-no_text Nak f = f
-no_text Wack f = f
-no_text Rvi f = f
-
-pub reply_not_cut : (r : Reply) (v : Message) → IsCallCutShort (message_of r) v → ⊥
-reply_not_cut Ack0 v f = f
-reply_not_cut Ack1 v f = f
-reply_not_cut Nak v f = f
-reply_not_cut Wack v f = f
-reply_not_cut Rvi v f = f
-
--- a reply is read from its message
-pub reply_again : (r : Reply) → reply_in (message_of r) ≡ Some r
-reply_again Ack0 = refl
-reply_again Ack1 = refl
-reply_again Nak = refl
-reply_again Wack = refl
-reply_again Rvi = refl
-
 -- a message from which no reply is read is that of no reply
-pub no_reply : (w : Message) (r : Reply) → reply_in w ≡ None → w ≡ message_of r → ⊥
-no_reply w r none e = none-some r (sym none ∙ ap reply_in e ∙ reply_again r)
+pub no_reply : (w : Message) (r : Reply) → reply_in (Whole w) ≡ None → w ≡ m.Reply r → ⊥
+no_reply w r none e = none-some r (sym none ∙ ap (λ (z : Message). reply_in (Whole z)) e)
 
 -- a reply is heard as itself or not at all
-pub fair_reply : (r : Reply) (h : Heard) → IsFairlyHeard (message_of r) h
-    → (reply_heard h ≡ Some r) ⊎ (reply_heard h ≡ None)
+pub fair_reply : (r : Reply) (h : Heard) → IsFairlyHeard (m.Reply r) h
+    → (reply_in h ≡ Some r) ⊎ (reply_in h ≡ None)
 fair_reply r Noise f = inr refl
-fair_reply r Failed f = absurd (no_text r f)
-fair_reply r (Whole v) (inl e) = inl (ap reply_in e ∙ reply_again r)
-fair_reply r (Whole v) (inr e) = absurd (reply_not_cut r v e)
+fair_reply r Failed f = absurd f
+fair_reply r (Whole v) (inl e) = inl (ap (λ (z : Message). reply_in (Whole z)) e)
+fair_reply r (Whole v) (inr e) = absurd e
 
 goes_on : (phase : Phase) (q : QueueValue) (alternation : Alternation) (last : Reply)
     (spooled : List (List ℕ)) → InBid phase q alternation last spooled Still

@@ -10,14 +10,15 @@ use Rattle.bsc_spool.specs.Queue.{QueueValue, with_known, next_block}
 use Rattle.bsc_bid.specs.Act.{Act}
 use Rattle.bsc_bid.specs.Act as a
 use Rattle.bsc_bid.specs.declared.alternation.Alternation.{Alternation}
-use Rattle.bsc_bid.specs.declared.reply.Reply.{Reply}
-use Rattle.bsc_bid.specs.declared.reply.Answer.{Answer}
-use Rattle.bsc_bid.specs.declared.reply.Answer.TheVariants.{Accepted, Refused, Delayed}
-use Rattle.bsc_bid.specs.declared.reply.Answer.TheVariants.{Interrupted}
+use Rattle.bsc_frame.specs.declared.reply.Reply.{Reply}
+use Rattle.bsc_bid.specs.declared.answer.Answer.{Answer}
+use Rattle.bsc_bid.specs.declared.answer.Answer.TheVariants.{Accepted, Refused, Delayed}
+use Rattle.bsc_bid.specs.declared.answer.Answer.TheVariants.{Interrupted}
 use Rattle.bsc_bid.specs.declared.phase.SentBlock.{SentBlock}
 use Rattle.bsc_bid.specs.declared.phase.Phase.{Phase}
 use Rattle.bsc_bid.specs.declared.phase.Phase.TheVariants.{Idle, Unanswered, Held, InDoubt}
-use Rattle.bsc_bid.specs.Reply.{other, answer_of, reply_heard}
+use Rattle.bsc_frame.specs.Replies.{reply_in}
+use Rattle.bsc_bid.specs.Answer.{other, answer_of}
 use Rattle.bsc_bid.specs.Sender.{SenderValue, SenderStep, sent_next, accepted, delayed}
 use Rattle.bsc_bid.specs.Sender.{unanswered_step, held_step, answered_step, reply_step, silence_in}
 use Rattle.bsc_bid.specs.Sender.{is_in_doubt}
@@ -82,7 +83,7 @@ certain_heard : (s : SenderValue) (q : QueueValue) (r : Option Reply) (h : Optio
 certain_heard s q None None d = refl
 certain_heard s q None (Some h) d = refl
 certain_heard s q (Some r) None d = refl
-certain_heard s q (Some r) (Some h) d = certain_reply s q (reply_heard h) d
+certain_heard s q (Some r) (Some h) d = certain_reply s q (reply_in h) d
 
 -- a bid that goes on is not in doubt
 certain_going : (p : Phase) (q : QueueValue) (x : Alternation) (last : Reply)

@@ -8,14 +8,15 @@ use Rattle.bsc_spool.specs.Queue.{QueueValue, with_known, next_block}
 use Rattle.bsc_bid.specs.Act.{Act}
 use Rattle.bsc_bid.specs.Act as a
 use Rattle.bsc_bid.specs.declared.alternation.Alternation.{Alternation}
-use Rattle.bsc_bid.specs.declared.reply.Reply.{Reply}
-use Rattle.bsc_bid.specs.declared.reply.Answer.{Answer}
-use Rattle.bsc_bid.specs.declared.reply.Answer.TheVariants.{Accepted, Refused, Delayed}
-use Rattle.bsc_bid.specs.declared.reply.Answer.TheVariants.{Interrupted}
+use Rattle.bsc_frame.specs.declared.reply.Reply.{Reply}
+use Rattle.bsc_bid.specs.declared.answer.Answer.{Answer}
+use Rattle.bsc_bid.specs.declared.answer.Answer.TheVariants.{Accepted, Refused, Delayed}
+use Rattle.bsc_bid.specs.declared.answer.Answer.TheVariants.{Interrupted}
 use Rattle.bsc_bid.specs.declared.phase.SentBlock.{SentBlock}
 use Rattle.bsc_bid.specs.declared.phase.Phase.{Phase}
 use Rattle.bsc_bid.specs.declared.phase.Phase.TheVariants.{Idle, Unanswered, Held, InDoubt}
-use Rattle.bsc_bid.specs.Reply.{other, answer_of, reply_heard}
+use Rattle.bsc_frame.specs.Replies.{reply_in}
+use Rattle.bsc_bid.specs.Answer.{other, answer_of}
 use Rattle.bsc_bid.specs.Sender.{SenderValue, SenderStep, text_of, sent_next, accepted, failed}
 use Rattle.bsc_bid.specs.Sender.{delayed, unanswered_step, held_step, answered_step, reply_step}
 use Rattle.bsc_bid.specs.Sender.{silence_in, silence_step, begin_step}
@@ -98,7 +99,7 @@ pub fits_heard : (s : SenderValue) (q : QueueValue) (r : Option Reply) (h : Opti
 fits_heard s q None None = refl
 fits_heard s q None (Some h) = refl
 fits_heard s q (Some r) None = refl
-fits_heard s q (Some r) (Some h) = fits_reply s q (reply_heard h)
+fits_heard s q (Some r) (Some h) = fits_reply s q (reply_in h)
 
 pub fits_settled : (s : SenderValue) (t : SenderStep) (x : Act) → t.act ≡ x → Fits s t
     → Fits s (unless_quiet t x)

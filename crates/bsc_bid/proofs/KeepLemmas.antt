@@ -7,14 +7,14 @@ use Rattle.bsc_spool.specs.Queue.{QueueValue, with_known, next_block}
 use Rattle.bsc_bid.specs.Act.{Act}
 use Rattle.bsc_bid.specs.Act as a
 use Rattle.bsc_bid.specs.declared.alternation.Alternation.{Alternation}
-use Rattle.bsc_bid.specs.declared.reply.Reply.{Reply}
-use Rattle.bsc_bid.specs.declared.reply.Answer.{Answer}
-use Rattle.bsc_bid.specs.declared.reply.Answer.TheVariants.{Accepted, Refused, Delayed}
-use Rattle.bsc_bid.specs.declared.reply.Answer.TheVariants.{Interrupted}
+use Rattle.bsc_frame.specs.declared.reply.Reply.{Reply}
+use Rattle.bsc_bid.specs.declared.answer.Answer.{Answer}
+use Rattle.bsc_bid.specs.declared.answer.Answer.TheVariants.{Accepted, Refused, Delayed}
+use Rattle.bsc_bid.specs.declared.answer.Answer.TheVariants.{Interrupted}
 use Rattle.bsc_bid.specs.declared.phase.SentBlock.{SentBlock}
 use Rattle.bsc_bid.specs.declared.phase.Phase.{Phase}
 use Rattle.bsc_bid.specs.declared.phase.Phase.TheVariants.{Idle, Unanswered, Held, InDoubt}
-use Rattle.bsc_bid.specs.Reply.{other, answer_of}
+use Rattle.bsc_bid.specs.Answer.{other, answer_of}
 use Rattle.bsc_bid.specs.Sender.{SenderValue, text_of, sent_next, begin_step, accepted}
 use Rattle.bsc_bid.specs.Sender.{failed, delayed, unanswered_step, held_step, answered_step}
 use Rattle.bsc_bid.specs.Sender.{reply_step, silence_in, silence_step}

@@ -8,11 +8,11 @@ use Rattle.bsc_spool.specs.declared.queue.Next.{Next}
 use Rattle.bsc_spool.specs.Queue.{QueueValue, with_known, IsQueue, IsNext, waiting, next_block}
 use Rattle.bsc_bid.specs.declared.alternation.Alternation.{Alternation}
 use Rattle.bsc_bid.specs.declared.alternation.Alternation.TheVariants.{Even, Odd}
-use Rattle.bsc_bid.specs.declared.reply.Reply.{Reply}
-use Rattle.bsc_bid.specs.declared.reply.Reply.TheVariants.{Ack0, Ack1, Nak, Wack, Rvi}
+use Rattle.bsc_frame.specs.declared.reply.Reply.{Reply}
+use Rattle.bsc_frame.specs.declared.reply.Reply.TheVariants.{Ack0, Ack1, Nak, Wack, Rvi}
 use Rattle.bsc_bid.specs.declared.phase.SentBlock.{SentBlock}
 use Rattle.bsc_bid.specs.declared.phase.Phase.TheVariants.{Idle, Unanswered}
-use Rattle.bsc_bid.specs.Reply.{other, answer_of}
+use Rattle.bsc_bid.specs.Answer.{other, answer_of}
 use Rattle.bsc_bid.specs.Sender.{SenderValue, SenderStep, over, sent_next, accepted, delayed}
 use Rattle.bsc_bid.specs.Sender.{unanswered_step}
 use Rattle.bsc_bid.specs.Ready.{AreWaiting}

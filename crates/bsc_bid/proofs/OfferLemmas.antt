@@ -9,7 +9,7 @@ use Rattle.bsc_block.specs.Blocks.{unit_of}
 use Rattle.bsc_spool.specs.Queue.{QueueValue, with_offered, IsQueue, waiting}
 use Rattle.bsc_spool.proofs.Offers.{is_queue_offered}
 use Rattle.bsc_bid.specs.declared.alternation.Alternation.{Alternation}
-use Rattle.bsc_bid.specs.declared.reply.Reply.{Reply}
+use Rattle.bsc_frame.specs.declared.reply.Reply.{Reply}
 use Rattle.bsc_bid.specs.declared.phase.SentBlock.{SentBlock}
 use Rattle.bsc_bid.specs.declared.phase.Phase.{Phase}
 use Rattle.bsc_bid.specs.declared.phase.Phase.TheVariants.{Idle, Unanswered, Held, InDoubt}

@@ -45,11 +45,7 @@ grows_heard_step r s Failed urgent rooms = inl refl
 grows_heard_step r s Noise urgent rooms = inl refl
 grows_heard_step r s (Whole m.Eot) urgent rooms = inl refl
 grows_heard_step r s (Whole (m.Call x)) urgent rooms = inl refl
-grows_heard_step r s (Whole m.Ack0) urgent rooms = inl refl
-grows_heard_step r s (Whole m.Ack1) urgent rooms = inl refl
-grows_heard_step r s (Whole m.Nak) urgent rooms = inl refl
-grows_heard_step r s (Whole m.Wack) urgent rooms = inl refl
-grows_heard_step r s (Whole m.Rvi) urgent rooms = inl refl
+grows_heard_step r s (Whole (m.Reply reply)) urgent rooms = inl refl
 
 -- where nothing is replied the receiver stays as it is
 abbrev pub StaysSilent : ReceiverValue → ReceiverStep → Type 0
@@ -69,8 +65,4 @@ silent_heard_step r s Noise urgent rooms = λ e. refl
 silent_heard_step r s Failed urgent rooms = λ e. absurd (cc)
 silent_heard_step r s (Whole m.Eot) urgent rooms = λ e. refl
 silent_heard_step r s (Whole (m.Call x)) urgent rooms = λ e. refl
-silent_heard_step r s (Whole m.Ack0) urgent rooms = λ e. refl
-silent_heard_step r s (Whole m.Ack1) urgent rooms = λ e. refl
-silent_heard_step r s (Whole m.Nak) urgent rooms = λ e. refl
-silent_heard_step r s (Whole m.Wack) urgent rooms = λ e. refl
-silent_heard_step r s (Whole m.Rvi) urgent rooms = λ e. refl
+silent_heard_step r s (Whole (m.Reply reply)) urgent rooms = λ e. refl

@@ -13,15 +13,16 @@ use Rattle.bsc_spool.specs.Queue.{QueueValue, with_known, IsQueue, waiting, next
 use Rattle.bsc_bid.specs.Act.{Act}
 use Rattle.bsc_bid.specs.Act as a
 use Rattle.bsc_bid.specs.declared.alternation.Alternation.{Alternation}
-use Rattle.bsc_bid.specs.declared.reply.Reply.{Reply}
-use Rattle.bsc_bid.specs.declared.reply.Answer.{Answer}
-use Rattle.bsc_bid.specs.declared.reply.Answer.TheVariants.{Accepted, Refused, Delayed}
-use Rattle.bsc_bid.specs.declared.reply.Answer.TheVariants.{Interrupted}
+use Rattle.bsc_frame.specs.declared.reply.Reply.{Reply}
+use Rattle.bsc_bid.specs.declared.answer.Answer.{Answer}
+use Rattle.bsc_bid.specs.declared.answer.Answer.TheVariants.{Accepted, Refused, Delayed}
+use Rattle.bsc_bid.specs.declared.answer.Answer.TheVariants.{Interrupted}
 use Rattle.bsc_bid.specs.declared.phase.SentBlock.{SentBlock}
 use Rattle.bsc_bid.specs.declared.phase.Phase.{Phase}
 use Rattle.bsc_bid.specs.declared.phase.Phase.TheVariants.{Idle, Unanswered, Held, InDoubt}
 use Rattle.bsc_bid.specs.Setup.{SetupValue}
-use Rattle.bsc_bid.specs.Reply.{other, answer_of, reply_heard}
+use Rattle.bsc_frame.specs.Replies.{reply_in}
+use Rattle.bsc_bid.specs.Answer.{other, answer_of}
 use Rattle.bsc_bid.specs.Sender.{SenderValue, SenderStep, text_of, sent_next, begin_step, accepted}
 use Rattle.bsc_bid.specs.Sender.{failed, delayed, unanswered_step, held_step, answered_step}
 use Rattle.bsc_bid.specs.Sender.{reply_step, silence_in}
@@ -147,7 +148,7 @@ heard_comes : (s : SenderValue) (q : QueueValue) (r : Option Reply) (h : Option 
 heard_comes s q None None w = (refl, refl)
 heard_comes s q None (Some h) w = (refl, refl)
 heard_comes s q (Some r) None w = (refl, refl)
-heard_comes s q (Some r) (Some h) w = reply_comes s q (reply_heard h) w
+heard_comes s q (Some r) (Some h) w = reply_comes s q (reply_in h) w
 
 settled_comes : (s : SenderValue) (t : SenderStep) (x : Act) → t.act ≡ x → IsWithin s
     → Comes s t → Comes s (unless_quiet t x)

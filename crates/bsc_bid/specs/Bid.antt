@@ -1,15 +1,16 @@
 -- One bid: a sender and a receiver with one channel, turn by turn (own).
 use Rattle.std.specs.Prelude.{◌≡◌, ◌≤◌, ℕ, Bool, List, [], ◌∷◌, length, Option, None, Some}
+use Rattle.bsc_frame.specs.declared.message.Message.TheVariants as m
 use Rattle.bsc_frame.specs.declared.message.Message.{Message}
 use Rattle.bsc_frame.specs.declared.message.Heard.{Heard}
 use Rattle.bsc_spool.specs.Queue.{QueueValue, with_offered, IsQueue, waiting}
 use Rattle.bsc_spool.specs.Spool.{SpoolValue}
 use Rattle.bsc_bid.specs.Act.{Act}
 use Rattle.bsc_bid.specs.Act as a
-use Rattle.bsc_bid.specs.declared.reply.Reply.{Reply}
+use Rattle.bsc_frame.specs.declared.reply.Reply.{Reply}
 use Rattle.bsc_bid.specs.declared.phase.Phase.TheVariants.{Idle}
 use Rattle.bsc_bid.specs.Act.{message_for}
-use Rattle.bsc_bid.specs.Reply.{message_of, reply_heard}
+use Rattle.bsc_frame.specs.Replies.{reply_in}
 use Rattle.bsc_bid.specs.Sender.{SenderValue, SenderStep, unmoved, begin_step, reply_step}
 use Rattle.bsc_bid.specs.Sender.{silence_step}
 use Rattle.bsc_bid.specs.Receiver.{ReceiverValue, ReceiverStep, Rooms, new_receiver, heard_step}
@@ -44,7 +45,7 @@ received r s (Some h) urgent rooms = heard_step r s h urgent rooms
 
 -- the sender hears the reply, or nothing
 abbrev pub answered : SenderValue → QueueValue → Option Reply → Option Heard → SenderStep
-answered s q (Some r) (Some h) = reply_step s q (reply_heard h)
+answered s q (Some r) (Some h) = reply_step s q (reply_in h)
 answered s q (Some r) None = unmoved s q
 answered s q None h = unmoved s q
 
@@ -83,7 +84,7 @@ IsFairTo None (Some h) = ⊥
 -- the message of the reply, if there is one
 abbrev pub reply_message : Option Reply → Option Message
 reply_message None = None
-reply_message (Some r) = Some (message_of r)
+reply_message (Some r) = Some (m.Reply r)
 
 -- a turn is taken while the bid goes on, and every spoiled transmission of it fails its check
 pub record IsFairTurn (b : Bid) (t : Turn) : Type 0 where

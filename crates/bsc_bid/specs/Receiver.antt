@@ -10,9 +10,9 @@ use Rattle.bsc_block.specs.Blocks.{records_in}
 use Rattle.bsc_spool.specs.Spool.{SpoolValue, room_asked}
 use Rattle.bsc_bid.specs.declared.alternation.Alternation.{Alternation}
 use Rattle.bsc_bid.specs.declared.alternation.Alternation.TheVariants.{Even}
-use Rattle.bsc_bid.specs.declared.reply.Reply.{Reply}
-use Rattle.bsc_bid.specs.declared.reply.Reply.TheVariants.{Ack0, Nak, Wack, Rvi}
-use Rattle.bsc_bid.specs.Reply.{other, ack}
+use Rattle.bsc_frame.specs.declared.reply.Reply.{Reply}
+use Rattle.bsc_frame.specs.declared.reply.Reply.TheVariants.{Ack0, Nak, Wack, Rvi}
+use Rattle.bsc_bid.specs.Answer.{other, ack}
 
 -- a receiver: whether the number of blocks taken in this bid is even or odd, and the last reply
 pub record ReceiverValue : Type 0 where

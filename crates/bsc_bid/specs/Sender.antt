@@ -19,14 +19,14 @@ use Rattle.bsc_bid.specs.declared.alternation.Alternation.TheVariants.{Odd}
 use Rattle.bsc_bid.specs.declared.phase.SentBlock.{SentBlock}
 use Rattle.bsc_bid.specs.declared.phase.Phase.{Phase}
 use Rattle.bsc_bid.specs.declared.phase.Phase.TheVariants.{Idle, Unanswered, Held, InDoubt}
-use Rattle.bsc_bid.specs.declared.reply.Reply.{Reply}
-use Rattle.bsc_bid.specs.declared.reply.Answer.{Answer}
-use Rattle.bsc_bid.specs.declared.reply.Answer.TheVariants.{Accepted, Refused, Delayed}
-use Rattle.bsc_bid.specs.declared.reply.Answer.TheVariants.{Interrupted}
+use Rattle.bsc_frame.specs.declared.reply.Reply.{Reply}
+use Rattle.bsc_bid.specs.declared.answer.Answer.{Answer}
+use Rattle.bsc_bid.specs.declared.answer.Answer.TheVariants.{Accepted, Refused, Delayed}
+use Rattle.bsc_bid.specs.declared.answer.Answer.TheVariants.{Interrupted}
 use Rattle.bsc_bid.specs.declared.sender.ReleaseError.{ReleaseError}
 use Rattle.bsc_bid.specs.declared.sender.ReleaseError.TheVariants.{NotInDoubt, CountMismatch}
 use Rattle.bsc_bid.specs.Setup.{SetupValue}
-use Rattle.bsc_bid.specs.Reply.{other, answer_of}
+use Rattle.bsc_bid.specs.Answer.{other, answer_of}
 
 -- a sender: its settings, how far its bid is, the failures in a row, and the WACKs since the last
 -- acknowledgement

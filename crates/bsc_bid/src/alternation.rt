@@ -2,9 +2,9 @@
 //! by it.
 
 ghost use Rattle.std.specs.Prelude.{◌≡◌};
-ghost use Rattle.bsc_bid.specs.Reply.{ack, other};
+ghost use Rattle.bsc_bid.specs.Answer.{ack, other};
 
-use crate::Reply;
+use bsc_frame::Reply;
 
 /// Whether a number of blocks is even or odd (GA27-3004: alternating acknowledgements).
 #[derive(Clone, Copy, Debug, PartialEq, Eq)]

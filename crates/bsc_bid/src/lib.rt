@@ -6,12 +6,12 @@
 #![tactic(auto)]
 
 mod alternation;
+mod answer;
 pub mod laws;
 pub mod limits;
 mod outcome;
 mod phase;
 mod receiver;
-mod reply;
 mod sender;
 mod setup;
 mod station;
@@ -19,7 +19,6 @@ mod terminal;
 
 pub use outcome::Outcome;
 pub use receiver::Receiver;
-pub use reply::Reply;
 pub use sender::{ReleaseError, Sender};
 pub use setup::{SettingError, Setup};
 pub use station::{Station, transmit};

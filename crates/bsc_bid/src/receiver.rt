@@ -4,9 +4,8 @@ ghost use Rattle.std.specs.Prelude.{◌≡◌, Some, true};
 ghost use Rattle.bsc_bid.specs.Receiver.{ReceiverValue, Receives, new_receiver, first_reply};
 
 use crate::alternation::Alternation;
-use crate::reply::Reply;
 use bsc_block::unpack;
-use bsc_frame::{Heard, Message, Text};
+use bsc_frame::{Heard, Message, Reply, Text};
 use bsc_spool::Spool;
 use std::alloc::Allocator;
 use std::marker::Model;

@@ -6,7 +6,7 @@ ghost use Rattle.std.specs.Prelude.{IsTrue};
 ghost use Rattle.bsc_spool.specs.Queue.{QueueValue, IsQueue, waiting, next_block};
 ghost use Rattle.bsc_bid.specs.Ready.{AreWaiting, CountsOn, IsReady, IsGoing, IsAtRest};
 ghost use Rattle.bsc_bid.specs.Ready.{FitsOutcome};
-ghost use Rattle.bsc_bid.specs.Reply.{reply_heard};
+ghost use Rattle.bsc_frame.specs.Replies.{reply_in};
 ghost use Rattle.bsc_bid.specs.Act.{Enq};
 ghost use Rattle.bsc_bid.specs.Sender.{with_phase, with_counts, begin_step, sent_next, accepted};
 ghost use Rattle.bsc_bid.specs.Sender.{Tells};
@@ -14,9 +14,9 @@ ghost use Rattle.bsc_bid.specs.Sender.{failed, delayed, unanswered_step, held_st
 ghost use Rattle.bsc_bid.specs.Sender.{silence_step, cut_phase, is_in_doubt, release_step};
 
 use crate::alternation::Alternation;
+use crate::answer::Answer;
 use crate::outcome::Outcome;
 use crate::phase::{Phase, SentBlock};
-use crate::reply::{Answer, Reply};
 use crate::setup::Setup;
 use bsc_frame::{End, Heard, Message};
 use bsc_spool::Queue;
@@ -112,21 +112,21 @@ impl Sender {
         requires { IsGoing self.old.phase
             → CountsOn self.old.phase (length (waiting queue.old)) }
         ensures row { Tells self.new queue.new result sent.new
-            (reply_step self.old queue.old (reply_heard heard.now)) }
+            (reply_step self.old queue.old (reply_in heard.now)) }
         ensures ready { IsReady self.old queue.old → IsReady self.new queue.new }
         ensures fits { FitsOutcome result self.old.phase self.new.phase }
     {
-        let Some(reply) = Reply::heard(heard) else {
+        let Some(reply) = heard.reply() else {
             return keep_quiet(sent);
         };
         match self.phase {
             Phase::Idle | Phase::InDoubt { .. } => keep_quiet(sent),
             Phase::Unanswered { block } => {
-                let answer = reply.answer(block.alternation);
+                let answer = Answer::of(reply, block.alternation);
                 self.answer_unanswered(queue, block, answer, sent)
             }
             Phase::Held { end, alternation } => {
-                let answer = reply.answer(alternation);
+                let answer = Answer::of(reply, alternation);
                 self.answer_held(queue, end, alternation, answer, sent)
             }
         }

@@ -6,9 +6,8 @@ use Rattle.bsc_frame.specs.declared.message.Message.{Message}
 use Rattle.bsc_frame.specs.declared.message.Message.TheVariants as m
 use Rattle.bsc_frame.specs.declared.message.Heard.{Heard}
 use Rattle.bsc_frame.specs.declared.message.Heard.TheVariants.{Whole, Failed, Noise}
-use Rattle.bsc_bid.specs.declared.reply.Reply.{Reply}
+use Rattle.bsc_frame.specs.declared.reply.Reply.{Reply}
 use Rattle.bsc_bid.specs.Receiver.{ReceiverStep, Rooms, heard_step, rooms_left}
-use Rattle.bsc_bid.specs.Reply.{message_of}
 use Rattle.bsc_control.specs.declared.task.Replied.{Replied}
 use Rattle.bsc_control.specs.declared.task.Task.TheVariants.{Polling}
 use Rattle.bsc_control.specs.Control.{ControlValue, ControlStep, current, peer, peer_at}
@@ -26,11 +25,7 @@ receives c Noise replied rooms received = refl
 receives c Failed replied rooms received = refl
 receives c (Whole (m.Call x)) replied rooms received = refl
 receives c (Whole m.Enq) replied rooms received = refl
-receives c (Whole m.Ack0) replied rooms received = refl
-receives c (Whole m.Ack1) replied rooms received = refl
-receives c (Whole m.Nak) replied rooms received = refl
-receives c (Whole m.Wack) replied rooms received = refl
-receives c (Whole m.Rvi) replied rooms received = refl
+receives c (Whole (m.Reply r)) replied rooms received = refl
 receives c (Whole (m.Text x)) replied rooms received = refl
 
 -- the station d with this peer, which replied
@@ -53,7 +48,7 @@ rooms_read c d t old new h replied reached present =
 pub received_row : (c d : ControlValue) (t : ℕ) (old new : PeerValue) (h : Heard)
     (before after : Replied) (reply : Option Reply) (sent : Option Message)
     → IsPeerReached c d t old → t ≡ current c → PeerReceives old h new reply → after
-    ≡ replied_after before reply → sent ≡ option_map message_of reply
+    ≡ replied_after before reply → sent ≡ option_map m.Reply reply
     → IsReceived (Polling before) h
     → record { control = with_reply d t new after; sent = sent }
     ≡ polling_step c before h (rooms_after c h (with_reply d t new after))

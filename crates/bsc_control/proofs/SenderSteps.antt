@@ -7,7 +7,7 @@ use Rattle.bsc_bid.specs.Act as a
 use Rattle.bsc_bid.specs.declared.alternation.Alternation.{Alternation}
 use Rattle.bsc_bid.specs.declared.alternation.Alternation.TheVariants.{Odd}
 use Rattle.bsc_bid.specs.declared.phase.Phase.{Phase}
-use Rattle.bsc_bid.specs.declared.reply.Reply.{Reply}
+use Rattle.bsc_frame.specs.declared.reply.Reply.{Reply}
 use Rattle.bsc_bid.specs.EachStep as each
 use Rattle.bsc_bid.specs.Ready.{IsGoing, IsAtRest, FitsAct}
 use Rattle.bsc_bid.specs.Sender.{SenderValue, SenderStep, sent_next, begin_step, reply_step}

@@ -7,10 +7,10 @@ use Rattle.bsc_frame.specs.declared.message.Message.TheVariants as m
 use Rattle.bsc_frame.specs.declared.message.Heard.{Heard}
 use Rattle.bsc_frame.specs.declared.message.Heard.TheVariants.{Whole, Failed, Noise}
 use Rattle.bsc_bid.specs.Act as a
-use Rattle.bsc_bid.specs.declared.reply.Reply.{Reply}
-use Rattle.bsc_bid.specs.declared.reply.Reply.TheVariants.{Ack0, Ack1, Nak, Wack, Rvi}
+use Rattle.bsc_frame.specs.declared.reply.Reply.{Reply}
+use Rattle.bsc_frame.specs.declared.reply.Reply.TheVariants.{Ack0, Ack1, Nak, Wack, Rvi}
 use Rattle.bsc_bid.specs.Receiver.{ReceiverStep, Rooms, new_receiver, heard_step, sends_rvi}
-use Rattle.bsc_bid.specs.Reply.{message_of, reply_heard}
+use Rattle.bsc_frame.specs.Replies.{reply_in}
 use Rattle.bsc_bid.specs.Sender.{SenderStep, begin_step, reply_step, silence_step}
 use Rattle.bsc_control.specs.declared.task.Replied.{Replied}
 use Rattle.bsc_control.specs.declared.task.Replied.TheVariants.{Nothing, WithoutRvi, WithRvi}
@@ -212,7 +212,7 @@ which_after_bid s (Some Wack) = inl refl
 which_after_bid s None = inl refl
 
 -- no reply is a call
-no_call : (r : Option Reply) (address : List ℕ) → option_map message_of r ≡ Some (m.Call address)
+no_call : (r : Option Reply) (address : List ℕ) → option_map m.Reply r ≡ Some (m.Call address)
     → ⊥
 no_call None address e = cc
 no_call (Some Ack0) address e = cc
@@ -319,16 +319,8 @@ hears_polling c (Whole (m.Call x)) replied rooms entries o calm e suits =
     hears_heard c (Whole (m.Call x)) replied rooms entries o calm e suits
 hears_polling c (Whole m.Enq) replied rooms entries o calm e suits =
     hears_heard c (Whole m.Enq) replied rooms entries o calm e suits
-hears_polling c (Whole m.Ack0) replied rooms entries o calm e suits =
-    hears_heard c (Whole m.Ack0) replied rooms entries o calm e suits
-hears_polling c (Whole m.Ack1) replied rooms entries o calm e suits =
-    hears_heard c (Whole m.Ack1) replied rooms entries o calm e suits
-hears_polling c (Whole m.Nak) replied rooms entries o calm e suits =
-    hears_heard c (Whole m.Nak) replied rooms entries o calm e suits
-hears_polling c (Whole m.Wack) replied rooms entries o calm e suits =
-    hears_heard c (Whole m.Wack) replied rooms entries o calm e suits
-hears_polling c (Whole m.Rvi) replied rooms entries o calm e suits =
-    hears_heard c (Whole m.Rvi) replied rooms entries o calm e suits
+hears_polling c (Whole (m.Reply r)) replied rooms entries o calm e suits =
+    hears_heard c (Whole (m.Reply r)) replied rooms entries o calm e suits
 hears_polling c (Whole (m.Text x)) replied rooms entries o calm e suits =
     hears_heard c (Whole (m.Text x)) replied rooms entries o calm e suits
 
@@ -338,15 +330,15 @@ hears_task c AtRest h rooms entries o e = hears_quiet c h o
 hears_task c (Selecting s enquired) h rooms entries o e =
     let selected : IsSelected (peer c) s =
     subst (λ (task : Task). SuitsTask task (peer c)) e o.suits in
-    hears_selecting c h s (reply_heard h) entries o (calm_while c o (λ k used. absurd (cc)))
+    hears_selecting c h s (reply_in h) entries o (calm_while c o (λ k used. absurd (cc)))
     selected (ap (λ (task : Task). after_hearing task h) e)
 hears_task c (Sending s) h rooms entries o e =
     let bid : IsInBid (peer c) s = subst (λ (task : Task). SuitsTask task (peer c)) e o.suits in
     let k = outbound_of c (current c) s in
-    hears_bid_step c h s (reply_step k.sender k.queue (reply_heard h)) (after_bid s (reply_heard h))
+    hears_bid_step c h s (reply_step k.sender k.queue (reply_in h)) (after_bid s (reply_in h))
     (others_rest c s entries o e bid.there)
-    (keeps_reply_step k.sender k.queue (reply_heard h) bid.going) (λ q. e)
-    (which_after_bid s (reply_heard h)) (ap (λ (task : Task). after_hearing task h) e)
+    (keeps_reply_step k.sender k.queue (reply_in h) bid.going) (λ q. e)
+    (which_after_bid s (reply_in h)) (ap (λ (task : Task). after_hearing task h) e)
 hears_task c (Polling replied) h rooms entries o e =
     hears_polling c h replied rooms entries o (calm_while c o (λ k used. absurd (cc))) e
     (subst (λ (task : Task). SuitsTask task (peer c)) e o.suits)

@@ -12,7 +12,7 @@ use Rattle.bsc_bid.specs.declared.phase.Phase.{Phase}
 use Rattle.bsc_bid.specs.declared.phase.Phase.TheVariants.{Idle}
 use Rattle.bsc_bid.specs.Ready.{IsGoing, IsAtRest}
 use Rattle.bsc_bid.specs.Receiver.{new_receiver}
-use Rattle.bsc_bid.specs.Reply.{reply_heard}
+use Rattle.bsc_frame.specs.Replies.{reply_in}
 use Rattle.bsc_bid.specs.Setup.{SetupValue}
 use Rattle.bsc_bid.specs.Terminal.{TerminalValue}
 use Rattle.bsc_directory.specs.declared.limits.TheConstants.{MAX_TERMINALS, MAX_ENTRIES}
@@ -122,7 +122,7 @@ pub record IsCalled (c : ControlValue) (call : Call) (address : List ℕ) : Type
 abbrev pub after_hearing : Task → Heard → After
 after_hearing AtRest h = Start
 after_hearing (Selecting s enquired) h = Selection s
-after_hearing (Sending s) h = after_bid s (reply_heard h)
+after_hearing (Sending s) h = after_bid s (reply_in h)
 after_hearing (Polling replied) h = Poll (has_rvi replied)
 
 -- what the next call is made after, at a silence

@@ -5,7 +5,7 @@ use Rattle.bsc_frame.specs.declared.message.Heard.{Heard}
 use Rattle.bsc_spool.specs.Queue.{QueueValue, waiting}
 use Rattle.bsc_spool.specs.Spool.{SpoolValue}
 use Rattle.bsc_bid.specs.declared.phase.Phase.TheVariants.{Idle}
-use Rattle.bsc_bid.specs.declared.reply.Reply.{Reply}
+use Rattle.bsc_frame.specs.declared.reply.Reply.{Reply}
 use Rattle.bsc_bid.specs.Ready.{IsReady}
 use Rattle.bsc_bid.specs.Receiver.{ReceiverValue, Receives, new_receiver, sends_rvi}
 use Rattle.bsc_bid.specs.Sender.{SenderValue, SenderStep, is_in_doubt, release_step}

@@ -9,11 +9,11 @@ use Rattle.bsc_frame.specs.declared.message.Heard.{Heard}
 use Rattle.bsc_frame.specs.declared.message.Heard.TheVariants.{Whole}
 use Rattle.bsc_bid.specs.declared.outcome.Outcome.{Outcome}
 use Rattle.bsc_bid.specs.declared.outcome.Outcome.TheVariants as o
-use Rattle.bsc_bid.specs.declared.reply.Reply.{Reply}
-use Rattle.bsc_bid.specs.declared.reply.Reply.TheVariants.{Ack0, Nak, Wack, Rvi}
+use Rattle.bsc_frame.specs.declared.reply.Reply.{Reply}
+use Rattle.bsc_frame.specs.declared.reply.Reply.TheVariants.{Ack0, Nak, Wack, Rvi}
 use Rattle.bsc_bid.specs.Act.{Act, message_for, outcome_of}
 use Rattle.bsc_bid.specs.Terminal.{TerminalValue}
-use Rattle.bsc_bid.specs.Reply.{message_of, reply_heard}
+use Rattle.bsc_frame.specs.Replies.{reply_in}
 use Rattle.bsc_bid.specs.Receiver.{ReceiverStep, Rooms, new_receiver, heard_step, rooms_left}
 use Rattle.bsc_bid.specs.Receiver.{sends_rvi}
 use Rattle.bsc_bid.specs.Sender.{SenderStep, begin_step, reply_step, silence_step}
@@ -130,7 +130,7 @@ receive_step c replied step =
           })) {
             task = Polling (replied_after replied step.reply);
           };
-      sent = option_map message_of step.reply;
+      sent = option_map m.Reply step.reply;
     }
 
 -- a poll is answered
@@ -142,11 +142,11 @@ polling_step c replied h rooms =
 -- the table: what is heard
 abbrev pub task_step : ControlValue → Task → Heard → Rooms → ControlStep
 task_step c AtRest h rooms = quiet_step c
-task_step c (Selecting s enquired) h rooms = selecting_step c s (reply_heard h)
+task_step c (Selecting s enquired) h rooms = selecting_step c s (reply_in h)
 task_step c (Sending s) h rooms =
     bid_step c s
-    (reply_step (outbound_at (peer c) s).sender (outbound_at (peer c) s).queue (reply_heard h))
-    (after_bid s (reply_heard h))
+    (reply_step (outbound_at (peer c) s).sender (outbound_at (peer c) s).queue (reply_in h))
+    (after_bid s (reply_in h))
 task_step c (Polling replied) h rooms = polling_step c replied h rooms
 
 abbrev pub hear_step : ControlValue → Heard → Rooms → ControlStep

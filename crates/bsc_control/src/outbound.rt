@@ -4,7 +4,7 @@ ghost use Rattle.std.specs.Prelude.{◌≡◌, ◌≤◌, ◌++◌, [], ◌∷�
 ghost use Rattle.bsc_spool.specs.Queue.{waiting};
 ghost use Rattle.bsc_bid.specs.declared.phase.Phase.TheVariants.{Idle};
 ghost use Rattle.bsc_bid.specs.Act.{message_for, outcome_of};
-ghost use Rattle.bsc_bid.specs.Reply.{reply_heard};
+ghost use Rattle.bsc_frame.specs.Replies.{reply_in};
 ghost use Rattle.bsc_bid.specs.Sender.{begin_step, reply_step, silence_step, release_step};
 ghost use Rattle.bsc_control.specs.Peer.{OutboundValue, IsOutbound, outbound_after, new_outbound};
 ghost use Rattle.bsc_control.specs.Peer.{outbound_released, is_selectable};
@@ -73,11 +73,11 @@ impl<A: Allocator> Outbound<A> {
     /// Hears a transmission during a bid.
     pub(crate) fn reply(&mut self, heard: &Heard, sent: &mut Option<Message>) -> Outcome
         ensures state { self.new
-            ≡ outbound_after (reply_step self.old.sender self.old.queue (reply_heard heard.now)) }
+            ≡ outbound_after (reply_step self.old.sender self.old.queue (reply_in heard.now)) }
         ensures outcome { result ≡ outcome_of
-            (reply_step self.old.sender self.old.queue (reply_heard heard.now)).act }
+            (reply_step self.old.sender self.old.queue (reply_in heard.now)).act }
         ensures sent { sent.new ≡ message_for
-            (reply_step self.old.sender self.old.queue (reply_heard heard.now)).act }
+            (reply_step self.old.sender self.old.queue (reply_in heard.now)).act }
         ensures outbound { IsOutbound self.new }
     {
         self.sender.reply(heard, &mut self.queue, sent)

@@ -5,9 +5,9 @@ ghost use Rattle.bsc_control.specs.CallOrder.{way_from};
 ghost use Rattle.bsc_control.specs.Peer.{PeerValue, IsPeer, PeerReceives, IsNewPeer, is_selectable};
 
 use crate::outbound::Outbound;
-use bsc_bid::{Receiver, Reply, Setup, Terminal};
+use bsc_bid::{Receiver, Setup, Terminal};
 use bsc_directory::Way;
-use bsc_frame::Heard;
+use bsc_frame::{Heard, Reply};
 use bsc_spool::Spool;
 use std::alloc::{AllocError, Allocator};
 use std::marker::Model;

@@ -3,7 +3,7 @@
 ghost use Rattle.std.specs.Prelude.{◌≡◌};
 ghost use Rattle.bsc_control.specs.Table.{replied_after, has_rvi};
 
-use bsc_bid::Reply;
+use bsc_frame::Reply;
 
 /// What was replied in a poll (own).
 #[derive(Clone, Copy)]

@@ -9,8 +9,7 @@ use Rattle.bsc_frame.specs.Message.{read_address}
 use Rattle.bsc_frame.specs.declared.text.End.{End}
 use Rattle.bsc_frame.specs.declared.text.End.TheVariants.{Etb, Etx}
 use Rattle.bsc_frame.specs.declared.message.Message.{Message}
-use Rattle.bsc_frame.specs.declared.message.Message.TheVariants.{Eot, Call, Enq, Ack0, Ack1, Nak}
-use Rattle.bsc_frame.specs.declared.message.Message.TheVariants.{Wack, Rvi, Text}
+use Rattle.bsc_frame.specs.declared.message.Message.TheVariants.{Eot, Call, Enq, Reply, Text}
 use Rattle.bsc_embed.specs.declared.kind.Kind.{Kind}
 use Rattle.bsc_embed.specs.declared.kind.Kind.TheVariants as kind
 use Rattle.bsc_embed.specs.declared.content.Content.{Content}
@@ -65,11 +64,7 @@ message_as kind.Failed c = None
 message_as kind.Eot c = Some Eot
 message_as kind.Call c = option_map Call (address_in c)
 message_as kind.Enq c = Some Enq
-message_as kind.Ack0 c = Some Ack0
-message_as kind.Ack1 c = Some Ack1
-message_as kind.Nak c = Some Nak
-message_as kind.Wack c = Some Wack
-message_as kind.Rvi c = Some Rvi
+message_as (kind.Reply r) c = Some (Reply r)
 message_as kind.Text c = option_map Text (text_in c)
 
 -- The message of a kind by its number.

@@ -2,8 +2,7 @@
 use Rattle.std.specs.Prelude.{◌≡◌, ◌↔◌, ℕ, List, [], ◌∷◌, drop, Some}
 use Rattle.bsc_frame.specs.Spells.{Spells, IsFailed, IsNoise}
 use Rattle.bsc_frame.specs.declared.message.Message.{Message}
-use Rattle.bsc_frame.specs.declared.message.Message.TheVariants.{Eot, Call, Enq, Ack0, Ack1, Nak}
-use Rattle.bsc_frame.specs.declared.message.Message.TheVariants.{Wack, Rvi, Text}
+use Rattle.bsc_frame.specs.declared.message.Message.TheVariants.{Eot, Call, Enq, Reply, Text}
 use Rattle.bsc_frame.specs.declared.message.Heard.{Heard}
 use Rattle.bsc_frame.specs.declared.message.Heard.TheVariants.{Whole, Failed, Noise}
 use Rattle.bsc_embed.specs.declared.kind.Kind.{Kind}
@@ -45,11 +44,7 @@ abbrev pub KeepsRest : Message → Content → Content → Type 0
 KeepsRest Eot old new = new ≡ old
 KeepsRest (Call a) old new = KeepsRestOfCall old new
 KeepsRest Enq old new = new ≡ old
-KeepsRest Ack0 old new = new ≡ old
-KeepsRest Ack1 old new = new ≡ old
-KeepsRest Nak old new = new ≡ old
-KeepsRest Wack old new = new ≡ old
-KeepsRest Rvi old new = new ≡ old
+KeepsRest (Reply r) old new = new ≡ old
 KeepsRest (Text t) old new = KeepsRestOfText old new
 
 -- What stays of a content after what was heard: where it was no message, all of it.

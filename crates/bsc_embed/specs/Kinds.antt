@@ -1,8 +1,9 @@
 -- The numbers of `enum bsc_kind` in bsc.h.
 use Rattle.std.specs.Prelude.{ℕ, ◌==◌, if◌then◌else◌, Option, Some, None}
 use Rattle.bsc_embed.specs.declared.kind.Kind.{Kind}
-use Rattle.bsc_embed.specs.declared.kind.Kind.TheVariants.{Noise, Failed, Eot, Call, Enq, Ack0}
-use Rattle.bsc_embed.specs.declared.kind.Kind.TheVariants.{Ack1, Nak, Wack, Rvi, Text}
+use Rattle.bsc_embed.specs.declared.kind.Kind.TheVariants.{Noise, Failed, Eot, Call, Enq, Reply}
+use Rattle.bsc_embed.specs.declared.kind.Kind.TheVariants.{Text}
+use Rattle.bsc_frame.specs.declared.reply.Reply.TheVariants.{Ack0, Ack1, Nak, Wack, Rvi}
 
 -- The kind that a number of C's names (own).
 abbrev pub kind_at : ℕ → Option Kind
@@ -12,10 +13,10 @@ kind_at number =
     else if number == 2 then Some Eot
     else if number == 3 then Some Call
     else if number == 4 then Some Enq
-    else if number == 5 then Some Ack0
-    else if number == 6 then Some Ack1
-    else if number == 7 then Some Nak
-    else if number == 8 then Some Wack
-    else if number == 9 then Some Rvi
+    else if number == 5 then Some (Reply Ack0)
+    else if number == 6 then Some (Reply Ack1)
+    else if number == 7 then Some (Reply Nak)
+    else if number == 8 then Some (Reply Wack)
+    else if number == 9 then Some (Reply Rvi)
     else if number == 10 then Some Text
     else None

@@ -21,11 +21,7 @@ fn put_short(short: &Short, content: &mut Content) -> Kind
             Kind::Call
         }
         Short::Enq => Kind::Enq,
-        Short::Ack0 => Kind::Ack0,
-        Short::Ack1 => Kind::Ack1,
-        Short::Nak => Kind::Nak,
-        Short::Wack => Kind::Wack,
-        Short::Rvi => Kind::Rvi,
+        Short::Reply(reply) => Kind::Reply(*reply),
         Short::Noise => Kind::Noise,
     }
 }

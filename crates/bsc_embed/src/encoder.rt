@@ -16,11 +16,7 @@ fn message_of(number: u32, content: &Content) -> Option<Message>
         Kind::Eot => Some(Message::Eot),
         Kind::Call => Some(Message::Call(content.address()?)),
         Kind::Enq => Some(Message::Enq),
-        Kind::Ack0 => Some(Message::Ack0),
-        Kind::Ack1 => Some(Message::Ack1),
-        Kind::Nak => Some(Message::Nak),
-        Kind::Wack => Some(Message::Wack),
-        Kind::Rvi => Some(Message::Rvi),
+        Kind::Reply(reply) => Some(Message::Reply(reply)),
         Kind::Text => Some(Message::Text(content.text()?)),
     }
 }

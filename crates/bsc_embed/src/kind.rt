@@ -1,8 +1,10 @@
 //! What is sent or heard, by the numbers that C has for it.
 ghost use Rattle.std.specs.Prelude.{◌≡◌, Some};
 
+use bsc_frame::Reply;
+
 /// What is heard, and from `Eot` on what is sent too: `enum bsc_kind` of `bsc.h`, whose numbers are
-/// the places in this list from 0 on (own).
+/// the places in this list from 0 on, with each reply in the place of `Reply` (own).
 #[derive(Clone, Copy, Debug, PartialEq, Eq)]
 pub enum Kind {
     /// The octets are noise: they spell no message, and have not failed as a text.
@@ -14,11 +16,7 @@ pub enum Kind {
     Eot,
     Call,
     Enq,
-    Ack0,
-    Ack1,
-    Nak,
-    Wack,
-    Rvi,
+    Reply(Reply),
     Text,
 }
 
@@ -35,11 +33,11 @@ impl Kind {
             2 => Some(Kind::Eot),
             3 => Some(Kind::Call),
             4 => Some(Kind::Enq),
-            5 => Some(Kind::Ack0),
-            6 => Some(Kind::Ack1),
-            7 => Some(Kind::Nak),
-            8 => Some(Kind::Wack),
-            9 => Some(Kind::Rvi),
+            5 => Some(Kind::Reply(Reply::Ack0)),
+            6 => Some(Kind::Reply(Reply::Ack1)),
+            7 => Some(Kind::Reply(Reply::Nak)),
+            8 => Some(Kind::Reply(Reply::Wack)),
+            9 => Some(Kind::Reply(Reply::Rvi)),
             10 => Some(Kind::Text),
             _ => None,
         }
@@ -55,11 +53,11 @@ impl Kind {
             Kind::Eot => 2,
             Kind::Call => 3,
             Kind::Enq => 4,
-            Kind::Ack0 => 5,
-            Kind::Ack1 => 6,
-            Kind::Nak => 7,
-            Kind::Wack => 8,
-            Kind::Rvi => 9,
+            Kind::Reply(Reply::Ack0) => 5,
+            Kind::Reply(Reply::Ack1) => 6,
+            Kind::Reply(Reply::Nak) => 7,
+            Kind::Reply(Reply::Wack) => 8,
+            Kind::Reply(Reply::Rvi) => 9,
             Kind::Text => 10,
         }
     }

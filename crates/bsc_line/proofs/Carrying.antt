@@ -168,11 +168,7 @@ whole_fair : (w : Message) (n : ℕ) → IsHeardFairly w n (λ t. Whole w)
 whole_fair (m.Call a) n = inl (λ t less. refl)
 whole_fair m.Eot n = λ t less. inl refl
 whole_fair m.Enq n = λ t less. inl refl
-whole_fair m.Ack0 n = λ t less. inl refl
-whole_fair m.Ack1 n = λ t less. inl refl
-whole_fair m.Nak n = λ t less. inl refl
-whole_fair m.Wack n = λ t less. inl refl
-whole_fair m.Rvi n = λ t less. inl refl
+whole_fair (m.Reply r) n = λ t less. inl refl
 whole_fair (m.Text x) n = λ t less. inl refl
 
 -- so the line is trusted after it exactly where it was before

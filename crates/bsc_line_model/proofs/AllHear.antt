@@ -4,9 +4,8 @@ use Rattle.std.proofs.Common.{refl, sym, ◌∙◌, ap, subst}
 use Rattle.bsc_frame.specs.declared.message.Message.{Message}
 use Rattle.bsc_frame.specs.declared.message.Message.TheVariants as m
 use Rattle.bsc_frame.specs.declared.message.Heard.{Heard}
-use Rattle.bsc_bid.specs.declared.reply.Reply.{Reply}
-use Rattle.bsc_bid.specs.declared.reply.Reply.TheVariants.{Ack0, Ack1, Nak, Wack, Rvi}
-use Rattle.bsc_bid.specs.Reply.{message_of}
+use Rattle.bsc_frame.specs.declared.reply.Reply.{Reply}
+use Rattle.bsc_frame.specs.declared.reply.Reply.TheVariants.{Ack0, Ack1, Nak, Wack, Rvi}
 use Rattle.bsc_bid.specs.Agreement.{Flight, InBid}
 use Rattle.bsc_tributary.specs.Tributary.{TributaryValue, spool_at}
 use Rattle.bsc_control.specs.declared.task.Replied.{Replied}
@@ -38,13 +37,9 @@ bid_no_call (m.Call z) (inr b) = absurd (cc)
 bid_no_call m.Eot b = refl
 bid_no_call (m.Text z) b = refl
 bid_no_call m.Enq b = refl
-bid_no_call m.Ack0 b = refl
-bid_no_call m.Ack1 b = refl
-bid_no_call m.Nak b = refl
-bid_no_call m.Wack b = refl
-bid_no_call m.Rvi b = refl
+bid_no_call (m.Reply r) b = refl
 
-pub reply_is_no_call : (r : Reply) → is_call (message_of r) ≡ false
+pub reply_is_no_call : (r : Reply) → is_call (m.Reply r) ≡ false
 reply_is_no_call Ack0 = refl
 reply_is_no_call Ack1 = refl
 reply_is_no_call Nak = refl
@@ -109,7 +104,7 @@ hears_down names laws c old before after w hears new stations tuned together fai
                     missed each keeps
               ])
           | inr b ↦
-              (let reply : w ≡ message_of b.flies.0 = b.flies.1 in
+              (let reply : w ≡ m.Reply b.flies.0 = b.flies.1 in
               let never : is_call w ≡ false = ap is_call reply ∙ reply_is_no_call b.flies.0 in
               polling_replied laws c old before w hears new replied there tuned k.others b
               (each_fairly w (length old) hears never fair) each keeps)

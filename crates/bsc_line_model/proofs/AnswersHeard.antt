@@ -8,11 +8,11 @@ use Rattle.bsc_frame.specs.declared.message.Heard.{Heard}
 use Rattle.bsc_frame.specs.declared.message.Heard.TheVariants.{Whole, Failed, Noise}
 use Rattle.bsc_bid.specs.declared.alternation.Alternation.{Alternation}
 use Rattle.bsc_bid.specs.declared.alternation.Alternation.TheVariants.{Even}
-use Rattle.bsc_bid.specs.declared.reply.Reply.{Reply}
-use Rattle.bsc_bid.specs.declared.reply.Reply.TheVariants.{Ack0}
+use Rattle.bsc_frame.specs.declared.reply.Reply.{Reply}
+use Rattle.bsc_frame.specs.declared.reply.Reply.TheVariants.{Ack0, Ack1, Nak, Wack, Rvi}
 use Rattle.bsc_bid.specs.declared.phase.Phase.{Phase}
 use Rattle.bsc_bid.specs.declared.phase.Phase.TheVariants.{Idle}
-use Rattle.bsc_bid.specs.Reply.{message_of, reply_in, reply_heard}
+use Rattle.bsc_frame.specs.Replies.{reply_in}
 use Rattle.bsc_bid.specs.Receiver.{ReceiverStep, Rooms, heard_step, sends_rvi}
 use Rattle.bsc_bid.specs.Sender.{SenderStep, begin_step}
 use Rattle.bsc_bid.specs.Fair.{IsFairlyHeard}
@@ -173,19 +173,19 @@ asks_again c ts s false stations all fresh =
 pub selecting_answered : (laws : BidLaws) (c : ControlValue) (ts : List TributaryValue) (s t : ℕ)
     (w : Message) (enquired : Bool) → AreStations c ts → c.task ≡ Selecting s enquired
     → IsSelecting (Some (record { speaker = sp.Terminal t; message = w })) c ts s enquired →
-    InTask (selecting_step c s (reply_in w)).control.task
-    (sent_by sp.Control (selecting_step c s (reply_in w)).sent)
-    (selecting_step c s (reply_in w)).control ts
-selecting_answered laws c ts s t m.Ack0 enquired stations task h =
+    InTask (selecting_step c s (reply_in (Whole w))).control.task
+    (sent_by sp.Control (selecting_step c s (reply_in (Whole w))).sent)
+    (selecting_step c s (reply_in (Whole w))).control ts
+selecting_answered laws c ts s t (m.Reply Ack0) enquired stations task h =
     begins_down laws c ts s enquired stations task h.no_bids h.with_pending.1.0 h.with_pending.1.1
-selecting_answered laws c ts s t m.Nak enquired stations task h =
+selecting_answered laws c ts s t (m.Reply Nak) enquired stations task h =
     next_made c ts (Selection s) stations h.no_bids
-selecting_answered laws c ts s t m.Wack enquired stations task h =
+selecting_answered laws c ts s t (m.Reply Wack) enquired stations task h =
     asks_again c ts s (nat_lt c.setup.waits (c.wacks + 1)) stations h.no_bids h.with_pending.1.0
 selecting_answered laws c ts s t m.Eot enquired stations task h = absurd h.with_pending.1
 selecting_answered laws c ts s t m.Enq enquired stations task h = absurd h.with_pending.1
-selecting_answered laws c ts s t m.Ack1 enquired stations task h = absurd h.with_pending.1
-selecting_answered laws c ts s t m.Rvi enquired stations task h = absurd h.with_pending.1
+selecting_answered laws c ts s t (m.Reply Ack1) enquired stations task h = absurd h.with_pending.1
+selecting_answered laws c ts s t (m.Reply Rvi) enquired stations task h = absurd h.with_pending.1
 selecting_answered laws c ts s t (m.Text z) enquired stations task h = absurd h.with_pending.1
 selecting_answered laws c ts s t (m.Call z) enquired stations task h = absurd h.with_pending.1
 
@@ -199,14 +199,10 @@ polling_by c replied (Whole m.Eot) rooms k = absurd k
 polling_by c replied (Whole (m.Call z)) rooms k = absurd k
 polling_by c replied (Whole (m.Text b)) rooms k = refl
 polling_by c replied (Whole m.Enq) rooms k = refl
-polling_by c replied (Whole m.Ack0) rooms k = refl
-polling_by c replied (Whole m.Ack1) rooms k = refl
-polling_by c replied (Whole m.Nak) rooms k = refl
-polling_by c replied (Whole m.Wack) rooms k = refl
-polling_by c replied (Whole m.Rvi) rooms k = refl
+polling_by c replied (Whole (m.Reply r)) rooms k = refl
 
 reply_flies_up : (e : ℕ) (reply : Option Reply)
-    → FliesUp (sent_by sp.Control (option_map message_of reply)) e (reply_flight reply)
+    → FliesUp (sent_by sp.Control (option_map m.Reply reply)) e (reply_flight reply)
 reply_flies_up e None = refl
 reply_flies_up e (Some r) = (r, refl, refl)
 
@@ -243,7 +239,7 @@ polling_received laws c ts t w h rooms replied stations others b fair =
     fair in
     let there : current c < length c.peers = current_there c (places c stations.control.entries) in
     let peer_is : peer (with_current c q) ≡ q = get_or-set_same c.peers e q no_peer there in
-    let made : IsInBidUp (sent_by sp.Control (option_map message_of step.reply)) q e x =
+    let made : IsInBidUp (sent_by sp.Control (option_map m.Reply step.reply)) q e x =
     record {
       mode = b.mode;
       down = b.down;
@@ -259,7 +255,7 @@ polling_received laws c ts t w h rooms replied stations others b fair =
           (sym (get_or-set_other c.peers e k q no_peer differ)) (others k less differ);
       present =
           inr (subst (λ (z : PeerValue). IsInBidUp
-          (sent_by sp.Control (option_map message_of step.reply)) z e x) (sym peer_is) made);
+          (sent_by sp.Control (option_map m.Reply step.reply)) z e x) (sym peer_is) made);
     } in
     subst (λ (o : ControlStep). InTask o.control.task (sent_by sp.Control o.sent) o.control ts)
     (sym (polling_by c replied h rooms (no_call_heard w h bid fair))) polls
@@ -288,22 +284,22 @@ whole_answer : (w : Message) (x : TributaryValue) (s : ℕ) (ts : List Tributary
     → IsAnswer w x s ts → IsFairlyHeard w h → (h ≡ Whole w) ⊎ (h ≡ Noise)
 whole_answer w x s ts Noise k f = inr refl
 whole_answer w x s ts (Whole v) k (inl e) = inl (ap (λ (z : Message). Whole z) e)
-whole_answer m.Ack0 x s ts (Whole v) k (inr f) = absurd f
-whole_answer m.Nak x s ts (Whole v) k (inr f) = absurd f
-whole_answer m.Wack x s ts (Whole v) k (inr f) = absurd f
+whole_answer (m.Reply Ack0) x s ts (Whole v) k (inr f) = absurd f
+whole_answer (m.Reply Nak) x s ts (Whole v) k (inr f) = absurd f
+whole_answer (m.Reply Wack) x s ts (Whole v) k (inr f) = absurd f
 whole_answer m.Eot x s ts (Whole v) k (inr f) = absurd k
 whole_answer m.Enq x s ts (Whole v) k (inr f) = absurd k
-whole_answer m.Ack1 x s ts (Whole v) k (inr f) = absurd k
-whole_answer m.Rvi x s ts (Whole v) k (inr f) = absurd k
+whole_answer (m.Reply Ack1) x s ts (Whole v) k (inr f) = absurd k
+whole_answer (m.Reply Rvi) x s ts (Whole v) k (inr f) = absurd k
 whole_answer (m.Text z) x s ts (Whole v) k (inr f) = absurd k
 whole_answer (m.Call z) x s ts (Whole v) k (inr f) = absurd k
-whole_answer m.Ack0 x s ts Failed k f = absurd f
-whole_answer m.Nak x s ts Failed k f = absurd f
-whole_answer m.Wack x s ts Failed k f = absurd f
+whole_answer (m.Reply Ack0) x s ts Failed k f = absurd f
+whole_answer (m.Reply Nak) x s ts Failed k f = absurd f
+whole_answer (m.Reply Wack) x s ts Failed k f = absurd f
 whole_answer m.Eot x s ts Failed k f = absurd k
 whole_answer m.Enq x s ts Failed k f = absurd k
-whole_answer m.Ack1 x s ts Failed k f = absurd k
-whole_answer m.Rvi x s ts Failed k f = absurd k
+whole_answer (m.Reply Ack1) x s ts Failed k f = absurd k
+whole_answer (m.Reply Rvi) x s ts Failed k f = absurd k
 whole_answer (m.Text z) x s ts Failed k f = absurd k
 whole_answer (m.Call z) x s ts Failed k f = absurd k
 
@@ -339,7 +335,7 @@ hears_up laws c d ts t w h out stations together fair row after = by_task c.task
         elim (whole_answer w (terminal_in ts (current c)) s ts h k.with_pending.1 fair) [
           | inl whole ↦
               by_row (Selecting s enquired) is
-              (subst (λ (z : Heard). StepsTo (selecting_step c s (reply_heard z)) ts) (sym whole)
+              (subst (λ (z : Heard). StepsTo (selecting_step c s (reply_in z)) ts) (sym whole)
               (selecting_answered laws c ts s t w enquired stations is k))
           | inr quiet ↦ noise quiet
         ]

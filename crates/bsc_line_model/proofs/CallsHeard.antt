@@ -16,9 +16,8 @@ use Rattle.bsc_bid.specs.declared.phase.Phase.{Phase}
 use Rattle.bsc_bid.specs.declared.phase.Phase.TheVariants.{Idle}
 use Rattle.bsc_bid.specs.Ready.{IsAtRest, FitsAct}
 use Rattle.bsc_bid.specs.Receiver.{ReceiverValue, new_receiver, first_reply}
-use Rattle.bsc_bid.specs.Reply.{message_of}
 use Rattle.bsc_bid.specs.declared.alternation.Alternation.TheVariants.{Even}
-use Rattle.bsc_bid.specs.declared.reply.Reply.TheVariants.{Ack0}
+use Rattle.bsc_frame.specs.declared.reply.Reply.TheVariants.{Ack0, Nak}
 use Rattle.bsc_bid.specs.Act.{Act}
 use Rattle.bsc_bid.specs.Sender.{SenderStep, begin_step, cut_phase, is_in_doubt}
 use Rattle.bsc_bid.specs.Terminal.{TerminalValue, HasDistinctAddresses}
@@ -211,8 +210,8 @@ selection_answer x s room ready =
       spools =
           spools;
     })
-    (message_of (first_reply room))
-    else answer_step d m.Nak
+    (m.Reply (first_reply room))
+    else answer_step d (m.Reply Nak)
 
 -- a terminal that receives now, and rests
 receives_now : (p : PeerValue) (x : TributaryValue) (s : ℕ) (room : Bool) → IsTributary x

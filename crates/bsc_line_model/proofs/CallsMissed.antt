@@ -68,11 +68,7 @@ misses x Failed u out f row after = absurd f
 misses x (Whole (m.Call z)) u out f row after = absurd f
 misses x (Whole (m.Text z)) u out f row after = absurd f
 misses x (Whole m.Enq) u out f row after = absurd f
-misses x (Whole m.Ack0) u out f row after = absurd f
-misses x (Whole m.Ack1) u out f row after = absurd f
-misses x (Whole m.Nak) u out f row after = absurd f
-misses x (Whole m.Wack) u out f row after = absurd f
-misses x (Whole m.Rvi) u out f row after = absurd f
+misses x (Whole (m.Reply r)) u out f row after = absurd f
 
 nobody_answers : (old : List TributaryValue) (hears : ℕ → Heard) (new : List TributaryValue) (n : ℕ)
     → ((k : ℕ) → k < n → answer_of old hears new k ≡ None) → first_answer old hears new n ≡ None

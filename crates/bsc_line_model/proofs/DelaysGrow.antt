@@ -12,9 +12,9 @@ use Rattle.bsc_spool.specs.Queue.{waiting}
 use Rattle.bsc_spool.specs.Spool.{SpoolValue, with_delay, room_asked}
 use Rattle.bsc_bid.specs.Act.{Act}
 use Rattle.bsc_bid.specs.Act as a
-use Rattle.bsc_bid.specs.declared.reply.Reply.{Reply}
-use Rattle.bsc_bid.specs.declared.reply.Reply.TheVariants.{Ack0, Ack1, Nak, Wack, Rvi}
-use Rattle.bsc_bid.specs.Reply.{reply_heard}
+use Rattle.bsc_frame.specs.declared.reply.Reply.{Reply}
+use Rattle.bsc_frame.specs.declared.reply.Reply.TheVariants.{Ack0, Ack1, Nak, Wack, Rvi}
+use Rattle.bsc_frame.specs.Replies.{reply_in}
 use Rattle.bsc_bid.specs.Receiver.{ReceiverValue, ReceiverStep, Rooms, heard_step, text_step}
 use Rattle.bsc_bid.specs.Receiver.{stored_text, taken_urgently, replied, is_rvi, is_wack}
 use Rattle.bsc_bid.specs.Receiver.{new_receiver}
@@ -100,11 +100,7 @@ heard_grows r s (Whole (m.Text t)) urgent rooms = text_grows r s t urgent rooms
 heard_grows r s (Whole m.Enq) urgent rooms = enq_grows r s rooms (is_wack r.last) _
 heard_grows r s (Whole m.Eot) urgent rooms = grows_same s.delays
 heard_grows r s (Whole (m.Call x)) urgent rooms = grows_same s.delays
-heard_grows r s (Whole m.Ack0) urgent rooms = grows_same s.delays
-heard_grows r s (Whole m.Ack1) urgent rooms = grows_same s.delays
-heard_grows r s (Whole m.Nak) urgent rooms = grows_same s.delays
-heard_grows r s (Whole m.Wack) urgent rooms = grows_same s.delays
-heard_grows r s (Whole m.Rvi) urgent rooms = grows_same s.delays
+heard_grows r s (Whole (m.Reply reply)) urgent rooms = grows_same s.delays
 heard_grows r s Failed urgent rooms = grows_same s.delays
 heard_grows r s Noise urgent rooms = grows_same s.delays
 
@@ -165,11 +161,7 @@ hear_grows x (Whole m.Eot) rooms = spools_same x.spools
 hear_grows x (Whole (m.Call address)) rooms = call_grows x (called_as x.terminal address) rooms
 hear_grows x (Whole (m.Text t)) rooms = mode_grows x x.mode (Whole (m.Text t)) rooms
 hear_grows x (Whole m.Enq) rooms = mode_grows x x.mode (Whole m.Enq) rooms
-hear_grows x (Whole m.Ack0) rooms = mode_grows x x.mode (Whole m.Ack0) rooms
-hear_grows x (Whole m.Ack1) rooms = mode_grows x x.mode (Whole m.Ack1) rooms
-hear_grows x (Whole m.Nak) rooms = mode_grows x x.mode (Whole m.Nak) rooms
-hear_grows x (Whole m.Wack) rooms = mode_grows x x.mode (Whole m.Wack) rooms
-hear_grows x (Whole m.Rvi) rooms = mode_grows x x.mode (Whole m.Rvi) rooms
+hear_grows x (Whole (m.Reply r)) rooms = mode_grows x x.mode (Whole (m.Reply r)) rooms
 hear_grows x Failed rooms = mode_grows x x.mode Failed rooms
 hear_grows x Noise rooms = mode_grows x x.mode Noise rooms
 
@@ -286,21 +278,17 @@ polling_grows c replied (Whole m.Eot) rooms = next_grows c (Poll (has_rvi replie
 polling_grows c replied (Whole (m.Call x)) rooms = receives_grow c replied (Whole (m.Call x)) rooms
 polling_grows c replied (Whole (m.Text t)) rooms = receives_grow c replied (Whole (m.Text t)) rooms
 polling_grows c replied (Whole m.Enq) rooms = receives_grow c replied (Whole m.Enq) rooms
-polling_grows c replied (Whole m.Ack0) rooms = receives_grow c replied (Whole m.Ack0) rooms
-polling_grows c replied (Whole m.Ack1) rooms = receives_grow c replied (Whole m.Ack1) rooms
-polling_grows c replied (Whole m.Nak) rooms = receives_grow c replied (Whole m.Nak) rooms
-polling_grows c replied (Whole m.Wack) rooms = receives_grow c replied (Whole m.Wack) rooms
-polling_grows c replied (Whole m.Rvi) rooms = receives_grow c replied (Whole m.Rvi) rooms
+polling_grows c replied (Whole (m.Reply r)) rooms = receives_grow c replied (Whole (m.Reply r)) rooms
 polling_grows c replied Failed rooms = receives_grow c replied Failed rooms
 polling_grows c replied Noise rooms = receives_grow c replied Noise rooms
 
 task_grows : (c : ControlValue) (task : Task) (h : Heard) (rooms : Rooms)
     → ControlGrows c (task_step c task h rooms).control
 task_grows c k.AtRest h rooms = control_same_grows c
-task_grows c (k.Selecting s enquired) h rooms = selecting_grows c s (reply_heard h)
+task_grows c (k.Selecting s enquired) h rooms = selecting_grows c s (reply_in h)
 task_grows c (k.Sending s) h rooms =
     acted_grows c s (reply_step (outbound_at (peer c) s).sender (outbound_at (peer c) s).queue
-    (reply_heard h)) (after_bid s (reply_heard h))
+    (reply_in h)) (after_bid s (reply_in h))
 task_grows c (k.Polling replied) h rooms = polling_grows c replied h rooms
 
 pub control_grows : (c : ControlValue) (h : Heard) (d : ControlValue) (sent : Option Message)

@@ -6,6 +6,7 @@ use Rattle.std.proofs.Common.{Some, refl, sym, ◌∙◌, ap, subst, arith, get_
 use Rattle.std.proofs.lemmas.List.{length-set}
 use Rattle.bsc_frame.specs.declared.message.Message.{Message}
 use Rattle.bsc_frame.specs.declared.message.Message.TheVariants as m
+use Rattle.bsc_frame.specs.declared.reply.Reply.TheVariants.{Ack0}
 use Rattle.bsc_frame.specs.declared.message.Heard.{Heard}
 use Rattle.bsc_frame.specs.declared.message.Heard.TheVariants.{Whole}
 use Rattle.bsc_frame.specs.declared.text.End.{End}
@@ -17,7 +18,8 @@ use Rattle.bsc_bid.specs.declared.alternation.Alternation.TheVariants.{Even, Odd
 use Rattle.bsc_bid.specs.declared.phase.SentBlock.{SentBlock}
 use Rattle.bsc_bid.specs.declared.phase.Phase.TheVariants.{Idle, Unanswered}
 use Rattle.bsc_bid.specs.Receiver.{new_receiver}
-use Rattle.bsc_bid.specs.Reply.{message_of, reply_heard, ack, other}
+use Rattle.bsc_frame.specs.Replies.{reply_in}
+use Rattle.bsc_bid.specs.Answer.{ack, other}
 use Rattle.bsc_bid.specs.Sender.{SenderValue, SenderStep, text_of, sent_next, begin_step}
 use Rattle.bsc_bid.specs.Sender.{reply_step, accepted, over, with_counts}
 use Rattle.bsc_bid.specs.Terminal.{TerminalValue}
@@ -149,25 +151,25 @@ pub begins_bid_down : (laws : CutLaws) (c d : ControlValue) (sent : Option Messa
     (enquired : Bool) → current c < length c.peers → s < length (peer c).outbounds → c.task
     ≡ Selecting s enquired →
     IsQueue (outbound_at (peer c) s).queue → block_count (outbound_at (peer c) s).queue ≡ suc n
-    → Hears c (Whole m.Ack0) d sent → SendsDown d sent c.place s n
+    → Hears c (Whole (m.Reply Ack0)) d sent → SendsDown d sent c.place s n
     × ControlStays (current c) (ToTerminal s) c d
 begins_bid_down laws c d sent s n enquired there select task is count h =
     let o : OutboundValue = outbound_at (peer c) s in
     let row : record { control = d; sent = sent }
     ≡ bid_step c s (begin_step o.sender o.queue) (Selection s) = h.row
-    ∙ ap (λ (k : Task). task_step c k (Whole m.Ack0) (rooms_after c (Whole m.Ack0) d)) task in
+    ∙ ap (λ (k : Task). task_step c k (Whole (m.Reply Ack0)) (rooms_after c (Whole (m.Reply Ack0)) d)) task in
     sends_block laws c d sent s n o.sender o.queue Odd (Selection s) there select is count row
 
 -- the acknowledgement is the one that is expected
 pub ack_step : (x : SenderValue) (q : QueueValue) (b : SentBlock) (alternation : Alternation)
     → b.alternation ≡ alternation → x.phase ≡ Unanswered b
-    → reply_step x q (reply_heard (Whole (message_of (ack alternation))))
+    → reply_step x q (reply_in (Whole (m.Reply (ack alternation))))
     ≡ accepted x (with_known q b.count) b.end alternation
 ack_step x q b Even p e = rw (e, p) refl
 ack_step x q b Odd p e = rw (e, p) refl
 
 ack_after : (s : ℕ) (alternation : Alternation)
-    → after_bid s (reply_heard (Whole (message_of (ack alternation)))) ≡ Selection s
+    → after_bid s (reply_in (Whole (m.Reply (ack alternation)))) ≡ Selection s
 ack_after s Even = refl
 ack_after s Odd = refl
 
@@ -222,16 +224,16 @@ ends_bid c d sent s x q there select none row =
 pub learns : (laws : CutLaws) (c d : ControlValue) (sent : Option Message) (s n : ℕ) (b : SentBlock)
     → current c < length c.peers → s < length (peer c).outbounds → IsInBlock c s n b
     → IsQueue (with_known (outbound_at (peer c) s).queue b.count) →
-    Hears c (Whole (message_of (ack b.alternation))) d sent → GoesOnDown d sent c.place s n
+    Hears c (Whole (m.Reply (ack b.alternation))) d sent → GoesOnDown d sent c.place s n
     × ControlStays (current c) (ToTerminal s) c d
 learns laws c d sent s n b there select i is h =
     let o : OutboundValue = outbound_at (peer c) s in
-    let w : Heard = Whole (message_of (ack b.alternation)) in
+    let w : Heard = Whole (m.Reply (ack b.alternation)) in
     let q : QueueValue = with_known o.queue b.count in
     let row : record { control = d; sent = sent }
     ≡ bid_step c s (accepted o.sender q b.end b.alternation) (Selection s) =
     h.row ∙ ap (λ (k : Task). task_step c k w (rooms_after c w d)) i.task
-    ∙ ap (λ (z : SenderStep). bid_step c s z (after_bid s (reply_heard w)))
+    ∙ ap (λ (z : SenderStep). bid_step c s z (after_bid s (reply_in w)))
     (ack_step o.sender o.queue b b.alternation refl i.phase)
     ∙ ap (λ (z : After). bid_step c s (accepted o.sender q b.end b.alternation) z)
     (ack_after s b.alternation) in

@@ -11,8 +11,8 @@ use Rattle.bsc_frame.specs.Texts.{TextValue}
 use Rattle.bsc_spool.specs.Queue.{QueueValue}
 use Rattle.bsc_spool.specs.Spool.{SpoolValue}
 use Rattle.bsc_bid.specs.declared.phase.Phase.{Phase}
-use Rattle.bsc_bid.specs.declared.reply.Reply.{Reply}
-use Rattle.bsc_bid.specs.Reply.{message_of, reply_heard}
+use Rattle.bsc_frame.specs.declared.reply.Reply.{Reply}
+use Rattle.bsc_frame.specs.Replies.{reply_in}
 use Rattle.bsc_bid.specs.Receiver.{ReceiverStep, Rooms, heard_step}
 use Rattle.bsc_bid.specs.Sender.{reply_step}
 use Rattle.bsc_bid.specs.Channel.{Channel, channel}
@@ -59,11 +59,7 @@ not_cut_to_text (m.Call z) t f = f
 not_cut_to_text m.Eot t f = f
 not_cut_to_text (m.Text z) t f = f
 not_cut_to_text m.Enq t f = f
-not_cut_to_text m.Ack0 t f = f
-not_cut_to_text m.Ack1 t f = f
-not_cut_to_text m.Nak t f = f
-not_cut_to_text m.Wack t f = f
-not_cut_to_text m.Rvi t f = f
+not_cut_to_text (m.Reply r) t f = f
 
 pub text_sent : (w : Message) (h : Heard) (t : TextValue) → h ≡ Whole (m.Text t) → IsFairlyHeard w h
     → w ≡ m.Text t
@@ -83,11 +79,7 @@ text_sent_down m.Eot n hears k t less is fair = text_sent m.Eot (hears k) t is (
 text_sent_down (m.Text z) n hears k t less is fair =
     text_sent (m.Text z) (hears k) t is (fair k less)
 text_sent_down m.Enq n hears k t less is fair = text_sent m.Enq (hears k) t is (fair k less)
-text_sent_down m.Ack0 n hears k t less is fair = text_sent m.Ack0 (hears k) t is (fair k less)
-text_sent_down m.Ack1 n hears k t less is fair = text_sent m.Ack1 (hears k) t is (fair k less)
-text_sent_down m.Nak n hears k t less is fair = text_sent m.Nak (hears k) t is (fair k less)
-text_sent_down m.Wack n hears k t less is fair = text_sent m.Wack (hears k) t is (fair k less)
-text_sent_down m.Rvi n hears k t less is fair = text_sent m.Rvi (hears k) t is (fair k less)
+text_sent_down (m.Reply r) n hears k t less is fair = text_sent (m.Reply r) (hears k) t is (fair k less)
 
 -- it is sent in a bid to the present terminal
 pub record IsBidTo (pending : Option Transmission) (c : ControlValue)
@@ -210,7 +202,7 @@ down_moves_from laws old new w hears t k less =
         l.mode (together_down old new w hears k) in
         let r : Reply = of.bid.flies.0 in
         let never : is_call w ≡ false = ap is_call of.bid.flies.1 ∙ reply_is_no_call r in
-        let fair : IsFairlyHeard (message_of r) (hears t) =
+        let fair : IsFairlyHeard (m.Reply r) (hears t) =
         subst (λ (v : Message). IsFairlyHeard v (hears t)) of.bid.flies.1
         (each_fairly w (terminal_count old) hears never was.1 t less) in
         let bid : InBid y.sender.phase y.queue q.receiver.alternation q.receiver.last
@@ -218,19 +210,19 @@ down_moves_from laws old new w hears t k less =
         subst (λ (f : Flight). InBid y.sender.phase y.queue q.receiver.alternation q.receiver.last
         q.spool.records f) of.bid.flies.2 of.bid.bid in
         let agrees : SenderAgrees y.queue q.receiver.alternation q.receiver.last q.spool.records
-        (reply_step y.sender y.queue (reply_heard (hears t))) =
+        (reply_step y.sender y.queue (reply_in (hears t))) =
         laws.answering y.sender y.queue q.receiver.alternation q.receiver.last q.spool.records
         (Some r) (Some (hears t)) bid fair in
         let moves : MovesAtSender (channel y.queue q.spool.records)
-        (channel (reply_step y.sender y.queue (reply_heard (hears t))).queue q.spool.records) =
+        (channel (reply_step y.sender y.queue (reply_in (hears t))).queue q.spool.records) =
         agrees.moves in
         let here : MovesAtSender (channel (terminal_at old t).queue (peer_at c t).spool.records)
         (channel (reply_step (terminal_at old t).sender (terminal_at old t).queue
-        (reply_heard (hears t))).queue (peer_at c t).spool.records) =
+        (reply_in (hears t))).queue (peer_at c t).spool.records) =
         subst (λ (n : ℕ). MovesAtSender (channel (terminal_at old n).queue
         (peer_at c n).spool.records) (channel
         (reply_step (terminal_at old n).sender (terminal_at old n).queue
-        (reply_heard (hears t))).queue (peer_at c n).spool.records)) (sym of.terminal) moves in
+        (reply_in (hears t))).queue (peer_at c n).spool.records)) (sym of.terminal) moves in
         let is : old.addressed ≡ Some (t, FromTerminal) =
         subst (λ (n : Mode). IsTuned old.addressed t n) l.mode (k.line.tuned was.0 t less) in
         if_learns old.addressed t FromTerminal

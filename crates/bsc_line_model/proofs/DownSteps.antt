@@ -6,6 +6,7 @@ use Rattle.std.proofs.lemmas.List.Elements.{All-get_or}
 use Rattle.std.proofs.lemmas.Option.{slice_get-get_or}
 use Rattle.bsc_frame.specs.declared.message.Message.{Message}
 use Rattle.bsc_frame.specs.declared.message.Message.TheVariants as m
+use Rattle.bsc_frame.specs.declared.reply.Reply.TheVariants.{Ack0}
 use Rattle.bsc_frame.specs.declared.message.Heard.{Heard}
 use Rattle.bsc_frame.specs.declared.message.Heard.TheVariants.{Whole}
 use Rattle.bsc_frame.specs.Texts.{TextValue}
@@ -13,7 +14,7 @@ use Rattle.bsc_bid.specs.declared.phase.SentBlock.{SentBlock}
 use Rattle.bsc_bid.specs.declared.phase.Phase.{Phase}
 use Rattle.bsc_bid.specs.declared.phase.Phase.TheVariants.{Unanswered}
 use Rattle.bsc_bid.specs.Ready.{IsAtRest}
-use Rattle.bsc_bid.specs.Reply.{message_of, ack, other}
+use Rattle.bsc_bid.specs.Answer.{ack, other}
 use Rattle.bsc_bid.specs.Sender.{text_of}
 use Rattle.bsc_bid.specs.Agreement.{Flight, Outward, Agree}
 use Rattle.bsc_bid.specs.Terminal.{TerminalValue}
@@ -129,7 +130,7 @@ pub text_down : (l new : LineValue) (s n : ℕ) (b : SentBlock) → IsGood l →
     let t : TextValue = text_of (outbound_at (peer l.control) s).queue b in
     (l.pending ≡ Some (record { speaker = sp.Control; message = m.Text t })
     → IsCarriedDown (m.Text t) (λ z. Whole (m.Text t)) l new
-    → OneAnswers (current l.control) (ToTerminal s) (message_of (ack b.alternation)) l new)
+    → OneAnswers (current l.control) (ToTerminal s) (m.Reply (ack b.alternation)) l new)
 text_down l new s n b g i calm delays is h =
     let c : ControlValue = l.control in
     let e : ℕ = current c in
@@ -154,12 +155,12 @@ text_down l new s n b g i calm delays is h =
     × ((spool_at x.spools s).delays < 2 ^ 64 - 1) =
     delays.terminals e s (record { there = there; its_way = selects }) in
     let taken : (answer_of l.terminals (λ z. Whole (m.Text t)) new.terminals e
-    ≡ Some (message_of (ack b.alternation)))
+    ≡ Some (m.Reply (ack b.alternation)))
     × TerminalStays e (ToTerminal s) e x (terminal_at new e) =
     takes_block e x (terminal_at new e)
     (answer_of l.terminals (λ z. Whole (m.Text t)) new.terminals e) s t b.alternation bid.mode
     into calm counted same.0 same.1 (h.terminals.each e there) in
-    answered_by_one e (ToTerminal s) (m.Text t) (message_of (ack b.alternation)) l new there h
+    answered_by_one e (ToTerminal s) (m.Text t) (m.Reply (ack b.alternation)) l new there h
     (λ z less differ.
     answers_nothing e (ToTerminal s) z (terminal_at l z) (terminal_at new z)
     (answer_of l.terminals (λ y. Whole (m.Text t)) new.terminals z) (Whole (m.Text t))
@@ -209,7 +210,7 @@ pub call_down : (laws : NamesOwn) (l new : LineValue) (s : ℕ) → IsGood l →
     → IsTrue (terminal_at l (current l.control)).ready → SameDelays l new →
     let a : List ℕ = select_address (peer l.control).terminal s in
     (IsCarriedDown (m.Call a) (λ z. Whole (m.Call a)) l new
-    → OneAnswers (current l.control) (ToTerminal s) m.Ack0 l new)
+    → OneAnswers (current l.control) (ToTerminal s) (m.Reply Ack0) l new)
 call_down laws l new s g task select ready delays h =
     let c : ControlValue = l.control in
     let e : ℕ = current c in
@@ -250,12 +251,12 @@ call_down laws l new s g task select ready delays h =
     let named : called_as x.terminal a ≡ Selection s =
     (laws.selection x.terminal a s (g.line.stations.members e there).tributary.distinct).1
     own in
-    let taken : (answer_of l.terminals (λ z. Whole (m.Call a)) new.terminals e ≡ Some m.Ack0)
+    let taken : (answer_of l.terminals (λ z. Whole (m.Call a)) new.terminals e ≡ Some (m.Reply Ack0))
     × TerminalStays e (ToTerminal s) e x (terminal_at new e) =
     hears_selection e x (terminal_at new e)
     (answer_of l.terminals (λ z. Whole (m.Call a)) new.terminals e) s a into ready
     (rests e there) named same.0 same.1 (h.terminals.each e there) in
-    answered_by_one e (ToTerminal s) (m.Call a) m.Ack0 l new there h
+    answered_by_one e (ToTerminal s) (m.Call a) (m.Reply Ack0) l new there h
     (λ t less differ.
     let quiet : (answer_of l.terminals (λ y. Whole (m.Call a)) new.terminals t ≡ None)
     × TerminalStays e (ToTerminal s) t (terminal_at l t) (terminal_at new t) =

@@ -4,14 +4,15 @@ use Rattle.std.proofs.Common.{Option, None, Some, slice_set, option_map, refl, s
 use Rattle.std.proofs.Common.{arith, if◌then◌else◌, get_or-set_other, get_or-set_same}
 use Rattle.bsc_frame.specs.declared.message.Message.{Message}
 use Rattle.bsc_frame.specs.declared.message.Message.TheVariants as m
+use Rattle.bsc_frame.specs.declared.reply.Reply.TheVariants.{Ack0, Nak}
 use Rattle.bsc_frame.specs.declared.message.Heard.TheVariants.{Whole}
 use Rattle.bsc_frame.specs.Texts.{TextValue}
 use Rattle.bsc_spool.specs.Spool.{SpoolValue, room_asked, with_delay}
 use Rattle.bsc_bid.specs.declared.alternation.Alternation.{Alternation}
 use Rattle.bsc_bid.specs.declared.alternation.Alternation.TheVariants.{Even, Odd}
-use Rattle.bsc_bid.specs.declared.reply.Reply.{Reply}
+use Rattle.bsc_frame.specs.declared.reply.Reply.{Reply}
 use Rattle.bsc_bid.specs.Ready.{IsAtRest}
-use Rattle.bsc_bid.specs.Reply.{message_of, ack, other}
+use Rattle.bsc_bid.specs.Answer.{ack, other}
 use Rattle.bsc_bid.specs.Receiver.{ReceiverValue, ReceiverStep, Rooms, text_step, sends_rvi}
 use Rattle.bsc_bid.specs.Receiver.{new_receiver, first_reply}
 use Rattle.bsc_tributary.specs.declared.called.Called.{Called}
@@ -67,7 +68,7 @@ pub takes_block : (e : ℕ) (x u : TributaryValue) (out : Option Message) (s : �
     → x.receiver.alternation ≡ other alternation →
     (spool_at u.spools s).delays ≡ (spool_at x.spools s).delays → (spool_at x.spools s).delays
     < 2 ^ 64 - 1 → Hears x (Whole (m.Text t)) u out
-    → (out ≡ Some (message_of (ack alternation))) × TerminalStays e (ToTerminal s) e x u
+    → (out ≡ Some (m.Reply (ack alternation))) × TerminalStays e (ToTerminal s) e x u
 takes_block e x u out s t alternation mode there not_urgent counted same less h =
     let spool : SpoolValue = spool_at x.spools s in
     let rooms : Rooms = rooms_after (Whole (m.Text t)) u in
@@ -84,10 +85,10 @@ takes_block e x u out s t alternation mode there not_urgent counted same less h 
     taken_exact x.receiver spool t rooms.first rooms.after delays less in
     let parity_is : other x.receiver.alternation ≡ alternation = ap other counted
     ∙ twice_other alternation in
-    let said : out ≡ Some (message_of (ack alternation)) =
+    let said : out ≡ Some (m.Reply (ack alternation)) =
     ap (λ (o : TributaryStep). o.sent) row
-    ∙ ap (λ (z : Option Reply). option_map message_of z) reply
-    ∙ ap (λ (p : Alternation). Some (message_of (ack p))) parity_is in (
+    ∙ ap (λ (z : Option Reply). option_map m.Reply z) reply
+    ∙ ap (λ (p : Alternation). Some (m.Reply (ack p))) parity_is in (
       said,
       subst (λ (o : TributaryStep). TerminalStays e (ToTerminal s) e x o.tributary) (sym row)
           (receives_stays e x s r),
@@ -117,7 +118,7 @@ selected_exact : (e : ℕ) (x u : TributaryValue) (out : Option Message) (s : �
     < length x.spools → IsTrue x.ready → IsAtRest x.sender.phase →
     (spool_at u.spools s).delays ≡ (spool_at x.spools s).delays → (spool_at x.spools s).delays
     < 2 ^ 64 - 1 → record { tributary = u; sent = out } ≡ selection_step x s room
-    → (out ≡ Some m.Ack0) × TerminalStays e (ToTerminal s) e x u
+    → (out ≡ Some (m.Reply Ack0)) × TerminalStays e (ToTerminal s) e x u
 selected_exact e x u out s room there ready rest same less row = by_room room exact
   where
     selected : Bool → TributaryStep
@@ -131,11 +132,11 @@ selected_exact e x u out s room there ready rest same less row = by_room room ex
                     slice_set x.spools s (room_asked (spool_at x.spools s) b);
               };
           sent =
-              Some (message_of (first_reply b));
+              Some (m.Reply (first_reply b));
         }
 
     refused : TributaryStep
-    refused = record { tributary = without_line x; sent = Some m.Nak }
+    refused = record { tributary = without_line x; sent = Some (m.Reply Nak) }
 
     exact : record { tributary = u; sent = out } ≡ selected room
     exact = row ∙ ap (λ (b : Bool). if b then selected room else refused) ready
@@ -145,7 +146,7 @@ selected_exact e x u out s room there ready rest same less row = by_room room ex
     spool_is b is = ap (λ (o : TributaryStep). spool_at o.tributary.spools s) is
         ∙ get_or-set_same x.spools s (room_asked (spool_at x.spools s) b) empty_spool there
 
-    by_room : (b : Bool) → record { tributary = u; sent = out } ≡ selected b → (out ≡ Some m.Ack0)
+    by_room : (b : Bool) → record { tributary = u; sent = out } ≡ selected b → (out ≡ Some (m.Reply Ack0))
         × TerminalStays e (ToTerminal s) e x u
     by_room true is = (
       ap (λ (o : TributaryStep). o.sent) is,
@@ -172,7 +173,7 @@ pub hears_selection : (e : ℕ) (x u : TributaryValue) (out : Option Message) (s
     < length x.spools → IsTrue x.ready → IsAtRest x.sender.phase → called_as x.terminal a
     ≡ Selection s →
     (spool_at u.spools s).delays ≡ (spool_at x.spools s).delays → (spool_at x.spools s).delays
-    < 2 ^ 64 - 1 → Hears x (Whole (m.Call a)) u out → (out ≡ Some m.Ack0)
+    < 2 ^ 64 - 1 → Hears x (Whole (m.Call a)) u out → (out ≡ Some (m.Reply Ack0))
     × TerminalStays e (ToTerminal s) e x u
 hears_selection e x u out s a there ready rest is same less h =
     selected_exact e x u out s (rooms_after (Whole (m.Call a)) u).first there ready rest same less

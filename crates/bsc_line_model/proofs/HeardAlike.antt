@@ -26,11 +26,7 @@ alike_is_fair (m.Call z) n h f = call_fair z n h f
 alike_is_fair m.Eot n h f = λ t less. f
 alike_is_fair (m.Text z) n h f = λ t less. f
 alike_is_fair m.Enq n h f = λ t less. f
-alike_is_fair m.Ack0 n h f = λ t less. f
-alike_is_fair m.Ack1 n h f = λ t less. f
-alike_is_fair m.Nak n h f = λ t less. f
-alike_is_fair m.Wack n h f = λ t less. f
-alike_is_fair m.Rvi n h f = λ t less. f
+alike_is_fair (m.Reply r) n h f = λ t less. f
 
 -- and back
 missed_is_fair : (z : List ℕ) (h : Heard) → IsMissed h → IsFairlyHeard (m.Call z) h
@@ -46,8 +42,4 @@ fair_is_alike (m.Call z) n h some (inr missed) = missed_is_fair z h (missed 0 so
 fair_is_alike m.Eot n h some f = f 0 some
 fair_is_alike (m.Text z) n h some f = f 0 some
 fair_is_alike m.Enq n h some f = f 0 some
-fair_is_alike m.Ack0 n h some f = f 0 some
-fair_is_alike m.Ack1 n h some f = f 0 some
-fair_is_alike m.Nak n h some f = f 0 some
-fair_is_alike m.Wack n h some f = f 0 some
-fair_is_alike m.Rvi n h some f = f 0 some
+fair_is_alike (m.Reply r) n h some f = f 0 some

@@ -9,8 +9,8 @@ use Rattle.bsc_frame.specs.declared.message.Message.{Message}
 use Rattle.bsc_frame.specs.declared.message.Message.TheVariants as m
 use Rattle.bsc_spool.specs.Queue.{QueueValue, with_offered}
 use Rattle.bsc_bid.specs.declared.alternation.Alternation.{Alternation}
-use Rattle.bsc_bid.specs.declared.reply.Reply.{Reply}
-use Rattle.bsc_bid.specs.declared.reply.Reply.TheVariants.{Ack0, Wack}
+use Rattle.bsc_frame.specs.declared.reply.Reply.{Reply}
+use Rattle.bsc_frame.specs.declared.reply.Reply.TheVariants.{Ack0, Ack1, Nak, Wack, Rvi}
 use Rattle.bsc_bid.specs.declared.phase.Phase.{Phase}
 use Rattle.bsc_bid.specs.declared.phase.Phase.TheVariants.{Idle, Unanswered, Held, InDoubt}
 use Rattle.bsc_bid.specs.Receiver.{ReceiverValue}
@@ -112,15 +112,15 @@ fresh_after_like p x q u s false k h = tt
 answer_like : (w : Message) (p : PeerValue) (x : TributaryValue) (q : PeerValue)
     (u : TributaryValue) (s : ℕ) (ts us : List TributaryValue) → IsLike p x q u
     → (AllInControlMode ts → AllInControlMode us) → IsAnswer w x s ts → IsAnswer w u s us
-answer_like m.Nak p x q u s ts us k modes h = modes h
-answer_like m.Ack0 p x q u s ts us k modes h =
+answer_like (m.Reply Nak) p x q u s ts us k modes h = modes h
+answer_like (m.Reply Ack0) p x q u s ts us k modes h =
     (fresh_like p x q u s k h.0, ap (λ (r : ReceiverValue). r.last) k.receiver ∙ h.1)
-answer_like m.Wack p x q u s ts us k modes h =
+answer_like (m.Reply Wack) p x q u s ts us k modes h =
     (fresh_like p x q u s k h.0, ap (λ (r : ReceiverValue). r.last) k.receiver ∙ h.1)
 answer_like m.Eot p x q u s ts us k modes h = absurd h
 answer_like m.Enq p x q u s ts us k modes h = absurd h
-answer_like m.Ack1 p x q u s ts us k modes h = absurd h
-answer_like m.Rvi p x q u s ts us k modes h = absurd h
+answer_like (m.Reply Ack1) p x q u s ts us k modes h = absurd h
+answer_like (m.Reply Rvi) p x q u s ts us k modes h = absurd h
 answer_like (m.Text z) p x q u s ts us k modes h = absurd h
 answer_like (m.Call z) p x q u s ts us k modes h = absurd h
 

@@ -10,9 +10,9 @@ use Rattle.bsc_frame.specs.declared.message.Heard.TheVariants.{Whole, Failed, No
 use Rattle.bsc_spool.specs.Queue.{QueueValue}
 use Rattle.bsc_bid.specs.Act.{Act}
 use Rattle.bsc_bid.specs.Act as a
-use Rattle.bsc_bid.specs.declared.reply.Reply.{Reply}
-use Rattle.bsc_bid.specs.declared.reply.Reply.TheVariants.{Ack0, Ack1, Nak, Wack, Rvi}
-use Rattle.bsc_bid.specs.Reply.{reply_heard}
+use Rattle.bsc_frame.specs.declared.reply.Reply.{Reply}
+use Rattle.bsc_frame.specs.declared.reply.Reply.TheVariants.{Ack0, Ack1, Nak, Wack, Rvi}
+use Rattle.bsc_frame.specs.Replies.{reply_in}
 use Rattle.bsc_bid.specs.Receiver.{ReceiverStep, Rooms, new_receiver, heard_step, sends_rvi}
 use Rattle.bsc_bid.specs.Sender.{SenderStep, begin_step, reply_step, silence_step}
 use Rattle.bsc_control.specs.declared.task.Replied.{Replied}
@@ -165,7 +165,7 @@ pub record LearnsDown (c : ControlValue) (h : Heard) (d : ControlValue) (t k : �
   pub task : c.task ≡ Sending k
   pub queue : (outbound_of d t k).queue
       ≡ (reply_step (outbound_at (peer c) k).sender (outbound_at (peer c) k).queue
-      (reply_heard h)).queue
+      (reply_in h)).queue
 
 abbrev pub OutboundHears : ControlValue → Heard → ControlValue → ℕ → ℕ → Type 0
 OutboundHears c h d t k = ((outbound_of d t k).queue ≡ (outbound_of c t k).queue)
@@ -222,20 +222,8 @@ polling_queues c replied h rooms t k places = by_heard h
     by_heard (Whole m.Enq) =
         receives_queues c replied (heard_step (peer c).receiver (peer c).spool (Whole m.Enq)
         (peer c).urgent rooms) t k places
-    by_heard (Whole m.Ack0) =
-        receives_queues c replied (heard_step (peer c).receiver (peer c).spool (Whole m.Ack0)
-        (peer c).urgent rooms) t k places
-    by_heard (Whole m.Ack1) =
-        receives_queues c replied (heard_step (peer c).receiver (peer c).spool (Whole m.Ack1)
-        (peer c).urgent rooms) t k places
-    by_heard (Whole m.Nak) =
-        receives_queues c replied (heard_step (peer c).receiver (peer c).spool (Whole m.Nak)
-        (peer c).urgent rooms) t k places
-    by_heard (Whole m.Wack) =
-        receives_queues c replied (heard_step (peer c).receiver (peer c).spool (Whole m.Wack)
-        (peer c).urgent rooms) t k places
-    by_heard (Whole m.Rvi) =
-        receives_queues c replied (heard_step (peer c).receiver (peer c).spool (Whole m.Rvi)
+    by_heard (Whole (m.Reply r)) =
+        receives_queues c replied (heard_step (peer c).receiver (peer c).spool (Whole (m.Reply r))
         (peer c).urgent rooms) t k places
     by_heard Failed =
         receives_queues c replied (heard_step (peer c).receiver (peer c).spool Failed
@@ -270,11 +258,11 @@ outbound_queue c d h out t k is row =
         → OutboundHears c h d t k
     in_task AtRest e same = inl same
     in_task (Selecting s enquired) e same =
-        inl (same ∙ selecting_queues c s (reply_heard h) t k listed
+        inl (same ∙ selecting_queues c s (reply_in h) t k listed
         (selected_there c s enquired is e))
     in_task (Sending s) e same =
         elim (acted_queues c s (reply_step (outbound_at (peer c) s).sender
-        (outbound_at (peer c) s).queue (reply_heard h)) (after_bid s (reply_heard h)) t k listed
+        (outbound_at (peer c) s).queue (reply_in h)) (after_bid s (reply_in h)) t k listed
         (sending_there c s is e)) [
           | inl still ↦ inl (same ∙ still)
           | inr now ↦
@@ -284,7 +272,7 @@ outbound_queue c d h out t k is row =
                 queue =
                     same ∙ now.left
                     ∙ ap (λ (n : ℕ). (reply_step (outbound_at (peer c) n).sender
-                    (outbound_at (peer c) n).queue (reply_heard h)).queue) (sym now.select);
+                    (outbound_at (peer c) n).queue (reply_in h)).queue) (sym now.select);
               })
         ]
     in_task (Polling replied) e same =

@@ -3,6 +3,7 @@ use Rattle.std.proofs.Common.{◌≡◌, ◌⊎◌, inl, inr, ℕ, ◌+◌, Bool
 use Rattle.std.proofs.Common.{Option, None, Some, slice_set, refl, ◌∙◌, ap, if◌then◌else◌}
 use Rattle.bsc_frame.specs.declared.message.Message.{Message}
 use Rattle.bsc_frame.specs.declared.message.Message.TheVariants as m
+use Rattle.bsc_frame.specs.declared.reply.Reply.TheVariants.{Nak}
 use Rattle.bsc_frame.specs.declared.message.Heard.{Heard}
 use Rattle.bsc_frame.specs.declared.message.Heard.TheVariants.{Whole, Failed, Noise}
 use Rattle.bsc_spool.specs.declared.queue.Next.{Next}
@@ -13,7 +14,7 @@ use Rattle.bsc_bid.specs.Act as a
 use Rattle.bsc_bid.specs.declared.alternation.Alternation.TheVariants.{Odd}
 use Rattle.bsc_bid.specs.declared.phase.Phase.{Phase}
 use Rattle.bsc_bid.specs.declared.phase.Phase.TheVariants.{Idle, Unanswered, Held, InDoubt}
-use Rattle.bsc_bid.specs.Reply.{message_of, reply_heard}
+use Rattle.bsc_frame.specs.Replies.{reply_in}
 use Rattle.bsc_bid.specs.Receiver.{Rooms, new_receiver, first_reply}
 use Rattle.bsc_bid.specs.Sender.{SenderValue, with_counts, over, sent_next, begin_step, reply_step}
 use Rattle.bsc_bid.specs.Sender.{failed, silence_in as sender_silence, silence_step, is_in_doubt}
@@ -84,8 +85,8 @@ selection_queue x s room = by_ready x.ready
           spools =
               slice_set x.spools s (room_asked (spool_at x.spools s) room);
         })
-        (message_of (first_reply room))
-        else answer_step (without_line x) m.Nak).tributary.queue ≡ x.queue
+        (m.Reply (first_reply room))
+        else answer_step (without_line x) (m.Reply Nak)).tributary.queue ≡ x.queue
     by_ready true = refl
     by_ready false = refl
 
@@ -100,7 +101,7 @@ call_queue x called.Other rooms = refl
 pub record LearnsUp (x : TributaryValue) (h : Heard) (u : TributaryValue) : Type 0 where
   pub mode : x.mode ≡ Sending
   pub no_call : IsNoCall h
-  pub queue : u.queue ≡ (reply_step x.sender x.queue (reply_heard h)).queue
+  pub queue : u.queue ≡ (reply_step x.sender x.queue (reply_in h)).queue
 
 abbrev pub QueueHears : TributaryValue → Heard → TributaryValue → Type 0
 QueueHears x h u = (u.queue ≡ x.queue) ⊎ LearnsUp x h u
@@ -126,11 +127,7 @@ terminal_queue x u (Whole (m.Call z)) out row =
     ∙ call_queue x (called_as x.terminal z) (rooms_after (Whole (m.Call z)) u))
 terminal_queue x u (Whole (m.Text b)) out row = no_call_queue x u (Whole (m.Text b)) out tt row
 terminal_queue x u (Whole m.Enq) out row = no_call_queue x u (Whole m.Enq) out tt row
-terminal_queue x u (Whole m.Ack0) out row = no_call_queue x u (Whole m.Ack0) out tt row
-terminal_queue x u (Whole m.Ack1) out row = no_call_queue x u (Whole m.Ack1) out tt row
-terminal_queue x u (Whole m.Nak) out row = no_call_queue x u (Whole m.Nak) out tt row
-terminal_queue x u (Whole m.Wack) out row = no_call_queue x u (Whole m.Wack) out tt row
-terminal_queue x u (Whole m.Rvi) out row = no_call_queue x u (Whole m.Rvi) out tt row
+terminal_queue x u (Whole (m.Reply r)) out row = no_call_queue x u (Whole (m.Reply r)) out tt row
 terminal_queue x u Failed out row = no_call_queue x u Failed out tt row
 terminal_queue x u Noise out row = no_call_queue x u Noise out tt row
 

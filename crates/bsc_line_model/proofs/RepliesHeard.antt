@@ -11,9 +11,10 @@ use Rattle.bsc_frame.specs.declared.message.Heard.TheVariants.{Whole, Failed, No
 use Rattle.bsc_spool.specs.Spool.{SpoolValue, room_asked}
 use Rattle.bsc_bid.specs.declared.alternation.Alternation.{Alternation}
 use Rattle.bsc_bid.specs.declared.alternation.Alternation.TheVariants.{Even}
-use Rattle.bsc_bid.specs.declared.reply.Reply.{Reply}
-use Rattle.bsc_bid.specs.declared.reply.Reply.TheVariants.{Ack0, Ack1, Nak, Wack, Rvi}
-use Rattle.bsc_bid.specs.Reply.{message_of, reply_heard, ack}
+use Rattle.bsc_frame.specs.declared.reply.Reply.{Reply}
+use Rattle.bsc_frame.specs.declared.reply.Reply.TheVariants.{Ack0, Ack1, Nak, Wack, Rvi}
+use Rattle.bsc_frame.specs.Replies.{reply_in}
+use Rattle.bsc_bid.specs.Answer.{ack}
 use Rattle.bsc_bid.specs.Receiver.{Rooms, replied, is_wack}
 use Rattle.bsc_bid.specs.Sender.{SenderStep, reply_step}
 use Rattle.bsc_bid.specs.Fair.{IsFairlyHeard}
@@ -47,14 +48,14 @@ use Rattle.bsc_line_model.proofs.ActingUp.{HasActedUp, acts_up, present_after}
 use Rattle.bsc_line_model.proofs.CallsHeard.{with_others}
 use Rattle.bsc_bid.specs.Station.{StaysQuiet}
 
-reply_no_call : (r : Reply) → IsNoCall (Whole (message_of r))
+reply_no_call : (r : Reply) → IsNoCall (Whole (m.Reply r))
 reply_no_call Ack0 = tt
 reply_no_call Ack1 = tt
 reply_no_call Nak = tt
 reply_no_call Wack = tt
 reply_no_call Rvi = tt
 
-pub reply_heard_whole : (r : Reply) (h : Heard) → IsFairlyHeard (message_of r) h → IsNoCall h
+pub reply_heard_whole : (r : Reply) (h : Heard) → IsFairlyHeard (m.Reply r) h → IsNoCall h
 reply_heard_whole r (Whole v) (inl e) =
     subst (λ (x : Message). IsNoCall (Whole x)) (sym e) (reply_no_call r)
 reply_heard_whole r (Whole v) (inr f) = absurd (reply_not_cut r v f)
@@ -64,10 +65,10 @@ reply_heard_whole r Noise f = tt
 -- the terminal that sends has heard the reply
 pub replied_up : (laws : BidLaws) (p : PeerValue) (e : ℕ) (r : Reply) (h : Heard)
     (x u : TributaryValue) (out : Option Message)
-    → (b : IsInBidUp (Some (record { speaker = sp.Control; message = message_of r })) p e x)
-    → b.flight ≡ Back r → IsFairlyHeard (message_of r) h → Hears x h u out → HasActedUp p e u out
+    → (b : IsInBidUp (Some (record { speaker = sp.Control; message = m.Reply r })) p e x)
+    → b.flight ≡ Back r → IsFairlyHeard (m.Reply r) h → Hears x h u out → HasActedUp p e u out
 replied_up laws p e r h x u out b is fair row =
-    let step : SenderStep = reply_step x.sender x.queue (reply_heard h) in
+    let step : SenderStep = reply_step x.sender x.queue (reply_in h) in
     let bid : InBid x.sender.phase x.queue p.receiver.alternation p.receiver.last p.spool.records
     (Back r) =
     subst (λ (f : Flight). InBid x.sender.phase x.queue p.receiver.alternation p.receiver.last
@@ -84,7 +85,7 @@ replied_up laws p e r h x u out b is fair row =
     (λ quiet. inl (
       b.mode,
       keeps_going step.act x.sender.phase step.sender.phase
-          (laws.fits.reply x.sender x.queue (reply_heard h)) quiet
+          (laws.fits.reply x.sender x.queue (reply_in h)) quiet
           (going_in x.sender.phase x.queue p.receiver.alternation p.receiver.last p.spool.records
           (Back r) bid),
     )))
@@ -128,7 +129,7 @@ polling_replied laws c old addressed w hears new replied there tuned others b fa
     let u : TributaryValue = terminal_in new e in
     let out : Option Message = answer_of old hears new e in
     let r : Reply = b.flies.0 in
-    let c0 : IsInBidUp (Some (record { speaker = sp.Control; message = message_of r })) (peer c) e
+    let c0 : IsInBidUp (Some (record { speaker = sp.Control; message = m.Reply r })) (peer c) e
     x =
     record {
       mode = b.mode;
@@ -138,7 +139,7 @@ polling_replied laws c old addressed w hears new replied there tuned others b fa
       bid =
           b.bid;
     } in
-    let fairly : EachOf (length old) (λ t. IsFairlyHeard (message_of r) (hears t)) =
+    let fairly : EachOf (length old) (λ t. IsFairlyHeard (m.Reply r) (hears t)) =
     λ t less. subst (λ (v : Message). IsFairlyHeard v (hears t)) b.flies.1 (fair t less) in
     let is : addressed ≡ Some (e, FromTerminal) =
     subst (λ (n : Mode). IsTuned addressed e n) b.mode (tuned e there) in

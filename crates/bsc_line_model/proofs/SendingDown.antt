@@ -8,8 +8,7 @@ use Rattle.bsc_frame.specs.declared.message.Message.TheVariants as m
 use Rattle.bsc_frame.specs.declared.message.Heard.{Heard}
 use Rattle.bsc_frame.specs.declared.message.Heard.TheVariants.{Whole, Failed, Noise}
 use Rattle.bsc_spool.specs.Spool.{SpoolValue}
-use Rattle.bsc_bid.specs.declared.reply.Reply.{Reply}
-use Rattle.bsc_bid.specs.Reply.{message_of}
+use Rattle.bsc_frame.specs.declared.reply.Reply.{Reply}
 use Rattle.bsc_bid.specs.Receiver.{ReceiverStep, Rooms, heard_step}
 use Rattle.bsc_bid.specs.Fair.{IsFairlyHeard, IsTextMessage, IsCallCutShort}
 use Rattle.bsc_bid.specs.Agreement.{Flight, Outward, InBid, IsResting, reply_flight}
@@ -46,11 +45,7 @@ never_cut (m.Call z) v (inr b) f = absurd (cc)
 never_cut m.Eot v b f = f
 never_cut (m.Text z) v b f = f
 never_cut m.Enq v b f = f
-never_cut m.Ack0 v b f = f
-never_cut m.Ack1 v b f = f
-never_cut m.Nak v b f = f
-never_cut m.Wack v b f = f
-never_cut m.Rvi v b f = f
+never_cut (m.Reply r) v b f = f
 
 -- and is heard as no call and no EOT
 pub no_call : (w : Message) → IsBidMessage w → IsNoCall (Whole w)
@@ -60,11 +55,7 @@ no_call (m.Call z) (inl b) = absurd b
 no_call (m.Call z) (inr b) = absurd (cc)
 no_call m.Eot (inl b) = absurd b
 no_call m.Eot (inr b) = absurd (cc)
-no_call m.Ack0 b = tt
-no_call m.Ack1 b = tt
-no_call m.Nak b = tt
-no_call m.Wack b = tt
-no_call m.Rvi b = tt
+no_call (m.Reply r) b = tt
 
 pub no_call_heard : (w : Message) (h : Heard) → IsBidMessage w → IsFairlyHeard w h → IsNoCall h
 no_call_heard w (Whole v) b (inl e) =
@@ -161,7 +152,7 @@ one_hears old hears new addressed e way there is tuned never keeps =
 
 -- the reply is on the line
 reply_flies : (e : ℕ) (reply : Option Reply)
-    → FliesDown (sent_by (sp.Terminal e) (option_map message_of reply)) e (reply_flight reply)
+    → FliesDown (sent_by (sp.Terminal e) (option_map m.Reply reply)) e (reply_flight reply)
 reply_flies e None = refl
 reply_flies e (Some r) = (refl, (r, refl, refl))
 
@@ -190,7 +181,7 @@ receives_down laws p e s w h t u out there b bid fair x after =
     get_or-set_same t.spools s r.spool empty_spool there in
     let becomes : u ≡ (receive_step t s r).tributary =
     ap (λ (o : TributaryStep). o.tributary) row in
-    let made : IsInBidDown (sent_by (sp.Terminal e) (option_map message_of r.reply)) p e s
+    let made : IsInBidDown (sent_by (sp.Terminal e) (option_map m.Reply r.reply)) p e s
     (receive_step t s r).tributary = record {
       mode = b.mode;
       up = b.up;

@@ -7,12 +7,12 @@ use Rattle.bsc_frame.specs.declared.message.Message.TheVariants as m
 use Rattle.bsc_frame.specs.declared.message.Message.{Message}
 use Rattle.bsc_frame.specs.declared.message.Heard.{Heard}
 use Rattle.bsc_bid.specs.Fair.{IsFairlyHeard}
-use Rattle.bsc_bid.specs.Reply.{message_of, reply_heard}
+use Rattle.bsc_frame.specs.Replies.{reply_in}
 use Rattle.bsc_spool.specs.Queue.{QueueValue}
 use Rattle.bsc_bid.specs.Act.{Act}
 use Rattle.bsc_bid.specs.Act as a
 use Rattle.bsc_bid.specs.declared.alternation.Alternation.{Alternation}
-use Rattle.bsc_bid.specs.declared.reply.Reply.{Reply}
+use Rattle.bsc_frame.specs.declared.reply.Reply.{Reply}
 use Rattle.bsc_bid.specs.declared.phase.Phase.{Phase}
 use Rattle.bsc_bid.specs.declared.phase.Phase.TheVariants.{Idle, Unanswered, Held, InDoubt}
 use Rattle.bsc_bid.specs.Ready.{IsGoing, IsAtRest, FitsAct}
@@ -271,8 +271,8 @@ pub answers_down : (laws : BidLaws) (c : ControlValue) (ts : List TributaryValue
     → IsSending (Some (record { speaker = sp.Terminal t; message = w })) c ts s → IsFairlyHeard w h
     →
     let step : SenderStep =
-    reply_step (outbound_at (peer c) s).sender (outbound_at (peer c) s).queue (reply_heard h) in
-    let new : ControlStep = bid_step c s step (after_bid s (reply_heard h)) in
+    reply_step (outbound_at (peer c) s).sender (outbound_at (peer c) s).queue (reply_in h) in
+    let new : ControlStep = bid_step c s step (after_bid s (reply_in h)) in
     InTask new.control.task (sent_by sp.Control new.sent) new.control ts
 answers_down laws c ts s t w h stations task sending fair =
     let b : IsInBidDown (Some (record { speaker = sp.Terminal t; message = w })) (peer c)
@@ -284,14 +284,14 @@ answers_down laws c ts s t w h stations task sending fair =
     (spool_at x.spools s).records (Back r) =
     subst (λ (f : Flight). InBid o.sender.phase o.queue x.receiver.alternation x.receiver.last
     (spool_at x.spools s).records f) b.flies.1.2 b.bid in
-    let heard : IsFairlyHeard (message_of r) h =
+    let heard : IsFairlyHeard (m.Reply r) h =
     subst (λ (v : Message). IsFairlyHeard v h) b.flies.1.1 fair in
     stepped_down laws c ts s (Some (record { speaker = sp.Terminal t; message = w }))
-    (reply_step o.sender o.queue (reply_heard h)) (after_bid s (reply_heard h)) stations task
+    (reply_step o.sender o.queue (reply_in h)) (after_bid s (reply_in h)) stations task
     sending
     (laws.answering o.sender o.queue x.receiver.alternation x.receiver.last
     (spool_at x.spools s).records (Some r) (Some h) bid heard)
-    (laws.fits.reply o.sender o.queue (reply_heard h))
+    (laws.fits.reply o.sender o.queue (reply_in h))
 
 -- a silence comes to it
 pub times_out_down : (laws : BidLaws) (c : ControlValue) (ts : List TributaryValue) (s : ℕ)

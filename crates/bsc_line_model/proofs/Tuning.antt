@@ -99,19 +99,7 @@ not_called_tuned ts n hears old new t x mode less a k (Whole (m.Text z)) e never
 not_called_tuned ts n hears old new t x mode less a k (Whole m.Enq) e never after =
     kept_tuned old new t x.mode mode after k
     (same_addressed ts n hears old new t less a (λ z f. cc) (λ f. cc))
-not_called_tuned ts n hears old new t x mode less a k (Whole m.Ack0) e never after =
-    kept_tuned old new t x.mode mode after k
-    (same_addressed ts n hears old new t less a (λ z f. cc) (λ f. cc))
-not_called_tuned ts n hears old new t x mode less a k (Whole m.Ack1) e never after =
-    kept_tuned old new t x.mode mode after k
-    (same_addressed ts n hears old new t less a (λ z f. cc) (λ f. cc))
-not_called_tuned ts n hears old new t x mode less a k (Whole m.Nak) e never after =
-    kept_tuned old new t x.mode mode after k
-    (same_addressed ts n hears old new t less a (λ z f. cc) (λ f. cc))
-not_called_tuned ts n hears old new t x mode less a k (Whole m.Wack) e never after =
-    kept_tuned old new t x.mode mode after k
-    (same_addressed ts n hears old new t less a (λ z f. cc) (λ f. cc))
-not_called_tuned ts n hears old new t x mode less a k (Whole m.Rvi) e never after =
+not_called_tuned ts n hears old new t x mode less a k (Whole (m.Reply r)) e never after =
     kept_tuned old new t x.mode mode after k
     (same_addressed ts n hears old new t less a (λ z f. cc) (λ f. cc))
 not_called_tuned ts n hears old new t x mode less a k Failed e never after =
@@ -127,11 +115,7 @@ not_cut (m.Call z) a h = h
 not_cut m.Eot a h = h
 not_cut (m.Text z) a h = h
 not_cut m.Enq a h = h
-not_cut m.Ack0 a h = h
-not_cut m.Ack1 a h = h
-not_cut m.Nak a h = h
-not_cut m.Wack a h = h
-not_cut m.Rvi a h = h
+not_cut (m.Reply r) a h = h
 
 pub fair_not_called : (w : Message) (h : Heard) → is_call w ≡ false → IsFairlyHeard w h
     → IsNotCalled h
@@ -149,11 +133,7 @@ missed_not_called (Whole m.Eot) f a e = cc
 missed_not_called (Whole (m.Call z)) f a e = absurd f
 missed_not_called (Whole (m.Text z)) f a e = absurd f
 missed_not_called (Whole m.Enq) f a e = absurd f
-missed_not_called (Whole m.Ack0) f a e = absurd f
-missed_not_called (Whole m.Ack1) f a e = absurd f
-missed_not_called (Whole m.Nak) f a e = absurd f
-missed_not_called (Whole m.Wack) f a e = absurd f
-missed_not_called (Whole m.Rvi) f a e = absurd f
+missed_not_called (Whole (m.Reply r)) f a e = absurd f
 
 -- a message that is no call, as it is heard fairly
 pub each_fairly : (w : Message) (n : ℕ) (hears : ℕ → Heard) → is_call w ≡ false
@@ -162,11 +142,7 @@ each_fairly (m.Call a) n hears never f = absurd (cc)
 each_fairly m.Eot n hears never f = f
 each_fairly (m.Text z) n hears never f = f
 each_fairly m.Enq n hears never f = f
-each_fairly m.Ack0 n hears never f = f
-each_fairly m.Ack1 n hears never f = f
-each_fairly m.Nak n hears never f = f
-each_fairly m.Wack n hears never f = f
-each_fairly m.Rvi n hears never f = f
+each_fairly (m.Reply r) n hears never f = f
 
 -- a terminal of the line, as it was
 pub record WasTuned (ts : List TerminalValue) (old : Addressed) (t : ℕ) (x : TributaryValue) : Type
@@ -205,11 +181,7 @@ down_tuned laws w ts n hears old new t x mode less fair a k after = by_call (is_
     which m.Eot e is_one = absurd (cc)
     which (m.Text z) e is_one = absurd (cc)
     which m.Enq e is_one = absurd (cc)
-    which m.Ack0 e is_one = absurd (cc)
-    which m.Ack1 e is_one = absurd (cc)
-    which m.Nak e is_one = absurd (cc)
-    which m.Wack e is_one = absurd (cc)
-    which m.Rvi e is_one = absurd (cc)
+    which (m.Reply r) e is_one = absurd (cc)
 
     by_call : (b : Bool) → is_call w ≡ b → IsTuned new t mode
     by_call true e = which w refl e

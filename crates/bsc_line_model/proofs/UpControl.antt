@@ -10,8 +10,8 @@ use Rattle.bsc_frame.specs.declared.message.Heard.TheVariants.{Whole}
 use Rattle.bsc_frame.specs.Texts.{TextValue}
 use Rattle.bsc_bid.specs.declared.alternation.Alternation.{Alternation}
 use Rattle.bsc_bid.specs.declared.alternation.Alternation.TheVariants.{Even, Odd}
-use Rattle.bsc_bid.specs.declared.reply.Reply.{Reply}
-use Rattle.bsc_bid.specs.Reply.{message_of, ack, other}
+use Rattle.bsc_frame.specs.declared.reply.Reply.{Reply}
+use Rattle.bsc_bid.specs.Answer.{ack, other}
 use Rattle.bsc_bid.specs.Receiver.{ReceiverStep, Rooms, text_step, sends_rvi}
 use Rattle.bsc_control.specs.declared.task.Replied.{Replied}
 use Rattle.bsc_control.specs.declared.task.Replied.TheVariants.{Nothing, WithoutRvi, WithRvi}
@@ -50,7 +50,7 @@ pub takes_up : (c d : ControlValue) (sent : Option Message) (t : TextValue)
     (alternation : Alternation) (place : ℕ) → current c < length c.peers → IsPolled c place
     → (peer c).urgent ≡ false → (peer c).receiver.alternation ≡ other alternation →
     (peer_at d (current c)).spool.delays ≡ (peer c).spool.delays → (peer c).spool.delays < 2 ^ 64
-    - 1 → Hears c (Whole (m.Text t)) d sent → (sent ≡ Some (message_of (ack alternation)))
+    - 1 → Hears c (Whole (m.Text t)) d sent → (sent ≡ Some (m.Reply (ack alternation)))
     × IsPolled d place × ControlStays (current c) FromTerminal c d
 takes_up c d sent t alternation place there i not_urgent counted same less h =
     let e : ℕ = current c in
@@ -79,7 +79,7 @@ takes_up c d sent t alternation place there i not_urgent counted same less h =
     taken_exact p.receiver p.spool t rooms.first rooms.after delays less
     ∙ ap (λ (z : Alternation). Some (ack z)) parity_is in (
       ap (λ (o : ControlStep). o.sent) row
-          ∙ ap (λ (z : Option Reply). option_map message_of z) reply,
+          ∙ ap (λ (z : Option Reply). option_map m.Reply z) reply,
       record {
         place_is = ap (λ (o : ControlStep). o.control.place) row ∙ i.place_is;
         replied = replied_after i.replied (Some (ack alternation));

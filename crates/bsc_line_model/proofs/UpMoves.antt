@@ -10,8 +10,8 @@ use Rattle.bsc_frame.specs.declared.message.Heard.TheVariants.{Whole}
 use Rattle.bsc_frame.specs.Texts.{TextValue}
 use Rattle.bsc_spool.specs.Queue.{QueueValue}
 use Rattle.bsc_spool.specs.Spool.{SpoolValue}
-use Rattle.bsc_bid.specs.declared.reply.Reply.{Reply}
-use Rattle.bsc_bid.specs.Reply.{message_of, reply_heard}
+use Rattle.bsc_frame.specs.declared.reply.Reply.{Reply}
+use Rattle.bsc_frame.specs.Replies.{reply_in}
 use Rattle.bsc_bid.specs.Receiver.{ReceiverStep, Rooms, heard_step, sends_rvi}
 use Rattle.bsc_bid.specs.Sender.{SenderStep, reply_step}
 use Rattle.bsc_bid.specs.Channel.{channel}
@@ -204,9 +204,9 @@ up_moves_to laws old new from w h t s k =
         (Back r) =
         subst (λ (f : Flight). InBid o.sender.phase o.queue x.receiver.alternation x.receiver.last
         spooled f) b.flies.1.2 b.bid in
-        let fair : IsFairlyHeard (message_of r) h =
+        let fair : IsFairlyHeard (m.Reply r) h =
         subst (λ (v : Message). IsFairlyHeard v h) b.flies.1.1 was.1 in
-        let step : SenderStep = reply_step o.sender o.queue (reply_heard h) in
+        let step : SenderStep = reply_step o.sender o.queue (reply_in h) in
         let agrees : SenderAgrees o.queue x.receiver.alternation x.receiver.last spooled step =
         laws.answering o.sender o.queue x.receiver.alternation x.receiver.last spooled (Some r)
         (Some h) bid fair in

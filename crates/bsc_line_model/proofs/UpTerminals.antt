@@ -17,7 +17,7 @@ use Rattle.bsc_bid.specs.declared.alternation.Alternation.TheVariants.{Even, Odd
 use Rattle.bsc_bid.specs.declared.phase.SentBlock.{SentBlock}
 use Rattle.bsc_bid.specs.declared.phase.Phase.TheVariants.{Unanswered}
 use Rattle.bsc_bid.specs.Ready.{IsAtRest}
-use Rattle.bsc_bid.specs.Reply.{message_of, ack, other}
+use Rattle.bsc_bid.specs.Answer.{ack, other}
 use Rattle.bsc_bid.specs.Sender.{SenderValue, SenderStep, text_of, sent_next, begin_step, accepted}
 use Rattle.bsc_bid.specs.Sender.{cut_phase, is_in_doubt}
 use Rattle.bsc_tributary.specs.declared.called.Called.{Called}
@@ -95,17 +95,17 @@ sends_up laws x u out n y q alternation is count row =
     })
 
 -- an acknowledgement is no call
-pub ack_no_call : (p : Alternation) → IsNoCall (Whole (message_of (ack p)))
+pub ack_no_call : (p : Alternation) → IsNoCall (Whole (m.Reply (ack p)))
 ack_no_call Even = tt
 ack_no_call Odd = tt
 
 -- a block is acknowledged
 pub hears_ack : (laws : CutLaws) (e : ℕ) (x u : TributaryValue) (out : Option Message) (n : ℕ)
     (b : SentBlock) → IsInBlockUp x n b → IsQueue (with_known x.queue b.count)
-    → Hears x (Whole (message_of (ack b.alternation))) u out → GoesOnUp u out n
+    → Hears x (Whole (m.Reply (ack b.alternation))) u out → GoesOnUp u out n
     × TerminalStays e FromTerminal e x u
 hears_ack laws e x u out n b i is h =
-    let w : Heard = Whole (message_of (ack b.alternation)) in
+    let w : Heard = Whole (m.Reply (ack b.alternation)) in
     let row : record { tributary = u; sent = out }
     ≡ act_step x (accepted x.sender (with_known x.queue b.count) b.end b.alternation) =
     h.row ∙ hear_step_no_call x w (rooms_after w u) (ack_no_call b.alternation)

@@ -5,9 +5,8 @@ use Rattle.std.specs.Prelude.{Some}
 use Rattle.bsc_frame.specs.declared.message.Message.{Message}
 use Rattle.bsc_frame.specs.declared.message.Message.TheVariants as m
 use Rattle.bsc_bid.specs.declared.alternation.Alternation.TheVariants.{Even}
-use Rattle.bsc_bid.specs.declared.reply.Reply.{Reply}
-use Rattle.bsc_bid.specs.declared.reply.Reply.TheVariants.{Ack0, Wack}
-use Rattle.bsc_bid.specs.Reply.{message_of}
+use Rattle.bsc_frame.specs.declared.reply.Reply.{Reply}
+use Rattle.bsc_frame.specs.declared.reply.Reply.TheVariants.{Ack0, Nak, Wack}
 use Rattle.bsc_bid.specs.Agreement.{Flight, Still, Outward, Back, InBid, IsResting}
 use Rattle.bsc_bid.specs.Channel.{IsSound}
 use Rattle.bsc_tributary.specs.declared.mode.Mode.TheVariants as mode
@@ -61,9 +60,9 @@ pub record IsFresh (x : TributaryValue) (s : ℕ) : Type 0 where
 -- the answer of a selected terminal: NAK with all in control mode, else its last reply while it is
 -- fresh
 abbrev pub IsAnswer : Message → TributaryValue → ℕ → List TributaryValue → Type 0
-IsAnswer m.Nak x s ts = AllInControlMode ts
-IsAnswer m.Ack0 x s ts = IsFresh x s × (x.receiver.last ≡ Ack0)
-IsAnswer m.Wack x s ts = IsFresh x s × (x.receiver.last ≡ Wack)
+IsAnswer (m.Reply Nak) x s ts = AllInControlMode ts
+IsAnswer (m.Reply Ack0) x s ts = IsFresh x s × (x.receiver.last ≡ Ack0)
+IsAnswer (m.Reply Wack) x s ts = IsFresh x s × (x.receiver.last ≡ Wack)
 IsAnswer _ x s ts = ⊥
 
 -- on the line while a selection address is called: the call, and ENQ where ENQ was sent last; or
@@ -88,7 +87,7 @@ IsFreshAfter false x s = Unit {0}
 -- what is on its way in a bid to terminal e
 abbrev pub FliesDownBy : Speaker → Message → ℕ → Flight → Type 0
 FliesDownBy Control w e f = f ≡ Outward w
-FliesDownBy (Terminal t) w e f = (t ≡ e) × ((r : Reply) × (w ≡ message_of r) × (f ≡ Back r))
+FliesDownBy (Terminal t) w e f = (t ≡ e) × ((r : Reply) × (w ≡ m.Reply r) × (f ≡ Back r))
 
 abbrev pub FliesDown : Option Transmission → ℕ → Flight → Type 0
 FliesDown None e f = f ≡ Still
@@ -96,7 +95,7 @@ FliesDown (Some sent) e f = FliesDownBy sent.speaker sent.message e f
 
 -- what is on its way in a bid of terminal e
 abbrev pub FliesUpBy : Speaker → Message → ℕ → Flight → Type 0
-FliesUpBy Control w e f = (r : Reply) × (w ≡ message_of r) × (f ≡ Back r)
+FliesUpBy Control w e f = (r : Reply) × (w ≡ m.Reply r) × (f ≡ Back r)
 FliesUpBy (Terminal t) w e f = (t ≡ e) × (f ≡ Outward w)
 
 abbrev pub FliesUp : Option Transmission → ℕ → Flight → Type 0

@@ -6,13 +6,13 @@ use Rattle.std.specs.List.{flat_map}
 use Rattle.std.specs.Fmt.{decimal}
 use Rattle.std.specs.Io.KnownBytes.{Appends}
 use Rattle.hex.specs.Hex.{encode_lower}
+use Rattle.bsc_frame.specs.Replies.{reply_name}
 use Rattle.bsc_frame.specs.Spells.{IsHeardAs}
 use Rattle.bsc_frame.specs.Texts.{TextUnit}
 use Rattle.bsc_frame.specs.declared.text.End.{End}
 use Rattle.bsc_frame.specs.declared.text.End.TheVariants.{Etb, Etx}
 use Rattle.bsc_frame.specs.declared.message.Message.{Message}
-use Rattle.bsc_frame.specs.declared.message.Message.TheVariants.{Eot, Call, Enq, Ack0, Ack1, Nak}
-use Rattle.bsc_frame.specs.declared.message.Message.TheVariants.{Wack, Rvi, Text}
+use Rattle.bsc_frame.specs.declared.message.Message.TheVariants.{Eot, Call, Enq, Reply, Text}
 use Rattle.bsc_frame.specs.declared.message.Heard.{Heard}
 use Rattle.bsc_frame.specs.declared.message.Heard.TheVariants.{Whole, Failed, Noise}
 use Rattle.bsc_print.specs.declared.printed.Detail.{Detail}
@@ -29,11 +29,7 @@ abbrev pub message_name : Message → List ℕ
 message_name Eot = codes "EOT"
 message_name (Call address) = codes "CALL " ++ address
 message_name Enq = codes "ENQ"
-message_name Ack0 = codes "ACK0"
-message_name Ack1 = codes "ACK1"
-message_name Nak = codes "NAK"
-message_name Wack = codes "WACK"
-message_name Rvi = codes "RVI"
+message_name (Reply reply) = reply_name reply
 message_name (Text text) =
     codes "TEXT " ++ end_name text.end ++ codes " " ++ decimal (length text.units)
 

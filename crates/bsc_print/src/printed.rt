@@ -71,11 +71,7 @@ pub fn write_name<W: Write>(message: &Message, out: &mut W) -> Result<(), PrintE
             put(address.codes(), out)
         }
         Message::Enq => put(b"ENQ", out),
-        Message::Ack0 => put(b"ACK0", out),
-        Message::Ack1 => put(b"ACK1", out),
-        Message::Nak => put(b"NAK", out),
-        Message::Wack => put(b"WACK", out),
-        Message::Rvi => put(b"RVI", out),
+        Message::Reply(reply) => put(reply.name().as_bytes(), out),
         Message::Text(text) => write_text_name(text, out),
     }
 }

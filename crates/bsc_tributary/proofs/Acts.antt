@@ -11,7 +11,7 @@ use Rattle.bsc_frame.specs.declared.message.Message.{Message}
 use Rattle.bsc_bid.specs.declared.alternation.Alternation.{Alternation}
 use Rattle.bsc_bid.specs.declared.phase.Phase.{Phase}
 use Rattle.bsc_bid.specs.declared.phase.Phase.TheVariants.{Idle, Unanswered, Held, InDoubt}
-use Rattle.bsc_bid.specs.declared.reply.Reply.{Reply}
+use Rattle.bsc_frame.specs.declared.reply.Reply.{Reply}
 use Rattle.bsc_bid.specs.EachStep.{StepKeeps}
 use Rattle.bsc_bid.specs.Ready.{IsGoing, IsAtRest, FitsAct}
 use Rattle.bsc_bid.specs.Setup.{SetupValue}

@@ -5,13 +5,13 @@ use Rattle.std.proofs.Common.{length, nat_eq, not, slice_set, Option, if◌then�
 use Rattle.std.proofs.lemmas.List.{get_or-set_same, length-set}
 use Rattle.bsc_frame.specs.declared.message.Message.{Message}
 use Rattle.bsc_frame.specs.declared.message.Message.TheVariants as m
+use Rattle.bsc_frame.specs.declared.reply.Reply.TheVariants.{Nak}
 use Rattle.bsc_spool.specs.Queue.{waiting, next_block}
 use Rattle.bsc_spool.specs.Spool.{SpoolValue, room_asked}
 use Rattle.bsc_bid.specs.declared.alternation.Alternation.TheVariants.{Odd}
 use Rattle.bsc_bid.specs.declared.phase.Phase.TheVariants.{Idle}
-use Rattle.bsc_bid.specs.declared.reply.Reply.{Reply}
+use Rattle.bsc_frame.specs.declared.reply.Reply.{Reply}
 use Rattle.bsc_bid.specs.Ready.{IsReady, IsAtRest}
-use Rattle.bsc_bid.specs.Reply.{message_of}
 use Rattle.bsc_bid.specs.Receiver.{ReceiverValue, new_receiver, first_reply}
 use Rattle.bsc_bid.specs.Sender.{SenderStep, begin_step, is_in_doubt}
 use Rattle.bsc_tributary.specs.declared.mode.Mode.{Mode}
@@ -118,8 +118,8 @@ selection_from d s room =
       receiver = new_receiver room;
       spools = slice_set d.spools s
           (room_asked (spool_at d.spools s) room);
-    }) (message_of (first_reply room))
-    else answer_step d m.Nak
+    }) (m.Reply (first_reply room))
+    else answer_step d (m.Reply Nak)
 
 pub selection_step_ready : (t old : TributaryValue) (s : ℕ) (room : Bool) (receiver : ReceiverValue)
     (spools : List SpoolValue) (reply : Reply) (message : Message) → t ≡ without_line old → t.ready
@@ -127,7 +127,7 @@ pub selection_step_ready : (t old : TributaryValue) (s : ℕ) (room : Bool) (rec
     s < length t.spools →
     spools ≡ slice_set t.spools s (room_asked (spool_at t.spools s) room) → receiver
     ≡ new_receiver room →
-    reply ≡ first_reply room → message ≡ message_of reply →
+    reply ≡ first_reply room → message ≡ m.Reply reply →
     answer_step (record t { mode = Receiving s; receiver = receiver; spools = spools }) message
     ≡ selection_step old s
     (spool_at spools s).room

@@ -12,7 +12,7 @@ use Rattle.bsc_block.specs.Blocks.{records_in}
 use Rattle.bsc_spool.specs.Queue.{waiting, next_block}
 use Rattle.bsc_spool.specs.Spool.{SpoolValue, room_asked}
 use Rattle.bsc_bid.specs.declared.alternation.Alternation.TheVariants.{Odd}
-use Rattle.bsc_bid.specs.Reply.{reply_heard}
+use Rattle.bsc_frame.specs.Replies.{reply_in}
 use Rattle.bsc_bid.specs.Receiver.{ReceiverStep, Rooms, heard_step}
 use Rattle.bsc_bid.specs.Ready.{IsReady}
 use Rattle.bsc_bid.specs.Sender.{SenderValue, SenderStep, with_phase, cut_phase, begin_step}
@@ -307,8 +307,8 @@ mode_changes t h (Receiving s) rooms is suits = receiving_changes t h s
     (heard_step t.receiver (spool_at t.spools s) h t.urgent rooms) is suits.1
     (grows_heard_step t.receiver (spool_at t.spools s) h t.urgent rooms)
 mode_changes t h Sending rooms is suits =
-    sending_changes t h (reply_step t.sender t.queue (reply_heard h)) is
-    (follows_reply_step (length t.spools) t.sender t.queue (reply_heard h) suits)
+    sending_changes t h (reply_step t.sender t.queue (reply_in h)) is
+    (follows_reply_step (length t.spools) t.sender t.queue (reply_in h) suits)
 
 mode_is_after : (t : TributaryValue) (h : Heard) (mode : Mode) → IsNoCall h → (mode ≡ Control)
     ⊎ (mode ≡ t.mode) →
@@ -319,11 +319,7 @@ mode_is_after t Failed mode plain either = either
 mode_is_after t Noise mode plain either = either
 mode_is_after t (Whole (m.Text text)) mode plain either = either
 mode_is_after t (Whole m.Enq) mode plain either = either
-mode_is_after t (Whole m.Ack0) mode plain either = either
-mode_is_after t (Whole m.Ack1) mode plain either = either
-mode_is_after t (Whole m.Nak) mode plain either = either
-mode_is_after t (Whole m.Wack) mode plain either = either
-mode_is_after t (Whole m.Rvi) mode plain either = either
+mode_is_after t (Whole (m.Reply r)) mode plain either = either
 
 takes_none : (t : TributaryValue) (h : Heard) → IsNoCall h → TakesLine t.terminal h → ⊥
 takes_none t (Whole m.Eot) plain takes = plain
@@ -332,11 +328,7 @@ takes_none t Failed plain takes = takes
 takes_none t Noise plain takes = takes
 takes_none t (Whole (m.Text text)) plain takes = takes
 takes_none t (Whole m.Enq) plain takes = takes
-takes_none t (Whole m.Ack0) plain takes = takes
-takes_none t (Whole m.Ack1) plain takes = takes
-takes_none t (Whole m.Nak) plain takes = takes
-takes_none t (Whole m.Wack) plain takes = takes
-takes_none t (Whole m.Rvi) plain takes = takes
+takes_none t (Whole (m.Reply r)) plain takes = takes
 
 noise_quiet : (t : TributaryValue) (h : Heard) (mode : Mode) (rooms : Rooms) → h ≡ Noise →
     StaysQuiet t (mode_step t mode h rooms).tributary (mode_step t mode h rooms).sent
@@ -381,11 +373,7 @@ changes t Failed rooms is = from_mode t Failed rooms tt is
 changes t Noise rooms is = from_mode t Noise rooms tt is
 changes t (Whole (m.Text text)) rooms is = from_mode t (Whole (m.Text text)) rooms tt is
 changes t (Whole m.Enq) rooms is = from_mode t (Whole m.Enq) rooms tt is
-changes t (Whole m.Ack0) rooms is = from_mode t (Whole m.Ack0) rooms tt is
-changes t (Whole m.Ack1) rooms is = from_mode t (Whole m.Ack1) rooms tt is
-changes t (Whole m.Nak) rooms is = from_mode t (Whole m.Nak) rooms tt is
-changes t (Whole m.Wack) rooms is = from_mode t (Whole m.Wack) rooms tt is
-changes t (Whole m.Rvi) rooms is = from_mode t (Whole m.Rvi) rooms tt is
+changes t (Whole (m.Reply r)) rooms is = from_mode t (Whole (m.Reply r)) rooms tt is
 
 -- what holds of a terminal that has heard a transmission
 pub after_hearing : (old : TributaryValue) (h : Heard) (new : TributaryValue)

@@ -7,9 +7,9 @@ use Rattle.bsc_frame.specs.declared.message.Message.TheVariants as m
 use Rattle.bsc_frame.specs.declared.message.Heard.{Heard}
 use Rattle.bsc_frame.specs.declared.message.Heard.TheVariants.{Whole, Failed, Noise}
 use Rattle.bsc_spool.specs.Spool.{SpoolValue}
-use Rattle.bsc_bid.specs.declared.reply.Reply.{Reply}
+use Rattle.bsc_frame.specs.declared.reply.Reply.{Reply}
 use Rattle.bsc_bid.specs.Ready.{IsReady}
-use Rattle.bsc_bid.specs.Reply.{message_of, reply_heard}
+use Rattle.bsc_frame.specs.Replies.{reply_in}
 use Rattle.bsc_bid.specs.Receiver.{ReceiverValue, ReceiverStep, Receives, Rooms, rooms_left}
 use Rattle.bsc_bid.specs.Receiver.{sends_rvi}
 use Rattle.bsc_bid.specs.Sender.{SenderStep, reply_step, silence_step}
@@ -32,11 +32,7 @@ hear_step_no_call t Failed rooms plain = refl
 hear_step_no_call t Noise rooms plain = refl
 hear_step_no_call t (Whole (m.Text text)) rooms plain = refl
 hear_step_no_call t (Whole m.Enq) rooms plain = refl
-hear_step_no_call t (Whole m.Ack0) rooms plain = refl
-hear_step_no_call t (Whole m.Ack1) rooms plain = refl
-hear_step_no_call t (Whole m.Nak) rooms plain = refl
-hear_step_no_call t (Whole m.Wack) rooms plain = refl
-hear_step_no_call t (Whole m.Rvi) rooms plain = refl
+hear_step_no_call t (Whole (m.Reply r)) rooms plain = refl
 
 pub hears_control : (t old : TributaryValue) (h : Heard) → IsNoCall h → t ≡ old → t.mode ≡ Control →
     Hears old h old None
@@ -61,7 +57,7 @@ pub hears_receiving : (t old : TributaryValue) (h : Heard) (s : ℕ) (urgent : B
     Receives t.receiver (spool_at t.spools s) h t.urgent
     (record { receiver = receiver; spool = spool_at spools s; reply = reply }) →
     spools ≡ slice_set t.spools s (spool_at spools s) →
-    urgent ≡ (if sends_rvi reply then false else t.urgent) → sent ≡ option_map message_of reply →
+    urgent ≡ (if sends_rvi reply then false else t.urgent) → sent ≡ option_map m.Reply reply →
     Hears old h (with_receiver t urgent receiver spools) sent
 hears_receiving t old h s urgent receiver spools reply sent plain view mode r spools_is urgent_is
     sent_is =
@@ -124,7 +120,7 @@ act_step_is t mode step sent mode_is sent_is = rw (mode_is, sent_is) refl
 
 pub hears_sending : (t old : TributaryValue) (h : Heard) (mode : Mode) (step : SenderStep)
     (sent : Option Message) →
-    IsNoCall h → t ≡ old → t.mode ≡ Sending → step ≡ reply_step t.sender t.queue (reply_heard h) →
+    IsNoCall h → t ≡ old → t.mode ≡ Sending → step ≡ reply_step t.sender t.queue (reply_in h) →
     mode ≡ mode_after step.act t.mode → sent ≡ message_of_act step.act
     → Hears old h (with_sender t mode step) sent
 hears_sending t old h mode step sent plain view sending row mode_is sent_is =
@@ -143,13 +139,13 @@ hears_sending t old h mode step sent plain view sending row mode_is sent_is =
 
 pub stays_replied : (t : TributaryValue) (h : Heard) (mode : Mode) (step : SenderStep)
     → IsTributary t →
-    t.mode ≡ Sending → step ≡ reply_step t.sender t.queue (reply_heard h) → mode
+    t.mode ≡ Sending → step ≡ reply_step t.sender t.queue (reply_in h) → mode
     ≡ mode_after step.act t.mode →
     IsReady step.sender step.queue → IsTributary (with_sender t mode step)
 stays_replied t h mode step is sending row mode_is ready =
     stays_act_step t mode Sending step is (mode_is ∙ ap (mode_after step.act) sending)
     (subst (FollowsFrom Sending (length t.spools) t.sender t.queue) (sym row)
-    (follows_reply_step (length t.spools) t.sender t.queue (reply_heard h)
+    (follows_reply_step (length t.spools) t.sender t.queue (reply_in h)
     (subst (λ (x : Mode). SuitsMode x t.sender.phase (length t.spools)) sending is.bid))) ready
 
 -- a silence

@@ -5,6 +5,7 @@ use Rattle.std.specs.Prelude.{◌≡◌, ℕ, Bool, true, false, nat_eq, List, [
 use Rattle.std.specs.Prelude.{slice_set, Option, None, Some, option_map, if◌then◌else◌}
 use Rattle.bsc_frame.specs.declared.message.Message.{Message}
 use Rattle.bsc_frame.specs.declared.message.Message.TheVariants as m
+use Rattle.bsc_frame.specs.declared.reply.Reply.TheVariants.{Nak}
 use Rattle.bsc_frame.specs.declared.message.Heard.{Heard}
 use Rattle.bsc_frame.specs.declared.message.Heard.TheVariants.{Whole}
 use Rattle.bsc_spool.specs.Queue.{QueueValue, waiting}
@@ -13,7 +14,7 @@ use Rattle.bsc_bid.specs.declared.outcome.Outcome.{Outcome}
 use Rattle.bsc_bid.specs.declared.outcome.Outcome.TheVariants as o
 use Rattle.bsc_bid.specs.Act.{Act, message_for, outcome_of}
 use Rattle.bsc_bid.specs.Terminal.{TerminalValue}
-use Rattle.bsc_bid.specs.Reply.{message_of, reply_heard}
+use Rattle.bsc_frame.specs.Replies.{reply_in}
 use Rattle.bsc_bid.specs.Receiver.{ReceiverValue, ReceiverStep, Rooms, new_receiver, first_reply}
 use Rattle.bsc_bid.specs.Receiver.{heard_step, rooms_left, sends_rvi}
 use Rattle.bsc_bid.specs.Sender.{SenderValue, SenderStep, with_phase, begin_step, reply_step}
@@ -116,7 +117,7 @@ receive_step t s step =
         spools = slice_set t.spools s step.spool;
         urgent = if sends_rvi step.reply then false else t.urgent;
       };
-      sent = option_map message_of step.reply;
+      sent = option_map m.Reply step.reply;
     }
 
 -- a call of its polling address: EOT where it is in doubt or no record waits, else the first block
@@ -135,8 +136,8 @@ selection_step t s room =
     if t.ready
     then answer_step
     (record d { mode = Receiving s; receiver = new_receiver room; spools = spools })
-    (message_of (first_reply room))
-    else answer_step d m.Nak
+    (m.Reply (first_reply room))
+    else answer_step d (m.Reply Nak)
 
 -- a call
 abbrev pub call_step : TributaryValue → Called → Rooms → TributaryStep
@@ -149,7 +150,7 @@ abbrev pub mode_step : TributaryValue → Mode → Heard → Rooms → Tributary
 mode_step t Control h rooms = quiet_step t
 mode_step t (Receiving s) h rooms =
     receive_step t s (heard_step t.receiver (spool_at t.spools s) h t.urgent rooms)
-mode_step t Sending h rooms = act_step t (reply_step t.sender t.queue (reply_heard h))
+mode_step t Sending h rooms = act_step t (reply_step t.sender t.queue (reply_in h))
 
 -- the table: what is heard
 abbrev pub hear_step : TributaryValue → Heard → Rooms → TributaryStep

@@ -5,9 +5,9 @@ ghost use Rattle.bsc_bid.specs.Receiver.{Receives};
 ghost use Rattle.bsc_spool.specs.Spool.{room_asked};
 ghost use Rattle.bsc_tributary.specs.Tributary.{spool_at};
 
+use bsc_bid::Receiver;
 use bsc_bid::limits::MAX_SELECTS;
-use bsc_bid::{Receiver, Reply};
-use bsc_frame::Heard;
+use bsc_frame::{Heard, Reply};
 use bsc_spool::Spool;
 use std::alloc::Allocator;
 use std::marker::Model;

@@ -4,7 +4,6 @@ ghost use Rattle.std.specs.Prelude.{IsTrue, ◌≡◌, ◌≤◌, ◌<◌, true,
 ghost use Rattle.std.specs.Prelude.{length, OnOk, OnErr, IfErr, option_map};
 ghost use Rattle.bsc_spool.specs.Queue.{with_offered};
 ghost use Rattle.bsc_bid.specs.Receiver.{sends_rvi};
-ghost use Rattle.bsc_bid.specs.Reply.{message_of};
 ghost use Rattle.bsc_bid.specs.Terminal.{HasDistinctAddresses};
 ghost use Rattle.bsc_bid.specs.Sender.{release_step, is_in_doubt};
 ghost use Rattle.bsc_tributary.specs.Tributary.{without_line, poll_step, selection_step};
@@ -16,9 +15,9 @@ ghost use Rattle.bsc_tributary.specs.Kept.{IsHearing, IsNoCall};
 use crate::called::{Called, called_address};
 use crate::mode::Mode;
 use crate::spools::Spools;
-use bsc_bid::{Outcome, Receiver, ReleaseError, Reply, Sender, Setup, Station, Terminal};
+use bsc_bid::{Outcome, Receiver, ReleaseError, Sender, Setup, Station, Terminal};
 use bsc_block::Record;
-use bsc_frame::{Address, Heard, Message};
+use bsc_frame::{Address, Heard, Message, Reply};
 use bsc_spool::{Queue, Spool};
 use std::alloc::Allocator;
 use std::marker::Model;
@@ -189,13 +188,13 @@ impl<A: Allocator> Tributary<A> {
     {
         self.drop_line();
         if !self.ready {
-            *sent = Some(Message::Nak);
+            *sent = Some(Message::Reply(Reply::Nak));
             return;
         }
         self.mode = Mode::Receiving { select };
         let room = self.spools.make_room(select);
         let reply = self.receiver.begin(room);
-        *sent = Some(reply.message());
+        *sent = Some(Message::Reply(reply));
     }
 
     /// A call.
@@ -336,10 +335,10 @@ fn still_urgent(urgent: bool, reply: Option<Reply>) -> bool
 
 /// Leaves the message that carries the reply, or none where there is no reply.
 fn leave_reply(reply: Option<Reply>, sent: &mut Option<Message>)
-    ensures { sent.new ≡ option_map message_of reply }
+    ensures { sent.new ≡ option_map m.Reply reply }
 {
     match reply {
-        Some(reply) => *sent = Some(reply.message()),
+        Some(reply) => *sent = Some(Message::Reply(reply)),
         None => *sent = None,
     }
 }

@@ -3,8 +3,8 @@
 use crate::bids::Then::{Done, Enq, Over, Refused, Replied, Text};
 use crate::ends::Ends;
 use crate::turns::Fate;
-use bsc_bid::{Outcome, ReleaseError, Reply, Setup};
-use bsc_frame::{End, Message};
+use bsc_bid::{Outcome, ReleaseError, Setup};
+use bsc_frame::{End, Message, Reply};
 use std::alloc::{Allocator, Global};
 
 /// What happens.

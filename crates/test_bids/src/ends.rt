@@ -4,9 +4,9 @@
 ghost use Rattle.std.specs.Prelude.{◌≡◌};
 
 use crate::turns::{Fate, heard_at_both, turn};
-use bsc_bid::{Outcome, Receiver, ReleaseError, Reply, Sender, Setup};
+use bsc_bid::{Outcome, Receiver, ReleaseError, Sender, Setup};
 use bsc_block::Record;
-use bsc_frame::{Heard, Message};
+use bsc_frame::{Heard, Message, Reply};
 use bsc_spool::{Queue, Spool};
 use std::alloc::Allocator;
 use std::marker::Model;
@@ -88,7 +88,7 @@ impl<A: Allocator> Ends<A> {
     pub(crate) fn hear(&mut self, reply: Option<Reply>) -> Outcome {
         let outcome = match reply {
             Some(reply) => {
-                let heard = Heard::Whole(reply.message());
+                let heard = Heard::Whole(Message::Reply(reply));
                 self.sender.reply(&heard, &mut self.queue, &mut self.sent)
             }
             None => self.sender.silence(&mut self.sent),

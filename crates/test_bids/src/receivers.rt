@@ -1,7 +1,7 @@
 //! Receivers by hand, and each growth of their spools refused.
 
-use bsc_bid::{Receiver, Reply};
-use bsc_frame::decode;
+use bsc_bid::Receiver;
+use bsc_frame::{Reply, decode};
 use bsc_spool::Spool;
 use std::alloc::Allocator;
 use std::test::Fail;

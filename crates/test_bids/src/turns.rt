@@ -9,8 +9,8 @@ ghost use Rattle.bsc_bid.specs.Sender.{Tells};
 ghost use Rattle.bsc_bid.specs.Ready.{CountsOn, IsGoing, IsReady};
 ghost use Rattle.bsc_bid.specs.Receiver.{Rooms, rooms_left};
 
-use bsc_bid::{Outcome, Receiver, Reply, Sender};
-use bsc_frame::{Heard, Message};
+use bsc_bid::{Outcome, Receiver, Sender};
+use bsc_frame::{Heard, Message, Reply};
 use bsc_spool::{Queue, Spool};
 use std::alloc::Allocator;
 
@@ -95,7 +95,7 @@ pub(crate) fn heard_at_both(sent: Option<Message>, fate: &Fate, reply: Option<Re
         },
         urgent: false,
         back: match reply {
-            Some(reply) => Some(Heard::Whole(reply.message())),
+            Some(reply) => Some(Heard::Whole(Message::Reply(reply))),
             None => None,
         },
     }

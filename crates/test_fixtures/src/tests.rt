@@ -4,7 +4,7 @@ use crate::lines::{address, setup, two_terminals, two_terminals_by_three};
 use crate::records::{are_front, are_records};
 use crate::{Full, octets};
 use bsc_block::{Record, unpack};
-use bsc_frame::{Address, End, Heard, Message, Text, Wire, decode, encode};
+use bsc_frame::{Address, End, Heard, Message, Reply, Text, Wire, decode, encode};
 use std::io::{ErrorKind, Write};
 use std::test::Fail;
 
@@ -18,11 +18,11 @@ fn transmissions_of_control_sequences_and_calls(rt: HostRuntime) {
         (octets::CALL_SELECT_C, Message::Call(address(b'c'))),
         (octets::EOT, Message::Eot),
         (octets::ENQ, Message::Enq),
-        (octets::NAK, Message::Nak),
-        (octets::ACK0, Message::Ack0),
-        (octets::ACK1, Message::Ack1),
-        (octets::WACK, Message::Wack),
-        (octets::RVI, Message::Rvi),
+        (octets::NAK, Message::Reply(Reply::Nak)),
+        (octets::ACK0, Message::Reply(Reply::Ack0)),
+        (octets::ACK1, Message::Reply(Reply::Ack1)),
+        (octets::WACK, Message::Reply(Reply::Wack)),
+        (octets::RVI, Message::Reply(Reply::Rvi)),
     ] {
         let mut wire = Wire::new();
         encode(&message, &mut wire);

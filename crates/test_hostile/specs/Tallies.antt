@@ -75,9 +75,9 @@ abbrev pub sent_as : Tally → Kind → Tally
 sent_as t kind.Call = record t { calls = one_more t.calls }
 sent_as t kind.Text = record t { texts = one_more t.texts }
 sent_as t kind.Enq = record t { enquiries = one_more t.enquiries }
-sent_as t kind.Nak = record t { naks = one_more t.naks }
-sent_as t kind.Wack = record t { wacks = one_more t.wacks }
-sent_as t kind.Rvi = record t { rvis = one_more t.rvis }
+sent_as t (kind.Reply Nak) = record t { naks = one_more t.naks }
+sent_as t (kind.Reply Wack) = record t { wacks = one_more t.wacks }
+sent_as t (kind.Reply Rvi) = record t { rvis = one_more t.rvis }
 sent_as t _ = t
 
 -- the same answers were counted

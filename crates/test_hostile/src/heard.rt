@@ -1,6 +1,6 @@
 //! What a station heard of a transmission: its kind, and whether it is what was sent.
 
-use bsc_frame::{Heard, Message, Wire, decode, encode};
+use bsc_frame::{Heard, Message, Reply, Wire, decode, encode};
 
 /// What octets are heard as.
 #[derive(Clone, Copy, Debug, PartialEq, Eq)]
@@ -8,10 +8,7 @@ pub(crate) enum Kind {
     Eot,
     Call,
     Enq,
-    Nak,
-    Ack,
-    Wack,
-    Rvi,
+    Reply(Reply),
     Text,
     Failed,
     Noise,
@@ -43,18 +40,14 @@ impl Kind {
             Message::Eot => Kind::Eot,
             Message::Call(_) => Kind::Call,
             Message::Enq => Kind::Enq,
-            Message::Ack0 => Kind::Ack,
-            Message::Ack1 => Kind::Ack,
-            Message::Nak => Kind::Nak,
-            Message::Wack => Kind::Wack,
-            Message::Rvi => Kind::Rvi,
+            Message::Reply(reply) => Kind::Reply(*reply),
             Message::Text(_) => Kind::Text,
         }
     }
 
     /// Whether this is a reply by which a sender may learn that its block arrived.
     pub(crate) fn is_positive(self) -> bool {
-        matches!(self, Kind::Ack | Kind::Wack | Kind::Rvi)
+        matches!(self, Kind::Reply(reply) if reply != Reply::Nak)
     }
 
     /// Whether this takes the line from a terminal that sends.

@@ -117,9 +117,9 @@ impl Tally {
             Kind::Call => add(&mut self.calls),
             Kind::Text => add(&mut self.texts),
             Kind::Enq => add(&mut self.enquiries),
-            Kind::Nak => add(&mut self.naks),
-            Kind::Wack => add(&mut self.wacks),
-            Kind::Rvi => add(&mut self.rvis),
+            Kind::Reply(Reply::Nak) => add(&mut self.naks),
+            Kind::Reply(Reply::Wack) => add(&mut self.wacks),
+            Kind::Reply(Reply::Rvi) => add(&mut self.rvis),
             _ => {}
         }
     }

@@ -6,7 +6,7 @@ ghost use Rattle.std.specs.Prelude.{◌≡◌};
 use bsc_bid::Station;
 use bsc_carrier::CarrierError;
 use bsc_connections::{LiveError, Monitor, Note};
-use bsc_frame::{Heard, Message};
+use bsc_frame::{Heard, Message, Reply};
 
 /// Answers ACK0 to a message and NAK to a text that failed, and sends EOT at a silence.
 #[derive(Drop)]
@@ -25,8 +25,8 @@ impl Station for Answers {
     fn answer(&mut self, heard: &Heard, sent: &mut Option<Message>) {
         match heard {
             Heard::Noise => *sent = None,
-            Heard::Failed => *sent = Some(Message::Nak),
-            Heard::Whole(_) => *sent = Some(Message::Ack0),
+            Heard::Failed => *sent = Some(Message::Reply(Reply::Nak)),
+            Heard::Whole(_) => *sent = Some(Message::Reply(Reply::Ack0)),
         }
     }
 

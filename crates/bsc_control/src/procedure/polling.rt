@@ -43,7 +43,7 @@ impl<A: Allocator> Procedure<A> {
             replied: replied.after(reply),
         };
         match reply {
-            Some(reply) => *sent = Some(reply.message()),
+            Some(reply) => *sent = Some(Message::Reply(reply)),
             None => *sent = None,
         }
     }

@@ -1,15 +1,14 @@
 //! What is heard, and what a silence does, while a selection address is called.
 
 ghost use Rattle.std.specs.Prelude.{◌≡◌, ◌<◌, length, Some};
-ghost use Rattle.bsc_bid.specs.Reply.{reply_heard};
+ghost use Rattle.bsc_frame.specs.Replies.{reply_in};
 ghost use Rattle.bsc_control.specs.Control.{HasEntries, peer};
 ghost use Rattle.bsc_control.specs.Kept.{IsSelected};
 ghost use Rattle.bsc_control.specs.Table.{selecting_step, silence_in};
 
 use crate::procedure::Procedure;
 use crate::task::Task;
-use bsc_bid::Reply;
-use bsc_frame::{Heard, Message};
+use bsc_frame::{Heard, Message, Reply};
 use std::alloc::Allocator;
 
 impl<A: Allocator> Procedure<A> {
@@ -22,12 +21,12 @@ impl<A: Allocator> Procedure<A> {
     )
         requires { IsSelected (peer self.old) select }
         ensures row { record { control = self.new; sent = sent.new }
-            ≡ selecting_step self.old select (reply_heard heard.now) }
+            ≡ selecting_step self.old select (reply_in heard.now) }
         ensures entries { HasEntries self.new }
     {
         // A field is read, so that the invariant is known here.
         let _ = &self.task;
-        match Reply::heard(heard) {
+        match heard.reply() {
             Some(Reply::Ack0) => self.begin_bid(select, sent),
             Some(Reply::Nak) => self.call_after_selection(select, sent),
             Some(Reply::Wack) => self.enquire(select, sent),

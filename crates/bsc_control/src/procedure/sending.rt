@@ -1,7 +1,7 @@
 //! What is heard, and what a silence does, during a bid to a selection address.
 
 ghost use Rattle.std.specs.Prelude.{if◌then◌else◌, ◌≡◌, ◌<◌, length, Some};
-ghost use Rattle.bsc_bid.specs.Reply.{reply_heard};
+ghost use Rattle.bsc_frame.specs.Replies.{reply_in};
 ghost use Rattle.bsc_bid.specs.Sender.{reply_step};
 ghost use Rattle.bsc_control.specs.CallOrder.{Selection, Interruption};
 ghost use Rattle.bsc_control.specs.Control.{HasEntries, peer};
@@ -12,8 +12,8 @@ ghost use Rattle.bsc_control.specs.Table.{silence_in};
 
 use crate::procedure::Procedure;
 use crate::task::Task;
-use bsc_bid::{Outcome, Reply};
-use bsc_frame::{Heard, Message};
+use bsc_bid::Outcome;
+use bsc_frame::{Heard, Message, Reply};
 use std::alloc::Allocator;
 
 impl<A: Allocator> Procedure<A> {
@@ -37,11 +37,11 @@ impl<A: Allocator> Procedure<A> {
         ensures row { record { control = self.new; sent = sent.new }
             ≡ bid_step self.old select
             (reply_step (outbound_at (peer self.old) select).sender
-            (outbound_at (peer self.old) select).queue (reply_heard heard.now))
-            (after_bid select (reply_heard heard.now)) }
+            (outbound_at (peer self.old) select).queue (reply_in heard.now))
+            (after_bid select (reply_in heard.now)) }
         ensures entries { HasEntries self.new }
     {
-        let interrupted = Reply::heard(heard) == Some(Reply::Rvi);
+        let interrupted = heard.reply() == Some(Reply::Rvi);
         let terminal = self.current();
         let peer = &mut self.peers[terminal];
         let outbound = &mut peer.outbounds[select];

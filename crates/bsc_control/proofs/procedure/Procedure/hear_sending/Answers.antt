@@ -1,5 +1,5 @@
 use Rattle.std.proofs.Common.{◌≡◌, ◌<◌, length, sym, ◌∙◌, subst, if◌then◌else◌, rules}
-use Rattle.bsc_bid.specs.Reply.{reply_heard}
+use Rattle.bsc_frame.specs.Replies.{reply_in}
 use Rattle.bsc_bid.specs.Sender.{reply_step}
 use Rattle.bsc_control.specs.CallOrder.{Interruption, Selection}
 use Rattle.bsc_control.specs.Control.{peer_at}
@@ -32,9 +32,9 @@ returns-clause-row g c =
     let reached = outbound_reached peer there c.index_mut-outbound.ensures.value in
     let reply = c.reply-outcome.ensures in
     let same : (if c.eq-interrupted.result then Interruption else Selection c.args.select)
-    ≡ after_bid c.args.select (reply_heard c.args.heard.now) =
+    ≡ after_bid c.args.select (reply_in c.args.heard.now) =
     search rules in
     c.perform.ensures.row
     ∙ step_made _ _ _ c.args.select _ _ c.reply-outcome.new.self c.reply-outcome.result _
-    (λ o. reply_step o.sender o.queue (reply_heard c.args.heard.now)) _ _ reached terminal.value
+    (λ o. reply_step o.sender o.queue (reply_in c.args.heard.now)) _ _ reached terminal.value
     reply.state reply.outcome reply.sent same

@@ -1,6 +1,5 @@
 use Rattle.std.proofs.Common.{◌≡◌, refl, sym, ap, ◌∙◌, Some}
 use Rattle.std.specs.Prelude.{option_map}
-use Rattle.bsc_bid.specs.Reply.{message_of}
 use Rattle.bsc_control.proofs.Entries.{entries_with_peer}
 use Rattle.bsc_control.proofs.Reached.{peer_reached}
 use Rattle.bsc_control.proofs.Receiving.{received_row, received_room}
@@ -18,11 +17,11 @@ returns-clause-row g c =
     let terminal = c.current-terminal.ensures in
     let reached =
     peer_reached c.self.view_is terminal.there refl c.index_mut-peer.ensures.value in
-    let sent : c.match-reply.sent ≡ option_map message_of c.receive-reply.result =
+    let sent : c.match-reply.sent ≡ option_map m.Reply c.receive-reply.result =
     elim c.match-reply.branch [
       | in-Some w ↦ w.sent-is ∙ ap Some w.message.ensures
-          ∙ sym (ap (option_map message_of) w.in-Some.is)
-      | in-None w ↦ w.sent-is ∙ sym (ap (option_map message_of) w.in-None.is)
+          ∙ sym (ap (option_map m.Reply) w.in-Some.is)
+      | in-None w ↦ w.sent-is ∙ sym (ap (option_map m.Reply) w.in-None.is)
     ] in
     received_row _ _ _ _ _ c.args.heard.now c.args.replied _ _ _ reached terminal.value
     c.receive-reply.ensures.receives c.after.ensures sent c.requires
