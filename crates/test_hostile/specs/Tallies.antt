@@ -7,6 +7,7 @@ use Rattle.test_hostile.specs.declared.tally.Tally.{Tally}
 use Rattle.test_hostile.specs.declared.channel.View.{View}
 use Rattle.test_hostile.specs.declared.heard.Kind.{Kind}
 use Rattle.test_hostile.specs.declared.heard.Kind.TheVariants as kind
+use Rattle.bsc_frame.specs.declared.reply.Reply.TheVariants.{Nak, Wack, Rvi}
 use Rattle.test_hostile.specs.declared.step.Effect.{Effect}
 use Rattle.test_hostile.specs.declared.step.Effect.TheVariants as effect
 

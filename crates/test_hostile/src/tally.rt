@@ -7,6 +7,7 @@ ghost use Rattle.test_hostile.specs.Tallies.{sent_as, sum_of};
 use crate::channel::View;
 use crate::heard::Kind;
 use crate::step::Effect;
+use bsc_frame::Reply;
 use bsc_line::LineError;
 
 /// How often what happened. A number that is the greatest of 64 bits stays it.
