@@ -47,8 +47,8 @@ impl<A: Allocator> Model for Control<A> {
 impl<A: Allocator> Control<A> {
     /// Returns a control station at rest; its first silence makes the first call. `setup` gives the
     /// settings, `terminals` the terminals of the line (1 to 64, whose addresses all differ), and
-    /// `poll_list` the entries of the poll list (1 to 255, each the number of a terminal). (GA27-3004,
-    /// poll list.)
+    /// `poll_list` the entries of the poll list (1 to 255, each the number of a terminal).
+    /// (GA27-3004, poll list.)
     ///
     /// Errors, in this order: `NoTerminal`, `TooMany`, `SameAddress`, `EmptyPollList`, `PollList`.
     /// `Memory` may come in place of any error after `TooMany`.
