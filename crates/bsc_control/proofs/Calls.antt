@@ -291,7 +291,7 @@ shape c h =
           λ t within. (h.peers t no_peer within).outbounds;
     }
 
--- a call calls the address that it names
+-- a call is sent to the address that it names
 pub calls_it : (c : ControlValue) (place : ℕ) (way : Way) (address : List ℕ) → HasShape c → place
     < length c.poll_list
     → ((s : ℕ) → way ≡ ToTerminal s → IsSelected (peer_at c (terminal_of_entry c place)) s)
@@ -338,7 +338,7 @@ calls_it c place (ToTerminal s) address shaped within selected sent =
       wacks = refl;
     }
 
--- the next call calls the address that it names
+-- the next call is sent to the address that it names
 pub next_is_called : (c : ControlValue) (after : After) (address : List ℕ) → HasShape c → IsCalm c
     → (next_call_step c after).sent ≡ Some (m.Call address)
     → IsCalled (next_call_step c after).control (next_call c after) address

@@ -140,7 +140,7 @@ impl<A: Allocator> Control<A> {
     }
 
     /// Asks a terminal for the line: the next text taken from it is answered by RVI, unless the
-    /// last reply was RVI too. A selection of the terminal clears the request. Condition: the
+    /// last reply was RVI too. A new selection of the terminal clears the request. Condition: the
     /// terminal exists. (GA27-3004, RVI.)
     pub fn set_urgent(&mut self, terminal: usize)
         requires { terminal < length self.old.peers }

@@ -92,7 +92,7 @@ offers_at old new t codes r x u (Err e) less read here is ok err memory =
           ∙ ap (λ (y : TributaryValue). with_terminal old t y) (err ∙ sym here) ∙ put_back old t,
     )
 
--- a line stays a line at an offer at a terminal, accepted or not
+-- an offer at a terminal, accepted or not, keeps the line's invariant
 pub offer_line : (stays : OfferAtStays) (l : LineValue) (t : ℕ) (r : List ℕ) (x u : TributaryValue)
     (result : Result (Unit {0}) LineError) → IsLine l → t < terminal_count l → terminal_at l t ≡ x
     → length r ≤ full_length l → KeepsSetupAndMode x u →
@@ -105,7 +105,7 @@ offer_line stays l t r x u (Err e) line less here short is ok err =
     subst (λ (y : TributaryValue). IsLine (with_terminal l t y)) (here ∙ sym err)
     (subst IsLine (sym (put_back l t)) line)
 
--- and at an offer for a selection address
+-- and so does an offer for a selection address
 pub offer_for_line : {E : Type 0}
     → (stays : OfferForStays) (l : LineValue) (t s : ℕ) (r : List ℕ) (c : ControlValue)
     (result : Result (Unit {0}) E) → IsLine l → t < terminal_count l → s < select_count l t

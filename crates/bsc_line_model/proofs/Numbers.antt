@@ -235,7 +235,7 @@ delivered_at laws l place t called g h there c e = by_way
         (c.sure_down s) (e.down s within) in
         record { known = x.0; spooled = x.1 }
 
--- the end of a walk
+-- the line at the end of a walk
 ends : (P : LineValue → Type 0) (new : LineValue) (r : Result (Unit {0}) Stopped) → Comes P 0 r new
     → (r ≡ Ok tt) × P new
 ends P new (Ok done) x = (refl, subst P (sym x.rest) x.holds)

@@ -206,7 +206,7 @@ passes laws at old new (x ∷ xs) (Err s) line (inr go) now (suc i) less =
     later_passes at old go.mid new x xs (Err s) i go.done go.line
     (passes laws (at + 1) go.mid new xs (Err s) go.line go.rest now i (omega arith))
 
--- from the first place
+-- a run from its first event
 all_accepted : (events : List Event) (r : Answer) → accepted_from 0 events r ≡ accepted_in events r
 all_accepted events (Ok done) = refl
 all_accepted events (Err s) = let count : s.at - 0 ≡ s.at = omega arith in

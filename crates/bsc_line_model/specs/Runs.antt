@@ -67,7 +67,7 @@ CarriesEach items old (Err WrongCount) new =
     IsFromControl old × (length items ≢ terminal_count old) × (new ≡ old)
 CarriesEach items old (Err _) new = ⊥
 
--- a silence goes to the owner of the line
+-- a silence passes: the owner of the line acts
 pub record PassesSilence (old new : LineValue) : Type 0 where
   pub nothing : old.pending ≡ None
   pub acts : OwnerActs (line_owner old.terminals) old new

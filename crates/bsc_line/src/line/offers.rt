@@ -87,8 +87,8 @@ impl<A: Allocator> Line<A> {
     }
 
     /// Makes the control station ask a terminal for the line: the control station answers the next
-    /// text that it takes from the terminal by RVI, unless its last reply was RVI too. A selection
-    /// of the terminal clears the request. Error: `NoSuchTerminal`. (GA27-3004, RVI.)
+    /// text that it takes from the terminal by RVI, unless its last reply was RVI too. A new
+    /// selection of the terminal clears the request. Error: `NoSuchTerminal`. (GA27-3004, RVI.)
     pub fn set_urgent_for(&mut self, terminal: usize) -> Result<(), LineError>
         ensures does { Does (event.UrgentFor terminal) self.old result self.new }
         ensures line { IsLine self.new }
