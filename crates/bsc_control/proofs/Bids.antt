@@ -23,8 +23,8 @@ use Rattle.bsc_control.proofs.PeerLists.{same_at, same_map, holds_at}
 use Rattle.bsc_control.proofs.Replacing.{replaced, same_of, same_lengths, settings_replaced}
 use Rattle.bsc_control.proofs.SenderSteps.{LeavesPhase, KeepsAndLeaves}
 
--- the station once the sender to a selection address of the present terminal, and its queue, are
--- these
+-- the station once the sender to a selection address of the present terminal and its queue are
+-- replaced
 abbrev pub stepped : ControlValue → ℕ → OutboundValue → ControlValue
 stepped c s o = replaced c (current c) s o
 
@@ -61,7 +61,7 @@ settings_stepped : (c : ControlValue) (s : ℕ) (o : OutboundValue)
     → HasSettings (stepped c s o) (outbound_of (stepped c s o) t k)
 settings_stepped c s o keeps h = settings_replaced c (current c) s o keeps.setup keeps.format h
 
--- the outbound that was replaced is the new one
+-- the sending side that was replaced is the new one
 outbound_stepped : (c : ControlValue) (s : ℕ) (o : OutboundValue) → current c < length c.peers → s
     < length (peer c).outbounds → outbound_of (stepped c s o) (current c) s ≡ o
 outbound_stepped c s o within there =
@@ -69,8 +69,7 @@ outbound_stepped c s o within there =
     (get_or-set_same c.peers (current c) (with_outbound (peer c) s o) no_peer within)
     ∙ get_or-set_same (peer c).outbounds s o no_outbound there
 
--- a fact about all phases but the one that is replaced holds of all phases once it holds of the new
--- one
+-- a fact about all phases but the replaced one holds of all phases if it holds of the new one
 phases_stepped : (P : ℕ → ℕ → Phase → Type 0) (c : ControlValue) (s : ℕ) (o : OutboundValue)
     → current c < length c.peers → s < length (peer c).outbounds
     → P (current c) s o.sender.phase
@@ -93,7 +92,7 @@ pub record OthersRest (c : ControlValue) (s : ℕ) : Type 0 where
   pub rests : (t k : ℕ) → ((t ≡ current c) × (k ≡ s) → ⊥) → IsAtRest (phase_of c t k)
   pub settings : (t k : ℕ) → k < length (peer_at c t).outbounds → HasSettings c (outbound_of c t k)
 
--- the sender has ended its bid
+-- the sender ended its bid
 pub calm_stepped : (c : ControlValue) (s : ℕ) (o : OutboundValue) → OthersRest c s
     → OutboundKeeps (outbound_of c (current c) s) o → IsAtRest o.sender.phase
     → IsCalm (stepped c s o)
@@ -105,7 +104,7 @@ calm_stepped c s o h keeps rests =
       settings = settings_stepped c s o keeps h.settings;
     }
 
--- the sender goes on
+-- the sender continues its bid
 pub keeps_spools_goes_on : (c : ControlValue) (s : ℕ) (o : OutboundValue) → OthersRest c s
     → OutboundKeeps (outbound_of c (current c) s) o → IsGoing o.sender.phase
     → KeepsSpools c (record (stepped c s o) { task = Sending s })
@@ -167,7 +166,7 @@ keeps_spools_after a b c k spools f =
       spools = λ t. f.spools t ∙ spools t;
     }
 
--- the sender acts, and after the bid the next call is made
+-- the sender acts, and once the bid is over the next call is made
 keeps_spools_perform_step : (c : ControlValue) (s : ℕ) (o : OutboundValue) (act : Act)
     (after : After) → OthersRest c s → OutboundKeeps (outbound_of c (current c) s) o
     → LeavesPhase act o.sender.phase
@@ -211,7 +210,7 @@ shape_stepped c s o h =
           (with_outbound (peer c) s o) no_peer refl);
     }
 
--- a bid to selection address s changes nothing of the addresses above it
+-- a bid to selection address s changes nothing that the next call depends on
 next_stepped : (c : ControlValue) (s : ℕ) (o : OutboundValue) (after : After)
     → (after ≡ Selection s) ⊎ (after ≡ Interruption) → next_call (stepped c s o) after
     ≡ next_call c after

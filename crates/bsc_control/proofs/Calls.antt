@@ -32,20 +32,19 @@ use Rattle.bsc_control.specs.Table.{poll_call_step, selection_call_step, select_
 use Rattle.bsc_control.specs.Table.{way_call_step, next_call_step}
 use Rattle.bsc_control.proofs.PeerLists.{same_at, same_map, value_at}
 
--- no bid goes on
+-- no bid is in progress
 pub record IsCalm (c : ControlValue) : Type 0 where
   pub rests : (t s : ℕ) → IsAtRest (phase_of c t s)
   pub settings : (t s : ℕ) → s < length (peer_at c t).outbounds → HasSettings c (outbound_of c t s)
 
--- what is kept by a step that does not change the spools
+-- what a step that does not change the spools keeps
 pub record KeepsSpools (old new : ControlValue) : Type 0 where
   pub keeps : Keeps old new
   pub orderly : IsOrderly new
   pub spools : (t : ℕ) → (peer_at new t).spool ≡ (peer_at old t).spool
 
--- one terminal's part is replaced by one with the same addresses and outbounds, and the station's
--- place, task
--- and counters change
+-- the part of one terminal is replaced by one with the same addresses and sending sides, and the
+-- station's place, task and counters change
 abbrev pub moved : ControlValue → ℕ → PeerValue → ℕ → Task → ℕ → ℕ → ControlValue
 moved c t p place task failures wacks =
     record (with_peer c t p) { place = place; task = task; failures = failures; wacks = wacks }
@@ -114,7 +113,7 @@ keeps_spools_poll_call_step c place failures calm =
       spools = λ j. same_at (λ (x : PeerValue). x.spool) c.peers t j p no_peer refl;
     }
 
--- IsSelected depends only on the outbounds
+-- IsSelected depends only on the sending sides
 selected_in : (p q : PeerValue) (s : ℕ) → q.outbounds ≡ p.outbounds → IsSelected p s
     → IsSelected q s
 selected_in p q s e h =
@@ -128,7 +127,7 @@ selected_in p q s e h =
           (sym e) h.some;
     }
 
--- a selection address is called for which records wait
+-- a selection address for which records wait is called
 pub keeps_spools_selection_call_step : (c : ControlValue) (place s : ℕ) → IsCalm c
     → IsSelected (peer_at c (terminal_of_entry c place)) s
     → KeepsSpools c (selection_call_step c place s).control
@@ -149,7 +148,7 @@ keeps_spools_selection_call_step c place s calm selected =
       spools = λ j. same_at (λ (x : PeerValue). x.spool) c.peers t j p no_peer refl;
     }
 
--- an address is selected only where records wait for it without doubt
+-- an address is selected only if records wait for it without doubt
 some_wait : (n : ℕ) → not (nat_eq n 0) ≡ true → 1 ≤ n
 some_wait zero h = absurd (cc)
 some_wait (suc n) h = omega arith
@@ -203,8 +202,8 @@ selected_from c t from calm s h =
     selected_way (peer_at c t) from s (position is_selectable (drop from (peer_at c t).outbounds))
     (calm.rests t) refl h
 
--- whatever it comes after, the way of the next call is the polling address or one for which records
--- wait
+-- whatever the next call comes after, its way is the polling address or an address for which
+-- records wait
 pub next_selected : (c : ControlValue) (after : After) → IsCalm c → (s : ℕ)
     → (next_call c after).way ≡ ToTerminal s
     → IsSelected (peer_at c (terminal_of_entry c (next_call c after).place)) s
@@ -221,7 +220,7 @@ keeps_spools_next_call_step c after calm =
     keeps_spools_way_call_step c (next_call c after).place (next_call c after).way calm
     (next_selected c after calm)
 
--- the entry after the present one is an entry
+-- the next place is a place in the poll list
 pub next_place_within : (c : ControlValue) → c.place < length c.poll_list → next_place c
     < length c.poll_list
 next_place_within c within = by_test (nat_eq (c.place + 1) (length c.poll_list)) refl
@@ -232,7 +231,7 @@ next_place_within c within = by_test (nat_eq (c.place + 1) (length c.poll_list))
     by_test false e = let differ : c.place + 1 ≢ length c.poll_list =
         eqb-false (c.place + 1) (length c.poll_list) e in omega (arith, within, differ)
 
--- the place of the next call is an entry
+-- the place of the next call is a place in the poll list
 pub next_call_within : (c : ControlValue) (after : After) → c.place < length c.poll_list
     → (next_call c after).place < length c.poll_list
 next_call_within c Start within = within
@@ -249,7 +248,7 @@ pub record HasPlaces (c : ControlValue) : Type 0 where
 pub places : (c : ControlValue) → HasEntries c → HasPlaces c
 places c h = record { place = h.place; entries = h.entries }
 
--- the poll list, the place and the number of terminals are all that is read
+-- only the poll list, the place and the number of terminals matter
 pub same_places : (c d : ControlValue) → d.poll_list ≡ c.poll_list → d.place ≡ c.place
     → length d.peers ≡ length c.peers → HasPlaces c → HasPlaces d
 same_places c d list place count h =
@@ -260,11 +259,11 @@ same_places c d list place count h =
           (h.entries k z less));
     }
 
--- the terminal of the present entry is there
+-- the terminal of the present entry exists
 pub current_there : (c : ControlValue) → HasPlaces c → current c < length c.peers
 current_there c h = h.entries c.place 0 h.place
 
--- the terminal of the next call is there
+-- the terminal of the next call exists
 pub next_there : (c : ControlValue) (after : After) → HasPlaces c
     → terminal_of_entry c (next_call c after).place < length c.peers
 next_there c after h = h.entries (next_call c after).place 0 (next_call_within c after h.place)
@@ -278,7 +277,7 @@ pub selects_there : (t : TerminalValue) (s : ℕ) → s < length t.selects → s
     ≡ Some (select_address t s)
 selects_there t s within = slice_get-get_or t.selects s t.poll within
 
--- each entry names a terminal, and each selection address of a terminal has its outbound
+-- each entry names a terminal, and each selection address of a terminal has its sending side
 pub record HasShape (c : ControlValue) : Type 0 where
   pub places : HasPlaces c
   pub lengths : (t : ℕ) → t < length c.peers → length (peer_at c t).outbounds
@@ -292,7 +291,7 @@ shape c h =
           λ t within. (h.peers t no_peer within).outbounds;
     }
 
--- a call calls the address that it names
+-- a call is sent to the address that it names
 pub calls_it : (c : ControlValue) (place : ℕ) (way : Way) (address : List ℕ) → HasShape c → place
     < length c.poll_list
     → ((s : ℕ) → way ≡ ToTerminal s → IsSelected (peer_at c (terminal_of_entry c place)) s)
@@ -339,7 +338,7 @@ calls_it c place (ToTerminal s) address shaped within selected sent =
       wacks = refl;
     }
 
--- the next call calls the address that it names
+-- the next call is sent to the address that it names
 pub next_is_called : (c : ControlValue) (after : After) (address : List ℕ) → HasShape c → IsCalm c
     → (next_call_step c after).sent ≡ Some (m.Call address)
     → IsCalled (next_call_step c after).control (next_call c after) address

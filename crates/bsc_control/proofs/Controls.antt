@@ -50,7 +50,7 @@ still_control old new h keeps entries orderly =
 setup_kept : (old new : ControlValue) → Keeps old new → KeepsSetup old new
 setup_kept old new k = record { poll_list = k.poll_list; terminals = k.terminals; peers = k.peers }
 
--- what a control station is once it has heard a transmission
+-- a control station after it heard a transmission
 pub after_hearing_is : (old : ControlValue) (h : Heard) (new : ControlValue) (sent : Option Message)
     → IsControl old → HasEntries new → Hears old h new sent → AfterHearing old h new sent
 after_hearing_is old h new sent is entries heard =
@@ -66,7 +66,7 @@ after_hearing_is old h new sent is entries heard =
           (subst (λ (x : Heard). Hears old x new sent) e heard);
     }
 
--- and after a silence
+-- a control station after a silence
 pub after_silence_is : (old new : ControlValue) (sent : Option Message) → IsControl old
     → HasEntries new → ActsOnSilence old new sent → AfterSilence old new sent
 after_silence_is old new sent is entries row =
@@ -90,7 +90,7 @@ keeps_setup_with_peer c t p same =
           length-set c.peers t p;
     }
 
--- an outbound is replaced by one that follows it
+-- a sending side is replaced by one that follows it
 control_replaced : (c : ControlValue) (t s : ℕ) (o : OutboundValue) → IsControl c → t
     < length c.peers → s < length (peer_at c t).outbounds → o.sender.setup
     ≡ (outbound_of c t s).sender.setup → o.queue.format ≡ (outbound_of c t s).queue.format
@@ -148,7 +148,7 @@ keeps_outbound_offer (Ok u) o x r ok err =
     subst (KeepsOutbound o) (sym ok) (keeps_outbound_offered o r)
 keeps_outbound_offer (Err e) o x r ok err = subst (KeepsOutbound o) (sym err) (unchanged o)
 
--- a release changes only an outbound in doubt
+-- a release changes only a sending side in doubt
 abbrev pub after_release : ReleaseStep → OutboundValue
 after_release step = record { sender = step.sender; queue = step.queue }
 
@@ -178,7 +178,7 @@ pub keeps_outbound_release : (o x : OutboundValue) (count : ℕ) → x ≡ outbo
 keeps_outbound_release o x count e =
     subst (KeepsOutbound o) (sym e) (keeps_release_in o o.sender.phase count refl)
 
--- what a call on one terminal leaves: still a control station, with the same addresses
+-- what an event at one terminal leaves: still a control station, with the same addresses
 pub record StaysControl (old new : ControlValue) : Type 0 where
   pub control : IsControl new
   pub same : terminals new ≡ terminals old
@@ -203,7 +203,7 @@ stays_set_urgent c t h within =
       same = keeps.terminals;
     }
 
--- what is sent to a selection address is replaced
+-- the sending side of a selection address is replaced
 pub stays_replaced : (c : ControlValue) (t s : ℕ) (x : OutboundValue) → IsControl c → t
     < length c.peers → s < length (peer_at c t).outbounds → IsOutbound x
     → KeepsOutbound (outbound_of c t s) x → StaysControl c (replaced c t s x)

@@ -1,4 +1,4 @@
--- What a station's invariants say of its parts stays where one of the parts is replaced.
+-- The invariants of a station's parts still hold when one of the parts is replaced.
 use Rattle.std.proofs.Common.{ℕ, Bool, ◌<◌, sym, ◌∙◌, subst}
 use Rattle.std.proofs.lemmas.List.{length-set}
 use Rattle.std.proofs.lemmas.List.Elements.{All-set}

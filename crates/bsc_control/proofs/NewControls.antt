@@ -1,4 +1,4 @@
--- What is made is a control station.
+-- A station that was made is a control station.
 use Rattle.std.proofs.Common.{◌≡◌, ℕ, zero, suc, ◌≤◌, ◌<◌, List, [], ◌∷◌, length, get_or, replicate}
 use Rattle.std.proofs.Common.{sym, ◌∙◌, ap, subst, arith}
 use Rattle.std.proofs.lemmas.List.{length-map}
@@ -23,14 +23,14 @@ holds_or P (x ∷ xs) d all none zero = all 0 d (omega arith)
 holds_or P (x ∷ xs) d all none (suc k) =
     holds_or P xs d (λ i e within. all (suc i) e (omega arith)) none k
 
--- what holds of an element holds at each place of a list of copies of it
+-- what holds of an element holds at each place of a list of its copies
 holds_of_copies : {X : Type 0} (P : X → Type 0) (n : ℕ) (x d : X) → P x → (k : ℕ) → k
     < length (replicate n x) → P (get_or (replicate n x) k d)
 holds_of_copies P zero x d h k within = absurd (omega (arith, within))
 holds_of_copies P (suc n) x d h zero within = h
 holds_of_copies P (suc n) x d h (suc k) within = holds_of_copies P n x d h k (omega (arith, within))
 
--- what holds of a new outbound holds of each of a new control station
+-- what holds of a new sending side holds of each sending side of a new control station
 holds_of_new : (P : OutboundValue → Type 0) (setup : SetupValue) (c : ControlValue)
     → All (λ (p : PeerValue). IsNewPeer setup p.terminal p) c.peers → P (new_outbound setup)
     → (t s : ℕ) → s < length (peer_at c t).outbounds → P (outbound_at (peer_at c t) s)

@@ -1,5 +1,5 @@
--- Noise changes no control station, and none answers it (GA27-3004: what is not understood is not
--- answered).
+-- Noise changes no control station, and no control station answers it (GA27-3004: what is not
+-- understood is not answered).
 use Rattle.std.proofs.Common.{◌≡◌, ℕ, List, Option, refl, ap, sym, ◌∙◌}
 use Rattle.std.proofs.lemmas.List.{set-get_or}
 use Rattle.bsc_frame.specs.declared.message.Message.{Message}
@@ -14,7 +14,7 @@ use Rattle.bsc_control.specs.Control.{quiet_step}
 use Rattle.bsc_control.specs.Table.{Hears, task_step, rooms_after}
 use Rattle.bsc_bid.specs.Station.{StaysQuiet}
 
--- writing what is there changes nothing
+-- writing back what was read changes nothing
 same_peer : (c : ControlValue) → with_current c (peer c) ≡ c
 same_peer c =
     ap (λ (ps : List PeerValue). record c { peers = ps }) (set-get_or c.peers (current c) no_peer)

@@ -2,7 +2,7 @@
 use Rattle.std.proofs.Common.{◌≡◌, ◌≢◌, ℕ, zero, suc, ◌≤◌, List, [], ◌∷◌, length, map}
 use Rattle.std.proofs.Common.{get_or, set, refl, ap, arith}
 
--- an element is replaced by one at which the function has the same value: it has so at each place
+-- an element is replaced by one at which the function has the same value: so it has at each place
 pub same_at : {X B : Type 0} (f : X → B) (xs : List X) (i j : ℕ) (y d : X) → f y ≡ f (get_or xs i d)
     → f (get_or (set xs i y) j d) ≡ f (get_or xs j d)
 same_at f [] i j y d same = refl
@@ -11,14 +11,14 @@ same_at f (x ∷ xs) zero (suc j) y d same = refl
 same_at f (x ∷ xs) (suc i) zero y d same = refl
 same_at f (x ∷ xs) (suc i) (suc j) y d same = same_at f xs i j y d same
 
--- and so have all of its values
+-- and the list of all its values stays
 pub same_map : {X B : Type 0} (f : X → B) (xs : List X) (i : ℕ) (y d : X) → f y ≡ f (get_or xs i d)
     → map f (set xs i y) ≡ map f xs
 same_map f [] i y d same = refl
 same_map f (x ∷ xs) zero y d same = ap (λ b. b ∷ map f xs) same
 same_map f (x ∷ xs) (suc i) y d same = ap (λ bs. f x ∷ bs) (same_map f xs i y d same)
 
--- at the place itself the function has the new value, or that of the default
+-- at the replaced place the function has the new value, or that of the default
 pub value_at : {X B : Type 0} (f : X → B) (xs : List X) (i : ℕ) (y d : X) → f d ≡ f y
     → f (get_or (set xs i y) i d) ≡ f y
 value_at f [] i y d same = same

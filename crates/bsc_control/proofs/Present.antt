@@ -1,5 +1,4 @@
--- What the present entry's calls leave, where the station and the peer are read through their
--- fields.
+-- What the calls of the present entry leave when the station and the peer are read by their fields.
 use Rattle.std.proofs.Common.{◌≡◌, ℕ, ◌+◌, ◌<◌, ◌≤◌, Bool, true, false, List, length, drop}
 use Rattle.std.proofs.Common.{Option, None, Some, refl, sym, ap, ◌∙◌, subst, arith, length-drop}
 use Rattle.std.proofs.lemmas.Bool.Decides.{nat_tests}
@@ -24,7 +23,7 @@ use Rattle.bsc_control.specs.Table.{next_call_step, silence_in, repeated, perfor
 use Rattle.bsc_control.proofs.Calls.{selects_there}
 use Rattle.bsc_control.proofs.Reached.{IsPeerReached, IsReached}
 
--- a selection address that the peer has is one of its terminal
+-- a selection address of the peer is one of its terminal
 pub select_reached : (c d : ControlValue) (t e s : ℕ) (p : PeerValue) → IsPeerReached c d t p
     → t ≡ e → s < length (peer_at c e).outbounds → IsPeer p → s < length p.terminal.selects
 select_reached c d t e s p reached same there is =
@@ -66,7 +65,7 @@ pub selected : (c d : ControlValue) (t place s : ℕ) (p : PeerValue) (address :
 selected c d t place s p address reached entry there is =
     cc (reached.station, reached.peer, entry, is, selects_there p.terminal s there)
 
--- after as many failures as there are tries the next call comes
+-- after as many failures as there are tries, the limit is passed
 over : (n k : ℕ) → n ≤ k → nat_lt n (k + 1) ≡ true
 over n k most = grind (arith, nat_tests)
 
@@ -83,7 +82,7 @@ given_up c tries failures s enquired tries_is failures_is most =
     sym (ap (λ b. if b then next_call_step c (Selection s)
     else answer_step (record c { failures = c.failures + 1 }) (repeated c s enquired)) test)
 
--- a try more, by what was sent last
+-- another try, by what was sent last
 pub tried_again : (c d : ControlValue) (tries s : ℕ) (enquired : Bool) (message : Message) → d ≡ c
     → tries ≡ c.setup.tries → d.failures < tries → message ≡ repeated c s enquired
     → record { control = record d { failures = d.failures + 1 }; sent = Some message }
@@ -119,7 +118,7 @@ found_there p from s (Some i) e is =
     let there = position-Some is_selectable (drop from p.outbounds) i no_outbound e in
     omega (arith, at, there.0, length-drop from p.outbounds)
 
--- where a way leads to the terminal, its selection address is there
+-- a way to the terminal leads to one of its selection addresses
 pub way_there : (p : PeerValue) (from s : ℕ) → ToTerminal s ≡ way_from p from
     → s < length p.outbounds
 way_there p from s is =

@@ -1,4 +1,4 @@
--- What is reached through the peers of a control station, and what is left where it is replaced.
+-- What is reached through the peers of a control station, and what remains when it is replaced.
 use Rattle.std.proofs.Common.{◌≡◌, ℕ, ◌<◌, true, List, length, sym, ◌∙◌, ap, subst}
 use Rattle.std.proofs.lemmas.List.{set-get_or, get_or_read}
 use Rattle.std.specs.Prelude.{slice_index_or, Result, Ok, Err}
@@ -30,7 +30,7 @@ peer_reached {c} {d} {t} {p} {q} station within fields read =
           ∙ ap (λ (x : ControlValue). peer_at x t) station;
     }
 
--- and what is sent to this selection address is o
+-- the sending side of this selection address is o
 pub record IsReached (c d : ControlValue) (t s : ℕ) (p : PeerValue) (o : OutboundValue) : Type 0
   where
     pub reached : IsPeerReached c d t p
@@ -68,7 +68,7 @@ stays_flag {c} {d} {t} {p} h reached =
     ∙ ap (λ (y : ControlValue). with_peer y t (record was { urgent = true })) reached.station in
     subst (StaysControl c) (sym same) (stays_set_urgent c t h reached.within)
 
--- what is sent to the address is replaced
+-- the sending side of the address is replaced
 pub stays_reached : {c d : ControlValue} {t s : ℕ} {p : PeerValue} {o x : OutboundValue}
     → IsControl c → IsReached c d t s p o → IsOutbound x → KeepsOutbound o x
     → StaysControl c (with_peer d t (with_outbound p s x))
@@ -78,7 +78,7 @@ stays_reached {c} {d} {t} {s} {p} {o} {x} h reached ready keeps =
     subst (StaysControl c) (sym (replaced_is c d t s p x reached.reached))
     (stays_replaced c t s x h reached.reached.within reached.there ready kept)
 
--- by what is there: nothing changes
+-- replacing a sending side by itself changes nothing
 same_replaced : (c : ControlValue) (t s : ℕ) → replaced c t s (outbound_of c t s) ≡ c
 same_replaced c t s =
     ap (λ os. with_peer c t (record (peer_at c t) { outbounds = os }))
@@ -94,7 +94,7 @@ unchanged_reached {E} {c} {d} {t} {s} {p} {o} (Err e) x reached err =
     replaced_is c d t s p x reached.reached ∙ ap (replaced c t s) (err ∙ reached.outbound)
     ∙ same_replaced c t s
 
--- what the contracts of the calls say of what is left, where the fields e are the station's
+-- what the contracts of the methods say of the result, if the fields e are the station's
 pub urgent_left : (c d e : ControlValue) (t : ℕ) (p : PeerValue) → IsPeerReached c d t p → c ≡ e
     → with_peer d t (record p { urgent = true })
     ≡ with_peer e t (record (peer_at e t) { urgent = true })

@@ -16,7 +16,7 @@ use Rattle.bsc_control.specs.Table.{IsReceived, polling_step, receive_step, room
 use Rattle.bsc_control.specs.Table.{replied_after}
 use Rattle.bsc_control.proofs.Reached.{IsPeerReached}
 
--- whatever the receiver hears, it replies to
+-- whatever the receiver hears, it makes the receiver's step
 receives : (c : ControlValue) (h : Heard) (replied : Replied) (rooms : Rooms)
     → IsReceived (Polling replied) h → polling_step c replied h rooms ≡ receive_step c replied
     (heard_step (peer c).receiver (peer c).spool h (peer c).urgent rooms)
@@ -33,7 +33,7 @@ abbrev pub with_reply : ControlValue → ℕ → PeerValue → Replied → Contr
 with_reply d t new replied =
     record d { task = Polling replied; peers = slice_set d.peers t new }
 
--- the tries for room are read from the peer that is left
+-- the attempts to get room are read from the peer after the step
 rooms_read : (c d : ControlValue) (t : ℕ) (old new : PeerValue) (h : Heard) (replied : Replied)
     → IsPeerReached c d t old → t ≡ current c
     → rooms_after c h (with_reply d t new replied) ≡ rooms_left h new.receiver.last new.spool

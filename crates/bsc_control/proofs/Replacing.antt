@@ -1,4 +1,4 @@
--- What stays where the sender and the queue of one selection address are replaced.
+-- What stays when the sender and the queue of one selection address are replaced.
 use Rattle.std.proofs.Common.{◌≡◌, ℕ, ◌≤◌, ◌<◌, List, length, get_or, refl, sym, ◌∙◌, ap, subst}
 use Rattle.std.proofs.Common.{arith}
 use Rattle.std.proofs.lemmas.List.{length-set}
@@ -14,11 +14,11 @@ use Rattle.bsc_control.specs.Peer.{OutboundValue, PeerValue, no_outbound, no_pee
 use Rattle.bsc_control.specs.Peer.{with_outbound}
 use Rattle.bsc_control.proofs.PeerLists.{same_at, holds_at}
 
--- the station once the sender to a selection address of a terminal, and its queue, are these
+-- the station once the sender to a selection address of a terminal and its queue are replaced
 abbrev pub replaced : ControlValue → ℕ → ℕ → OutboundValue → ControlValue
 replaced c t s o = with_peer c t (with_outbound (peer_at c t) s o)
 
--- what is read of an outbound stays everywhere where it stays at the one that is replaced
+-- a function of the sending sides that stays at the replaced one stays everywhere
 pub same_of : {B : Type 0} (f : OutboundValue → B) (c : ControlValue) (t s : ℕ) (o : OutboundValue)
     → f o ≡ f (outbound_of c t s) → (j k : ℕ) → f (outbound_of (replaced c t s o) j k)
     ≡ f (outbound_of c j k)
@@ -45,7 +45,7 @@ settings_replaced c t s o setup format h j k there =
       format = same_of (λ (x : OutboundValue). x.queue.format) c t s o format j k ∙ was.format;
     }
 
--- what a task finds in the one outbound it finds in the other
+-- a task finds in the new sending side what it found in the old one
 pub record Follows (o x : OutboundValue) : Type 0 where
   pub rests : IsAtRest o.sender.phase → IsAtRest x.sender.phase
   pub goes : IsGoing o.sender.phase → IsGoing x.sender.phase
@@ -88,7 +88,7 @@ suits_following (Polling Nothing) p q receiver lengths follows suits = receiver 
 suits_following (Polling WithoutRvi) p q receiver lengths follows suits = tt
 suits_following (Polling WithRvi) p q receiver lengths follows suits = tt
 
--- the station stays in order where one outbound is replaced by one that follows it
+-- the station stays in order if one sending side is replaced by one that follows it
 pub orderly_replaced : (c : ControlValue) (t s : ℕ) (o : OutboundValue) → t < length c.peers → s
     < length (peer_at c t).outbounds → o.sender.setup ≡ (outbound_of c t s).sender.setup
     → o.queue.format ≡ (outbound_of c t s).queue.format
@@ -107,7 +107,7 @@ orderly_replaced c t s o within there setup format follows h =
       settings = settings_replaced c t s o setup format h.settings;
     }
 
--- and where only flags of a terminal change
+-- and if only flags of a terminal change
 pub orderly_flags : (c : ControlValue) (t : ℕ) (p : PeerValue) → p.receiver ≡ (peer_at c t).receiver
     → p.outbounds ≡ (peer_at c t).outbounds → IsOrderly c → IsOrderly (with_peer c t p)
 orderly_flags c t p receiver outbounds h =

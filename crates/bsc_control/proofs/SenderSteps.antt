@@ -15,7 +15,7 @@ use Rattle.bsc_bid.specs.Sender.{silence_step}
 use Rattle.bsc_bid.proofs.FitLemmas.{fits_reply, fits_silence}
 use Rattle.bsc_bid.proofs.KeepLemmas.{keeps_begin, keeps_reply, keeps_silence}
 
--- a bid goes on after each act but the one that says that it is over
+-- a bid is in progress after each act but the one that ends it
 abbrev pub LeavesPhase : Act → Phase → Type 0
 LeavesPhase (a.Send text) phase = IsGoing phase
 LeavesPhase a.Enq phase = IsGoing phase
@@ -34,7 +34,7 @@ step_keeps : (s : SenderValue) (q : QueueValue) (step : SenderStep) → each.Ste
 step_keeps s q step k phase =
     record { setup = k.setup_is; format = k.format_is; offered = k.offered_is; phase = phase }
 
--- what a step leaves while a bid goes on
+-- what a step leaves while a bid is in progress
 leaves : (act : Act) (old new : Phase) → IsGoing old → FitsAct act old new → LeavesPhase act new
 leaves (a.Send text) old new goes fits = fits
 leaves a.Enq old new goes fits = fits

@@ -42,7 +42,7 @@ use Rattle.bsc_control.proofs.SenderSteps.{KeepsAndLeaves, keeps_begin_step}
 use Rattle.bsc_control.proofs.SenderSteps.{keeps_reply_step, keeps_silence_step}
 use Rattle.bsc_bid.proofs.FitLemmas.{begin_not_quiet}
 
--- what a transmission that is heard leaves
+-- what hearing a transmission keeps
 pub record HearingKeeps (old : ControlValue) (h : Heard) (step : ControlStep) : Type 0 where
   pub keeps : Keeps old step.control
   pub orderly : IsOrderly step.control
@@ -51,7 +51,7 @@ pub record HearingKeeps (old : ControlValue) (h : Heard) (step : ControlStep) : 
   pub calls : (address : List ℕ) → step.sent ≡ Some (m.Call address)
       → IsCalled step.control (next_call old (after_hearing old.task h)) address
 
--- what a silence leaves
+-- what a silence keeps
 pub record SilenceKeeps (old : ControlValue) (step : ControlStep) : Type 0 where
   pub keeps : Keeps old step.control
   pub orderly : IsOrderly step.control
@@ -71,12 +71,12 @@ keeps_same c =
       offered = λ t s. refl;
     }
 
--- while it calls or polls no bid goes on
+-- while the station selects or polls, no bid is in progress
 calm_while : (c : ControlValue) → IsOrderly c → ((s : ℕ) → c.task ≡ Sending s → ⊥) → IsCalm c
 calm_while c h idle =
     record { rests = λ t s. h.rests t s (λ used. idle s used.1); settings = h.settings }
 
--- while it sends only that bid goes on
+-- while it sends, only that bid is in progress
 others_rest : (c : ControlValue) (s : ℕ) → HasEntries c → IsOrderly c → c.task ≡ Sending s → s
     < length (peer c).outbounds → OthersRest c s
 others_rest c s entries h e there =
@@ -139,7 +139,7 @@ silent_next c after entries calm e =
           address) (sym e) (next_is_called c after address (shape c entries) calm sent));
     }
 
--- what the sender does
+-- a step of the sender, and the act that it leads to
 hears_bid_step : (c : ControlValue) (h : Heard) (s : ℕ) (step : SenderStep) (after : After)
     → OthersRest c s
     → KeepsAndLeaves (outbound_of c (current c) s).sender (outbound_of c (current c) s).queue step
@@ -221,7 +221,7 @@ no_call (Some Nak) address e = cc
 no_call (Some Wack) address e = cc
 no_call (Some Rvi) address e = cc
 
--- while nothing was replied in a poll the receiver is as new
+-- while nothing was replied in a poll, the receiver is as new
 suits_after : (c : ControlValue) (p : PeerValue) (replied : Replied) (r : Option Reply)
     → (r ≡ None → p.receiver ≡ (peer c).receiver) → SuitsTask (Polling replied) (peer c)
     → SuitsTask (Polling (replied_after replied r))
@@ -343,7 +343,7 @@ hears_task c (Polling replied) h rooms entries o e =
     hears_polling c h replied rooms entries o (calm_while c o (λ k used. absurd (cc))) e
     (subst (λ (task : Task). SuitsTask task (peer c)) e o.suits)
 
--- what a control station is once it has heard a transmission
+-- what hearing a transmission keeps, by the table
 pub hearing_keeps : (old : ControlValue) (h : Heard) (new : ControlValue) (sent : Option Message)
     → HasEntries old → IsOrderly old → Hears old h new sent
     → HearingKeeps old h (record { control = new; sent = sent })
@@ -475,7 +475,7 @@ silent_task c (Polling WithoutRvi) entries o e =
 silent_task c (Polling WithRvi) entries o e =
     silent_next c (Poll true) entries (calm_while c o (λ k used. absurd (cc))) (ap after_silence e)
 
--- what a control station is after a silence
+-- what a silence keeps, by the table
 pub silence_keeps : (old new : ControlValue) (sent : Option Message) → HasEntries old
     → IsOrderly old → ActsOnSilence old new sent
     → SilenceKeeps old (record { control = new; sent = sent })

@@ -1,5 +1,5 @@
--- The call order (GA27-3004: polling and selection by a poll list; the order of selections and
--- polls, and that an entry comes again after RVI, are own).
+-- The call order of the control station: which call comes next (GA27-3004: polling and selection by
+-- a poll list).
 use Rattle.std.specs.Prelude.{ℕ, ◌+◌, Bool, true, false, nat_eq, List, length, drop, position, Option}
 use Rattle.std.specs.Prelude.{None, Some, if◌then◌else◌}
 use Rattle.bsc_directory.specs.declared.way.Way.{Way}
@@ -13,19 +13,19 @@ pub record Call : Type 0 where
   pub way : Way
 
 -- what a next call comes after: the start of the station; a selection of this address, or the bid
--- that it led to; a bid that RVI ended; a poll, in which RVI was sent or not
+-- that it led to; a bid that RVI ended; a poll in which RVI was sent or not
 pub data After : Type 0 where
   Start : After
   Selection : (select : ℕ) → After
   Interruption : After
   Poll : (rvi : Bool) → After
 
--- the selection address this many places on, or the polling address
+-- the selection address this many numbers after `from`, or the polling address
 abbrev pub way_at : ℕ → Option ℕ → Way
 way_at from None = FromTerminal
 way_at from (Some i) = ToTerminal (from + i)
 
--- the first selection address from this number on for which records wait without doubt, else the
+-- the first selection address, from this number on, for which records wait without doubt; else the
 -- polling address
 abbrev pub way_from : PeerValue → ℕ → Way
 way_from p from = way_at from (position is_selectable (drop from p.outbounds))
@@ -35,11 +35,11 @@ abbrev pub first_call : ControlValue → ℕ → Call
 first_call c place =
     record { place = place; way = way_from (peer_at c (terminal_of_entry c place)) 0 }
 
--- a place in a list of this length that is read round: its end is the first place again
+-- a place in a list of this length that is read cyclically: the end is the first place again
 abbrev pub wrapped : ℕ → ℕ → ℕ
 wrapped count place = if nat_eq place count then 0 else place
 
--- the place of the entry after this one of the poll list: after the last the first
+-- the place of the entry after this one in the poll list; after the last entry comes the first
 abbrev pub place_after : List ℕ → ℕ → ℕ
 place_after list place = wrapped (length list) (place + 1)
 

@@ -1,4 +1,4 @@
--- What contracts see of a control station (own).
+-- The value of a control station as contracts see it.
 use Rattle.std.specs.Prelude.{◌<◌, ℕ, List, length, slice_index, slice_index_or, slice_set, All}
 use Rattle.std.specs.Prelude.{map, Option, None, Some}
 use Rattle.bsc_frame.specs.declared.message.Message.{Message}
@@ -19,16 +19,16 @@ pub record ControlValue : Type 0 where
   pub wacks : ℕ
   pub peers : List PeerValue
 
--- what is left of the control station, and the message that it sends
+-- the control station after a step, and the message that it sends
 pub record ControlStep : Type 0 where
   pub control : ControlValue
   pub sent : Option Message
 
--- the addresses of its terminals
+-- the addresses of the station's terminals
 abbrev pub terminals : ControlValue → List TerminalValue
 terminals c = map (λ (p : PeerValue). p.terminal) c.peers
 
--- what it keeps for the terminal of this number
+-- what the station keeps for the terminal of this number
 abbrev pub peer_at : ControlValue → ℕ → PeerValue
 peer_at c t = slice_index_or c.peers t no_peer
 
@@ -42,7 +42,7 @@ terminal_of_entry c place = slice_index c.poll_list place
 abbrev pub current : ControlValue → ℕ
 current c = terminal_of_entry c c.place
 
--- what it keeps for the terminal of the present entry
+-- what the station keeps for the terminal of the present entry
 abbrev pub peer : ControlValue → PeerValue
 peer c = peer_at c (current c)
 

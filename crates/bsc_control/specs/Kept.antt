@@ -1,4 +1,4 @@
--- What holds of every control station, and what a transmission or a silence may change of it (own).
+-- What holds of every control station, and what a transmission or a silence may change of it.
 use Rattle.std.specs.Prelude.{◌≡◌, ◌⊎◌, ◌≤◌, ◌<◌, ℕ, ◌+◌, true, false, List, ◌++◌, length, Option}
 use Rattle.std.specs.Prelude.{Some, All}
 use Rattle.bsc_frame.specs.declared.message.Message.{Message}
@@ -29,19 +29,19 @@ use Rattle.bsc_control.specs.Control.{ControlValue, HasEntries, terminals, peer_
 use Rattle.bsc_control.specs.Table.{Hears, ActsOnSilence, after_bid, has_rvi}
 use Rattle.bsc_bid.specs.Station.{StaysQuiet}
 
--- a selection address was called: records wait for it, and there is no doubt and no bid
+-- a selection address was called: records wait for it, and there is neither a doubt nor a bid
 pub record IsSelected (p : PeerValue) (s : ℕ) : Type 0 where
   pub there : s < length p.outbounds
   pub idle : (outbound_at p s).sender.phase ≡ Idle
   pub some : 1 ≤ length (waiting (outbound_at p s).queue)
 
--- a bid to this selection address goes on
+-- a bid to this selection address is in progress
 pub record IsInBid (p : PeerValue) (s : ℕ) : Type 0 where
   pub there : s < length p.outbounds
   pub going : IsGoing (outbound_at p s).sender.phase
 
--- what the present terminal has for the task: while nothing was replied in a poll, the receiver is
--- as new
+-- what the task requires of the present terminal; while nothing was replied in a poll, the receiver
+-- is as new
 abbrev pub SuitsTask : Task → PeerValue → Type 0
 SuitsTask AtRest p = Unit {0}
 SuitsTask (Selecting s enquired) p = IsSelected p s
@@ -50,31 +50,31 @@ SuitsTask (Polling Nothing) p = p.receiver ≡ new_receiver true
 SuitsTask (Polling WithoutRvi) p = Unit {0}
 SuitsTask (Polling WithRvi) p = Unit {0}
 
--- what is sent to this selection address of this terminal
+-- the sending side of this selection address of this terminal
 abbrev pub outbound_of : ControlValue → ℕ → ℕ → OutboundValue
 outbound_of c t s = outbound_at (peer_at c t) s
 
 abbrev pub phase_of : ControlValue → ℕ → ℕ → Phase
 phase_of c t s = (outbound_of c t s).sender.phase
 
--- the one bid that goes on, if any, is to this selection address of this terminal
+-- the bid in progress is to this selection address of this terminal
 abbrev pub IsInUse : ControlValue → ℕ → ℕ → Type 0
 IsInUse c t s = (t ≡ current c) × (c.task ≡ Sending s)
 
--- the senders' settings and the queues' formats are the station's
+-- the settings of a sender and the format of its queue are the station's
 pub record HasSettings (c : ControlValue) (o : OutboundValue) : Type 0 where
   pub setup : o.sender.setup ≡ c.setup
   pub format : o.queue.format ≡ c.setup.format
 
--- what the task needs of the present terminal is there, and no other bid goes on
+-- the present terminal meets what the task requires, and no other bid is in progress
 pub record IsOrderly (c : ControlValue) : Type 0 where
   pub suits : SuitsTask c.task (peer c)
   pub rests : (t s : ℕ) → (IsInUse c t s → ⊥) → IsAtRest (phase_of c t s)
   pub settings : (t s : ℕ) → s < length (peer_at c t).outbounds → HasSettings c (outbound_of c t s)
 
--- a control station: it has 1 to 64 terminals, whose addresses differ, and at most 255 entries in
--- its poll list; each entry names a terminal; each queue has what its sender counts on; and at most
--- one bid goes on
+-- a control station: it has 1 to 64 terminals, whose addresses all differ, and at most 255 entries
+-- in its poll list; each entry names a terminal; each queue has the records that its sender counts
+-- on; and at most one bid is in progress
 pub record IsControl (c : ControlValue) : Type 0 where
   pub some : 1 ≤ length c.peers
   pub few : length c.peers ≤ MAX_TERMINALS
@@ -118,22 +118,21 @@ pub record IsCalled (c : ControlValue) (call : Call) (address : List ℕ) : Type
   pub failures : c.failures ≡ 0
   pub wacks : c.wacks ≡ 0
 
--- what the call is made after, when this is heard during this task
+-- what a next call comes after, if this is heard during this task
 abbrev pub after_hearing : Task → Heard → After
 after_hearing AtRest h = Start
 after_hearing (Selecting s enquired) h = Selection s
 after_hearing (Sending s) h = after_bid s (reply_in h)
 after_hearing (Polling replied) h = Poll (has_rvi replied)
 
--- what the next call is made after, at a silence
+-- what a next call comes after, if a silence passes during this task
 abbrev pub after_silence : Task → After
 after_silence AtRest = Start
 after_silence (Selecting s enquired) = Selection s
 after_silence (Sending s) = Selection s
 after_silence (Polling replied) = Poll (has_rvi replied)
 
--- a whole text was heard in a poll of terminal t, and the records become the old ones and all of
--- its
+-- a whole text was heard in a poll of terminal t, and its records were added to the old ones
 pub record Stores (c : ControlValue) (h : Heard) (t : ℕ) (old new : List (List ℕ)) : Type 0 where
   pub text : TextValue
   pub heard : h ≡ Whole (m.Text text)
@@ -142,26 +141,25 @@ pub record Stores (c : ControlValue) (h : Heard) (t : ℕ) (old new : List (List
   pub polled : t ≡ current c
   pub becomes : new ≡ old ++ records_in text.units
 
--- a spool has the records that it had, or stores those of a text
+-- a spool is unchanged, or stores the records of a text
 abbrev pub GrowsByText : ControlValue → Heard → ℕ → List (List ℕ) → List (List ℕ) → Type 0
 GrowsByText c h t old new = (new ≡ old) ⊎ Stores c h t old new
 
--- the way that a task goes
+-- the way that a task uses
 abbrev pub way_of : Task → Way
 way_of AtRest = FromTerminal
 way_of (Selecting s enquired) = ToTerminal s
 way_of (Sending s) = ToTerminal s
 way_of (Polling replied) = FromTerminal
 
--- a call is repeated: the address is that of the task that goes on, with one failure more
+-- a call is repeated: the address is that of the unchanged task, and one more failure is counted
 pub record IsRepeated (old new : ControlValue) (address : List ℕ) : Type 0 where
   pub place : new.place ≡ old.place
   pub task : new.task ≡ old.task
   pub called : IsAddressOf (terminals new) (current new) (way_of new.task) address
   pub failures : new.failures ≡ old.failures + 1
 
--- what a control station is once it has heard a transmission: each call that it makes is the next
--- one
+-- a control station after it heard a transmission: each call that it makes is the next one
 pub record AfterHearing (old : ControlValue) (h : Heard) (new : ControlValue)
     (sent : Option Message) : Type 0 where
   pub control : IsControl new
@@ -172,8 +170,7 @@ pub record AfterHearing (old : ControlValue) (h : Heard) (new : ControlValue)
       → GrowsByText old h t (peer_at old t).spool.records (peer_at new t).spool.records
   pub noise : h ≡ Noise → StaysQuiet old new sent
 
--- what a control station is after a silence: each call that it makes is the next one, or the same
--- again
+-- a control station after a silence: each call that it makes is the next one, or the same one again
 pub record AfterSilence (old new : ControlValue) (sent : Option Message) : Type 0 where
   pub control : IsControl new
   pub keeps : Keeps old new
@@ -181,13 +178,13 @@ pub record AfterSilence (old new : ControlValue) (sent : Option Message) : Type 
       → IsCalled new (next_call old (after_silence old.task)) address ⊎ IsRepeated old new address
   pub spools : (t : ℕ) → (peer_at new t).spool ≡ (peer_at old t).spool
 
--- a control station hears a transmission: by the row of its table, and with what that keeps
+-- a control station hears a transmission: the row of its table, and what the row keeps
 pub record IsHearing (old : ControlValue) (h : Heard) (new : ControlValue) (sent : Option Message)
     : Type 0 where
   pub row : Hears old h new sent
   pub after : AfterHearing old h new sent
 
--- a silence passes at a control station: by the row of its table, and with what that keeps
+-- a silence passes at a control station: the row of its table, and what the row keeps
 pub record IsSilence (old new : ControlValue) (sent : Option Message) : Type 0 where
   pub row : ActsOnSilence old new sent
   pub after : AfterSilence old new sent

@@ -1,4 +1,4 @@
--- What the control station keeps for one terminal (own).
+-- What the control station keeps for one terminal.
 use Rattle.std.specs.Prelude.{◌≡◌, ℕ, Bool, false, not, nat_eq, List, [], ◌∷◌, ◌++◌, length}
 use Rattle.std.specs.Prelude.{slice_index_or, slice_set, replicate, All, if◌then◌else◌, Option}
 use Rattle.bsc_frame.specs.declared.message.Heard.{Heard}
@@ -19,7 +19,7 @@ pub record OutboundValue : Type 0 where
   pub queue : QueueValue
 
 -- a terminal's addresses; whether the control station asks it for the line; the receiver and the
--- spool of what it sends; and what is sent to each of its selection addresses
+-- spool of what it sends; and the sending side of each of its selection addresses
 pub record PeerValue : Type 0 where
   pub terminal : TerminalValue
   pub urgent : Bool
@@ -27,7 +27,7 @@ pub record PeerValue : Type 0 where
   pub spool : SpoolValue
   pub outbounds : List OutboundValue
 
--- what is read where there is none
+-- the default that is read past the end of a list
 abbrev pub no_outbound : OutboundValue
 no_outbound =
     record {
@@ -50,14 +50,14 @@ no_peer =
       outbounds = [];
     }
 
--- what is sent to the selection address of this number
+-- the sending side of the selection address of this number
 abbrev pub outbound_at : PeerValue → ℕ → OutboundValue
 outbound_at p s = slice_index_or p.outbounds s no_outbound
 
 abbrev pub with_outbound : PeerValue → ℕ → OutboundValue → PeerValue
 with_outbound p s o = record p { outbounds = slice_set p.outbounds s o }
 
--- what a step of the sender leaves
+-- the sending side after a step of the sender
 abbrev pub outbound_after : SenderStep → OutboundValue
 outbound_after step = record { sender = step.sender; queue = step.queue }
 
@@ -68,7 +68,7 @@ outbound_released o count =
       queue = (release_step o.sender o.queue count).queue;
     }
 
--- an outbound of a new control station
+-- the sending side of a new control station
 abbrev pub new_outbound : SetupValue → OutboundValue
 new_outbound setup =
     record {
@@ -76,7 +76,7 @@ new_outbound setup =
       queue = record { format = setup.format; offered = []; known = 0 };
     }
 
--- nothing to send, nothing received, and no flag
+-- nothing to send, nothing received, and the urgent flag down
 pub record IsNewPeer (setup : SetupValue) (terminal : TerminalValue) (p : PeerValue) : Type 0 where
   pub terminal_given : p.terminal ≡ terminal
   pub calm : p.urgent ≡ false
@@ -92,16 +92,17 @@ offered o r = record o { queue = record o.queue { offered = o.queue.offered ++ r
 abbrev pub offered_to : PeerValue → ℕ → List ℕ → PeerValue
 offered_to p s r = with_outbound p s (offered (outbound_at p s) r)
 
--- records wait, and no doubt stands in their way
+-- records wait, and the sender is not in doubt
 abbrev pub is_selectable : OutboundValue → Bool
 is_selectable o =
     if is_in_doubt o.sender.phase then false else not (nat_eq (length (waiting o.queue)) 0)
 
--- the queue has what the sender counts on
+-- the queue has the records that the sender counts on
 abbrev pub IsOutbound : OutboundValue → Type 0
 IsOutbound o = IsReady o.sender o.queue
 
--- one to four selection addresses, each with its queue, which has what its sender counts on
+-- as many sending sides as the terminal has selection addresses, whose queues have the records that
+-- their senders count on
 pub record IsPeer (p : PeerValue) : Type 0 where
   pub terminal : IsTerminal p.terminal
   pub outbounds : length p.outbounds ≡ length p.terminal.selects

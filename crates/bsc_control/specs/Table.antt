@@ -1,6 +1,5 @@
 -- The control station's table (GA27-3004: polling, selection, and the control station's side of a
--- bid; the limits, the urgent flag and several selection addresses are own). What no line lists
--- changes nothing, and nothing is sent.
+-- bid). What no row names changes nothing, and nothing is sent.
 use Rattle.std.specs.Prelude.{◌≡◌, ℕ, ◌+◌, Bool, true, false, nat_lt, List, slice_index_or, Option}
 use Rattle.std.specs.Prelude.{None, Some, option_map, if◌then◌else◌}
 use Rattle.bsc_frame.specs.declared.message.Message.{Message}
@@ -34,7 +33,7 @@ use Rattle.bsc_control.specs.CallOrder.{next_call}
 abbrev pub select_address : TerminalValue → ℕ → List ℕ
 select_address t s = slice_index_or t.selects s t.poll
 
--- what was replied in a poll, once this reply is sent or none
+-- what was replied in a poll once this reply, or none, is sent
 abbrev pub replied_after : Replied → Option Reply → Replied
 replied_after r None = r
 replied_after r (Some Rvi) = WithRvi
@@ -45,7 +44,7 @@ abbrev pub has_rvi : Replied → Bool
 has_rvi WithRvi = true
 has_rvi _ = false
 
--- the polling address of an entry is called, after this many failures: the receiver begins
+-- the polling address of an entry is called, with this count of failures: the receiver begins anew
 abbrev pub poll_call_step : ControlValue → ℕ → ℕ → ControlStep
 poll_call_step c place failures =
     let t : ℕ = terminal_of_entry c place in
@@ -81,8 +80,8 @@ make_call_step c call = way_call_step c call.place call.way
 abbrev pub next_call_step : ControlValue → After → ControlStep
 next_call_step c after = make_call_step c (next_call c after)
 
--- what becomes of the bid by a call of the sender, which left this message; after the bid the next
--- call is made
+-- the outcome of a step of the sender, which left this message; once the bid is over, the next call
+-- is made
 abbrev pub performed : ControlValue → ℕ → Outcome → Option Message → After → ControlStep
 performed c s o.Sends message after =
     record { control = record c { task = Sending s }; sent = message }
@@ -93,15 +92,15 @@ performed c s o.Quiet message after = record { control = c; sent = message }
 abbrev pub act_step : ControlValue → ℕ → Act → After → ControlStep
 act_step c s act after = performed c s (outcome_of act) (message_for act) after
 
--- the present terminal's sender to this selection address made a step
+-- the sender to this selection address of the present terminal made a step
 abbrev pub after_step : ControlValue → ℕ → SenderStep → ControlValue
 after_step c s step = with_current c (with_outbound (peer c) s (outbound_after step))
 
--- the control station after this step of the sender to this address, and what it sends
+-- the control station after this step of the sender to this address, and the message that it sends
 abbrev pub bid_step : ControlValue → ℕ → SenderStep → After → ControlStep
 bid_step c s step after = act_step (after_step c s step) s step.act after
 
--- what the next call comes after where this reply, or none, ends the bid to this address
+-- what the next call comes after if this reply, or none, ends the bid to this address
 abbrev pub after_bid : ℕ → Option Reply → After
 after_bid s (Some Rvi) = Interruption
 after_bid s _ = Selection s
@@ -152,7 +151,7 @@ task_step c (Polling replied) h rooms = polling_step c replied h rooms
 abbrev pub hear_step : ControlValue → Heard → Rooms → ControlStep
 hear_step c h rooms = task_step c c.task h rooms
 
--- a call is repeated: ENQ where ENQ was sent last
+-- a call is repeated, or ENQ if ENQ was sent last
 abbrev pub repeated : ControlValue → ℕ → Bool → Message
 repeated c s true = m.Enq
 repeated c s false = m.Call (select_address (peer c).terminal s)
@@ -172,7 +171,7 @@ silence_in c (Polling Nothing) =
 silence_in c (Polling WithoutRvi) = next_call_step c (Poll false)
 silence_in c (Polling WithRvi) = next_call_step c (Poll true)
 
--- what the tries for room found, read from what they left at the terminal that was polled
+-- the outcomes of the attempts to get room, as the polled terminal's receiver and spool show them
 abbrev pub rooms_after : ControlValue → Heard → ControlValue → Rooms
 rooms_after old h new =
     rooms_left h (peer_at new (current old)).receiver.last (peer_at new (current old)).spool
@@ -183,14 +182,14 @@ IsReceived (Polling replied) (Whole m.Eot) = ⊥
 IsReceived (Polling replied) h = Unit {0}
 IsReceived task h = ⊥
 
--- The control station and what it sends are those of the table. Where there was room, the first try
--- found it.
+-- The control station and the message that it sends are those of the table. If there was room, the
+-- first attempt found it.
 pub record Hears (old : ControlValue) (h : Heard) (new : ControlValue) (sent : Option Message)
     : Type 0 where
   pub row : record { control = new; sent = sent } ≡ hear_step old h (rooms_after old h new)
   pub room : IsReceived old.task h → (peer old).spool.room ≡ true
       → (rooms_after old h new).first ≡ true
 
--- at a silence the control station and what it sends are those of the table
+-- the control station and the message that it sends are those of the table for a silence
 abbrev pub ActsOnSilence : ControlValue → ControlValue → Option Message → Type 0
 ActsOnSilence old new sent = record { control = new; sent = sent } ≡ silence_in old old.task

@@ -23,7 +23,7 @@ use std::marker::Model;
 /// The control station of a line (GA27-3004, centralised multipoint operation).
 #[derive(Drop)]
 pub struct Control<A: Allocator> {
-    /// The terminal and the way to which each address of the line belongs.
+    /// The terminal and the way of each address on the line.
     directory: Directory<A>,
 
     /// The settings, the poll list and what is kept for each terminal.
@@ -45,11 +45,13 @@ impl<A: Allocator> Model for Control<A> {
 }
 
 impl<A: Allocator> Control<A> {
-    /// A control station at rest: its first silence makes the first call. It has these settings,
-    /// calls these terminals (1 to 64, whose addresses differ), and goes through this poll list (1
-    /// to 255 entries, each the number of a terminal). Refused, in this order: `NoTerminal`,
-    /// `TooMany`, `SameAddress`, `EmptyPollList`, `PollList`; `Memory` may come in place of any
-    /// after `TooMany`. (GA27-3004, poll list; the limits are own.)
+    /// Returns a control station at rest; its first silence makes the first call. `setup` gives the
+    /// settings, `terminals` the terminals of the line (1 to 64, whose addresses all differ), and
+    /// `poll_list` the entries of the poll list (1 to 255, each the number of a terminal).
+    /// (GA27-3004, poll list.)
+    ///
+    /// Errors, in this order: `NoTerminal`, `TooMany`, `SameAddress`, `EmptyPollList`, `PollList`.
+    /// `Memory` may come in place of any error after `TooMany`.
     pub fn new(
         alloc: A,
         setup: Setup,
@@ -71,7 +73,7 @@ impl<A: Allocator> Control<A> {
         })
     }
 
-    /// The settings that it was made with.
+    /// Returns the settings that the station was made with.
     pub fn setup(&self) -> Setup
         ensures value { result ≡ self.now.setup }
         ensures control { IsControl self.now }
@@ -79,7 +81,7 @@ impl<A: Allocator> Control<A> {
         self.procedure.setup
     }
 
-    /// The poll list: the number of a terminal for each entry.
+    /// Returns the poll list: the number of a terminal for each entry.
     pub fn poll_list(&self) -> &[u8]
         ensures value { result.now ≡ self.now.poll_list }
         ensures control { IsControl self.now }
@@ -87,7 +89,7 @@ impl<A: Allocator> Control<A> {
         self.procedure.poll_list.as_slice()
     }
 
-    /// How many terminals the line has: 1 to 64.
+    /// Returns the number of terminals on the line: 1 to 64.
     pub fn terminals(&self) -> usize
         ensures value { result ≡ length self.now.peers }
         ensures control { IsControl self.now }
@@ -95,7 +97,8 @@ impl<A: Allocator> Control<A> {
         self.procedure.peers.len()
     }
 
-    /// How many selection addresses a terminal has: 1 to 4. Condition: there is such a terminal.
+    /// Returns the number of selection addresses of a terminal: 1 to 4. Condition: the terminal
+    /// exists.
     pub fn addresses(&self, terminal: usize) -> usize
         requires { terminal < length self.now.peers }
         ensures value { result ≡ length (peer_at self.now terminal).outbounds }
@@ -105,8 +108,9 @@ impl<A: Allocator> Control<A> {
         peer.outbounds.len()
     }
 
-    /// The terminal and the way whose address this is: a polling address is a way from its
-    /// terminal. None where it is nobody's. (GA27-3004, polling and selection addresses.)
+    /// Finds the terminal and the way that an address belongs to, or `None` if it belongs to no
+    /// terminal. A polling address is the way from its terminal, a selection address a way to it.
+    /// (GA27-3004, polling and selection addresses.)
     pub fn find(&self, address: &Address) -> Option<(usize, Way)>
         ensures exact { (t : ℕ) (way : WayValue)
             → (result ≡ Some (t, way)) ↔ IsAddressOf (terminals self.now) t way address.now }
@@ -115,8 +119,8 @@ impl<A: Allocator> Control<A> {
         self.directory.find(address)
     }
 
-    /// Adds a record to those for a selection address of a terminal. It comes back where there is
-    /// no memory for it, and then nothing changed. Condition: there is such an address, and the
+    /// Adds a record to the queue for a selection address of a terminal. If there is no memory for
+    /// the record, it is given back and nothing changes. Condition: the address exists, and the
     /// record is not longer than the full length.
     pub fn offer(&mut self, terminal: usize, select: usize, record: Record) -> Result<(), Record>
         requires terminal { terminal < length self.old.peers }
@@ -135,9 +139,9 @@ impl<A: Allocator> Control<A> {
         outbound.offer(record)
     }
 
-    /// Asks a terminal for the line: the next text of it that is taken is answered by RVI, unless
-    /// the last reply was RVI too, or the terminal is selected before. Condition: there is such a
-    /// terminal. (GA27-3004, RVI; the flag is own.)
+    /// Asks a terminal for the line: the next text taken from it is answered by RVI, unless the
+    /// last reply was RVI too. A new selection of the terminal clears the request. Condition: the
+    /// terminal exists. (GA27-3004, RVI.)
     pub fn set_urgent(&mut self, terminal: usize)
         requires { terminal < length self.old.peers }
         ensures state { self.new
@@ -149,8 +153,8 @@ impl<A: Allocator> Control<A> {
         peer.urgent = true;
     }
 
-    /// Whether it is not known if the last block for this address arrived. Condition: the way is to
-    /// a terminal, and there is such an address. (Own.)
+    /// Whether the last block for this address is in doubt, that is, not known to have arrived or
+    /// to have been lost. Condition: the way is to a terminal, and the address exists.
     pub fn in_doubt(&self, terminal: usize, way: Way) -> bool
         requires terminal { terminal < length self.now.peers }
         requires way { IsSelection way (length (peer_at self.now terminal).outbounds) }
@@ -163,9 +167,10 @@ impl<A: Allocator> Control<A> {
         outbound.sender.in_doubt()
     }
 
-    /// Ends the doubt: the other end has `count` records. `NotInDoubt`, then `CountMismatch` where
-    /// the count is neither that of the known records nor that with the doubtful block; both change
-    /// nothing. Condition: the way is to a terminal, and there is such an address. (Own.)
+    /// Ends the doubt about an address whose receiving end has `count` records. Errors:
+    /// `NotInDoubt` if there is no doubt, else `CountMismatch` if `count` is neither the number of
+    /// the known records nor that number with the doubtful block. Both change nothing. Condition:
+    /// the way is to a terminal, and the address exists.
     pub fn release(&mut self, terminal: usize, way: Way, count: usize) -> Result<(), ReleaseError>
         requires terminal { terminal < length self.old.peers }
         requires way { IsSelection way (length (peer_at self.old terminal).outbounds) }
@@ -183,8 +188,8 @@ impl<A: Allocator> Control<A> {
         outbound.release(count)
     }
 
-    /// The records for a selection address of a terminal, and how many of them are known to have
-    /// arrived. Condition: there is such an address.
+    /// Returns the queue of a selection address: the records offered for it, and how many of them
+    /// are known to have arrived. Condition: the address exists.
     pub fn queue(&self, terminal: usize, select: usize) -> &Queue<A>
         requires terminal { terminal < length self.now.peers }
         requires select { select < length (peer_at self.now terminal).outbounds }
@@ -196,7 +201,8 @@ impl<A: Allocator> Control<A> {
         &outbound.queue
     }
 
-    /// The records that arrived from a terminal. Condition: there is such a terminal.
+    /// Returns the spool of the records that arrived from a terminal. Condition: the terminal
+    /// exists.
     pub fn spool(&self, terminal: usize) -> &Spool<A>
         requires { terminal < length self.now.peers }
         ensures value { result.now ≡ (peer_at self.now terminal).spool }
@@ -225,12 +231,12 @@ impl<A: Allocator> Station for Control<A> {
         self.procedure.act_on_silence(sent);
     }
 
-    /// Whether the control station acts on a silence before a terminal does: it doesn't.
+    /// Whether the station acts on a silence before the terminals do. A control station never does.
     fn holds_line(&self) -> bool
         ensures holds { result ≡ false }
         ensures control { IsControl self.now }
     {
-        // A field is read, so that the invariant is known here.
+        // Reading a field makes the invariant known here.
         let _ = &self.procedure;
         false
     }

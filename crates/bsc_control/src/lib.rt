@@ -1,9 +1,14 @@
-//! The control station of a line as a pure machine: octets and silences go in, octets come out.
+//! The control station of a line as a pure state machine: octets and silences go in, octets come
+//! out.
 //!
-//! A [`Control`] goes through its poll list, entry by entry. It selects the addresses of the
-//! entry's terminal for which records wait and sends them, then it polls the terminal and stores
-//! what arrives. It does exactly what its table and its call order say and can be used by itself,
-//! against terminals of another maker.
+//! A [`Control`] goes through its poll list, entry by entry. It selects those addresses of the
+//! entry's terminal for which records wait and sends the records; then it polls the terminal and
+//! stores what arrives. It follows its table and its call order exactly and can be used by itself,
+//! with terminals of another make.
+//!
+//! Polling and selection by a poll list, and the control station's side of a bid, are those of
+//! GA27-3004. The limits, the order of selections and polls, the urgent flag, several selection
+//! addresses to a terminal, and doubt and its release are this project's own.
 #![tactic(auto)]
 
 mod control;

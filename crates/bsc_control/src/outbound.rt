@@ -1,4 +1,4 @@
-//! What is sent to one selection address: the records, and the sender of their bids.
+//! The sending side of one selection address: its records, and the sender of their bids.
 
 ghost use Rattle.std.specs.Prelude.{◌≡◌, ◌≤◌, ◌++◌, [], ◌∷◌, length, OnOk, OnErr, IfErr};
 ghost use Rattle.bsc_spool.specs.Queue.{waiting};
@@ -19,7 +19,7 @@ use std::marker::Model;
 /// The records for one selection address, and the sender of their bids.
 #[derive(Drop)]
 pub(crate) struct Outbound<A: Allocator> {
-    /// The sending end of the bids to the address.
+    /// The sender of the bids to the address.
     pub(crate) sender: Sender,
 
     /// The records that were offered for the address.
@@ -38,7 +38,7 @@ impl<A: Allocator> Model for Outbound<A> {
 }
 
 impl<A: Allocator> Outbound<A> {
-    /// No records and no bid. It takes no memory.
+    /// Returns a sending side without records and without a bid. It allocates nothing.
     pub(crate) fn new(alloc: A, setup: Setup) -> Self
         ensures value { result ≡ new_outbound setup }
         ensures outbound { IsOutbound result }
@@ -49,14 +49,14 @@ impl<A: Allocator> Outbound<A> {
         }
     }
 
-    /// Whether records wait and no doubt stands in their way.
+    /// Whether records wait and the sender is not in doubt.
     pub(crate) fn is_selectable(&self) -> bool
         ensures { result ≡ is_selectable self.now }
     {
         !self.sender.in_doubt() && self.queue.has_waiting()
     }
 
-    /// Begins a bid.
+    /// Begins a bid: the sender takes the first block, and its text is left in `sent`.
     pub(crate) fn begin(&mut self, sent: &mut Option<Message>) -> Outcome
         requires idle { self.old.sender.phase ≡ Idle }
         requires some { 1 ≤ length (waiting self.old.queue) }
@@ -70,7 +70,7 @@ impl<A: Allocator> Outbound<A> {
         self.sender.begin(&self.queue, sent)
     }
 
-    /// Hears a transmission during a bid.
+    /// Hears a transmission during a bid, and leaves the message to send, or `None`, in `sent`.
     pub(crate) fn reply(&mut self, heard: &Heard, sent: &mut Option<Message>) -> Outcome
         ensures state { self.new
             ≡ outbound_after (reply_step self.old.sender self.old.queue (reply_in heard.now)) }
@@ -83,7 +83,7 @@ impl<A: Allocator> Outbound<A> {
         self.sender.reply(heard, &mut self.queue, sent)
     }
 
-    /// Nothing was heard during a bid.
+    /// Acts on a silence during a bid, and leaves the message to send, or `None`, in `sent`.
     pub(crate) fn silence(&mut self, sent: &mut Option<Message>) -> Outcome
         ensures state { self.new ≡ outbound_after (silence_step self.old.sender self.old.queue) }
         ensures outcome { result
@@ -95,8 +95,8 @@ impl<A: Allocator> Outbound<A> {
         self.sender.silence(sent)
     }
 
-    /// Adds a record that is not longer than the full length. It comes back where there is no
-    /// memory for it.
+    /// Adds a record that is not longer than the full length. If there is no memory for the record,
+    /// it is given back and nothing changes.
     pub(crate) fn offer(&mut self, record: Record) -> Result<(), Record>
         requires { length «record» ≤ self.old.queue.format.full }
         ensures ok { OnOk result (self.new

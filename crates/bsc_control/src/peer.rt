@@ -13,22 +13,23 @@ use std::alloc::{AllocError, Allocator};
 use std::marker::Model;
 
 /// What the control station keeps for one terminal: its addresses, the urgent flag, the receiver
-/// and the spool of what it sends, and what is sent to each of its selection addresses.
+/// and the spool of what the terminal sends, and the sending side of each of its selection
+/// addresses.
 #[derive(Drop)]
 pub(crate) struct Peer<A: Allocator> {
-    /// Its polling address and its selection addresses.
+    /// The polling address and the selection addresses of the terminal.
     pub(crate) terminal: Terminal,
 
-    /// Whether the next text that is taken from it is answered by RVI.
+    /// Whether the next text that is taken from the terminal is answered by RVI.
     pub(crate) urgent: bool,
 
-    /// The receiving end of its bids.
+    /// The receiver of the terminal's bids.
     pub(crate) receiver: Receiver,
 
-    /// The records that arrived from it.
+    /// The records that arrived from the terminal.
     pub(crate) spool: Spool<A>,
 
-    /// What is sent to each of its selection addresses, in their order.
+    /// The sending side of each selection address, in the order of their numbers.
     pub(crate) outbounds: Vec<Outbound<A>, A>,
 }
 
@@ -55,7 +56,8 @@ impl<A: Allocator> Model for Peer<A> {
 }
 
 impl<A: Allocator> Peer<A> {
-    /// Nothing to send, nothing received, and no flag. The error is out of memory.
+    /// Returns the state of a new terminal: nothing to send, nothing received, and the urgent flag
+    /// down. The error means out of memory.
     pub(crate) fn new(alloc: A, setup: Setup, terminal: Terminal) -> Result<Self, AllocError>
     where
         A: Copy,
@@ -75,8 +77,8 @@ impl<A: Allocator> Peer<A> {
         })
     }
 
-    /// The first selection address from this number on for which records wait without doubt, else
-    /// the polling address.
+    /// Returns the first selection address, from this number on, for which records wait without
+    /// doubt; else the polling address.
     pub(crate) fn way_from(&self, from: usize) -> Way
         requires { from ≤ length self.now.outbounds }
         ensures { result ≡ way_from self.now from }
@@ -87,7 +89,8 @@ impl<A: Allocator> Peer<A> {
         }
     }
 
-    /// The receiver hears a transmission.
+    /// Lets the receiver hear a transmission, and returns its reply. A reply of RVI clears the
+    /// urgent flag.
     pub(crate) fn receive(&mut self, heard: &Heard) -> Option<Reply>
         ensures receives { PeerReceives self.old heard.now self.new result }
         ensures peer { IsPeer self.new }
@@ -100,7 +103,7 @@ impl<A: Allocator> Peer<A> {
     }
 }
 
-/// The place of the first for which records wait without doubt.
+/// Returns the index of the first address for which records wait without doubt.
 fn first_selectable<A: Allocator>(outbounds: &[Outbound<A>]) -> Option<usize>
     ensures { result ≡ position is_selectable outbounds.now }
 {

@@ -1,5 +1,5 @@
-//! The line procedure of the control station: whom it calls next, and what it does with what it
-//! hears.
+//! The line procedure of the control station: which address it calls next, and what it does with
+//! what it hears.
 
 mod calling;
 mod polling;
@@ -18,8 +18,8 @@ use bsc_frame::{Heard, Message};
 use std::alloc::{AllocError, Allocator};
 use std::marker::Model;
 
-/// The procedure of a control station: its settings, its poll list, where it stands in it, and what
-/// it keeps for each terminal.
+/// The procedure of a control station: its settings, its poll list and the present entry of it, and
+/// what it keeps for each terminal.
 #[derive(Drop)]
 pub(crate) struct Procedure<A: Allocator> {
     /// The settings that the station was made with.
@@ -28,10 +28,10 @@ pub(crate) struct Procedure<A: Allocator> {
     /// The number of a terminal for each entry.
     pub(crate) poll_list: Vec<u8, A>,
 
-    /// The place of the present entry in the poll list.
+    /// The index of the present entry in the poll list.
     place: usize,
 
-    /// What is done at the present entry.
+    /// What the station does at the present entry.
     task: Task,
 
     /// The failures in a row of the present call.
@@ -71,8 +71,8 @@ impl<A: Allocator> Model for Procedure<A> {
 }
 
 impl<A: Allocator> Procedure<A> {
-    /// At rest at the first entry, with nothing to send and nothing received. The error is out of
-    /// memory.
+    /// Returns a procedure at rest at the first entry, with nothing to send and nothing received.
+    /// The error means out of memory.
     pub(crate) fn new(
         alloc: A,
         setup: Setup,
@@ -102,7 +102,7 @@ impl<A: Allocator> Procedure<A> {
         })
     }
 
-    /// The terminal of an entry.
+    /// Returns the terminal of an entry.
     fn terminal_of(&self, place: usize) -> usize
         requires { place < length self.now.poll_list }
         ensures value { result ≡ terminal_of_entry self.now place }
@@ -111,7 +111,7 @@ impl<A: Allocator> Procedure<A> {
         self.poll_list[place] as usize
     }
 
-    /// The terminal of the present entry.
+    /// Returns the terminal of the present entry.
     fn current(&self) -> usize
         ensures value { result ≡ current self.now }
         ensures there { result < length self.now.peers }
@@ -119,7 +119,7 @@ impl<A: Allocator> Procedure<A> {
         self.terminal_of(self.place)
     }
 
-    /// Hears what octets were decoded as, and leaves the message to send, or none, in `sent`.
+    /// Hears a decoded transmission, and leaves the message to send, or `None`, in `sent`.
     pub(crate) fn hear(&mut self, heard: &Heard, sent: &mut Option<Message>)
         requires { SuitsTask self.old.task (peer self.old) }
         ensures row { Hears self.old heard.now self.new sent.new }
@@ -133,7 +133,7 @@ impl<A: Allocator> Procedure<A> {
         }
     }
 
-    /// Nothing was heard; leaves the message to send, or none, in `sent`.
+    /// Acts on a silence, and leaves the message to send, or `None`, in `sent`.
     pub(crate) fn act_on_silence(&mut self, sent: &mut Option<Message>)
         requires { SuitsTask self.old.task (peer self.old) }
         ensures row { ActsOnSilence self.old self.new sent.new }

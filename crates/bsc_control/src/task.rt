@@ -5,13 +5,13 @@ ghost use Rattle.bsc_control.specs.Table.{replied_after, has_rvi};
 
 use bsc_frame::Reply;
 
-/// What was replied in a poll (own).
+/// The replies sent so far in a poll.
 #[derive(Clone, Copy)]
 pub enum Replied {
-    /// Nothing yet.
+    /// No reply yet.
     Nothing,
 
-    /// Replies, and no RVI among them.
+    /// Replies, but no RVI among them.
     WithoutRvi,
 
     /// Replies, and RVI among them.
@@ -19,7 +19,7 @@ pub enum Replied {
 }
 
 impl Replied {
-    /// What was replied once this reply is sent, or none.
+    /// Returns what was replied once this reply, or none, is sent.
     pub(crate) fn after(self, reply: Option<Reply>) -> Replied
         ensures { result ≡ replied_after self reply }
     {
@@ -41,10 +41,11 @@ impl Replied {
 /// What the control station does at present (GA27-3004, polling and selection).
 #[derive(Clone, Copy)]
 pub enum Task {
-    /// It has called nobody yet.
+    /// It has not made a call yet.
     AtRest,
 
-    /// It called the selection address of this number. `enquired`: it sent ENQ last, after WACK.
+    /// It called the selection address of this number. `enquired` says that it sent ENQ last, after
+    /// WACK.
     Selecting { select: usize, enquired: bool },
 
     /// It sends the records of the selection address of this number.

@@ -7,7 +7,7 @@ use Rattle.std.specs.List.{All, AllPairs}
 use Rattle.bsc_bid.specs.Terminal.{TerminalValue, own_addresses, HasDistinctAddresses}
 use Rattle.bsc_directory.specs.Addresses.{addresses, AreDistinct}
 
--- where no two of a list are the same, none of its front are, and none of its rest
+-- if no two elements of a list are the same, none of its front are, and none of its rest
 front_pairs : (xs ys : List (List ℕ)) → AllPairs (λ a b. a ≢ b) (xs ++ ys)
     → AllPairs (λ a b. a ≢ b) xs
 front_pairs xs ys h i j d less within =

@@ -1,4 +1,4 @@
--- Whose each of the numbered addresses is.
+-- The terminal and way that each numbered address belongs to.
 use Rattle.std.proofs.Common.{◌≡◌, ◌⊎◌, inl, inr, ◌↔◌, ℕ, zero, suc, ◌+◌, List, [], ◌∷◌, ◌++◌}
 use Rattle.std.proofs.Common.{length, Some, refl, sym, ◌∙◌, ap, subst, arith, append_assoc}
 use Rattle.std.proofs.lemmas.List.Elements.{Contains-append_left, Contains-append_right}
@@ -12,7 +12,7 @@ use Rattle.bsc_directory.specs.declared.way.Way.TheVariants.{FromTerminal, ToTer
 use Rattle.bsc_directory.specs.Addresses.{addresses, address_for, IsAddressOf, numbered_selects}
 use Rattle.bsc_directory.specs.Addresses.{owned, numbered}
 
--- an address and whose it is
+-- an address with its terminal and way
 abbrev pub Owner : Type 0
 Owner = List ℕ × (ℕ × Way)
 
@@ -29,7 +29,7 @@ contains_cases y ys z h =
     elim (Contains-append_cases (y ∷ []) ys z h)
     [ inl x ↦ inl (contains_one y z x) | inr x ↦ inr x ]
 
--- the way is to the selection address this many places on
+-- the way is to the selection address this many places after s
 record IsSelectAt (t s : ℕ) (xs : List (List ℕ)) (z : Owner) : Type 0 where
   place : ℕ
   terminal : z.1.0 ≡ t
@@ -111,7 +111,7 @@ owned_to t x (ToTerminal s) a h =
     (Contains-append_right ((x.poll, (t, FromTerminal)) ∷ []) (numbered_selects t 0 x.selects)
     (a, (t, ToTerminal (0 + s))) (selects_to t 0 x.selects s a h))
 
--- the terminal is this many places on
+-- the terminal is this many places after t
 record IsOwnerAt (t : ℕ) (xs : List TerminalValue) (z : Owner) : Type 0 where
   place : ℕ
   terminal : z.1.0 ≡ t + place
@@ -163,7 +163,7 @@ numbered_to t (x ∷ xs) (suc k) way a h =
           h.its_own;
     })))
 
--- an address is among the numbered ones exactly with the terminal and the way whose it is
+-- an address is among the numbered ones exactly with the terminal and the way that it belongs to
 pub owner_iff : (xs : List TerminalValue) (k : ℕ) (way : Way) (a : List ℕ)
     → Contains (numbered 0 xs) (a, (k, way)) ↔ IsAddressOf xs k way a
 owner_iff xs k way a = (
@@ -176,7 +176,7 @@ owner_iff xs k way a = (
       subst (λ (n : ℕ). Contains (numbered 0 xs) (a, (n, way))) place (numbered_to 0 xs k way a h),
 )
 
--- the numbered addresses are the addresses, in their order
+-- the addresses of the numbered list are the addresses, in their order
 pub keys_selection_call_step : (t s : ℕ) (xs : List (List ℕ)) → keys_of (numbered_selects t s xs)
     ≡ xs
 keys_selection_call_step t s [] = refl

@@ -18,7 +18,7 @@ use Rattle.bsc_directory.specs.declared.refusal.SetupError.TheVariants.{PollList
 use Rattle.bsc_directory.specs.Refusals.{IsFirstRepeat, RefusesAddresses}
 use Rattle.bsc_directory.proofs.Owners.{Owner}
 
--- keys that differ by comparison differ
+-- keys that differ by the comparison differ
 pub all_differ : (xs : List (List ℕ)) → IsDistinct (pointwise ◌==◌) xs → AllPairs (λ a b. a ≢ b) xs
 all_differ xs h = AllPairs-from_IsDistinct bytes_eq-Decides xs h
 
@@ -33,7 +33,7 @@ slice_get_seam : (xs ys : List (List ℕ)) (y : List ℕ) → slice_get (xs ++ y
 slice_get_seam [] ys y = refl
 slice_get_seam (x ∷ xs) ys y = slice_get_seam xs ys y
 
--- a repeat stays the first one whatever comes after
+-- the first repeat stays the first whatever comes after it
 repeat_more : (xs ys : List (List ℕ)) (i j : ℕ) → IsFirstRepeat xs i j
     → IsFirstRepeat (xs ++ ys) i j
 repeat_more xs ys i j h =
@@ -48,7 +48,7 @@ repeat_more xs ys i j h =
       first = subst (AllPairs (λ a b. a ≢ b)) (sym (take-append-le j xs ys upto)) h.first;
     }
 
--- so does a clash
+-- so does a refusal
 pub refuses_more : (old more rest : List (List ℕ)) (e : SetupError) → RefusesAddresses old more e
     → RefusesAddresses old (more ++ rest) e
 refuses_more old more rest Memory h = tt
@@ -60,7 +60,7 @@ refuses_more old more rest TooMany h = absurd h
 refuses_more old more rest EmptyPollList h = absurd h
 refuses_more old more rest (PollList place) h = absurd h
 
--- what came in between may be told of as new
+-- the addresses entered before may be counted as new ones
 pub refuses_earlier : (old first more : List (List ℕ)) (e : SetupError)
     → RefusesAddresses (old ++ first) more e → RefusesAddresses old (first ++ more) e
 refuses_earlier old first more Memory h = tt

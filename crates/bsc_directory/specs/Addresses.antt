@@ -1,5 +1,4 @@
--- The addresses of a line, and their numbers (GA27-3004: polling and selection addresses; the
--- numbering is own).
+-- The addresses of a line, and their numbers (GA27-3004: polling and selection addresses).
 use Rattle.std.specs.Prelude.{◌≡◌, ◌≢◌, ◌+◌, ℕ, List, [], ◌∷◌, ◌++◌, Option, Some, slice_get}
 use Rattle.std.specs.List.{AllPairs}
 use Rattle.bsc_bid.specs.Terminal.{TerminalValue, own_addresses}
@@ -28,8 +27,8 @@ pub record IsAddressOf (ts : List TerminalValue) (t : ℕ) (way : Way) (address 
   pub there : slice_get ts t ≡ Some terminal
   pub its_own : address_for terminal way ≡ Some address
 
--- each address with its terminal's number and its way, in the order of the addresses' numbers; the
--- first is of terminal t, or its selection address s
+-- each address with the number and the way of its terminal, in the order of the addresses' numbers;
+-- the first address is the polling address of terminal t, or its selection address s
 abbrev pub numbered_selects : ℕ → ℕ → List (List ℕ) → List (List ℕ × (ℕ × Way))
 numbered_selects t s [] = []
 numbered_selects t s (x ∷ xs) = (x, (t, ToTerminal s)) ∷ numbered_selects t (s + 1) xs

@@ -1,14 +1,14 @@
--- Ways to a terminal (own).
+-- Ways to a terminal.
 use Rattle.std.specs.Prelude.{ℕ, ◌<◌}
 use Rattle.bsc_directory.specs.declared.way.Way.{Way}
 use Rattle.bsc_directory.specs.declared.way.Way.TheVariants.{FromTerminal, ToTerminal}
 
--- to the terminal
+-- the way is to the terminal
 abbrev pub IsToTerminal : Way → Type 0
 IsToTerminal FromTerminal = ⊥
 IsToTerminal (ToTerminal s) = Unit {0}
 
--- to the terminal, by one of this many selection addresses
+-- the way is to the terminal, by one of this many selection addresses
 abbrev pub IsSelection : Way → ℕ → Type 0
 IsSelection FromTerminal count = ⊥
 IsSelection (ToTerminal s) count = s < count

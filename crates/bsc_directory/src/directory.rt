@@ -1,4 +1,4 @@
-//! The terminal and the way to which each address of a line belongs.
+//! The terminal and the way of each address on a line.
 
 ghost use Rattle.std.specs.Prelude.{◌≡◌, ◌++◌, ◌↔◌, [], ◌∷◌, ℕ, IfOk, IfErr, OnOk, Some};
 ghost use Rattle.std.specs.List.{Contains};
@@ -18,8 +18,8 @@ use std::alloc::Allocator;
 use std::hash::{BuildHasherDefault, FoldHasher};
 use std::marker::Model;
 
-/// The addresses of a line. The place of an address in the map is its number; its value says whose
-/// it is.
+/// The addresses of a line. The index of an address in the map is its number; its value is the
+/// terminal and the way that it belongs to.
 #[derive(Drop)]
 pub struct Directory<A: Allocator> {
     /// The terminal and the way of each address.
@@ -40,11 +40,10 @@ impl<A: Allocator> Model for Directory<A> {
 }
 
 impl<A: Allocator> Directory<A> {
-    /// The addresses of these terminals (1 to 64, whose addresses differ) of a line with this poll
-    /// list (1 to 255 entries, each the number of a terminal). Refused, in this order:
+    /// Returns the directory of the terminals of a line (1 to 64, whose addresses all differ) with
+    /// this poll list (1 to 255 entries, each the number of a terminal). Errors, in this order:
     /// `NoTerminal`, `TooMany`, `SameAddress`, `EmptyPollList`, `PollList`; `Memory` may come in
-    /// place of any after `TooMany`. (GA27-3004, polling and selection addresses, poll list; the
-    /// limits are own.)
+    /// place of any error after `TooMany`. (GA27-3004, polling and selection addresses, poll list.)
     pub fn new(alloc: A, terminals: &[Terminal], poll_list: &[u8]) -> Result<Self, SetupError>
     where
         A: Copy,
@@ -68,8 +67,8 @@ impl<A: Allocator> Directory<A> {
         Ok(directory)
     }
 
-    /// The addresses of these terminals. `SameAddress` at the first that came before, `Memory`
-    /// where there is no memory.
+    /// Returns the directory of these terminals. Errors: `SameAddress` for the first address that
+    /// came before, `Memory` if out of memory.
     fn of_terminals(alloc: A, terminals: &[Terminal]) -> Result<Self, SetupError>
     where
         A: Copy,
@@ -83,12 +82,13 @@ impl<A: Allocator> Directory<A> {
         for (number, terminal) in terminals.iter().enumerate() {
             directory.enter_all(number, terminal)?;
         }
-        // A field is read, so that the invariant is known here.
+        // Reading a field makes the invariant known here.
         let _ = &directory.owners;
         Ok(directory)
     }
 
-    /// The terminal and the way whose address this is. None where it is nobody's.
+    /// Finds the terminal and the way that an address belongs to, or `None` if it belongs to no
+    /// terminal.
     pub fn find(&self, address: &Address) -> Option<(usize, Way)>
         ensures { (t : ℕ) (way : WayValue)
             → (result ≡ Some (t, way)) ↔ Contains self.now (address.now, (t, way)) }
@@ -96,7 +96,8 @@ impl<A: Allocator> Directory<A> {
         self.owners.get(address).copied()
     }
 
-    /// Enters the addresses of a terminal.
+    /// Enters the addresses of a terminal: its polling address, then its selection addresses in
+    /// order.
     fn enter_all(&mut self, number: usize, terminal: &Terminal) -> Result<(), SetupError>
         ensures entries { OnOk result (self.new ≡ self.old ++ owned number terminal.now) }
         ensures refused { IfErr result
@@ -109,7 +110,8 @@ impl<A: Allocator> Directory<A> {
         Ok(())
     }
 
-    /// Enters an address.
+    /// Enters an address. Errors: `SameAddress` if it was entered before, `Memory` if out of
+    /// memory.
     fn enter(&mut self, address: Address, terminal: usize, way: Way) -> Result<(), SetupError>
         ensures entries { OnOk result (self.new ≡ self.old ++ (address, (terminal, way)) ∷ []) }
         ensures refused { IfErr result (λ e. RefusesAddresses (keys_of self.old) (address ∷ []) e) }

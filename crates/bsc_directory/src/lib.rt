@@ -1,8 +1,11 @@
-//! The addresses of a line: the terminal to which each one belongs, and why the terminals and the
-//! poll list of a line are refused.
+//! The addresses of a line: the terminal that each one belongs to, and the reasons to refuse the
+//! terminals and the poll list of a line.
 //!
-//! A configuration is checked by making a [`Directory`]; a control station keeps one, and finds in
-//! it the terminal that an address calls.
+//! Making a [`Directory`] checks a configuration. A control station keeps one, and finds in it the
+//! terminal that an address calls.
+//!
+//! Polling and selection addresses and the poll list are those of GA27-3004. The limits of a line,
+//! the numbering of the addresses, the ways, and the refusals are this project's own.
 #![tactic(auto)]
 
 mod directory;

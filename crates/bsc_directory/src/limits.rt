@@ -1,7 +1,7 @@
-//! The limits of a line (own).
+//! The limits of a line.
 
-/// The most terminals of a line.
+/// The maximum number of terminals on a line.
 pub const MAX_TERMINALS: usize = 64;
 
-/// The most entries of a poll list.
+/// The maximum number of entries in a poll list.
 pub const MAX_ENTRIES: usize = 255;

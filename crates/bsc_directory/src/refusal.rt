@@ -1,4 +1,4 @@
-//! Why the terminals and the poll list of a line are refused.
+//! The reasons to refuse the terminals and the poll list of a line.
 
 ghost use Rattle.std.specs.Prelude.{◌≡◌, None, IfSome};
 ghost use Rattle.bsc_directory.specs.Refusals.{AreEntries, IsFirstWrong};
@@ -9,7 +9,7 @@ use thiserror::Error;
 
 /// Why the terminals and the poll list of a line are refused. Addresses are numbered: the polling
 /// address of terminal 0, its selection addresses in order, the polling address of terminal 1, and
-/// so on. (Own.)
+/// so on.
 #[derive(Clone, Copy, Debug, PartialEq, Eq, Error)]
 pub enum SetupError {
     /// There is no terminal.
@@ -20,7 +20,8 @@ pub enum SetupError {
     #[error("too many terminals")]
     TooMany,
 
-    /// The second number is the least whose address came before; the first is where it came.
+    /// Two addresses are the same. The second number is the least whose address came before; the
+    /// first is the number of the earlier address.
     #[error("addresses {0} and {1} are the same")]
     SameAddress(usize, usize),
 
@@ -28,11 +29,13 @@ pub enum SetupError {
     #[error("poll list is empty")]
     EmptyPollList,
 
-    /// The least place of the poll list that is 255 or more, or whose entry is no terminal.
+    /// The poll list has more than 255 entries, or an entry that is not the number of a terminal.
+    /// The number is the least index of the poll list that is 255 or more, or whose entry is not
+    /// the number of a terminal.
     #[error("poll list entry {0} is wrong")]
     PollList(usize),
 
-    /// There is no memory.
+    /// Out of memory.
     #[error("out of memory")]
     Memory,
 }
@@ -59,8 +62,8 @@ impl<T: Drop> From<AllocFailed<T>> for SetupError {
     }
 }
 
-/// The least place of the poll list that is 255 or more, or whose entry is none of this many
-/// terminals.
+/// Returns the least index of the poll list that is 255 or more, or whose entry is not the number
+/// of one of this many terminals; `None` if there is no such index.
 pub(crate) fn wrong_entry(poll_list: &[u8], terminals: usize) -> Option<usize>
     ensures right { result ≡ None → AreEntries terminals poll_list.now }
     ensures wrong { IfSome result (IsFirstWrong terminals poll_list.now) }

@@ -1,4 +1,4 @@
--- What all terminals hear alike is so of each of them where it is so of one.
+-- What all terminals hear alike holds of each of them if it holds of one.
 use Rattle.std.proofs.Common.{◌↔◌, ℕ, ◌<◌, Bool, IsTrue}
 use Rattle.bsc_line_model.specs.Trust.{EachOf}
 

@@ -1,4 +1,4 @@
--- What is heard and how it is told: the steps of the calls that carry.
+-- The steps of the methods that carry a transmission.
 use Rattle.std.proofs.Common.{◌≡◌, ◌↔◌, ℕ, ◌<◌, ◌≤◌, Bool, true, false, ◌&&◌, IsTrue, IfSome}
 use Rattle.std.proofs.Common.{is_some, Result, Ok, Err, List, length, Option, None, Some, get_or}
 use Rattle.std.proofs.Common.{slice_set, get_or-set_same, refl, sym, ◌∙◌, ap, subst, arith, inl}
@@ -46,7 +46,7 @@ true_of_both true true r e x y = e
 true_of_both true false r e x y = absurd (cc)
 true_of_both false b r e x y = absurd (cc)
 
--- the flag that is kept is the one that is told
+-- the flag after the transmission is the one that the definition requires
 pub trust_after : (a b r : Bool) (fair : Type 0) → r ≡ (a && b) → (IsTrue b ↔ fair)
     → IsTrustAfter a fair r
 trust_after a b r fair e f = (
@@ -54,16 +54,16 @@ trust_after a b r fair e f = (
   λ h. true_of_both a b r e h.0 (f.1 h.1),
 )
 
--- what is said of it where something is sent
+-- what is said of a transmission, if one is pending
 pub of_some : (P : Transmission → Type 0) (o : Option Transmission) (s : Transmission) → IfSome o P
     → o ≡ Some s → P s
 of_some P o s h e = subst (λ (z : Option Transmission). IfSome z P) e h
 
--- there is a terminal
+-- there is at least one terminal
 pub some_terminal : (c : ControlValue) (ts : List TributaryValue) → AreStations c ts → 0 < length ts
 some_terminal c ts s = let some : 1 ≤ length c.peers = s.control.some in omega (arith, s.count)
 
--- who sent what is on the line
+-- the sender of the pending transmission
 sent_of : (Q : Type 0) (o : Option Transmission) (speaker : Speaker) → speaker_of o ≡ Some speaker
     → ((s : Transmission) → o ≡ Some s → s.speaker ≡ speaker → Q) → Q
 sent_of Q None speaker is f = absurd (cc)
@@ -80,7 +80,7 @@ from_control l is =
     sent_of (IsFromControl l) l.pending Control is
     (λ s e speaker. record { sent = s; pending = e; speaker = speaker })
 
--- what is on the line is heard so by all terminals
+-- all terminals hear the pending transmission in this way
 pub carries_down : (hear : Transmission → Heard) (l new : LineValue) → speaker_of l.pending
     ≡ Some Control
     → ((s : Transmission) → l.pending ≡ Some s → IsCarriedDown s.message (λ t. hear s) l new)
@@ -94,7 +94,7 @@ carries_down hear l new is f =
           subst (λ (p : Speaker). IsCarriedBy p s.message (hear s) l new) (sym speaker) (f s e);
     })
 
--- or by the control station
+-- or the control station does
 pub carries_up : (hear : Transmission → Heard) (l new : LineValue) (t : ℕ) → speaker_of l.pending
     ≡ Some (Terminal t)
     → ((s : Transmission) → l.pending ≡ Some s → IsCarriedUp s.message (hear s) l new)
@@ -108,7 +108,7 @@ carries_up hear l new t is f =
           subst (λ (p : Speaker). IsCarriedBy p s.message (hear s) l new) (sym speaker) (f s e);
     })
 
--- nothing is on the line
+-- nothing is pending
 pub none_of : (o : Option Transmission) → is_some o ≡ false → o ≡ None
 none_of None e = refl
 none_of (Some s) e = absurd (cc)
@@ -123,7 +123,7 @@ passes_silence l new owner none is acts =
           subst (λ (o : Option ℕ). OwnerActs o l new) is acts;
     }
 
--- what is on the line is heard alike by either reading
+-- two readings by which the pending transmission is heard alike
 pub carries_same : (f g : Transmission → Heard) (l : LineValue)
     (result : Result (Unit {0}) LineError) (new : LineValue)
     → ((s : Transmission) → l.pending ≡ Some s → f s ≡ g s) → Carries f l result new
@@ -171,7 +171,7 @@ whole_fair m.Enq n = λ t less. inl refl
 whole_fair (m.Reply r) n = λ t less. inl refl
 whole_fair (m.Text x) n = λ t less. inl refl
 
--- so the line is trusted after it exactly where it was before
+-- so the line is trusted after it exactly if it was before
 pub trust_stays : (trusted : Bool) (fair : Type 0) → fair → IsTrustAfter trusted fair trusted
 trust_stays trusted fair f = (λ h. (h, f), λ h. h.0)
 
@@ -219,7 +219,7 @@ carried_up_whole w h old new sent is row kept terminals pending addressed truste
           (subst (λ (x : Heard). IsFairlyHeard w x) (sym is) (inl refl)));
     })
 
--- octets that are those of what is on the line are heard as it was sent
+-- octets that are those on the wire are heard as they were sent
 pub heard_whole : (sent : Option Transmission) (wired : List ℕ) (octets : Option (List ℕ))
     (s : Transmission) → IsOnWire sent wired → sent ≡ Some s → octets ≡ Some wired →
     ((w : Message) → IsMessage w → Spells (wire w) w)
@@ -234,7 +234,7 @@ heard_whole sent wired octets s on is same spelled read =
     (spelled s.message told.1)) in
     sym (ap heard_in same ∙ whole)
 
--- what is heard is as it was read
+-- what is heard depends only on the decoded octets
 pub carries_heard : (h k : Heard) (l : LineValue) (result : Result (Unit {0}) LineError)
     (new : LineValue) → h ≡ k → Carries (λ (s : Transmission). h) l result new
     → Carries (λ (s : Transmission). k) l result new
@@ -264,7 +264,7 @@ acted_at l t x u sent next less is row kept made =
           { pending = sent_by (Terminal t) sent }) there;
     }
 
--- what is on the line keeps the limits of a message
+-- the pending transmission keeps the limits of a message
 pub on_wire_within : (sent : Option Transmission) (octets : List ℕ) → IsOnWire sent octets
     → IfSome sent (λ (s : Transmission). IsMessage s.message)
 on_wire_within None octets on = tt

@@ -1,4 +1,4 @@
--- One more terminal has heard.
+-- One more terminal hears.
 use Rattle.std.proofs.Common.{◌≡◌, ◌≢◌, ℕ, zero, suc, ◌+◌, ◌<◌, ◌≤◌, List, length, Option, None}
 use Rattle.std.proofs.Common.{Some, get_or, slice_set, refl, sym, ◌∙◌, ap, subst, arith, add-one}
 use Rattle.std.proofs.Common.{get_or-set_other, get_or-set_same, below_more}
@@ -14,13 +14,13 @@ use Rattle.bsc_line_model.specs.Line.{no_terminal, terminal_in}
 use Rattle.bsc_line_model.specs.Terminals.{answer, answer_of, EachHears, EachKeeps, or_first}
 use Rattle.bsc_line_model.specs.Terminals.{first_answer}
 
--- a terminal did the row of its table
+-- a terminal made the step of its table
 pub record Heeds (old : TributaryValue) (h : Heard) (new : TributaryValue)
     (sent : Option Message) : Type 0 where
   pub row : Hears old h new sent
   pub after : AfterHearing old h new sent
 
--- what it sent is its answer
+-- the message that a terminal sent is its answer
 pub sent_is : (t : TributaryValue) (h : Heard) (u : TributaryValue) (out : Option Message)
     → Hears t h u out → out ≡ answer t h u
 sent_is t h u out x = ap (λ (o : TributaryStep). o.sent) x.row
@@ -29,13 +29,13 @@ pub heeds_answer : (t : TributaryValue) (h : Heard) (u : TributaryValue) (out : 
     → Heeds t h u out → Heeds t h u (answer t h u)
 heeds_answer t h u out x = subst (λ (o : Option Message). Heeds t h u o) (sent_is t h u out x.row) x
 
--- a terminal that does not answer leaves the one before
+-- a terminal that does not answer leaves the first answer unchanged
 pub first_kept : (first : Option Transmission) (t : ℕ) → first
     ≡ or_first first (sent_by (Terminal t) None)
 first_kept None t = refl
 first_kept (Some s) t = refl
 
--- the first n answers are read from the first n terminals
+-- the first n answers depend only on the first n terminals
 pub first_same : (old a b : List TributaryValue) (hears : ℕ → Heard) (n : ℕ)
     → ((k : ℕ) → k < n → terminal_in a k ≡ terminal_in b k) → first_answer old hears a n
     ≡ first_answer old hears b n
@@ -46,7 +46,7 @@ first_same old a b hears (suc n) e =
     let here : get_or a n no_terminal ≡ get_or b n no_terminal = e n (omega arith) in
     rw (r, here)
 
--- each of the first i has heard, and the rest are as they were
+-- each of the first i terminals has heard, and the others are unchanged
 pub record HaveHeard (old : List TributaryValue) (hears : ℕ → Heard) (cur : List TributaryValue)
     (i : ℕ) : Type 0 where
   pub count : length cur ≡ length old
@@ -58,7 +58,7 @@ pub none_heard : (old : List TributaryValue) (hears : ℕ → Heard) → HaveHea
 none_heard old hears =
     record { count = refl; heard = λ k less. absurd (omega arith); rest = λ k less. refl }
 
--- the terminal at i is the one that was there
+-- the terminal at place i is the old one
 pub still_there : (old : List TributaryValue) (hears : ℕ → Heard) (cur : List TributaryValue)
     (i : ℕ) (t : TributaryValue) → HaveHeard old hears cur i → i < length old → t ≡ get_or cur i t
     → terminal_in old i ≡ t
@@ -87,7 +87,7 @@ one_more old hears cur i t u out p less is heard =
           ∙ p.rest k (omega arith);
     }
 
--- the first answer among one more
+-- the first answer of one more terminal
 pub first_more : (old : List TributaryValue) (hears : ℕ → Heard) (cur : List TributaryValue) (i : ℕ)
     (t u : TributaryValue) (out : Option Message) → HaveHeard old hears cur i → i < length old → t
     ≡ get_or cur i t → Heeds t (hears i) u out →

@@ -1,4 +1,4 @@
--- The numbers of a visit and of a round, step by step.
+-- The numbers of transmissions of a visit and of a round, step by step.
 use Rattle.std.proofs.Common.{◌≡◌, ◌≢◌, ℕ, zero, suc, ◌+◌, ◌^◌, ◌<◌, Bool, true, false, nat_eq}
 use Rattle.std.proofs.Common.{List, [], ◌∷◌, length, drop, get_or, slice_set, refl, sym, ◌∙◌, ap}
 use Rattle.std.proofs.Common.{arith, if◌then◌else◌, get_or-set_other, get_or-set_same}
@@ -10,12 +10,12 @@ use Rattle.bsc_line_model.specs.Rounds.{visit_length, entries_length}
 use Rattle.bsc_line_model.specs.Rounds.{is_seen, SeesLast, SeesEarlier}
 use Rattle.bsc_line.specs.Counts.{in_u64}
 
--- the terminals of the first entries, the last of them first
+-- the terminals of the first entries, in reverse order
 abbrev pub seen_before : List ℕ → ℕ → List ℕ
 seen_before list zero = []
 seen_before list (suc n) = get_or list n 0 ∷ seen_before list n
 
--- sums in 64 bits
+-- sums that saturate in 64 bits
 pub added : (a b c : ℕ) → in_u64 (in_u64 (a + b) + c) ≡ in_u64 (a + (b + c))
 added a b c = omega arith
 
@@ -34,7 +34,7 @@ next_entry l list seen k less =
     ap (λ (ts : List ℕ). entries_length l seen ts)
     (drop-cons list k 0 less ∙ ap (λ (n : ℕ). get_or list k 0 ∷ drop n list) next)
 
--- one entry more
+-- one more entry
 pub entry_added : (l : LineValue) (list : List ℕ) (k total r e : ℕ) (b : Bool) → k < length list → e
     ≡ get_or list k 0 → b ≡ is_seen e (seen_before list k) → r
     ≡ in_u64 (total + (if b then 2 else visit_length l e)) →
@@ -56,7 +56,7 @@ entry_added l list k total r e b less named marked is =
     ∙ ap (λ (n : ℕ). in_u64 (n + rest)) now ∙ added total this rest
     ∙ ap (λ (n : ℕ). in_u64 (total + n)) (sym (next_entry l list before k less))
 
--- two numbers by their test
+-- numbers that pass the test are equal
 equal_by : (a b : ℕ) → nat_eq a b ≡ true → a ≡ b
 equal_by a b is = grind (arith, nat_tests)
 

@@ -1,4 +1,4 @@
--- New terminals, one after another.
+-- New terminals, made one after another.
 use Rattle.std.proofs.Common.{◌≡◌, ℕ, ◌<◌, ◌+◌, List, [], ◌∷◌, ◌++◌, length, get_or, sym, ◌∙◌, ap}
 use Rattle.std.proofs.Common.{subst, arith, length-append, below_more}
 use Rattle.std.proofs.Math.ListN.{get_or-append}
@@ -12,7 +12,7 @@ use Rattle.bsc_line_model.specs.Line.{no_terminal, terminal_in}
 use Rattle.bsc_line_model.specs.Kept.{AreNewTerminals}
 use Rattle.bsc_tributary.specs.Kept.{IsNewTerminal}
 
--- this many terminals are made
+-- this many terminals have been made
 pub record AreMade (setup : SetupValue) (given : List TerminalValue) (ts : List TributaryValue)
     (n : ℕ) : Type 0 where
   pub count : length ts ≡ n

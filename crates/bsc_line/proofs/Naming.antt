@@ -11,7 +11,7 @@ use Rattle.bsc_line.specs.declared.addressing.Named.TheVariants.{Address, Nobody
 use Rattle.bsc_line_model.specs.Trust.{AllHear, IsAddressedAfter}
 use Rattle.bsc_line.specs.Naming.{named_in}
 
--- all hear a call
+-- all terminals hear a call
 pub addressed_call : (ts : List TerminalValue) (n : ℕ) (hears : ℕ → Heard)
     (old new : Option (ℕ × Way)) (a : List ℕ) → 0 < n → AllHear n hears (m.Call a)
     → ((t : ℕ) (way : Way) → (new ≡ Some (t, way)) ↔ IsAddressOf ts t way a)
@@ -27,7 +27,7 @@ addressed_call ts n hears old new a some all exact =
       other = λ f g. absurd (f a all);
     }
 
--- all hear EOT
+-- all terminals hear EOT
 pub addressed_nobody : (ts : List TerminalValue) (n : ℕ) (hears : ℕ → Heard)
     (old : Option (ℕ × Way)) → 0 < n → AllHear n hears m.Eot → IsAddressedAfter ts n hears old None
 addressed_nobody ts n hears old some all =
@@ -38,7 +38,7 @@ addressed_nobody ts n hears old some all =
       other = λ f g. absurd (g all);
     }
 
--- neither
+-- not all hear a call, and not all hear EOT
 pub still_addressed : (ts : List TerminalValue) (n : ℕ) (hears : ℕ → Heard) (old : Option (ℕ × Way))
     → ((a : List ℕ) → AllHear n hears (m.Call a) → ⊥) → (AllHear n hears m.Eot → ⊥)
     → IsAddressedAfter ts n hears old old
@@ -50,7 +50,7 @@ still_addressed ts n hears old f g =
           λ f g. refl;
     }
 
--- the first hears a call that not all hear
+-- the first terminal hears a call that not all hear
 pub other_call : (ts : List TerminalValue) (n : ℕ) (hears : ℕ → Heard) (old : Option (ℕ × Way))
     (a : List ℕ) (all : Bool) → 0 < n → Address a ≡ named_in (hears 0) → all ≡ false
     → (IsTrue all ↔ AllHear n hears (m.Call a)) → IsAddressedAfter ts n hears old old
@@ -64,7 +64,7 @@ other_call ts n hears old a all some first not told =
     cc)
     (λ each. let there : Address a ≡ Nobody = first ∙ ap named_in (each 0 some) in cc)
 
--- the first hears an EOT that not all hear
+-- the first terminal hears an EOT that not all hear
 pub other_eot : (ts : List TerminalValue) (n : ℕ) (hears : ℕ → Heard) (old : Option (ℕ × Way))
     (all : Bool) → 0 < n → Nobody ≡ named_in (hears 0) → all ≡ false
     → (IsTrue all ↔ AllHear n hears m.Eot) → IsAddressedAfter ts n hears old old
@@ -73,7 +73,7 @@ other_eot ts n hears old all some first not told =
     (λ z each. let there : Nobody ≡ Address z = first ∙ ap named_in (each 0 some) in cc)
     (λ each. let yet : IsTrue all = told.1 each in cc)
 
--- the first hears neither
+-- the first terminal hears neither
 pub other_heard : (ts : List TerminalValue) (n : ℕ) (hears : ℕ → Heard) (old : Option (ℕ × Way)) → 0
     < n → Nothing ≡ named_in (hears 0) → IsAddressedAfter ts n hears old old
 other_heard ts n hears old some first =
@@ -81,14 +81,14 @@ other_heard ts n hears old some first =
     (λ z each. let there : Nothing ≡ Address z = first ∙ ap named_in (each 0 some) in cc)
     (λ each. let there : Nothing ≡ Nobody = first ∙ ap named_in (each 0 some) in cc)
 
--- what names an address is its call
+-- a transmission that names an address is its call
 pub named_address : (h : Heard) (a : List ℕ) → Address a ≡ named_in h → h ≡ Whole (m.Call a)
 named_address (Whole (m.Call z)) a e = let same : a ≡ z = cc in
     ap (λ (y : List ℕ). Whole (m.Call y)) (sym same)
 named_address (Whole m.Eot) a e = absurd (cc)
 named_address _ a e = absurd (cc)
 
--- what names nobody is EOT
+-- a transmission that names no channel is EOT
 pub named_nobody : (h : Heard) → Nobody ≡ named_in h → h ≡ Whole m.Eot
 named_nobody (Whole m.Eot) e = refl
 named_nobody (Whole (m.Call z)) e = absurd (cc)

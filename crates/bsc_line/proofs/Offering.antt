@@ -25,7 +25,7 @@ use Rattle.bsc_line_model.specs.Offers.{OffersAt, full_length, select_count, or_
 use Rattle.bsc_line_model.specs.Kept.{IsLine, IsMember}
 use Rattle.bsc_line_model.specs.Stays.{OfferAtStays, OfferForStays}
 
--- what is read is a record
+-- what was read is a record
 good : (x : Result (List ℕ) RecordError) (r : List ℕ) → or_bad x ≡ Ok r → x ≡ Ok r
 good (Ok y) r e = let same : y ≡ r = cc in ap (λ (z : List ℕ). Ok z) same
 good (Err y) r e = absurd (cc)
@@ -60,7 +60,7 @@ read_short full codes r e =
     (position (λ c. not (is_record_char c)) codes) codes r refl
     (good (record_of full codes) r e))
 
--- the terminal that is there is put back
+-- writing back the terminal that was read changes nothing
 put_back : (l : LineValue) (t : ℕ) → with_terminal l t (terminal_at l t) ≡ l
 put_back l t =
     ap (λ (ts : List TributaryValue). record l { terminals = ts })
@@ -92,7 +92,7 @@ offers_at old new t codes r x u (Err e) less read here is ok err memory =
           ∙ ap (λ (y : TributaryValue). with_terminal old t y) (err ∙ sym here) ∙ put_back old t,
     )
 
--- a line stays a line at an offer at a terminal, accepted or not
+-- an offer at a terminal, accepted or not, keeps the line's invariant
 pub offer_line : (stays : OfferAtStays) (l : LineValue) (t : ℕ) (r : List ℕ) (x u : TributaryValue)
     (result : Result (Unit {0}) LineError) → IsLine l → t < terminal_count l → terminal_at l t ≡ x
     → length r ≤ full_length l → KeepsSetupAndMode x u →
@@ -105,7 +105,7 @@ offer_line stays l t r x u (Err e) line less here short is ok err =
     subst (λ (y : TributaryValue). IsLine (with_terminal l t y)) (here ∙ sym err)
     (subst IsLine (sym (put_back l t)) line)
 
--- and at an offer for a selection address
+-- and so does an offer for a selection address
 pub offer_for_line : {E : Type 0}
     → (stays : OfferForStays) (l : LineValue) (t s : ℕ) (r : List ℕ) (c : ControlValue)
     (result : Result (Unit {0}) E) → IsLine l → t < terminal_count l → s < select_count l t
@@ -119,7 +119,7 @@ offer_for_line stays l t s r c (Err e) line less select short is ok err = (
   ap (λ (z : ControlValue). z.setup) err,
 )
 
--- a full length at the control station is one at a terminal
+-- the full length at the control station is that at a terminal
 pub terminal_full : (l : LineValue) (t : ℕ) → IsLine l → t < terminal_count l
     → (terminal_at l t).queue.format.full ≡ full_length l
 terminal_full l t line less =
@@ -127,7 +127,7 @@ terminal_full l t line less =
     ap (λ (f : FormatValue). f.full) (was.tributary.format
     ∙ ap (λ (u : SetupValue). u.format) was.setup)
 
--- a selection address that the control station has is one of the terminal
+-- a selection address at the control station is one of the terminal's
 pub select_back : (l : LineValue) (t s : ℕ) → IsLine l → t < terminal_count l → s
     < length (peer_at l.control t).outbounds → s < select_count l t
 select_back l t s line less within =

@@ -1,4 +1,4 @@
--- A run goes on by one event.
+-- A run continues by one event.
 use Rattle.std.proofs.Common.{◌≡◌, inr, ℕ, ◌+◌, ◌<◌, List, ◌∷◌, length, drop, get_or, Result, Ok}
 use Rattle.std.proofs.Common.{Err, add-one, drop-cons}
 use Rattle.bsc_line_model.specs.declared.error.Stopped.{Stopped}
@@ -15,7 +15,7 @@ goes_on at x xs old mid new (Ok done) line d rest =
 goes_on at x xs old mid new (Err e) line d rest =
     inr (record { mid = mid; line = line; done = d; rest = rest })
 
--- what is left of the events, as the next one and the rest
+-- the remaining events are the next one and the rest
 pub left : (xs : List Event) (i : ℕ) (x : Event) → i < length xs → x ≡ get_or xs i x → drop i xs ≡ x
     ∷ drop (i + 1) xs
 left xs i x less e = rw (add-one, drop-cons xs i x less, ← e)

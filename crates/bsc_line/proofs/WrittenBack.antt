@@ -1,4 +1,4 @@
--- What holds of a list that was lent, and written back, holds of the list that lent it.
+-- What holds of a slice that was lent and written back holds of its vector.
 use Rattle.std.proofs.Common.{◌≡◌, ℕ, List, ◌++◌, length, take, sym, ap, ◌∙◌, subst}
 use Rattle.std.proofs.Math.Seq.{take-append_seam}
 

@@ -1,6 +1,6 @@
--- Numbers in 64 bits (own).
+-- Numbers in 64 bits.
 use Rattle.std.specs.Prelude.{ℕ, ◌-◌, ◌^◌, min}
 
--- a number as 64 bits hold it: the greatest that they hold in place of a larger one
+-- a number in 64 bits, saturated at the greatest that they hold
 abbrev pub in_u64 : ℕ → ℕ
 in_u64 n = min n (2 ^ 64 - 1)

@@ -1,4 +1,4 @@
--- What each terminal hears, alike or each in its own way.
+-- What each terminal hears: the same for all, or an item for each.
 use Rattle.std.specs.Prelude.{ℕ}
 use Rattle.bsc_frame.specs.declared.message.Heard.{Heard}
 use Rattle.bsc_line_model.specs.Hearing.{heard_at}

@@ -5,7 +5,7 @@ use Rattle.bsc_frame.specs.declared.message.Heard.TheVariants.{Whole}
 use Rattle.bsc_line.specs.declared.addressing.Named.{Named}
 use Rattle.bsc_line.specs.declared.addressing.Named.TheVariants.{Address, Nobody, Nothing}
 
--- what is named by what is heard
+-- what a transmission that is heard names
 abbrev pub named_in : Heard → Named
 named_in (Whole (m.Call a)) = Address a
 named_in (Whole m.Eot) = Nobody

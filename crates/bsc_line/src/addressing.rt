@@ -1,4 +1,4 @@
-//! Whom the control station's transmission addresses.
+//! The channel that the control station's transmission addresses.
 
 ghost use Rattle.std.specs.Prelude.{◌≡◌, ◌<◌};
 ghost use Rattle.bsc_control.specs.Control.{terminals};
@@ -19,10 +19,10 @@ pub(crate) enum Named {
     /// The terminal and way with this address.
     Address(Address),
 
-    /// Nobody.
+    /// No channel.
     Nobody,
 
-    /// Nothing: whoever was addressed still is.
+    /// Nothing: the channel that was addressed stays addressed.
     Nothing,
 }
 
@@ -36,8 +36,8 @@ fn named_in(heard: &Heard) -> Named
     }
 }
 
-/// The channel that is addressed after all terminals heard this alike. Condition: there is a
-/// terminal.
+/// Returns the channel that is addressed after all terminals heard this alike. Condition: there is
+/// at least one terminal.
 fn addressed_alike<A: Allocator>(
     control: &Control<A>,
     addressed: Option<(usize, Way)>,
@@ -55,8 +55,8 @@ fn addressed_alike<A: Allocator>(
     }
 }
 
-/// The channel that is addressed after each of the `count` terminals heard its item. Condition:
-/// there is a terminal.
+/// Returns the channel that is addressed after each of the `count` terminals heard its item.
+/// Condition: there is at least one terminal.
 fn addressed_apart<A: Allocator>(
     control: &Control<A>,
     addressed: Option<(usize, Way)>,
@@ -85,8 +85,8 @@ fn addressed_apart<A: Allocator>(
     }
 }
 
-/// The channel that is addressed after the `count` terminals heard this of the control station.
-/// Condition: there is a terminal.
+/// Returns the channel that is addressed after the `count` terminals heard the control station in
+/// this way. Condition: there is at least one terminal.
 pub(crate) fn addressed_after<A: Allocator>(
     control: &Control<A>,
     addressed: Option<(usize, Way)>,

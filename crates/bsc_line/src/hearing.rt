@@ -11,11 +11,11 @@ pub(crate) enum Hearings<'a> {
     /// All hear the same, which was decoded once.
     Alike(&'a Heard),
 
-    /// Each hears the item of its number, or nothing.
+    /// Each hears the item of its number; `None` is nothing.
     Each(&'a [Option<&'a [u8]>]),
 }
 
-/// What is heard where these octets arrive, or nothing.
+/// Decodes an item: the octets that arrived, or noise if nothing arrived.
 #[tactic(auto, unfolding(bsc_line_model::specs::Hearing::heard_in))]
 pub(crate) fn hearing(item: Option<&[u8]>) -> Heard
     ensures { result ≡ heard_in (octets_in item.entry) }
@@ -26,7 +26,7 @@ pub(crate) fn hearing(item: Option<&[u8]>) -> Heard
     }
 }
 
-/// The item of this number, or nothing where there is none.
+/// Returns the item of this number, or `None` if there is no such item.
 pub(crate) fn item_at<'a>(items: &[Option<&'a [u8]>], place: usize) -> Option<&'a [u8]>
     ensures { octets_in result ≡ octets_in (slice_index_or items.now place None) }
 {

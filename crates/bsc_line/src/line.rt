@@ -29,7 +29,7 @@ use bsc_tributary::Tributary;
 use std::alloc::Allocator;
 use std::marker::Model;
 
-/// A line: a control station, its terminals, and what is on its way between them (GA27-3004,
+/// A line: a control station, its terminals, and the transmission between them (GA27-3004,
 /// centralised multipoint operation). The terminals hear only the control station, and it hears
 /// each of them.
 #[derive(Drop)]
@@ -40,16 +40,17 @@ pub struct Line<A: Allocator> {
     /// The terminals, in the order of their numbers.
     terminals: Vec<Tributary<A>, A>,
 
-    /// What nobody has heard yet.
+    /// The transmission that nobody has heard yet.
     sent: Option<Transmission>,
 
-    /// The octets of what nobody has heard yet, and none where nothing is sent.
+    /// The octets of that transmission; empty if there is none.
     wire: Wire,
 
     /// Whether each transmission so far was heard fairly.
     trusted: bool,
 
-    /// The channel that the last call named which all terminals heard whole.
+    /// The channel that the last call or EOT heard whole by all terminals named; `None` for an EOT
+    /// or an address of no terminal.
     addressed: Option<(usize, Way)>,
 }
 
@@ -68,9 +69,9 @@ impl<A: Allocator> Model for Line<A> {
 }
 
 impl<A: Allocator> Line<A> {
-    /// A line of new stations with these settings, addresses and poll list. Nothing is on it: its
-    /// first silence makes the first call. Refusals as those of `Control::new`; `Memory` may come
-    /// in place of any after `TooMany`.
+    /// Returns a line of new stations with these settings, addresses and poll list. Nothing is
+    /// pending; the first silence makes the first call. Errors are those of `Control::new`;
+    /// `Memory` may come in place of any error after `TooMany`.
     pub fn new(
         alloc: A,
         setup: Setup,
@@ -99,7 +100,7 @@ impl<A: Allocator> Line<A> {
     }
 
     /// Whether every transmission so far was heard fairly: each spoiled one failed its check, and
-    /// each call of the control station reached all terminals whole or none. (Own.)
+    /// each call of the control station reached either all terminals whole or none.
     pub fn trusted(&self) -> bool
         ensures value { result ≡ self.now.trusted }
         ensures line { IsLine self.now }
@@ -107,7 +108,7 @@ impl<A: Allocator> Line<A> {
         self.trusted
     }
 
-    /// How many terminals the line has: 1 to 64.
+    /// Returns the number of terminals on the line: 1 to 64.
     pub fn terminals(&self) -> usize
         ensures value { result ≡ terminal_count self.now }
         ensures line { IsLine self.now }
@@ -115,7 +116,8 @@ impl<A: Allocator> Line<A> {
         self.terminals.len()
     }
 
-    /// What is on the line, and who sent it.
+    /// Returns the pending transmission as its sender and its octets, or `None` if nothing is
+    /// pending.
     pub fn pending(&self) -> Option<(Speaker, &[u8])>
         ensures value { IsPending self.now.pending result }
         ensures limits { IfSome self.now.pending (λ (s : TransmissionValue). IsMessage s.message) }
@@ -127,7 +129,8 @@ impl<A: Allocator> Line<A> {
         }
     }
 
-    /// How many selection addresses a terminal has: 1 to 4. Condition: there is such a terminal.
+    /// Returns the number of selection addresses of a terminal: 1 to 4. Condition: the terminal
+    /// exists.
     pub fn addresses(&self, terminal: usize) -> usize
         requires { terminal < terminal_count self.now }
         ensures value { result ≡ select_count self.now terminal }
@@ -136,7 +139,7 @@ impl<A: Allocator> Line<A> {
         self.control.addresses(terminal)
     }
 
-    /// The records that were offered on a channel, in order. Condition: there is such a channel.
+    /// Returns the records that were offered on a channel, in order. Condition: the channel exists.
     pub fn offered(&self, terminal: usize, way: Way) -> &[Record]
         requires { IsChannel self.now terminal way }
         ensures value { result.now ≡ (channel_of self.now terminal way).offered }
@@ -151,7 +154,7 @@ impl<A: Allocator> Line<A> {
         }
     }
 
-    /// The records that arrived on a channel, in order. Condition: there is such a channel.
+    /// Returns the records that arrived on a channel, in order. Condition: the channel exists.
     pub fn spooled(&self, terminal: usize, way: Way) -> &[Record]
         requires { IsChannel self.now terminal way }
         ensures value { result.now ≡ (channel_of self.now terminal way).spooled }
@@ -166,8 +169,8 @@ impl<A: Allocator> Line<A> {
         }
     }
 
-    /// How many of the offered records the sending end knows to have arrived. Condition: there is
-    /// such a channel.
+    /// Returns how many of the offered records the sending end knows to have arrived. Condition:
+    /// the channel exists.
     pub fn known(&self, terminal: usize, way: Way) -> usize
         requires { IsChannel self.now terminal way }
         ensures value { result ≡ (channel_of self.now terminal way).known }
@@ -182,8 +185,7 @@ impl<A: Allocator> Line<A> {
         }
     }
 
-    /// Whether the sending end is in doubt about its last block. Condition: there is such a
-    /// channel. (Own.)
+    /// Whether the sending end is in doubt about its last block. Condition: the channel exists.
     pub fn in_doubt(&self, terminal: usize, way: Way) -> bool
         requires { IsChannel self.now terminal way }
         ensures value { result ≡ is_in_doubt (phase_of self.now terminal way) }

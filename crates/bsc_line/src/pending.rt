@@ -1,4 +1,4 @@
-//! The transmission that is on the line.
+//! The pending transmission.
 
 ghost use Rattle.std.specs.Prelude.{◌≡◌, None, IfSome, OnSome};
 ghost use Rattle.bsc_frame.specs.declared.message.Heard.TheVariants as h;
@@ -8,7 +8,7 @@ ghost use Rattle.bsc_line_model.specs.Transmission.{speaker_of, IsOnWire};
 use bsc_frame::{Heard, Wire, encode};
 use bsc_line_model::{Speaker, Transmission};
 
-/// Who sent what is on the line.
+/// Returns the sender of the pending transmission.
 pub(crate) fn speaker_of(sent: &Option<Transmission>) -> Option<Speaker>
     ensures { result ≡ speaker_of sent.now }
 {
@@ -18,7 +18,7 @@ pub(crate) fn speaker_of(sent: &Option<Transmission>) -> Option<Speaker>
     }
 }
 
-/// Takes what is on the line, as it is heard where nothing spoils it.
+/// Takes the pending transmission, and returns it as it is heard unspoiled.
 pub(crate) fn take_whole(sent: &mut Option<Transmission>) -> Heard
     ensures taken { sent.new ≡ None }
     ensures heard { IfSome sent.old (λ (s : TransmissionValue). result ≡ h.Whole s.message) }
@@ -29,7 +29,7 @@ pub(crate) fn take_whole(sent: &mut Option<Transmission>) -> Heard
     }
 }
 
-/// Puts the octets of what is on the line into the wire, in place of what it had.
+/// Replaces the octets on the wire by those of the pending transmission, or clears the wire.
 pub(crate) fn show(sent: &Option<Transmission>, wire: &mut Wire)
     ensures { IsOnWire sent.now wire.new.items }
 {

@@ -1,4 +1,4 @@
-//! The codes that are offered, and the answers of a release, in the words of the line.
+//! Reading offered codes, and turning the answers of a release into those of the line.
 
 ghost use Rattle.std.specs.Prelude.{◌≡◌};
 ghost use Rattle.bsc_line_model.specs.Offers.{read_for, told};
@@ -7,7 +7,7 @@ use bsc_bid::{ReleaseError, Setup};
 use bsc_block::Record;
 use bsc_line_model::LineError;
 
-/// The record of these codes, or why they are none.
+/// Reads the record of these codes. The error is `BadRecord` with the reason.
 pub(crate) fn read_record(codes: &[u8], setup: Setup) -> Result<Record, LineError>
     ensures { result ≡ read_for setup.format.full codes.now }
 {
@@ -17,7 +17,7 @@ pub(crate) fn read_record(codes: &[u8], setup: Setup) -> Result<Record, LineErro
     }
 }
 
-/// How a release's answer is told.
+/// Turns the answer of a station's release into that of the line.
 pub(crate) fn tell(answer: Result<(), ReleaseError>) -> Result<(), LineError>
     ensures { result ≡ told answer }
 {

@@ -1,4 +1,4 @@
-//! All terminals of a line at once.
+//! All terminals of a line together.
 
 ghost use Rattle.std.specs.Prelude.{◌≡◌, ◌<◌, ◌≤◌, length, IfSome, IfOk, IfErr, OnOk, OnErr, []};
 ghost use Rattle.std.specs.Prelude.{◌∷◌, ◌++◌};
@@ -21,7 +21,7 @@ use bsc_line_model::{LineError, Speaker, Transmission};
 use bsc_tributary::Tributary;
 use std::alloc::Allocator;
 
-/// Keeps the answer of this terminal, where none came before.
+/// Keeps the answer of this terminal unless one was kept before.
 fn keep_first(first: &mut Option<Transmission>, terminal: usize, answer: Option<Message>)
     ensures { first.new ≡ or_first first.old (sent_by (Speaker.Terminal terminal) answer) }
 {
@@ -30,8 +30,9 @@ fn keep_first(first: &mut Option<Transmission>, terminal: usize, answer: Option<
     }
 }
 
-/// A terminal that may answer hears, and its answer is kept where none came before. It stands apart
-/// so that those that do not answer, which are all but one, need no room for a message.
+/// Lets a terminal that may answer hear, and keeps its answer unless one was kept before. This is a
+/// function of its own so that the terminals that do not answer, which are all but one, need no
+/// space for a message.
 #[inline(never)]
 fn hear_apart<A: Allocator>(
     terminal: &mut Tributary<A>,
@@ -49,7 +50,7 @@ fn hear_apart<A: Allocator>(
     keep_first(first, place, answer);
 }
 
-/// A terminal hears this, and its answer is kept where none came before.
+/// Lets a terminal hear this, and keeps its answer unless one was kept before.
 fn hear_one<A: Allocator>(
     terminal: &mut Tributary<A>,
     heard: &Heard,
@@ -67,8 +68,8 @@ fn hear_one<A: Allocator>(
     hear_apart(terminal, heard, place, first);
 }
 
-/// A terminal hears its item, and its answer is kept where none came before. It stands apart so
-/// that a line whose terminals hear alike needs no room for what the item is heard as.
+/// Lets a terminal hear its item, and keeps its answer unless one was kept before. This is a
+/// function of its own so that a line whose terminals hear alike needs no space for a decoded item.
 #[inline(never)]
 fn hear_item<A: Allocator>(
     terminal: &mut Tributary<A>,
@@ -86,7 +87,7 @@ fn hear_item<A: Allocator>(
     hear_one(terminal, &heard, place, first);
 }
 
-/// A terminal hears what arrives at its place, and its answer is kept where none came before.
+/// Lets a terminal hear what arrives at its place, and keeps its answer unless one was kept before.
 fn hear_at<A: Allocator>(
     terminal: &mut Tributary<A>,
     hearings: &Hearings<'_>,
@@ -105,8 +106,8 @@ fn hear_at<A: Allocator>(
     }
 }
 
-/// Each terminal hears what arrives at its place; gives the answer of the least numbered one that
-/// answers.
+/// Lets each terminal hear what arrives at its place. Returns the answer of the terminal with the
+/// least number among those that answer.
 fn hear_all<A: Allocator>(
     terminals: &mut [Tributary<A>],
     hearings: &Hearings<'_>,
@@ -123,7 +124,7 @@ fn hear_all<A: Allocator>(
     first
 }
 
-/// All terminals of a vector hear: what the first of them answers.
+/// Lets all terminals of a vector hear, as `hear_all` does for a slice.
 pub(crate) fn hear_in<A: Allocator>(
     terminals: &mut Vec<Tributary<A>, A>,
     hearings: &Hearings<'_>,
@@ -136,7 +137,7 @@ pub(crate) fn hear_in<A: Allocator>(
     hear_all(terminals.as_mut_slice(), hearings)
 }
 
-/// The least numbered terminal that holds the line.
+/// Returns the terminal with the least number among those that hold the line.
 pub(crate) fn line_owner<A: Allocator>(terminals: &[Tributary<A>]) -> Option<usize>
     ensures value { result ≡ line_owner terminals.now }
     ensures within { IfSome result (λ t. t < length terminals.now) }
@@ -148,7 +149,7 @@ pub(crate) fn line_owner<A: Allocator>(terminals: &[Tributary<A>]) -> Option<usi
     )
 }
 
-/// Adds a terminal after the others.
+/// Appends a terminal.
 fn push<A: Allocator>(
     terminals: &mut Vec<Tributary<A>, A>,
     terminal: Tributary<A>,
@@ -162,7 +163,7 @@ fn push<A: Allocator>(
     }
 }
 
-/// A record is offered at a terminal.
+/// Offers a record at a terminal. Error: `Memory`; then nothing changes.
 pub(crate) fn offer_here<A: Allocator>(
     terminal: &mut Tributary<A>,
     record: Record,
@@ -180,7 +181,8 @@ pub(crate) fn offer_here<A: Allocator>(
     }
 }
 
-/// New terminals with these settings and addresses. The addresses of each differ.
+/// Returns new terminals with these settings and addresses. Error: `Memory`. Condition: the
+/// addresses of each terminal differ.
 pub(crate) fn new_terminals<A: Allocator>(
     alloc: A,
     setup: Setup,

@@ -1,4 +1,4 @@
-//! Whether a transmission was heard as it may be while the line is trusted.
+//! Whether a transmission was heard in a way that keeps the line trusted.
 
 ghost use Rattle.std.specs.Prelude.{◌≡◌, ◌<◌, ◌↔◌, IsTrue, IfSome, ◌&&◌};
 ghost use Rattle.bsc_frame.specs.declared.message.Heard.TheVariants as h;
@@ -21,7 +21,7 @@ fn is_same(a: &Message, b: &Message) -> bool
     a == b
 }
 
-/// Whether a text is sent.
+/// Whether the message is a text.
 fn is_text(message: &Message) -> bool
     ensures { IsTrue result ↔ IsTextMessage message.now }
 {
@@ -31,7 +31,7 @@ fn is_text(message: &Message) -> bool
     }
 }
 
-/// Whether a call is sent.
+/// Whether the message is a call.
 fn is_call(message: &Message) -> bool
     ensures { result ≡ is_call message.now }
 {
@@ -41,7 +41,7 @@ fn is_call(message: &Message) -> bool
     }
 }
 
-/// Whether EOT is heard.
+/// Whether the message is EOT.
 fn is_eot(message: &Message) -> bool
     ensures { IsTrue result ↔ (message.now ≡ Message.Eot) }
 {
@@ -51,7 +51,8 @@ fn is_eot(message: &Message) -> bool
     }
 }
 
-/// Whether the message is heard, or nothing of it that passes a check.
+/// Whether the message is heard fairly: whole, as a failed text if it is a text, as EOT if it is a
+/// call, or as noise.
 fn is_fairly_heard(message: &Message, heard: &Heard) -> bool
     ensures { IsTrue result ↔ IsFairlyHeard message.now heard.now }
 {
@@ -62,7 +63,7 @@ fn is_fairly_heard(message: &Message, heard: &Heard) -> bool
     }
 }
 
-/// Whether this message is heard.
+/// Whether this message is heard whole.
 fn is_whole(message: &Message, heard: &Heard) -> bool
     ensures { IsTrue result ↔ (heard.now ≡ h.Whole message.now) }
 {
@@ -73,7 +74,7 @@ fn is_whole(message: &Message, heard: &Heard) -> bool
     }
 }
 
-/// Whether a call is missed.
+/// Whether a call is missed: heard as EOT or as noise.
 fn is_missed(heard: &Heard) -> bool
     ensures { IsTrue result ↔ IsMissed heard.now }
 {
@@ -96,7 +97,7 @@ pub(crate) fn each_hears(message: &Message, count: usize, items: &[Option<&[u8]>
     true
 }
 
-/// Whether a call is missed by each of the first `count` items.
+/// Whether a call is missed in each of the first `count` items.
 fn each_misses(count: usize, items: &[Option<&[u8]>]) -> bool
     ensures { IsTrue result ↔ EachOf count (λ t. IsMissed (heard_at items.now t)) }
 {
@@ -108,8 +109,7 @@ fn each_misses(count: usize, items: &[Option<&[u8]>]) -> bool
     true
 }
 
-/// Whether each of the first `count` items is heard as the message, or as nothing of it that passes
-/// a check.
+/// Whether the message is heard fairly in each of the first `count` items.
 fn each_is_fair(message: &Message, count: usize, items: &[Option<&[u8]>]) -> bool
     ensures { IsTrue result ↔ EachOf count (λ t. IsFairlyHeard message.now (heard_at items.now t)) }
 {
@@ -121,7 +121,8 @@ fn each_is_fair(message: &Message, count: usize, items: &[Option<&[u8]>]) -> boo
     true
 }
 
-/// Whether all of the `count` terminals hear this message. Condition: there is a terminal.
+/// Whether all of the `count` terminals hear this message. Condition: there is at least one
+/// terminal.
 fn all_hear(message: &Message, count: usize, hearings: &Hearings<'_>) -> bool
     requires { 0 < count }
     ensures { IsTrue result ↔ AllHear count (hearing_of hearings.now) message.now }
@@ -132,7 +133,7 @@ fn all_hear(message: &Message, count: usize, hearings: &Hearings<'_>) -> bool
     }
 }
 
-/// Whether all of the `count` terminals miss a call. Condition: there is a terminal.
+/// Whether all of the `count` terminals miss a call. Condition: there is at least one terminal.
 fn all_miss(count: usize, hearings: &Hearings<'_>) -> bool
     requires { 0 < count }
     ensures { IsTrue result ↔ EachOf count (λ t. IsMissed (hearing_of hearings.now t)) }
@@ -143,8 +144,8 @@ fn all_miss(count: usize, hearings: &Hearings<'_>) -> bool
     }
 }
 
-/// Whether each of the `count` terminals hears the message, or nothing of it that passes a check.
-/// Condition: there is a terminal.
+/// Whether each of the `count` terminals hears the message fairly. Condition: there is at least one
+/// terminal.
 fn all_fair(message: &Message, count: usize, hearings: &Hearings<'_>) -> bool
     requires { 0 < count }
     ensures { IsTrue result ↔
@@ -156,8 +157,9 @@ fn all_fair(message: &Message, count: usize, hearings: &Hearings<'_>) -> bool
     }
 }
 
-/// Whether the control station's message is heard as it may be while the line is trusted.
-/// Condition: there is a terminal.
+/// Whether the control station's message is heard in a way that keeps the line trusted: a call by
+/// all terminals or by none, any other message fairly by each. Condition: there is at least one
+/// terminal.
 fn is_heard_fairly(message: &Message, count: usize, hearings: &Hearings<'_>) -> bool
     requires { 0 < count }
     ensures { IsTrue result ↔ IsHeardFairly message.now count (hearing_of hearings.now) }
@@ -169,8 +171,8 @@ fn is_heard_fairly(message: &Message, count: usize, hearings: &Hearings<'_>) -> 
     }
 }
 
-/// Whether the control station's transmission that is on the line is heard fairly. Condition: there
-/// is a terminal.
+/// Whether the control station's pending transmission is heard in a way that keeps the line
+/// trusted. Condition: there is at least one terminal.
 pub(crate) fn is_down_fair(
     sent: &Option<Transmission>,
     count: usize,
@@ -186,7 +188,7 @@ pub(crate) fn is_down_fair(
     }
 }
 
-/// Whether the terminal's transmission that is on the line is heard fairly.
+/// Whether the terminal's pending transmission is heard fairly.
 pub(crate) fn is_up_fair(sent: &Option<Transmission>, heard: &Heard) -> bool
     ensures { IfSome sent.now (λ (s : TransmissionValue).
         IsTrue result ↔ IsFairlyHeard s.message heard.now) }
@@ -197,7 +199,7 @@ pub(crate) fn is_up_fair(sent: &Option<Transmission>, heard: &Heard) -> bool
     }
 }
 
-/// Whether both hold.
+/// Whether both are true.
 pub(crate) fn both(a: bool, b: bool) -> bool
     ensures { result ≡ (a && b) }
 {

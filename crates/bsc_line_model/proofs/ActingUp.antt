@@ -1,4 +1,4 @@
--- A terminal does what its sender's act says, in a poll: its bid goes on, or is over.
+-- A polled terminal acts as its sender says: its bid continues, or is over.
 use Rattle.std.proofs.Common.{◌≡◌, ◌≢◌, ◌⊎◌, inl, inr, ℕ, ◌<◌, List, length, Option, None, Some}
 use Rattle.std.proofs.Common.{refl, sym, subst}
 use Rattle.bsc_frame.specs.declared.message.Message.{Message}
@@ -22,23 +22,23 @@ use Rattle.bsc_line_model.specs.Together.{IsPolledWith}
 use Rattle.bsc_line_model.specs.BidLaws.{BidLaws}
 use Rattle.bsc_line_model.proofs.SendingUp.{rests, stays}
 
--- it sends nothing, or EOT, and is in control mode then
+-- the terminal sends nothing or EOT, and is then in control mode
 abbrev pub IsEndedUp : Option Message → Mode → Type 0
 IsEndedUp out mode = (out ≡ None) ⊎ ((out ≡ Some m.Eot) × (mode ≡ Control))
 
--- no bid of it goes on, or one does
+-- either no bid of the terminal is in progress, or its bid continues
 abbrev pub HasActedUp : PeerValue → ℕ → TributaryValue → Option Message → Type 0
 HasActedUp p e u out = (HasNoBid p u × IsEndedUp out u.mode)
     ⊎ IsInBidUp (sent_by (sp.Terminal e) out) p e u
 
--- what a step of its sender leaves
+-- what a step of the terminal's sender leaves
 pub record StepsUp (p : PeerValue) (x : TributaryValue) (step : SenderStep) : Type 0 where
   pub down : (k : ℕ) → k < length p.outbounds → RestsDown p x k
   pub continues : Continues step.sender.phase step.queue p.receiver.alternation p.receiver.last
       p.spool.records (sent_flight step.act)
   pub ended : IsEnded step.act step.sender.phase
 
--- a sender that kept quiet was in a bid while the terminal sends, else at rest
+-- a sender that did nothing is in a bid if the terminal sends, else at rest
 abbrev pub KeptQuiet : Mode → Phase → Type 0
 KeptQuiet mode phase = ((mode ≡ Sending) × IsGoing phase) ⊎ ((mode ≢ Sending) × IsAtRest phase)
 
@@ -112,7 +112,7 @@ acts_up laws p e x step a.Quiet is h kept =
           )
     ]
 
--- what is then on the line, in the poll
+-- the transmission that is then pending in the poll
 ended_with : (p : PeerValue) (e : ℕ) (mode : Mode) (out : Option Message) (replied : Replied)
     (ts : List TributaryValue) → IsEndedUp out mode → (mode ≡ Control → AllInControlMode ts)
     → IsPolledWith (sent_by (sp.Terminal e) out) replied p e ts

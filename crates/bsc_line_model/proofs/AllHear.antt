@@ -1,4 +1,4 @@
--- The control station's transmission is heard fairly by the terminals, in each of its tasks.
+-- The terminals hear the control station's transmission fairly, in each of its tasks.
 use Rattle.std.proofs.Common.{◌≡◌, inl, inr, ℕ, ◌<◌, true, false, List, length, Option, None, Some}
 use Rattle.std.proofs.Common.{refl, sym, ◌∙◌, ap, subst}
 use Rattle.bsc_frame.specs.declared.message.Message.{Message}
@@ -46,7 +46,7 @@ reply_is_no_call Nak = refl
 reply_is_no_call Wack = refl
 reply_is_no_call Rvi = refl
 
--- The terminals hear the control station: they and what answers go together with it.
+-- The terminals hear the control station: they and their answer fit together with it.
 pub hears_down : (names : NamesOwn) (laws : BidLaws) (c : ControlValue) (old : List TributaryValue)
     (before after : Option (ℕ × Way)) (w : Message) (hears : ℕ → Heard) (new : List TributaryValue)
     → AreStations c old → AreTuned before old →

@@ -47,7 +47,7 @@ use Rattle.bsc_line_model.proofs.SendingUp.{HasActed, performed, places_after, a
 use Rattle.bsc_line_model.proofs.CallsHeard.{with_others}
 use Rattle.bsc_bid.proofs.FitLemmas.{begin_not_quiet}
 
--- what was on its way is lost
+-- the pending transmission is lost
 lost_selecting : (c : ControlValue) (ts : List TributaryValue) (pending : Option Transmission)
     (s : ℕ) (enquired : Bool) → IsSelecting pending c ts s enquired
     → IsSelecting None c ts s enquired
@@ -103,7 +103,7 @@ lost laws (Selecting s enquired) c ts pending h = lost_selecting c ts pending s 
 lost laws (Sending s) c ts pending h = lost_sending laws c ts pending s h
 lost laws (Polling replied) c ts pending h = lost_polling laws c ts pending replied h
 
--- the next call is made where no bid goes on
+-- the next call is made while no bid is in progress
 pub next_made : (c : ControlValue) (ts : List TributaryValue) (after : After) → AreStations c ts
     → NoBids c ts
     → InTask (next_call_step c after).control.task
@@ -153,7 +153,7 @@ begins_down laws c ts s enquired stations task all fresh last =
     (λ is. absurd (begin_not_quiet o.sender o.queue is)) stations.count
     (places_after c s step (places c stations.control.entries))
 
--- it is asked to wait: ENQ, or after too many the next call
+-- the terminal asks to wait: ENQ is sent, or after too many WACKs the next call
 asks_again : (c : ControlValue) (ts : List TributaryValue) (s : ℕ) (over : Bool) → AreStations c ts
     → NoBids c ts → IsFresh (terminal_in ts (current c)) s →
     let new : ControlStep =
@@ -189,7 +189,7 @@ selecting_answered laws c ts s t (m.Reply Rvi) enquired stations task h = absurd
 selecting_answered laws c ts s t (m.Text z) enquired stations task h = absurd h.with_pending.1
 selecting_answered laws c ts s t (m.Call z) enquired stations task h = absurd h.with_pending.1
 
--- in a poll what is no EOT goes to the receiver
+-- in a poll, a transmission other than EOT goes to the receiver
 polling_by : (c : ControlValue) (replied : Replied) (h : Heard) (rooms : Rooms) → IsNoCall h
     → polling_step c replied h rooms ≡ receive_step c replied
     (heard_step (peer c).receiver (peer c).spool h (peer c).urgent rooms)
@@ -268,18 +268,18 @@ pub polling_ended : (c : ControlValue) (ts : List TributaryValue) (rooms : Rooms
     (polling_step c replied (Whole m.Eot) rooms).control ts
 polling_ended c ts rooms replied stations all = next_made c ts (Poll (has_rvi replied)) stations all
 
--- the control station's step suits the line
+-- the control station after the step fits together with the terminals
 abbrev pub StepsTo : ControlStep → List TributaryValue → Type 0
 StepsTo o ts = InTask o.control.task (sent_by sp.Control o.sent) o.control ts
 
--- heard whole, or as noise
+-- EOT is heard whole or as noise
 whole_eot : (h : Heard) → IsFairlyHeard m.Eot h → (h ≡ Whole m.Eot) ⊎ (h ≡ Noise)
 whole_eot (Whole v) (inl e) = inl (ap (λ (z : Message). Whole z) e)
 whole_eot (Whole v) (inr f) = absurd f
 whole_eot Failed f = absurd f
 whole_eot Noise f = inr refl
 
--- a terminal's answer to a selection is heard whole, or as noise
+-- a terminal's answer to a selection is heard whole or as noise
 whole_answer : (w : Message) (x : TributaryValue) (s : ℕ) (ts : List TributaryValue) (h : Heard)
     → IsAnswer w x s ts → IsFairlyHeard w h → (h ≡ Whole w) ⊎ (h ≡ Noise)
 whole_answer w x s ts Noise k f = inr refl
@@ -303,7 +303,7 @@ whole_answer (m.Reply Rvi) x s ts Failed k f = absurd k
 whole_answer (m.Text z) x s ts Failed k f = absurd k
 whole_answer (m.Call z) x s ts Failed k f = absurd k
 
--- The control station hears a terminal: it and what it sends go together with the terminals.
+-- The control station hears a terminal: it and its answer fit together with the terminals.
 pub hears_up : (laws : BidLaws) (c d : ControlValue) (ts : List TributaryValue) (t : ℕ)
     (w : Message) (h : Heard) (out : Option Message) → AreStations c ts
     → InTask c.task (Some (record { speaker = sp.Terminal t; message = w })) c ts

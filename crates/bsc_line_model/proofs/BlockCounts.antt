@@ -1,4 +1,4 @@
--- How many blocks the waiting records of a queue make, and what its first block is.
+-- How many blocks the waiting records of a queue make, and what the first block is.
 use Rattle.std.proofs.Common.{◌≡◌, ◌≢◌, ℕ, suc, ◌<◌, ◌≤◌, Bool, true, false, List, [], ◌∷◌, length}
 use Rattle.std.proofs.Common.{take, drop, nat_eq, Some, refl, sym, ◌∙◌, ap, subst, arith}
 use Rattle.std.proofs.Common.{if◌then◌else◌}
@@ -12,7 +12,7 @@ use Rattle.bsc_spool.specs.declared.queue.Next.{Next}
 use Rattle.bsc_spool.specs.Queue.{QueueValue, IsQueue, waiting, with_known, next_block, next_after}
 use Rattle.bsc_line_model.specs.Rounds.{block_count}
 
--- how waiting records are cut: what the laws of blocks say
+-- how waiting records are cut into blocks: the laws of blocks
 pub record CutLaws : Type 0 where
   pub taken_is : (f : FormatValue) (rs : List (List ℕ)) → IsTaken f rs (taken f rs)
   pub none : (f : FormatValue) → blocks f [] ≡ []
@@ -20,7 +20,7 @@ pub record CutLaws : Type 0 where
       → blocks f rs ≡ take (taken f rs) rs ∷ blocks f (drop (taken f rs) rs)
   pub rest : (full k : ℕ) (rs : List (List ℕ)) → AreShort full rs → AreShort full (drop k rs)
 
--- after the last block no block is left, after another one some are
+-- no block is left after the last block, and some are left after any other
 abbrev pub IsEnd : End → ℕ → Type 0
 IsEnd Etx n = n ≡ 0
 IsEnd Etb n = (k : ℕ) × (n ≡ suc k)
@@ -32,7 +32,7 @@ pub record HasFirstBlock (q : QueueValue) (n : ℕ) : Type 0 where
   pub rest : block_count (with_known q next.count) ≡ n
   pub end : IsEnd next.end n
 
--- blocks of something
+-- a list with an element is not empty
 not_nil : (r : List ℕ) (rs : List (List ℕ)) → r ∷ rs ≢ []
 not_nil r rs e = cc
 
@@ -91,7 +91,7 @@ has_first laws q n is count =
     first_of_waiting laws q n is.format (waiting q) refl
     (laws.rest q.format.full q.known q.offered is.short) count
 
--- where some records wait there is a block
+-- if there is no block, no record waits
 pub no_block : (laws : CutLaws) (q : QueueValue) → IsQueue q → block_count q ≡ 0
     → nat_eq (length (waiting q)) 0 ≡ true
 no_block laws q is none = by_test (nat_eq (length (waiting q)) 0) refl

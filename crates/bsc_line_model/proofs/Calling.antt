@@ -1,4 +1,4 @@
--- Where no bid goes on, the next call of the control station begins a selection or a poll.
+-- While no bid is in progress, the next call of the control station begins a selection or a poll.
 use Rattle.std.proofs.Common.{◌≡◌, ◌≢◌, inl, inr, ℕ, ◌<◌, true, false, List, length, refl, sym, ap}
 use Rattle.std.proofs.Common.{subst, get_or-set_other, get_or-set_same}
 use Rattle.bsc_frame.specs.declared.message.Message.TheVariants as m
@@ -19,7 +19,7 @@ use Rattle.bsc_line_model.specs.Together.{HasNoBid, NoBids, NoOtherBids, IsSelec
 use Rattle.bsc_line_model.specs.Together.{InTask}
 use Rattle.bsc_line_model.proofs.Stations.{same_or_not}
 
--- a peer that was written, and another one
+-- the peer that was written, and another one
 replaced_peer : (c : ControlValue) (e : ℕ) (p : PeerValue) → e < length c.peers
     → peer_at (with_peer c e p) e ≡ p
 replaced_peer c e p there = get_or-set_same c.peers e p no_peer there
@@ -28,7 +28,7 @@ peer_other : (c : ControlValue) (e t : ℕ) (p : PeerValue) → t ≢ e → peer
     ≡ peer_at c t
 peer_other c e t p differ = get_or-set_other c.peers e t p no_peer differ
 
--- one peer changed so that no bid goes on with its terminal
+-- one peer is changed so that no bid with its terminal is in progress
 no_other_bids : (c : ControlValue) (ts : List TributaryValue) (e : ℕ) (p : PeerValue) → NoBids c ts
     → NoOtherBids (with_peer c e p) ts e
 no_other_bids c ts e p no_bids t less differ =
@@ -48,7 +48,7 @@ no_bids_with_peer c ts e p there no_bids here t less =
       | inr differ ↦ no_other_bids c ts e p no_bids t less differ
     ]
 
--- the receiver begins, and the urgent flag falls: neither is seen by the channels
+-- the receiver begins anew, and the urgent flag falls; the channels depend on neither
 no_bid_with_new_receiver : (p : PeerValue) (x : TributaryValue) → HasNoBid p x
     → HasNoBid (record p { receiver = new_receiver true }) x
 no_bid_with_new_receiver p x q = record { mode = q.mode; up = q.up; down = q.down }

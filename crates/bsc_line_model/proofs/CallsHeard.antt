@@ -1,5 +1,5 @@
--- The control station's call is heard whole by all terminals: the one that is called answers, and
--- the others give up the line.
+-- All terminals hear the control station's call whole: the called one answers, and the others give
+-- up the line.
 use Rattle.std.proofs.Common.{◌≡◌, ◌≢◌, inl, inr, ◌↔◌, ℕ, ◌<◌, Bool, true, false, nat_eq, List}
 use Rattle.std.proofs.Common.{length, Option, Some, slice_get, slice_set, refl, sym, ap, subst}
 use Rattle.std.proofs.Common.{arith, get_or-set_other, get_or-set_same, if◌then◌else◌, ◌≤◌}
@@ -61,7 +61,7 @@ use Rattle.bsc_line_model.proofs.CallsMissed.{no_bid_back}
 use Rattle.bsc_bid.proofs.RestLemmas.{idle_at_rest, cut_at_rest}
 use Rattle.bsc_line_model.proofs.UpTerminals.{poll_by}
 
--- a call is heard whole by all, and its address is that of terminal e for this way
+-- all hear a call whole, and its address is that of terminal e for this way
 pub record IsCallTo (c : ControlValue) (old : List TributaryValue) (hears : ℕ → Heard)
     (addressed : Option (ℕ × Way)) (e : ℕ) (way : Way) (address : List ℕ) : Type 0 where
   pub there : e < length old
@@ -94,7 +94,7 @@ not_called laws addressed ts t e way x address b is differ (Selection s) k =
           (laws.selection x address s b.distinct).0 k;
     })) is))
 
--- what a terminal does that hears a call whole
+-- what a terminal does when it hears a call whole
 pub called_row : (x : TributaryValue) (h : Heard) (u : TributaryValue) (out : Option Message)
     (address : List ℕ) (called : Called) → h ≡ Whole (m.Call address) → called_as x.terminal address
     ≡ called → Hears x h u out →
@@ -119,7 +119,7 @@ gives_up x h u out address heard is row =
           ap (λ (o : TributaryStep). o.sent) row;
     }
 
--- the others when a call is heard whole
+-- the other terminals when a call is heard whole
 pub record OneCalled (c : ControlValue) (old : List TributaryValue) (hears : ℕ → Heard)
     (new : List TributaryValue) (e : ℕ) : Type 0 where
   pub others : (t : ℕ) → t < length old → t ≢ e
@@ -162,7 +162,7 @@ one_called laws c old hears new addressed e way address stations call each =
           ];
     }
 
--- no bid goes on with the others
+-- no bid with the others is in progress
 pub others_give_up : (c : ControlValue) (old : List TributaryValue) (hears : ℕ → Heard)
     (new : List TributaryValue) (e : ℕ) → AreStations c old → NoBids c old → length new
     ≡ length old → OneCalled c old hears new e → NoOtherBids c new e
@@ -174,7 +174,7 @@ others_give_up c old hears new e stations no_bids count one t less differ =
     (stations.members t before).tributary (no_bids t before)
     (record { becomes = inr up.becomes; silent = up.silent })
 
--- no bid goes on where none does with the others and none with this one
+-- no bid is in progress if none is with the others and none with this one
 pub with_others : (c : ControlValue) (ts : List TributaryValue) (e : ℕ) → NoOtherBids c ts e
     → HasNoBid (peer_at c e) (terminal_in ts e) → NoBids c ts
 with_others c ts e others this t less =
@@ -183,7 +183,7 @@ with_others c ts e others this t less =
       | inr differ ↦ others t less differ
     ]
 
--- a try for room leaves the records
+-- an attempt to get room leaves the records
 records_kept : (spools : List SpoolValue) (s k : ℕ) (room : Bool) → s < length spools
     → (spool_at (slice_set spools s (room_asked (spool_at spools s) room)) k).records
     ≡ (spool_at spools k).records
@@ -198,7 +198,7 @@ records_kept spools s k room there =
           (get_or-set_other spools s k (room_asked (spool_at spools s) room) empty_spool differ)
     ]
 
--- the answer to a selection, by the flag and whether there is room
+-- the answer to a selection, by the ready flag and whether there is room
 abbrev selection_answer : TributaryValue → ℕ → Bool → Bool → TributaryStep
 selection_answer x s room ready =
     let d : TributaryValue = without_line x in
@@ -213,7 +213,7 @@ selection_answer x s room ready =
     (m.Reply (first_reply room))
     else answer_step d (m.Reply Nak)
 
--- a terminal that receives now, and rests
+-- a terminal that receives from now on, and rests
 receives_now : (p : PeerValue) (x : TributaryValue) (s : ℕ) (room : Bool) → IsTributary x
     → HasNoBid p x → s < length x.spools →
     HasNoBid p (record (without_line x) {
@@ -232,7 +232,7 @@ receives_now p x s room is q there =
           (q.down k less);
     }
 
--- no bid goes on with the selected terminal, and its answer is one
+-- no bid with the selected terminal is in progress, and it answers as it may
 abbrev AnswersSelection : PeerValue → ℕ → ℕ → TributaryStep → List TributaryValue → Type 0
 AnswersSelection p e s step ts = (step.tributary.mode ≡ Control → AllInControlMode ts)
     → HasNoBid p step.tributary × IsSelectedWith (sent_by (sp.Terminal e) step.sent) false p e s
@@ -262,7 +262,7 @@ select_there c s is less =
     is.entries.peers (current c) no_peer (current_there c (places c is.entries)) in
     subst (λ (n : ℕ). s < n) of_peer.outbounds less
 
--- the selection address of the present terminal is heard by all: its terminal answers
+-- all hear the selection address of the present terminal: its terminal answers
 pub selecting_heard : (laws : NamesOwn) (c : ControlValue) (old : List TributaryValue)
     (hears : ℕ → Heard) (new : List TributaryValue) (addressed : Option (ℕ × Way)) (s : ℕ)
     (enquired : Bool) → current c < length old → AreStations c old → c.task ≡ Selecting s enquired
@@ -373,7 +373,7 @@ polled_terminal laws p e x false false new is q d n =
     (record { mode = w.mode; up = w.up; down = w.down }) refl
     (idle_at_rest (cut_phase x.sender.phase) cut_rest d) (omega arith)
 
--- the polling address of the present terminal is heard by all: it sends, or ends the poll
+-- all hear the polling address of the present terminal: the terminal sends, or ends the poll
 pub polling_heard : (names : NamesOwn) (laws : BidLaws) (c : ControlValue)
     (old : List TributaryValue) (hears : ℕ → Heard) (new : List TributaryValue)
     (addressed : Option (ℕ × Way)) → current c < length old → AreStations c old → c.task

@@ -1,4 +1,4 @@
--- What terminals do that missed a call.
+-- What terminals do if they missed a call.
 use Rattle.std.proofs.Common.{◌≡◌, ◌⊎◌, inl, inr, ℕ, ◌<◌, false, List, length, Option, None}
 use Rattle.std.proofs.Common.{refl, sym, ap, subst, arith}
 use Rattle.bsc_frame.specs.declared.message.Message.{Message}
@@ -22,7 +22,7 @@ use Rattle.bsc_bid.proofs.RestLemmas.{cut_at_rest}
 use Rattle.bsc_line_model.proofs.Stations.{at_rest_in}
 use Rattle.bsc_bid.specs.Station.{StaysQuiet}
 
--- the line is taken from it
+-- the line is taken from the terminal
 pub no_bid_without_line : (p : PeerValue) (x : TributaryValue) → IsTributary x → HasNoBid p x
     → HasNoBid p (without_line x)
 no_bid_without_line p x is q =
@@ -34,12 +34,12 @@ no_bid_without_line p x is q =
       down = q.down;
     }
 
--- a terminal that is not called stays as it is, or gives up the line, and answers nothing
+-- a terminal that is not called stays unchanged or gives up the line, and answers nothing
 pub record StepsBack (x u : TributaryValue) (out : Option Message) : Type 0 where
   pub becomes : (u ≡ x) ⊎ (u ≡ without_line x)
   pub silent : out ≡ None
 
--- it gives up the line
+-- the terminal gives up the line
 pub record GivesUp (x u : TributaryValue) (out : Option Message) : Type 0 where
   pub becomes : u ≡ without_line x
   pub silent : out ≡ None
@@ -52,7 +52,7 @@ no_bid_back p x u out is q b =
       | inr e ↦ subst (λ (y : TributaryValue). HasNoBid p y) (sym e) (no_bid_without_line p x is q)
     ]
 
--- it missed the call
+-- the terminal missed the call
 pub misses : (x : TributaryValue) (h : Heard) (u : TributaryValue) (out : Option Message)
     → IsMissed h → Hears x h u out → AfterHearing x h u out → StepsBack x u out
 misses x Noise u out f row after =
@@ -75,7 +75,7 @@ nobody_answers : (old : List TributaryValue) (hears : ℕ → Heard) (new : List
 nobody_answers old hears new n f =
     none_before old hears new n n (omega arith) (λ k less ne. f k less)
 
--- all missed it: no bid goes on, and nothing is on the line
+-- all terminals missed the call: no bid is in progress, and nothing is pending
 pub record AllBack (c : ControlValue) (old : List TributaryValue) (hears : ℕ → Heard)
     (new : List TributaryValue) : Type 0 where
   pub no_bids : NoBids c new

@@ -1,4 +1,4 @@
--- A line stays a line when a transmission is heard, or a silence passes.
+-- A line keeps its invariant when a transmission is heard or a silence passes.
 use Rattle.std.proofs.Common.{◌≡◌, ℕ, ◌<◌, Bool, true, false, IsTrue, List, length, Option}
 use Rattle.std.proofs.Common.{None, Some, get_or, slice_set, refl, sym, ◌∙◌, ap, subst, arith, inl}
 use Rattle.std.proofs.Common.{inr, ◌≢◌, get_or-set_other, get_or-set_same}
@@ -45,7 +45,7 @@ use Rattle.bsc_line_model.proofs.Likeness.{IsLike, together_like, terminal_like,
 use Rattle.bsc_block.specs.Format.{FormatValue}
 use Rattle.bsc_bid.specs.Setup.{SetupValue}
 
--- the control station's transmission was heard
+-- the terminals heard the control station's transmission
 pub line_down : (laws : NamesOwn) (bids : BidLaws) (c : ControlValue) (ts : List TributaryValue)
     (pending next : Option Transmission) (trusted trusts : Bool) (old new : Option (ℕ × Way))
     (w : Message) (hears : ℕ → Heard) (us : List TributaryValue) →
@@ -79,7 +79,7 @@ line_down laws bids c ts pending next trusted trusts old new w hears us l sent f
           was.1 a e k);
     }
 
--- a terminal's transmission was heard
+-- the control station heard a terminal's transmission
 up_together : (bids : BidLaws) (c d : ControlValue) (ts : List TributaryValue) (speaker : Speaker)
     (w : Message) (h : Heard) (out : Option Message) → speaker ≢ Control → AreStations c ts
     → InTask c.task (Some (record { speaker = speaker; message = w })) c ts → IsFairlyHeard w h →
@@ -106,7 +106,7 @@ line_up bids c d ts pending next trusted trusts addressed sent h out l is never 
           (l.together (f.0 now).0)) (f.0 now).1 row after);
     }
 
--- who holds the line sends
+-- a terminal that holds the line sends
 owner_sends : (mode : Mode) → holds mode ≡ true → mode ≡ Sending
 owner_sends Sending h = refl
 owner_sends ControlMode h = absurd (cc)
@@ -138,12 +138,12 @@ line_silent bids c d ts pending next trusted addressed out l nothing nobody made
           row);
     }
 
--- the element that is there is the terminal
+-- the element at this place is the terminal
 pub is_terminal : (ts : List TributaryValue) (t : ℕ) (x : TributaryValue) → t < length ts → x
     ≡ get_or ts t x → terminal_in ts t ≡ x
 is_terminal ts t x less is = get_or_default ts t no_terminal x less ∙ sym is
 
--- a terminal acted
+-- a terminal acted on a silence
 pub line_at : (bids : BidLaws) (c : ControlValue) (ts : List TributaryValue)
     (pending next : Option Transmission) (trusted : Bool) (addressed : Option (ℕ × Way)) (t : ℕ)
     (x u : TributaryValue) (out : Option Message) →
@@ -166,7 +166,7 @@ line_at bids c ts pending next trusted addressed t x u out l nothing less is own
           (subst (λ (y : TributaryValue). TerminalActs y u out) (sym is) row));
     }
 
--- one terminal changed so
+-- one terminal was replaced
 pub line_set : (c : ControlValue) (ts : List TributaryValue) (pending : Option Transmission)
     (trusted : Bool) (addressed : Option (ℕ × Way)) (t : ℕ) (x u : TributaryValue) →
     IsLine (line_of c ts pending trusted addressed) → t < length ts → x ≡ get_or ts t x
@@ -186,7 +186,7 @@ line_set c ts pending trusted addressed t x u l less is same like =
           (current_terminal_there c ts l.stations) (terminal_like c ts t u less k) (l.together now);
     }
 
--- what the control station keeps for one terminal changed so
+-- what the control station keeps for one terminal was replaced
 stations_peer : (c : ControlValue) (ts : List TributaryValue) (t : ℕ) (q : PeerValue)
     → AreStations c ts → t < length c.peers → IsControl (with_peer c t q) → q.terminal
     ≡ (peer_at c t).terminal → AreStations (with_peer c t q) ts

@@ -40,7 +40,7 @@ channel_of_is : (l : LineValue) (t : ℕ) (way : Way) → channel_of l t way
 channel_of_is l t FromTerminal = refl
 channel_of_is l t (ToTerminal s) = refl
 
--- one terminal changed: its own channels, and all others
+-- one terminal was replaced: its own channels, and all others
 terminal_elsewhere : (l : LineValue) (t : ℕ) (u : TributaryValue) (n : ℕ) (way : Way) → n ≢ t
     → channel_of (with_terminal l t u) n way ≡ channel_of l n way
 terminal_elsewhere l t u n way differ =
@@ -55,7 +55,7 @@ channel_with_terminal l t u way there = channel_of_is (with_terminal l t u) t wa
     ∙ ap (λ (y : TributaryValue). channel_between (peer_at l.control t) y way)
     (this_terminal l t u there)
 
--- only the channel from it may move
+-- only the channel from the terminal may move
 pub terminal_moves : (l : LineValue) (t : ℕ) (u : TributaryValue) (move : Move) → t
     < terminal_count l → u.spools ≡ (terminal_at l t).spools
     → Makes move (channel_of l t FromTerminal) (channel u.queue (peer_at l.control t).spool.records)
@@ -82,7 +82,7 @@ terminal_moves l t u move there spools makes =
         ∙ ap (λ (zs : List SpoolValue). channel (outbound_at (peer_at l.control t) s).queue
         (spool_at zs s).records) spools)
 
--- none moves
+-- no channel moves
 pub terminal_still : (l : LineValue) (t : ℕ) (u : TributaryValue) → t < terminal_count l → u.queue
     ≡ (terminal_at l t).queue → u.spools ≡ (terminal_at l t).spools
     → MovesNothing l (with_terminal l t u)
@@ -100,7 +100,7 @@ terminal_still l t u there queue spools n way is =
         ∙ ap (λ (zs : List SpoolValue). channel (outbound_at (peer_at l.control t) s).queue
         (spool_at zs s).records) spools
 
--- what the control station keeps for one terminal changed
+-- what the control station keeps for one terminal was replaced
 abbrev with_kept : LineValue → ℕ → PeerValue → LineValue
 with_kept l t q = with_control l (with_peer l.control t q)
 
@@ -135,7 +135,7 @@ peer_still l t q there spool outbounds n way is =
         (outbound_at (record q { outbounds = os }) s).queue
         (spool_at (terminal_at l t).spools s).records) outbounds
 
--- one selection address's queue changed
+-- the queue of one selection address was replaced
 pub outbound_moves : (l : LineValue) (t s : ℕ) (o : OutboundValue) (move : Move) → t
     < length l.control.peers → s < length (peer_at l.control t).outbounds
     → Makes move (channel_of l t (ToTerminal s))
@@ -187,7 +187,7 @@ offer_for_moves l t s r there select =
     outbound_moves l t s (offered (outbound_at (peer_at l.control t) s) r) (Offer r) there select
     refl
 
--- an accepted release makes known what was spooled
+-- after an accepted release the spooled records are known
 released_knows : (s : SenderValue) (q : QueueValue) (n : ℕ) (phase : Phase) (done : Unit {0})
     → Ok done ≡ told (release_in s q phase n).answer → (release_in s q phase n).queue
     ≡ queue_of q.format q.offered n

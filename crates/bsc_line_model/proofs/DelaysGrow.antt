@@ -1,4 +1,4 @@
--- How often a spool was refused room never falls while transmissions are heard.
+-- The counts of refusals of room never fall while transmissions are heard.
 use Rattle.std.proofs.Common.{◌≡◌, inl, inr, ℕ, ◌+◌, ◌^◌, ◌-◌, ◌<◌, ◌≤◌, true, false, Bool, List}
 use Rattle.std.proofs.Common.{length, nat_eq, nat_lt, Option, None, Some, slice_set, refl, sym, ◌∙◌}
 use Rattle.std.proofs.Common.{ap, subst, arith, if◌then◌else◌, get_or-set_other, get_or-set_same}
@@ -45,7 +45,7 @@ use Rattle.bsc_control.specs.Table.{next_call_step}
 use Rattle.bsc_control.specs.Table.{way_call_step, after_bid, has_rvi, rooms_after as rooms_up}
 use Rattle.bsc_line_model.proofs.Stations.{same_or_not}
 
--- a count that is within 64 bits does not fall, and stays within them
+-- a count within 64 bits does not fall, and stays within them
 abbrev pub Grows : ℕ → ℕ → Type 0
 Grows d e = d ≤ 2 ^ 64 - 1 → (d ≤ e) × (e ≤ 2 ^ 64 - 1)
 
@@ -67,7 +67,7 @@ asked_grows : (s : SpoolValue) (b : Bool) → Grows s.delays (room_asked s b).de
 asked_grows s true = grows_same s.delays
 asked_grows s false = grows_with_delay s.delays
 
--- a receiver hears
+-- a receiver hears a transmission
 abbrev ReceiverGrows : ℕ → ReceiverStep → Type 0
 ReceiverGrows d out = Grows d out.spool.delays
 

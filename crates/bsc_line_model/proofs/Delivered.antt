@@ -1,5 +1,5 @@
--- Where no bid goes on, nothing is in doubt and nothing waits, everything that was offered is
--- delivered and known.
+-- If no bid is in progress, no channel is in doubt and no record waits, then everything that was
+-- offered is delivered and known.
 use Rattle.std.proofs.Common.{◌≡◌, ℕ, true, false, nat_eq, List, length, ◌∙◌, arith}
 use Rattle.std.proofs.lemmas.Bool.Decides.{nat_tests}
 use Rattle.std.proofs.lemmas.List.{length-drop, take_all}

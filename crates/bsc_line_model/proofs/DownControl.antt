@@ -1,6 +1,6 @@
--- What the control station does with the replies of a selected terminal where all is heard: ACK0
--- begins the bid,
--- each acknowledgement brings the next block, and that of the last one the next call.
+-- What the control station does with the replies of a selected terminal if all are heard: ACK0
+-- begins the bid, each acknowledgement is followed by the next block, and that of the last block by
+-- the next call.
 use Rattle.std.proofs.Common.{◌≡◌, ℕ, zero, suc, ◌+◌, ◌<◌, true, false, Bool, List, length, Option}
 use Rattle.std.proofs.Common.{Some, refl, sym, ◌∙◌, ap, subst, arith, get_or-set_same}
 use Rattle.std.proofs.lemmas.List.{length-set}
@@ -44,7 +44,7 @@ abbrev pub address_at : TerminalValue → Way → List ℕ
 address_at x FromTerminal = x.poll
 address_at x (ToTerminal s) = select_address x s
 
--- the control station has called so
+-- the control station has made this call
 pub record HasCalled (c : ControlValue) (sent : Option Message) (place : ℕ) (way : Way) : Type 0
   where
     pub place_is : c.place ≡ place
@@ -76,7 +76,7 @@ call_is c place (ToTerminal s) there =
           there));
     }
 
--- a call leaves the lists
+-- a call leaves the sending sides of its terminal unchanged
 pub call_lists : (c : ControlValue) (place : ℕ) (way : Way) → terminal_of_entry c place
     < length c.peers →
     (peer (make_call_step c (record { place = place; way = way })).control).outbounds
@@ -91,14 +91,14 @@ call_lists c place (ToTerminal s) there =
     ap (λ (q : PeerValue). q.outbounds)
     (get_or-set_same c.peers t (record (peer_at c t) { urgent = false }) no_peer there)
 
--- the block b of n + 1 is unanswered at selection address s
+-- block b of n + 1 is unanswered at selection address s
 pub record IsInBlock (c : ControlValue) (s n : ℕ) (b : SentBlock) : Type 0 where
   pub task : c.task ≡ Sending s
   pub phase : (outbound_at (peer c) s).sender.phase ≡ Unanswered b
   pub rest : block_count (with_known (outbound_at (peer c) s).queue b.count) ≡ n
   pub end : IsEnd b.end n
 
--- and its text was sent now
+-- and its text was just sent
 pub record SendsDown (c : ControlValue) (sent : Option Message) (place s n : ℕ) : Type 0 where
   pub place_is : c.place ≡ place
   pub block : SentBlock
@@ -160,7 +160,7 @@ begins_bid_down laws c d sent s n enquired there select task is count h =
     ∙ ap (λ (k : Task). task_step c k (Whole (m.Reply Ack0)) (rooms_after c (Whole (m.Reply Ack0)) d)) task in
     sends_block laws c d sent s n o.sender o.queue Odd (Selection s) there select is count row
 
--- the acknowledgement is the one that is expected
+-- the expected acknowledgement is heard
 pub ack_step : (x : SenderValue) (q : QueueValue) (b : SentBlock) (alternation : Alternation)
     → b.alternation ≡ alternation → x.phase ≡ Unanswered b
     → reply_step x q (reply_in (Whole (m.Reply (ack alternation))))
@@ -173,18 +173,19 @@ ack_after : (s : ℕ) (alternation : Alternation)
 ack_after s Even = refl
 ack_after s Odd = refl
 
--- the bid to selection address s is over, with nothing left and no doubt, and the next call is made
+-- the bid to selection address s is over, no record is left and there is no doubt, and the next
+-- call is made
 pub record EndsDown (c : ControlValue) (sent : Option Message) (place s : ℕ) : Type 0 where
   pub called : HasCalled c sent place (way_from (peer c) (s + 1))
   pub idle : (outbound_at (peer c) s).sender.phase ≡ Idle
   pub rest : block_count (outbound_at (peer c) s).queue ≡ 0
 
--- what the acknowledgement of a block brings with n blocks left
+-- what follows the acknowledgement of a block if n blocks are left
 abbrev pub GoesOnDown : ControlValue → Option Message → ℕ → ℕ → ℕ → Type 0
 GoesOnDown c sent place s zero = EndsDown c sent place s
 GoesOnDown c sent place s (suc n) = SendsDown c sent place s n
 
--- the last one: the next call
+-- the last block: the next call
 ends_bid : (c d : ControlValue) (sent : Option Message) (s : ℕ) (x : SenderValue) (q : QueueValue)
     → current c < length c.peers → s < length (peer c).outbounds → block_count q ≡ 0 →
     record { control = d; sent = sent } ≡ bid_step c s (over x q Idle) (Selection s)

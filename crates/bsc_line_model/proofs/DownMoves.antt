@@ -1,6 +1,6 @@
--- The control station's transmission is heard on a trusted line: records land on the addressed
--- channel to a terminal, or
--- the addressed terminal learns; nothing else moves.
+-- The control station's transmission is heard on a trusted line: records arrive on the addressed
+-- channel to a terminal, or the addressed terminal learns that its records arrived; nothing else
+-- moves.
 use Rattle.std.proofs.Common.{◌≡◌, ◌⊎◌, inl, inr, ℕ, ◌<◌, true, false, List, length, IsTrue, Option}
 use Rattle.std.proofs.Common.{None, Some, refl, sym, ◌∙◌, ap, subst, get_or-set_same}
 use Rattle.bsc_frame.specs.declared.message.Message.{Message}
@@ -81,7 +81,7 @@ text_sent_down (m.Text z) n hears k t less is fair =
 text_sent_down m.Enq n hears k t less is fair = text_sent m.Enq (hears k) t is (fair k less)
 text_sent_down (m.Reply r) n hears k t less is fair = text_sent (m.Reply r) (hears k) t is (fair k less)
 
--- it is sent in a bid to the present terminal
+-- the text is sent in a bid to the present terminal
 pub record IsBidTo (pending : Option Transmission) (c : ControlValue)
     (ts : List TributaryValue) : Type 0 where
   pub select : ℕ
@@ -103,7 +103,7 @@ bid_to (Polling replied) t c ts k =
       | inr b ↦ absurd (no_reply (m.Text t) b.flies.0 refl b.flies.1)
     ]
 
--- the terminal that it is sent to has heard it, or noise
+-- the terminal to which it is sent hears it, or noise
 lands_down : (laws : BidLaws) (p : PeerValue) (e s : ℕ) (w : Message) (h : Heard)
     (x u : TributaryValue) (out : Option Message) → s < length x.spools →
     IsInBidDown (Some (record { speaker = sp.Control; message = w })) p e s x → IsNoCall h
@@ -131,7 +131,7 @@ lands_down laws p e s w h x u out there b never fair row =
     subst (λ (z : SpoolValue). MovesAtReceiver o.sender.phase (channel o.queue spool.records)
     (channel o.queue z.records)) (sym stored) agrees.moves
 
--- what lands or is learnt, is so on the addressed channel
+-- a move at either end of the addressed channel is one that the definition allows
 pub if_lands : (phase : Phase) (addressed : Option (ℕ × Way)) (t : ℕ) (way : Way)
     (old new : Channel) → addressed ≡ Some (t, way) → MovesAtReceiver phase old new
     → MovesIfAddressed addressed t way old new
@@ -152,7 +152,7 @@ same_select : (addressed : Option (ℕ × Way)) (t u s k : ℕ) → addressed �
 same_select addressed t u s k a b = let same : ToTerminal s ≡ ToTerminal k =
     ap way_in (sym a ∙ b) in cc
 
--- the control station's message is heard on a line
+-- the terminals of a line hear the control station's message
 pub record HearsControl (old new : LineValue) (w : Message) (hears : ℕ → Heard) : Type 0 where
   pub line : IsLine old
   pub pending : old.pending ≡ Some (record { speaker = sp.Control; message = w })
@@ -163,7 +163,7 @@ pub was_trusted_down : (old new : LineValue) (w : Message) (hears : ℕ → Hear
     → HearsControl old new w hears → IsTrue old.trusted × IsHeardFairly w (terminal_count old) hears
 was_trusted_down old new w hears k = k.carried.trusted.0 k.trusted
 
--- how the stations went together
+-- how the stations fitted together before
 together_down : (old new : LineValue) (w : Message) (hears : ℕ → Heard)
     → HearsControl old new w hears
     → InTask old.control.task (Some (record { speaker = sp.Control; message = w })) old.control

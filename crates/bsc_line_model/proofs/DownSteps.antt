@@ -1,5 +1,5 @@
--- A selection address is called, and blocks are sent to it, on a line where all is heard: the
--- terminal's answers.
+-- A selection address is called and sent blocks, on a line on which all is heard: the terminal's
+-- answers.
 use Rattle.std.proofs.Common.{◌≡◌, ◌≢◌, inl, inr, ℕ, ◌^◌, ◌-◌, ◌<◌, false, IsTrue, List, length}
 use Rattle.std.proofs.Common.{Option, None, Some, slice_get, refl, sym, ◌∙◌, ap, subst}
 use Rattle.std.proofs.lemmas.List.Elements.{All-get_or}
@@ -91,7 +91,7 @@ answered_by_one e way v w old new there h others this =
       };
     }
 
--- a terminal in control mode does nothing with what is no call and no EOT
+-- a terminal in control mode does nothing with a transmission that is neither a call nor EOT
 pub answers_nothing : (e : ℕ) (way : Way) (t : ℕ) (x u : TributaryValue) (out : Option Message)
     (h : Heard) → x.mode ≡ Control → IsNoCall h → Hears x h u out → Answers e way t x u out None
 answers_nothing e way t x u out h mode never heard =
@@ -104,7 +104,7 @@ answers_nothing e way t x u out h mode never heard =
           terminal_same e way t x u (ap (λ (o : TributaryStep). o.tributary) row);
     }
 
--- the text that is pending has not landed
+-- the records of the pending text have not arrived yet
 not_landed : (pending : Option Transmission) (p : PeerValue) (e s : ℕ) (x : TributaryValue)
     (b : SentBlock) (t : TextValue) → pending
     ≡ Some (record { speaker = sp.Control; message = m.Text t }) → (outbound_at p s).sender.phase
@@ -168,7 +168,7 @@ text_down l new s n b g i calm delays is h =
     (tuned z less)) tt (h.terminals.each z less))
     (record { says = taken.0; stays = taken.1 })
 
--- a call names no address of another terminal than the one that is then addressed
+-- a call does not name an address of any terminal but the one that is then addressed
 pub names_other : (laws : NamesOwn) (l new : LineValue) (e : ℕ) (way : Way) (a : List ℕ) (t : ℕ)
     → IsGood l → IsCarriedDown (m.Call a) (λ z. Whole (m.Call a)) l new
     → IsAddressOf (terminals l.control) e way a → t < length l.terminals → t ≢ e →

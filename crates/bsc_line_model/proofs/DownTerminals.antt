@@ -1,4 +1,4 @@
--- What a terminal does where it is selected or sent a block, all is heard and no room is refused.
+-- What a terminal does if it is selected or sent a block, all is heard and no room is refused.
 use Rattle.std.proofs.Common.{◌≡◌, ◌≢◌, ℕ, ◌^◌, ◌-◌, ◌<◌, true, false, Bool, IsTrue, List, length}
 use Rattle.std.proofs.Common.{Option, None, Some, slice_set, option_map, refl, sym, ◌∙◌, ap, subst}
 use Rattle.std.proofs.Common.{arith, if◌then◌else◌, get_or-set_other, get_or-set_same}
@@ -37,7 +37,7 @@ pub twice_other : (p : Alternation) → other (other p) ≡ p
 twice_other Even = refl
 twice_other Odd = refl
 
--- a text that finds room is taken and acknowledged
+-- a text for which there is room is taken and acknowledged
 pub taken_exact : (r : ReceiverValue) (s : SpoolValue) (t : TextValue) (first after : Bool)
     → (text_step r s t false (record { first = first; after = after })).spool.delays ≡ s.delays
     → s.delays < 2 ^ 64 - 1 →
@@ -47,7 +47,7 @@ taken_exact r s t true true e less = refl
 taken_exact r s t true false e less = absurd (omega (arith, e))
 taken_exact r s t false after e less = absurd (omega (arith, e))
 
--- a step of a receiver moves its own spool
+-- a step of a receiver changes its own spool only
 receives_stays : (e : ℕ) (x : TributaryValue) (s : ℕ) (r : ReceiverStep)
     → TerminalStays e (ToTerminal s) e x (receive_step x s r).tributary
 receives_stays e x s r =
@@ -113,7 +113,7 @@ hears_other e way t x u out a rest is h =
           }),
     )
 
--- the call of its selection address s
+-- the call of the terminal's selection address s
 selected_exact : (e : ℕ) (x u : TributaryValue) (out : Option Message) (s : ℕ) (room : Bool) → s
     < length x.spools → IsTrue x.ready → IsAtRest x.sender.phase →
     (spool_at u.spools s).delays ≡ (spool_at x.spools s).delays → (spool_at x.spools s).delays

@@ -1,4 +1,4 @@
--- Every event leaves a line a line: the laws, from the lemmas on values.
+-- Every event keeps the invariant of a line: the laws, from the lemmas on values.
 use Rattle.std.proofs.Common.{◌≡◌, ℕ, ◌<◌, ◌≤◌, List, length, Option, None, Some, refl, sym, ◌∙◌}
 use Rattle.std.proofs.Common.{ap, subst}
 use Rattle.std.proofs.lemmas.List.{get_or_default}
@@ -67,7 +67,7 @@ pub silence_stays : BidLaws → SilenceStays
 silence_stays bids old new line s =
     owner_stays bids old new (line_owner old.terminals) line s.nothing refl s.acts
 
--- one terminal is another one, which is the same but for what the channels agree on
+-- one terminal is replaced by one that differs only in what the channels do not depend on
 set_stays : (l : LineValue) (t : ℕ) (x : TributaryValue) → IsLine l → t < terminal_count l
     → KeepsSetupAndMode (terminal_at l t) x
     → IsLike (peer_at l.control t) (terminal_at l t) (peer_at l.control t) x
@@ -76,7 +76,7 @@ set_stays l t x line there same like =
     line_set l.control l.terminals l.pending l.trusted l.addressed t (terminal_at l t) x line there
     (get_or_default l.terminals t no_terminal (terminal_at l t) there) same like
 
--- what is read of a terminal that became another
+-- what is read of a terminal that was replaced
 same_as : (x u v : TributaryValue) → IsTributary u → u ≡ v → v.terminal ≡ x.terminal
     → v.sender.setup ≡ x.sender.setup → v.mode ≡ x.mode → KeepsSetupAndMode x u
 same_as x u v is e addresses setup mode =
@@ -116,7 +116,7 @@ release_from_stays bids l t x line there same e =
     (like_as (peer_at l.control t) (terminal_at l t) x _ e
     (release_from_like bids (peer_at l.control t) (terminal_at l t)))
 
--- the control station has as many parts as there are terminals, and each has its selection
+-- the control station has a part for each terminal, and each part has the terminal's selection
 -- addresses
 pub peer_there : (l : LineValue) (t : ℕ) → IsLine l → t < terminal_count l
     → t < length l.control.peers

@@ -83,7 +83,7 @@ control_silent old new is k t (ToTerminal s) there =
     ∙ ap (λ (q : QueueValue). channel q (spool_at (terminal_at old t).spools s).records)
     (outbound_silent_queue old.control new.control k.sent t s is.stations.control k.row)
 
--- what is on the line and the flag are not seen by the channels
+-- the channels do not depend on the pending transmission and on the trust
 abbrev same_stations : LineValue → LineValue → Type 0
 same_stations a b = (b.control ≡ a.control) × (b.terminals ≡ a.terminals)
 

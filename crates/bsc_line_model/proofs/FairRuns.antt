@@ -1,6 +1,6 @@
--- A run of transmissions that are heard as they were sent, after which no spool was refused room
--- more often than
--- before, is a walk: its lines are trusted, and no spool was refused room on the way.
+-- A run of transmissions that are heard as they were sent, with the same counts of refusals of room
+-- at its end as at its beginning, is a walk: its lines are trusted, and no spool is refused room on
+-- the way.
 use Rattle.std.proofs.Common.{◌≡◌, inl, inr, ℕ, zero, suc, ◌+◌, ◌^◌, ◌-◌, ◌<◌, ◌≤◌, IsTrue, length}
 use Rattle.std.proofs.Common.{Result, Ok, Err, refl, sym, ◌∙◌, ap, subst, arith}
 use Rattle.bsc_frame.specs.declared.message.Message.{Message}
@@ -26,7 +26,7 @@ use Rattle.bsc_line_model.proofs.DelaysGrow.{Grows, grows_same, grows_then, term
 use Rattle.bsc_line_model.proofs.DelaysGrow.{ControlGrows, control_grows}
 use Rattle.bsc_line_model.proofs.Walking.{IsGood, Goes, Walks}
 
--- no spool of the line was refused room less often
+-- the counts of refusals of room on a line did not fall
 record LineGrows (old new : LineValue) : Type 0 where
   count : terminal_count new ≡ terminal_count old
   control : (t : ℕ) → t < terminal_count old
@@ -124,7 +124,7 @@ grows_on old mid new h x y =
           (y.terminals t s (channel_stays CarrySent old mid t (ToTerminal s) h is));
     }
 
--- many
+-- many transmissions
 abbrev Answer : Type 0
 Answer = Result (Unit {0}) Stopped
 
@@ -141,7 +141,7 @@ run_grows at (suc n) old new (Err stopped) line (inr go) =
     grows_on old go.mid new go.done (step_grows old go.mid line go.done)
     (run_grows (at + 1) n go.mid new (Err stopped) go.line go.rest)
 
--- where the counts are the same at the end they are the same on the way
+-- counts that are equal at both ends are equal in between
 abbrev Between : ℕ → ℕ → ℕ → Type 0
 Between a b c = ((b ≡ a) × (a < 2 ^ 64 - 1)) × ((c ≡ b) × (b < 2 ^ 64 - 1))
 

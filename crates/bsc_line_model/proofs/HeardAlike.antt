@@ -1,4 +1,4 @@
--- Where all terminals hear the same, what trust asks of it is what it asks of one hearing.
+-- If all terminals hear the same, trust requires of it what it requires of one hearing.
 use Rattle.std.proofs.Common.{inl, inr, ℕ, ◌<◌, List, refl, sym, ap, subst}
 use Rattle.bsc_frame.specs.declared.message.Message.{Message}
 use Rattle.bsc_frame.specs.declared.message.Message.TheVariants as m
@@ -8,7 +8,7 @@ use Rattle.bsc_bid.specs.Fair.{IsFairlyHeard, IsCallCutShort}
 use Rattle.bsc_line_model.specs.Hearing.{all_hear}
 use Rattle.bsc_line_model.specs.Trust.{IsMissed, IsCallFair, IsHeardFairly}
 
--- a call of which the EOT is left is missed
+-- a call of which EOT is heard is missed
 cut_is_missed : (z : List ℕ) (v : Message) → IsCallCutShort (m.Call z) v → IsMissed (Whole v)
 cut_is_missed z m.Eot f = tt
 cut_is_missed z _ f = absurd f
@@ -28,7 +28,7 @@ alike_is_fair (m.Text z) n h f = λ t less. f
 alike_is_fair m.Enq n h f = λ t less. f
 alike_is_fair (m.Reply r) n h f = λ t less. f
 
--- and back
+-- and conversely
 missed_is_fair : (z : List ℕ) (h : Heard) → IsMissed h → IsFairlyHeard (m.Call z) h
 missed_is_fair z Noise f = tt
 missed_is_fair z (Whole m.Eot) f = inr tt

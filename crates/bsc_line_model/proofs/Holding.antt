@@ -1,4 +1,4 @@
--- Who sends on a trusted line: the terminal that is polled; and no count mismatches there.
+-- The terminal that sends on a trusted line is the polled one, and no count mismatches there.
 use Rattle.std.proofs.Common.{◌≡◌, inl, inr, ℕ, ◌+◌, ◌<◌, Bool, true, false, ◌==◌, ◌||◌, List}
 use Rattle.std.proofs.Common.{length, IsTrue, Option, Err, refl, sym, ◌∙◌, ap, if◌then◌else◌}
 use Rattle.std.proofs.lemmas.Bool.{eqb-false}
@@ -31,7 +31,7 @@ use Rattle.bsc_line_model.specs.BidLaws.{BidLaws}
 use Rattle.bsc_line_model.proofs.Soundness.{sound}
 use Rattle.bsc_line_model.proofs.Stations.{same_or_not}
 
--- terminal t sends: it is the polled one, and its bid goes on
+-- terminal t sends: it is the polled one, and its bid is in progress
 pub record IsBidOf (task : Task) (pending : Option Transmission) (c : ControlValue)
     (ts : List TributaryValue) (t : ℕ) : Type 0 where
   pub terminal : t ≡ current c
@@ -60,7 +60,7 @@ bid_of (Polling replied) pending c ts t less sends k =
       | inr differ ↦ absurd ((k.others t less differ).mode sends)
     ]
 
--- who holds the line sends
+-- a terminal that holds the line sends
 holder_sends : (mode : Mode) → IsTrue (holds mode) → mode ≡ Sends
 holder_sends Sends h = refl
 holder_sends Control h = absurd (cc)
@@ -74,7 +74,7 @@ holds_polled l t is now less holder =
     (holder_sends (terminal_at l t).mode holder) (is.together now) in
     record { present = bid.terminal; replied = bid.replied; task = bid.polling }
 
--- where the channel is sound its sender's doubt is released by the spooled count
+-- if the channel is sound, its sender's doubt is released by the spooled count
 counts_match : (s : SenderValue) (q : QueueValue) (n : ℕ) (phase : Phase)
     → IsSpooled phase q.known n → Err e.CountMismatch ≡ told (release_in s q phase n).answer → ⊥
 counts_match s q n Idle is f = cc

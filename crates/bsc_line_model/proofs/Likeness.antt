@@ -1,6 +1,5 @@
--- Offers, flags and releases: where each terminal and what the control station keeps for it go
--- together as before, all
--- stations do.
+-- Offers, flags and releases: if each terminal and what the control station keeps for it fit
+-- together as before, all stations do.
 use Rattle.std.proofs.Common.{◌≡◌, ◌⊎◌, inl, inr, ℕ, ◌<◌, ◌≤◌, Bool, true, false, List, length}
 use Rattle.std.proofs.Common.{Option, None, Some, slice_set, refl, sym, ◌∙◌, ap, subst, arith}
 use Rattle.std.proofs.Common.{get_or-set_other, get_or-set_same}
@@ -37,8 +36,8 @@ use Rattle.bsc_line_model.specs.Together.{IsPolledBy, IsPolledWith, InTask}
 use Rattle.bsc_line_model.specs.BidLaws.{BidLaws}
 use Rattle.bsc_line_model.proofs.Stations.{same_or_not}
 
--- A terminal (x) and what the control station keeps for it (p) became u and q: they are as they
--- were to the invariant.
+-- A terminal (x) and what the control station keeps for it (p) became u and q, which differ from
+-- them only in what the invariant does not depend on.
 pub record IsLike (p : PeerValue) (x : TributaryValue) (q : PeerValue) (u : TributaryValue) : Type 0
   where
     pub terminal : q.terminal ≡ p.terminal
@@ -56,7 +55,7 @@ pub record IsLike (p : PeerValue) (x : TributaryValue) (q : PeerValue) (u : Trib
         InBid (outbound_at q k).sender.phase (outbound_at q k).queue u.receiver.alternation
         u.receiver.last (spool_at u.spools k).records f
 
--- the stations are like before
+-- the stations differ only in what the invariant does not depend on
 pub record AreLike (c : ControlValue) (ts : List TributaryValue) (d : ControlValue)
     (us : List TributaryValue) : Type 0 where
   pub current : current d ≡ current c
@@ -185,7 +184,7 @@ bid_up_like pending p x q u e k b =
       bid = k.bids_up b.flight b.bid;
     }
 
--- the stations go together as before
+-- the stations fit together as before
 pub together_like : (c : ControlValue) (ts : List TributaryValue) (d : ControlValue)
     (us : List TributaryValue) (task : Task) (pending : Option Transmission) → current c < length ts
     → AreLike c ts d us → InTask task pending c ts → InTask task pending d us
@@ -257,7 +256,7 @@ like_itself p x =
       bids_down = λ k f h. h;
     }
 
--- one terminal changed
+-- one terminal was replaced
 pub terminal_like : (c : ControlValue) (ts : List TributaryValue) (t : ℕ) (u : TributaryValue) → t
     < length ts → IsLike (peer_at c t) (terminal_in ts t) (peer_at c t) u
     → AreLike c ts c (slice_set ts t u)
@@ -279,7 +278,7 @@ terminal_like c ts t u there k =
           ];
     }
 
--- what the control station keeps for one terminal changed
+-- what the control station keeps for one terminal was replaced
 pub peer_like : (c : ControlValue) (ts : List TributaryValue) (t : ℕ) (q : PeerValue) → t
     < length c.peers → IsLike (peer_at c t) (terminal_in ts t) q (terminal_in ts t)
     → AreLike c ts (with_peer c t q) ts
@@ -301,7 +300,7 @@ peer_like c ts t q there k =
           ];
     }
 
--- flags of either
+-- flags at either end
 pub flags_like : (p : PeerValue) (x : TributaryValue) (for_it ready at_it : Bool)
     → IsLike p x (record p { urgent = for_it }) (record x { ready = ready; urgent = at_it })
 flags_like p x for_it ready at_it =
@@ -333,7 +332,7 @@ offer_at_like laws p x r short =
       bids_down = λ k f h. h;
     }
 
--- one selection address's queue and sender changed
+-- the queue and the sender of one selection address were replaced
 pub outbound_like : (p : PeerValue) (x : TributaryValue) (s : ℕ) (o : OutboundValue) → s
     < length p.outbounds →
     (RestsDown p x s → IsResting o.sender.phase o.queue (spool_at x.spools s).records) →
@@ -395,7 +394,7 @@ offer_for_like laws p x s r there short =
     (λ f h. laws.offer o.sender.phase o.queue x.receiver.alternation x.receiver.last
     (spool_at x.spools s).records f r short h)
 
--- a release by the spooled count: a doubt ends, and all else stays
+-- a release by the spooled count: the doubt ends, and all else stays
 released_rests : (laws : BidLaws) (s : SenderValue) (q : QueueValue) (spooled : List (List ℕ))
     (phase : Phase) → s.phase ≡ phase → IsResting s.phase q spooled →
     IsResting (release_in s q phase (length spooled)).sender.phase

@@ -1,4 +1,4 @@
--- A new line.
+-- A new line keeps the invariant.
 use Rattle.std.proofs.Common.{◌≡◌, ℕ, ◌<◌, Bool, List, [], length, None, get_or, refl, sym, ◌∙◌, ap}
 use Rattle.std.proofs.Common.{subst, arith}
 use Rattle.std.proofs.lemmas.List.{length-map}
@@ -24,7 +24,7 @@ use Rattle.bsc_line_model.specs.Kept.{AreStations, IsTuned, IsLine, AreNewTermin
 use Rattle.bsc_tributary.specs.Kept.{IsNewTerminal}
 use Rattle.bsc_line_model.proofs.Stations.{peer_terminal}
 
--- nothing to send and nothing received
+-- a channel with nothing to send and nothing received
 empty_rests : (phase : Phase) (q : QueueValue) (spooled : List (List ℕ)) → IsQueue q → phase ≡ Idle
     → q.known ≡ 0 → spooled ≡ [] → IsResting phase q spooled
 empty_rests phase q spooled h idle none empty =
@@ -61,7 +61,7 @@ new_stations setup given poll_list c ts new is made =
           };
     }
 
--- no bid goes on on a new line
+-- no bid is in progress on a new line
 no_bids_on_new_line : (setup : SetupValue) (given : List TerminalValue) (poll_list : List ℕ)
     (c : ControlValue) (ts : List TributaryValue) → IsNewControl setup given poll_list c
     → IsControl c → AreNewTerminals setup given ts → NoBids c ts

@@ -9,11 +9,11 @@ use Rattle.bsc_line_model.specs.Line.{LineValue, terminal_at, terminal_count, Is
 use Rattle.bsc_line_model.specs.Line.{channel_of}
 use Rattle.bsc_line_model.specs.ChannelSteps.{MovesNothing, MovesAddressed}
 
--- records landed, or the sending end learnt
+-- records arrived, or the sending end learnt that they arrived
 abbrev pub IsMoved : Channel → Channel → Type 0
 IsMoved old new = ((k : ℕ) × Makes (Land k) old new) ⊎ Makes Learn old new
 
--- a channel is as it was, or it is the addressed one and moved
+-- a channel is unchanged, or it is the addressed one and moved
 abbrev pub MovesIfAddressed : Option (ℕ × Way) → ℕ → Way → Channel → Channel → Type 0
 MovesIfAddressed addressed t way old new = (new ≡ old)
     ⊎ ((addressed ≡ Some (t, way)) × IsMoved old new)
@@ -22,7 +22,7 @@ abbrev pub EachMoves : Option (ℕ × Way) → LineValue → LineValue → Type 
 EachMoves addressed old new = (t : ℕ) (way : Way) → IsChannel old t way
     → MovesIfAddressed addressed t way (channel_of old t way) (channel_of new t way)
 
--- there is such a channel or not
+-- a number is less than another or not
 pub less_or_not : (a b : ℕ) → (a < b) ⊎ (a < b → ⊥)
 less_or_not a b =
     elim (cases_lt a b) [ inl less ↦ inl less | inr far ↦ inr (λ less. omega (arith, less, far)) ]
@@ -47,7 +47,7 @@ channel_or_not l t way =
 same_channel : (a b : ℕ × Way) → Some a ≡ Some b → a ≡ b
 same_channel a b e = cc
 
--- the others stay
+-- the other channels stay
 others_stay : (a : ℕ × Way) (old new : LineValue) → EachMoves (Some a) old new
     → (u : ℕ) (other : Way) → IsChannel old u other → (u ≡ a.0 → other ≡ a.1 → ⊥)
     → channel_of new u other ≡ channel_of old u other

@@ -1,4 +1,4 @@
--- On a new line nothing is offered, known or spooled.
+-- On a new line, no record is offered, known or spooled.
 use Rattle.std.proofs.Common.{◌≡◌, ℕ, ◌<◌, List, [], length, get_or, sym, ◌∙◌, ap, subst, arith}
 use Rattle.std.proofs.lemmas.List.{get_or-replicate}
 use Rattle.bsc_spool.specs.Queue.{QueueValue, queue_of}

@@ -1,4 +1,4 @@
--- Delivery by a number: a visit and a round of exactly as many transmissions as their lengths.
+-- Delivery within a visit and a round of exactly as many transmissions as their lengths.
 use Rattle.std.proofs.Common.{◌≡◌, ◌≢◌, inl, inr, ℕ, ◌+◌, ◌<◌, ◌≤◌, true, false, Bool, nat_eq}
 use Rattle.std.proofs.Common.{List, [], length, get_or, slice_get, Option, Some, Result, Ok}
 use Rattle.std.proofs.Common.{Err, refl, sym, ◌∙◌, ap, subst, arith, if◌then◌else◌}
@@ -86,7 +86,7 @@ own_address : (x : TerminalValue) (way : Way)
 own_address x FromTerminal within = refl
 own_address x (ToTerminal s) within = slice_get-get_or x.selects s x.poll (within s refl)
 
--- a visit begins where the first call of an entry is pending
+-- a visit begins if the first call of an entry is pending
 first_calm : (l : LineValue) (t : ℕ) → IsGood l → t < terminal_count l → IsCalmAt l t → IsCalm l t
 first_calm l t g there c =
     record {
@@ -138,7 +138,7 @@ begins_next l place g h calm =
       calm = λ j less. first_calm l (entry_at l j) g (entry_there l j g less) (calm j less);
     }
 
--- a visit that begins
+-- a visit from its beginning
 terminal_of : (l : LineValue) (place : ℕ) → BeginsVisit l place → current l.control
     ≡ entry_at l place
 terminal_of l place b = ap (λ (n : ℕ). terminal_of_entry l.control n) b.called.place
@@ -181,7 +181,7 @@ calm_at l t g there c =
         (g.line.stations.members t there).addresses in
         omega (arith, past, same, of_peer.outbounds)
 
--- while a call is pending no bid goes on
+-- while a call is pending, no bid is in progress
 no_bids_by : (l : LineValue) (way : Way) (a : List ℕ) → IsGood l → IsTaskOf way l.control.task
     → l.pending ≡ Some (record { speaker = sp.Control; message = m.Call a })
     → NoBids l.control l.terminals
@@ -202,7 +202,7 @@ rests_in mode.Control phase count never is = is
 rests_in (mode.Receiving s) phase count never is = is.0
 rests_in mode.Sending phase count never is = absurd (never refl)
 
--- where nothing waits for terminal t all is delivered
+-- if no record waits for terminal t, all are delivered
 delivered_at : (laws : VisitLaws) (l : LineValue) (place t : ℕ) (way : Way) → IsGood l
     → Calls l place way → t < terminal_count l → IsCalmAt l t → IsEmptied l t → IsDelivered l t
 delivered_at laws l place t called g h there c e = by_way
@@ -235,7 +235,7 @@ delivered_at laws l place t called g h there c e = by_way
         (c.sure_down s) (e.down s within) in
         record { known = x.0; spooled = x.1 }
 
--- the end of a walk
+-- the line at the end of a walk
 ends : (P : LineValue → Type 0) (new : LineValue) (r : Result (Unit {0}) Stopped) → Comes P 0 r new
     → (r ≡ Ok tt) × P new
 ends P new (Ok done) x = (refl, subst P (sym x.rest) x.holds)
@@ -247,7 +247,7 @@ place_there l place g b =
     subst (λ (n : ℕ). n < length l.control.poll_list) b.called.place
     g.line.stations.control.entries.place
 
--- the place of an entry, and after the last one the first
+-- the place of an entry; after the last one comes the first
 wrap : (n : ℕ) → 0 < n → wrapped n 0 ≡ 0
 wrap n less = not_last 0 n less (nat_eq 0 n) refl
 
@@ -379,7 +379,7 @@ visit_done laws old new place result line b runs delays =
       },
     )
 
--- as it is said of runs
+-- the same in terms of runs
 pub delivers_visit : VisitLaws → RunsDeliverVisit
 delivers_visit laws old new events result line runs place h =
     visit_done laws old new place result line h.begins

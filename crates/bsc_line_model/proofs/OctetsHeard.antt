@@ -11,13 +11,13 @@ use Rattle.bsc_line_model.specs.Hearing.{heard_in}
 use Rattle.bsc_line_model.specs.Trust.{is_call}
 use Rattle.bsc_line_model.specs.Octets.{IsFairIn, FairInOctets}
 
--- what octets are heard as is what they are
+-- octets decode as what they are
 pub record Reads : Type 0 where
   pub whole : (octets : List ℕ) (w : Message) → (heard octets ≡ Whole w) ↔ Spells octets w
   pub failed : (octets : List ℕ) → (heard octets ≡ Failed) ↔ IsFailed octets
   pub noise : (octets : List ℕ) → (heard octets ≡ Noise) ↔ IsNoise octets
 
--- a call that is cut short is a call, of which EOT is heard
+-- a message that is cut short is a call of which EOT is heard
 cut_short : (sent w : Message) → IsCallCutShort sent w → IsTrue (is_call sent) × (w ≡ m.Eot)
 cut_short (m.Call a) m.Eot c = (refl, refl)
 cut_short _ _ c = absurd c

@@ -1,4 +1,4 @@
--- What is offered grows by the accepted offers, trusted or not; and a line keeps its channels.
+-- The offered records grow by the accepted offers, trusted or not, and a line keeps its channels.
 use Rattle.std.proofs.Common.{◌≡◌, ◌≢◌, ◌⊎◌, ◌++◌, ◌&&◌, inl, inr, ℕ, ◌<◌, Bool, true, false}
 use Rattle.std.proofs.Common.{nat_eq, List, [], ◌∷◌, length, slice_set, Option, None, Some, Ok}
 use Rattle.std.proofs.Common.{refl, sym, ◌∙◌, ap, subst, arith, if◌then◌else◌}
@@ -127,7 +127,7 @@ carries_offered hear old new t way k is =
     none_offered old new t way (carry_offered old new k.sent.speaker k.sent.message (hear k.sent) t
     way k.carried is.there)
 
--- two channels are the same or not
+-- two ways are the same or not
 same_way_or_not : (way mine : Way) → (way ≡ mine) ⊎ (way ≡ mine → ⊥)
 same_way_or_not FromTerminal FromTerminal = inl refl
 same_way_or_not FromTerminal (ToTerminal k) = inr (λ e. cc)
@@ -282,7 +282,7 @@ channel_stays event old new t way d is =
           way_stays (terminal_at old t) (terminal_at new t) way (same.each t is.there) is.its_way;
     }
 
--- and has no others
+-- and gets no others
 pub channel_was : (event : Event) (old new : LineValue) (t : ℕ) (way : Way)
     → Does event old (Ok tt) new → IsChannel new t way → IsChannel old t way
 channel_was event old new t way d is =

@@ -1,6 +1,5 @@
 -- At most one terminal answers a transmission of the control station that is heard fairly: the one
--- whose address all heard
--- called, or the addressed one.
+-- whose address all heard called, or the addressed one.
 use Rattle.std.proofs.Common.{None, ◌≡◌, ◌⊎◌, inl, inr, ℕ, ◌<◌, true, false, List, IsTrue, is_some}
 use Rattle.std.proofs.Common.{Option, Some, refl, sym, ap, subst}
 use Rattle.bsc_frame.specs.declared.message.Message.{Message}
@@ -33,25 +32,25 @@ pub record IsAddressed (addressed : Option (ℕ × Way)) (t : ℕ) : Type 0 wher
   pub way : Way
   pub is : addressed ≡ Some (t, way)
 
--- what is no call is EOT or neither
+-- a transmission that is not a call is EOT, or neither
 no_call_or_eot : (h : Heard) → IsNotCalled h → IsNoCall h ⊎ (h ≡ Whole m.Eot)
 no_call_or_eot (Whole m.Eot) f = inr refl
 no_call_or_eot (Whole (m.Call z)) f = absurd (f z refl)
 no_call_or_eot _ f = inl tt
 
--- who sends or receives is addressed
+-- a terminal that sends or receives is addressed
 tuned_addressed : (addressed : Option (ℕ × Way)) (t : ℕ) (mode : Mode) → IsTuned addressed t mode
     → (mode ≡ Control → ⊥) → IsAddressed addressed t
 tuned_addressed addressed t Control k f = absurd (f refl)
 tuned_addressed addressed t (Receiving s) k f = record { way = ToTerminal s; is = k }
 tuned_addressed addressed t Sending k f = record { way = FromTerminal; is = k }
 
--- who is silent does not answer
+-- a terminal that sends nothing does not answer
 silent : (sent : Option Message) → sent ≡ None → IsTrue (is_some sent) → ⊥
 silent None e answered = let no : false ≡ true = answered in cc
 silent (Some w) e answered = cc
 
--- a terminal that answers what is no call is addressed
+-- a terminal that answers a transmission that is not a call is addressed
 answers_addressed : (addressed : Option (ℕ × Way)) (t : ℕ) (x u : TributaryValue) (h : Heard)
     (sent : Option Message) → AfterHearing x h u sent → IsTrue (is_some sent)
     → IsTuned addressed t x.mode → IsNotCalled h → IsAddressed addressed t
@@ -96,14 +95,14 @@ called_addressed laws new ts t x u a sent b after answered (Selection s) e =
           });
     }
 
--- nobody answers a call that is missed
+-- no terminal answers a call that is missed
 missed_silent : (x u : TributaryValue) (h : Heard) (sent : Option Message) → AfterHearing x h u sent
     → IsMissed h → sent ≡ None
 missed_silent x u Noise sent after f = (after.noise refl).1
 missed_silent x u (Whole m.Eot) sent after f = (after.gives_up_line tt).1
 missed_silent x u _ sent after f = absurd f
 
--- what is the case where a transmission of the control station is heard on a line that is trusted
+-- the premises: the terminals hear a transmission of the control station, and the line is trusted
 -- after it
 pub record Carried (w : Message) (hears : ℕ → Heard) (old new : LineValue) : Type 0 where
   pub line : IsLine old
@@ -115,7 +114,7 @@ pub record Answers (hears : ℕ → Heard) (old new : LineValue) (t : ℕ) : Typ
   pub there : t < terminal_count old
   pub sent : IsTrue (is_some (answer_of old.terminals hears new.terminals t))
 
--- a message that is no call: the addressed one answers
+-- a message that is not a call: the addressed terminal answers
 other_answers : (w : Message) (hears : ℕ → Heard) (old new : LineValue) (t : ℕ)
     → Carried w hears old new → is_call w ≡ false → Answers hears old new t
     → IsAddressed old.addressed t
@@ -128,7 +127,7 @@ other_answers w hears old new t k never a =
     (fair_not_called w (hears t) never
     (each_fairly w (terminal_count old) hears never was.1 t a.there))
 
--- a call that all hear: the called one
+-- a call that all hear: the called terminal answers
 call_answers : (laws : NamesOwn) (w : Message) (z : List ℕ) (hears : ℕ → Heard)
     (old new : LineValue) (t : ℕ) → Carried w hears old new
     → AllHear (terminal_count old) hears (m.Call z) → Answers hears old new t

@@ -35,7 +35,7 @@ use Rattle.bsc_control.proofs.Calls.{HasPlaces, places, same_places, current_the
 use Rattle.bsc_line_model.proofs.Stations.{same_or_not}
 use Rattle.bsc_line_model.proofs.QueueSteps.{begin_queue, silence_queue}
 
--- what is kept for a terminal is written, with the same queues
+-- what is kept for a terminal is replaced, with the same queues
 written_queues : (c : ControlValue) (e : ℕ) (p : PeerValue) (t k : ℕ) → e < length c.peers
     → p.outbounds ≡ (peer_at c e).outbounds → (outbound_of (with_peer c e p) t k).queue
     ≡ (outbound_of c t k).queue
@@ -52,7 +52,7 @@ written_queues c e p t k there same =
           (get_or-set_other c.peers e t p no_peer other)
     ]
 
--- a call leaves all queues as they were
+-- a call leaves all queues unchanged
 polls_queues : (c : ControlValue) (place failures t k : ℕ) → terminal_of_entry c place
     < length c.peers → (outbound_of (poll_call_step c place failures).control t k).queue
     ≡ (outbound_of c t k).queue
@@ -127,7 +127,7 @@ stepped_queues c s step t k there select =
           no_peer other))
     ]
 
--- what it does then changes no queue
+-- the act that follows changes no queue
 performs_queues : (c : ControlValue) (s : ℕ) (act : Act) (after : After) (t k : ℕ) → HasPlaces c
     → (outbound_of (act_step c s act after).control t k).queue ≡ (outbound_of c t k).queue
 performs_queues c s (a.Send text) after t k places = refl
@@ -147,7 +147,7 @@ acted_queues c s step after t k places select =
     (sym (performs_queues d s step.act after t k still))
     (stepped_queues c s step t k (current_there c places) select)
 
--- a step that leaves its queue as it was leaves all so
+-- a step that leaves its queue unchanged leaves all unchanged
 acted_still : (c : ControlValue) (s : ℕ) (step : SenderStep) (after : After) (t k : ℕ) → HasPlaces c
     → s < length (peer c).outbounds → step.queue ≡ (outbound_at (peer c) s).queue
     → (outbound_of (bid_step c s step after).control t k).queue ≡ (outbound_of c t k).queue
@@ -158,8 +158,7 @@ acted_still c s step after t k places select same =
           ∙ ap (λ (n : ℕ). (outbound_of c t n).queue) (sym now.select)
     ]
 
--- what a queue is once the control station has heard this: as it was, or what a reply leaves of it
--- in its bid
+-- a queue once the control station has heard this: unchanged, or as a reply leaves it in its bid
 pub record LearnsDown (c : ControlValue) (h : Heard) (d : ControlValue) (t k : ℕ) : Type 0 where
   pub terminal : t ≡ current c
   pub task : c.task ≡ Sending k
@@ -232,7 +231,7 @@ polling_queues c replied h rooms t k places = by_heard h
         receives_queues c replied (heard_step (peer c).receiver (peer c).spool Noise (peer c).urgent
         rooms) t k places
 
--- what the task needs of the selection address is there
+-- the selection address that the task requires exists
 pub selected_there : (c : ControlValue) (s : ℕ) (enquired : Bool) → IsControl c → c.task
     ≡ Selecting s enquired → s < length (peer c).outbounds
 selected_there c s enquired is task =
@@ -278,7 +277,7 @@ outbound_queue c d h out t k is row =
     in_task (Polling replied) e same =
         inl (same ∙ polling_queues c replied h (rooms_after c h d) t k listed)
 
--- a silence leaves all queues as they were
+-- a silence leaves all queues unchanged
 selects_again_queues : (c : ControlValue) (s : ℕ) (enquired over : Bool) (t k : ℕ) → HasPlaces c →
     (outbound_of (if over then next_call_step c (Selection s) else answer_step
     (record c { failures = c.failures + 1 }) (repeated c s enquired)).control t k).queue

@@ -1,6 +1,5 @@
--- A poll where all is heard: after the call, two transmissions a block, and EOT, everything that
--- waited is delivered
--- and known, and the first call of the next entry is pending.
+-- A poll in which all is heard: after the call, two transmissions for each block, and EOT, all
+-- records that waited are delivered and known, and the first call of the next entry is pending.
 use Rattle.std.proofs.Common.{◌≡◌, ◌≢◌, ◌⊎◌, inl, inr, ℕ, zero, suc, ◌+◌, ◌*◌, ◌^◌, ◌-◌, ◌<◌}
 use Rattle.std.proofs.Common.{false, List, length, Option, None, Some, Result, refl}
 use Rattle.std.proofs.Common.{sym, ◌∙◌, ap, subst, arith}
@@ -58,14 +57,15 @@ use Rattle.bsc_line_model.proofs.Walking.{IsGood, good_places, Walks, Stepped, o
 use Rattle.bsc_line_model.proofs.Selections.{VisitLaws, Comes, Calls, known_queue, current_same}
 use Rattle.bsc_bid.proofs.Answering.{no_reply}
 
--- the poll of terminal e goes on, with n blocks to send, and what the terminal sent is pending
+-- the poll of terminal e is in progress, with n blocks to send, and the terminal's message is
+-- pending
 pub record IsInPoll (l : LineValue) (e place n : ℕ) : Type 0 where
   pub out : Option Message
   pub pending : l.pending ≡ sent_by (sp.Terminal e) out
   pub goes_on : GoesOnUp (terminal_at l e) out n
   pub polled : IsPolled l.control place
 
--- the others are silent while terminal e does this
+-- the others are silent while terminal e acts
 one_acts : (e : ℕ) (v : Message) (old new : LineValue) (place n : ℕ) → e < length old.terminals
     → IsCarriedDown v (λ t. Whole v) old new → IsPolled old.control place →
     ((t : ℕ) → t < length old.terminals → t ≢ e
@@ -98,7 +98,7 @@ one_acts e v old new place n there h polled others this = (
   },
 )
 
--- while a polling address is called no terminal sends
+-- while a polling address is called, no terminal sends
 pub no_bids_at_poll : (l : LineValue) (a : List ℕ) (replied : Replied) → IsGood l → l.control.task
     ≡ k.Polling replied → l.pending ≡ Some (record { speaker = sp.Control; message = msg.Call a })
     → (t : ℕ) → t < length l.terminals → HasNoBid (peer_at l.control t) (terminal_at l t)
@@ -171,7 +171,7 @@ call_up laws l new n g task sure count is h =
     (g.line.stations.members e there).tributary.ready.queue (rests e there) sure named count
     (h.terminals.each e there))
 
--- the text that is pending has not landed
+-- the records of the pending text have not arrived yet
 not_landed_up : (pending : Option Transmission) (p : PeerValue) (e : ℕ) (x : TributaryValue)
     (b : SentBlock) (t : TextValue) → pending
     ≡ Some (record { speaker = sp.Terminal e; message = msg.Text t }) → x.sender.phase
@@ -232,7 +232,7 @@ text_up l new place n b g polled i calm delays is h =
       stays = y.2;
     }
 
--- its acknowledgement is heard: the next block, or EOT
+-- the terminal hears its acknowledgement: the next block, or EOT
 ack_up : (laws : VisitLaws) (l new : LineValue) (place n : ℕ) (b : SentBlock) → IsGood l
     → IsPolled l.control place → IsInBlockUp (terminal_at l (current l.control)) n b →
     IsCarriedDown (m.Reply (ack b.alternation)) (λ z. Whole (m.Reply (ack b.alternation))) l
@@ -260,9 +260,8 @@ ack_up laws l new place n b g polled i h =
     (known_queue x.queue x.sender.phase b ready.queue i.phase ready.counts)
     (h.terminals.each e there))
 
--- the channel from terminal e is delivered, all others are as they were, and the first call of the
--- next entry is
--- pending, by the lists as they are
+-- the records on the channel from terminal e are delivered, all other channels are unchanged, and
+-- the first call of the next entry, by the lists as they are, is pending
 pub record IsPollDone (e place : ℕ) (old new : LineValue) : Type 0 where
   pub good : IsGood new
   pub calls : Calls new (place_after old.control.poll_list place) (way_from (peer new.control) 0)
@@ -375,7 +374,7 @@ exchange_up_at laws at more e l new r place n g here h calm w =
     (subst (λ (z : ℕ). IsInPoll l z place (suc n)) (sym here) h)
     (subst (λ (z : ℕ). (peer_at l.control z).urgent ≡ false) (sym here) calm) w)
 
--- the channel was moved before, too
+-- a channel that moved before, too
 poll_since : (e place : ℕ) (a b c : LineValue) → Stays e FromTerminal a b → IsPollDone e place b c
     → IsPollDone e place a c
 poll_since e place a b c x y =
@@ -389,7 +388,7 @@ poll_since e place a b c x y =
       stays = stays_then e FromTerminal a b c x y.stays;
     }
 
--- n blocks, two transmissions each, and EOT
+-- n blocks, two transmissions for each, and EOT
 pub blocks_up : (laws : VisitLaws) (n at more count e place : ℕ) (l new : LineValue)
     (r : Result (Unit {0}) Stopped) → IsGood l → current l.control ≡ e → IsInPoll l e place n
     → (peer_at l.control e).urgent ≡ false → count ≡ 2 * n + 1 + more → Walks at count l r new →

@@ -1,4 +1,4 @@
--- The place of the first element that passes a test, where one element more stands at the front.
+-- The place of the first element that passes a test, when one more element is put at the front.
 use Rattle.std.proofs.Common.{◌≡◌, ℕ, ◌+◌, Bool, true, false, not, nat_lt, List, ◌∷◌, length}
 use Rattle.std.proofs.Common.{position, option_map, None, Some, refl, ◌∙◌, ap, arith, if◌then◌else◌}
 use Rattle.std.proofs.lemmas.Bool.Decides.{nat_tests}

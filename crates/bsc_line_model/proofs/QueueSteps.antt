@@ -30,7 +30,7 @@ use Rattle.bsc_tributary.specs.Tributary.{spool_at, without_line, answer_step, a
 use Rattle.bsc_tributary.specs.Tributary.{selection_step, call_step, mode_step, silence_in}
 use Rattle.bsc_tributary.specs.Tributary.{rooms_after}
 
--- a begin leaves the queue as it was
+-- the beginning of a bid leaves the queue unchanged
 pub begin_queue : (s : SenderValue) (q : QueueValue) → (begin_step s q).queue ≡ q
 begin_queue s q = by_next (next_block q)
   where
@@ -60,7 +60,7 @@ silence_queue s q = by_phase s.phase
     by_phase (Unanswered b) = failed_queue s q (InDoubt b.count) a.Enq
     by_phase (Held end x) = failed_queue s q Idle a.Enq
 
--- a call leaves a terminal's queue as it was
+-- a call leaves a terminal's queue unchanged
 poll_queue : (x : TributaryValue) → (poll_step x).tributary.queue ≡ x.queue
 poll_queue x =
     by_tests (is_in_doubt (without_line x).sender.phase) (nat_eq (length (waiting x.queue)) 0)
@@ -96,8 +96,8 @@ call_queue x called.Polling rooms = poll_queue x
 call_queue x (called.Selection s) rooms = selection_queue x s rooms.first
 call_queue x called.Other rooms = refl
 
--- what a terminal's queue is once it has heard this: as it was, or what a reply leaves of it while
--- it sends
+-- a terminal's queue once it has heard this: unchanged, or as a reply leaves it while the terminal
+-- sends
 pub record LearnsUp (x : TributaryValue) (h : Heard) (u : TributaryValue) : Type 0 where
   pub mode : x.mode ≡ Sending
   pub no_call : IsNoCall h
@@ -131,7 +131,7 @@ terminal_queue x u (Whole (m.Reply r)) out row = no_call_queue x u (Whole (m.Rep
 terminal_queue x u Failed out row = no_call_queue x u Failed out tt row
 terminal_queue x u Noise out row = no_call_queue x u Noise out tt row
 
--- a silence leaves it as it was
+-- a silence leaves the queue unchanged
 pub terminal_silent_queue : (x u : TributaryValue) (out : Option Message) → ActsOnSilence x u out
     → u.queue ≡ x.queue
 terminal_silent_queue x u out row = ap (λ (o : TributaryStep). o.tributary.queue) row

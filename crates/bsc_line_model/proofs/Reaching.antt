@@ -13,7 +13,7 @@ use Rattle.bsc_line_model.specs.ChannelSteps.{MovesOne, MovesAddressed, StepsCha
 use Rattle.bsc_line_model.specs.Headline.{spooled_on, ReachesAddressed}
 use Rattle.bsc_line_model.proofs.OfferedGrows.{same_channel_or_not}
 
--- where the channel that moves keeps what arrived, all do
+-- if the channel that moves keeps the records that arrived, all channels do
 one_keeps : (old new : LineValue) (t : ℕ) (mine : Way) (move : Move) → MovesOne t mine move old new
     → spooled_on new t mine ≡ spooled_on old t mine → (u : ℕ) (way : Way) → IsChannel old u way
     → spooled_on new u way ≡ spooled_on old u way
@@ -25,7 +25,7 @@ one_keeps old new t mine move moves same u way is =
       | inr apart ↦ ap (λ (c : Channel). c.spooled) (moves.others u way is apart)
     ]
 
--- records land on the addressed channel
+-- records arrive on the addressed channel
 lands_there : (a : ℕ × Way) (old new : LineValue) (k : ℕ) → MovesOne a.0 a.1 (Land k) old new
     → (t : ℕ) (way : Way) → IsChannel old t way → (spooled_on new t way ≡ spooled_on old t way)
     ⊎ (Some a ≡ Some (t, way))

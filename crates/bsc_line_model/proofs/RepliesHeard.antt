@@ -1,6 +1,5 @@
 -- The control station's reply in a poll, or its ENQ in a selection, is heard: the terminal that is
--- out of control mode
--- acts on it, and the others do nothing.
+-- out of control mode acts on it, and the others do nothing.
 use Rattle.std.proofs.Common.{◌≡◌, ◌⊎◌, inl, inr, ℕ, ◌<◌, Bool, true, false, List, length, Option}
 use Rattle.std.proofs.Common.{None, Some, slice_set, refl, sym, ◌∙◌, ap, subst, arith}
 use Rattle.std.proofs.Common.{get_or-set_other, get_or-set_same, if◌then◌else◌}
@@ -90,7 +89,7 @@ replied_up laws p e r h x u out b is fair row =
           (Back r) bid),
     )))
 
--- where only one terminal hears, and is then in control mode, all are
+-- if only one terminal hears, and is then in control mode, all are
 pub one_modes : (old : List TributaryValue) (hears : ℕ → Heard) (new : List TributaryValue)
     (addressed : Option (ℕ × Way)) (e : ℕ) (way : Way) → length new ≡ length old → addressed
     ≡ Some (e, way) → AreTuned addressed old → OneHears old hears new e → (terminal_in new e).mode
@@ -105,7 +104,7 @@ one_modes old hears new addressed e way count is tuned one here t less =
           (tuned t before)))
     ]
 
--- no bid goes on with the others
+-- no bid with the others is in progress
 pub others_unheard : (c : ControlValue) (old : List TributaryValue) (hears : ℕ → Heard)
     (new : List TributaryValue) (e : ℕ) → length new ≡ length old → OneHears old hears new e
     → NoOtherBids c old e → NoOtherBids c new e
@@ -114,7 +113,7 @@ others_unheard c old hears new e count one others t less differ =
     subst (λ (y : TributaryValue). HasNoBid (peer_at c t) y) (sym (one.others t before differ))
     (others t before differ)
 
--- the poll goes on
+-- the poll continues
 pub polling_replied : (laws : BidLaws) (c : ControlValue) (old : List TributaryValue)
     (addressed : Option (ℕ × Way)) (w : Message) (hears : ℕ → Heard) (new : List TributaryValue)
     (replied : Replied) → current c < length old →
@@ -181,7 +180,7 @@ abbrev AnswersEnq : PeerValue → ℕ → ℕ → TributaryStep → List Tributa
 AnswersEnq p e s step ts = HasNoBid p step.tributary × IsFresh step.tributary s
     × IsSelectedWith (sent_by (sp.Terminal e) step.sent) true p e s step.tributary ts
 
--- with a selected terminal that replied no bid goes on, and it stays fresh
+-- no bid with a selected terminal that replied is in progress, and the terminal stays fresh
 still_no_bid : (p : PeerValue) (x : TributaryValue) (s : ℕ) (z : SpoolValue) (u : TributaryValue)
     → HasNoBid p x → x.mode ≡ Receiving s → s < length x.spools → z.records
     ≡ (spool_at x.spools s).records →
@@ -233,7 +232,7 @@ enq_terminal p e s x ts Nak room (inr k) q mode there = absurd (cc)
 enq_terminal p e s x ts Rvi room (inl k) q mode there = absurd (cc)
 enq_terminal p e s x ts Rvi room (inr k) q mode there = absurd (cc)
 
--- ENQ is heard whole, or as noise
+-- ENQ is heard whole or as noise
 abbrev pub IsEnqHeard : Heard → Type 0
 IsEnqHeard h = (h ≡ Whole m.Enq) ⊎ (h ≡ Noise)
 

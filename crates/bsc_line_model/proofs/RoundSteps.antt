@@ -1,6 +1,5 @@
--- A round of the poll list where all is heard: a visit of each entry, in which nothing waits any
--- more for a terminal
--- that was visited before.
+-- A round of the poll list in which all is heard: a visit of each entry, in which no record waits
+-- for a terminal that was visited before.
 use Rattle.std.proofs.Common.{◌≡◌, ◌≢◌, inl, inr, ℕ, zero, suc, ◌+◌, ◌<◌, true, false, Bool}
 use Rattle.std.proofs.Common.{nat_eq, is_some, position, List, ◌∷◌, length, drop, get_or, Option}
 use Rattle.std.proofs.Common.{option_map, None, Some, Result, refl, sym, ◌∙◌, ap, subst, arith, if◌then◌else◌}
@@ -25,7 +24,7 @@ use Rattle.bsc_line_model.proofs.Visits.{StaysBut, but_same, IsCalmAt, IsVisited
 use Rattle.bsc_line_model.proofs.Visits.{selections_length, same_lengths, visit_from}
 use Rattle.bsc_line_model.proofs.VisitCounts.{visit_is, no_selections}
 
--- one more was visited
+-- one more terminal was visited
 pub seen_more : (t e : ℕ) (seen : List ℕ) → t ≢ e → is_seen t (e ∷ seen) ≡ is_seen t seen
 seen_more t e seen differ =
     let no : nat_eq t e ≡ false = grind (arith, nat_tests) in
@@ -41,13 +40,13 @@ seen_now t e seen same =
     let yes : nat_eq t e ≡ true = grind (arith, nat_tests) in
     ap (is_some {T = ℕ}) (position_first (nat_eq t) e seen yes)
 
--- nothing waits on the channels of terminal t
+-- no record waits on the channels of terminal t
 pub record IsEmptied (l : LineValue) (t : ℕ) : Type 0 where
   pub down : (s : ℕ) → s < length (peer_at l.control t).outbounds
       → block_count (outbound_of l.control t s).queue ≡ 0
   pub up : block_count (terminal_at l t).queue ≡ 0
 
--- the round has come to entry k
+-- the round has reached entry k
 pub record IsRoundAt (start l : LineValue) (k : ℕ) (seen : List ℕ) : Type 0 where
   pub good : IsGood l
   pub list : l.control.poll_list ≡ start.control.poll_list
@@ -60,7 +59,7 @@ pub record IsRoundAt (start l : LineValue) (k : ℕ) (seen : List ℕ) : Type 0 
   pub fresh : (t : ℕ) → t < length start.terminals → is_seen t seen ≡ false → visit_length l t
       ≡ visit_length start t
 
--- a visited terminal
+-- the length of a visit of a terminal that was visited before
 emptied_length : (l : LineValue) (t : ℕ) → IsEmptied l t → visit_length l t ≡ 2
 emptied_length l t h =
     visit_is l t ∙ ap (λ (n : ℕ). n + poll_length (block_count (terminal_at l t).queue))
@@ -79,7 +78,7 @@ still_emptied e t a l less differ h x =
       up = ap block_count (h.queue t less differ) ∙ x.up;
     }
 
--- the others' lengths
+-- the lengths of the visits of other terminals
 other_length : (e t : ℕ) (a l : LineValue) → t < length a.terminals → t ≢ e → StaysBut e a l
     → visit_length l t ≡ visit_length a t
 other_length e t a l less differ h =
@@ -94,7 +93,7 @@ other_length e t a l less differ h =
     ∙ ap (λ (x : QueueValue). selections_length p 0 (length p.outbounds)
     + poll_length (block_count x)) (h.queue t less differ) ∙ sym (visit_is a t)
 
--- the others stay calm
+-- the other terminals stay ready for a visit
 pub still_calm : (e t : ℕ) (a l : LineValue) → t < length a.terminals → t ≢ e → StaysBut e a l
     → IsCalmAt a t → IsCalmAt l t
 still_calm e t a l less differ h c =

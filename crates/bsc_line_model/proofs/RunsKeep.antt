@@ -26,7 +26,7 @@ use Rattle.bsc_line_model.proofs.Reaching.{reaches}
 abbrev Answer : Type 0
 Answer = Result (Unit {0}) Stopped
 
--- the events that are accepted, where the first of them is at this place
+-- the events that are accepted, if the first of them is at this place
 abbrev accepted_from : ℕ → List Event → Answer → List Event
 accepted_from at xs (Ok done) = xs
 accepted_from at xs (Err stopped) = take (stopped.at - at) xs
@@ -49,7 +49,8 @@ none_accepted : (at : ℕ) (x : Event) (xs : List Event) (s : Stopped) → s.at 
 none_accepted at x xs s here = let count : s.at - at ≡ 0 = omega arith in
     ap (λ (n : ℕ). take n (x ∷ xs)) count
 
--- what a run leaves is a line, and was trusted all along where it is trusted
+-- a run leaves a line that keeps the invariant, and was trusted all along if it is trusted at the
+-- end
 pub run_line : (at : ℕ) (old new : LineValue) (xs : List Event) (r : Answer) → IsLine old
     → RunsFrom at old xs r new → IsLine new
 run_line at old new [] (Ok done) line k = subst IsLine (sym k) line
@@ -88,7 +89,7 @@ run_channel at old new (x ∷ xs) (Err s) t way (inr go) is =
     run_channel (at + 1) go.mid new xs (Err s) t way go.rest
     (channel_stays x old go.mid t way go.done is)
 
--- what is offered grows by the accepted offers
+-- the offered records grow by the accepted offers
 nothing_more : (old new : LineValue) (t : ℕ) (way : Way) → new ≡ old → offered_on new t way
     ≡ offered_on old t way ++ []
 nothing_more old new t way same = ap (λ (l : LineValue). offered_on l t way) same
@@ -124,7 +125,7 @@ run_offers at old new (x ∷ xs) (Err s) line (inr go) t way is =
     (run_offers (at + 1) go.mid new xs (Err s) go.line go.rest t way
     (channel_stays x old go.mid t way go.done is)))
 
--- the event at place i, where the first one is at this place
+-- the event at place i, if the first one is at this place
 pub record PassesFrom (at : ℕ) (old : LineValue) (events : List Event) (result : Answer)
     (new : LineValue) (i : ℕ) : Type 0 where
   pub event : Event
@@ -205,13 +206,13 @@ passes laws at old new (x ∷ xs) (Err s) line (inr go) now (suc i) less =
     later_passes at old go.mid new x xs (Err s) i go.done go.line
     (passes laws (at + 1) go.mid new xs (Err s) go.line go.rest now i (omega arith))
 
--- from the first place
+-- a run from its first event
 all_accepted : (events : List Event) (r : Answer) → accepted_from 0 events r ≡ accepted_in events r
 all_accepted events (Ok done) = refl
 all_accepted events (Err s) = let count : s.at - 0 ≡ s.at = omega arith in
     ap (λ (n : ℕ). take n events) count
 
--- all that arrived is known where nothing is unanswered or in doubt
+-- all that arrived is known if no block is unanswered or in doubt
 settled : (phase : Phase) (known spooled : ℕ) → IsSpooled phase known spooled → IsSettled phase
     → known ≡ spooled
 settled Idle known spooled is k = sym is

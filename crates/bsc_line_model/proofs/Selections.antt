@@ -1,6 +1,5 @@
--- A selection where all is heard: after the call, its answer, and two transmissions a block,
--- everything that waited
--- is delivered and known, and the next call is pending.
+-- A selection in which all is heard: after the call, its answer, and two transmissions for each
+-- block, all records that waited are delivered and known, and the next call is pending.
 use Rattle.std.proofs.Common.{◌≡◌, ℕ, zero, suc, ◌+◌, ◌*◌, ◌≤◌, ◌<◌, false, IsTrue, List, length}
 use Rattle.std.proofs.Common.{Option, Some, Result, refl, sym, ◌∙◌, ap, subst, arith}
 use Rattle.std.proofs.lemmas.List.{length-drop}
@@ -45,12 +44,12 @@ use Rattle.bsc_line_model.proofs.DownSteps.{call_down}
 use Rattle.bsc_line_model.proofs.OutboundSteps.{selected_there, sending_there}
 use Rattle.bsc_line_model.proofs.Walking.{IsGood, good_places, Walks, Stepped, one_step}
 
--- the laws that a visit rests on
+-- the laws on which a visit rests
 pub record VisitLaws : Type 0 where
   pub cuts : CutLaws
   pub names : NamesOwn
 
--- the walk has come to a line of which this holds, with n transmissions left
+-- the walk has reached a line of which P holds, with n transmissions left
 pub record Comes (P : LineValue → Type 0) (n : ℕ) (r : Result (Unit {0}) Stopped)
     (new : LineValue) : Type 0 where
   pub at : ℕ
@@ -64,9 +63,8 @@ pub record Calls (l : LineValue) (place : ℕ) (way : Way) : Type 0 where
   pub pending : l.pending ≡ sent_by sp.Control sent
   pub called : HasCalled l.control sent place way
 
--- the channel to selection address s of terminal e is delivered, all others are as they were, and
--- the next call of
--- the entry is pending
+-- the records on the channel to selection address s of terminal e are delivered, all other channels
+-- are unchanged, and the next call of the entry is pending
 pub record IsSelectionDone (e place s : ℕ) (old new : LineValue) : Type 0 where
   pub good : IsGood new
   pub calls : Calls new place (way_from (peer new.control) (s + 1))
@@ -92,7 +90,7 @@ known_queue q phase b is e counts =
       short = is.short;
     }
 
--- what a sender of the control station has
+-- the queue of a selection address has the records that its sender counts on
 outbound_ready : (l : LineValue) (s : ℕ) → IsGood l → s < length (peer l.control).outbounds
     → IsOutbound (outbound_at (peer l.control) s)
 outbound_ready l s g select =
@@ -107,7 +105,7 @@ pub current_same : (c d : ControlValue) → d.poll_list ≡ c.poll_list → d.pl
 current_same c d list place = ap (λ (ps : List ℕ). current (record d { poll_list = ps })) list
     ∙ ap (λ (n : ℕ). current (record c { place = n })) place
 
--- what one exchange leaves: the terminal took a block, and the control station learns of it
+-- what one exchange leaves: the terminal took a block, and the control station learnt of it
 pub record Exchanged (e place s n : ℕ) (old new : LineValue) : Type 0 where
   pub good : IsGood new
   pub sent : Option Message
@@ -191,7 +189,7 @@ exchange_at laws at m e place l new r s n g is here h calm w =
     (exchange laws at m l new r s n g (subst (λ (p : ℕ). SendsBlocks l p s n) (sym here) h)
     (subst (λ (z : ℕ). (terminal_at l z).urgent ≡ false) (sym is) calm) w))
 
--- the channel was moved before, too
+-- a channel that moved before, too
 done_since : (e place s : ℕ) (a b c : LineValue) → Stays e (ToTerminal s) a b
     → IsSelectionDone e place s b c → IsSelectionDone e place s a c
 done_since e place s a b c x y =
@@ -204,7 +202,7 @@ done_since e place s a b c x y =
           stays_then e (ToTerminal s) a b c x y.stays;
     }
 
--- n + 1 blocks, two transmissions each
+-- n + 1 blocks, two transmissions for each
 pub blocks_down : (laws : VisitLaws) (n at m count e place : ℕ) (l new : LineValue)
     (r : Result (Unit {0}) Stopped) (s : ℕ) → IsGood l → current l.control ≡ e → l.control.place
     ≡ place → SendsBlocks l place s n → (terminal_at l e).urgent ≡ false → count ≡ 2 * (n + 1) + m

@@ -1,4 +1,4 @@
--- The control station's text or ENQ is heard: the terminal that it sends to receives, and the
+-- The control station's text or ENQ is heard: the terminal to which it is sent receives, and the
 -- others do nothing.
 use Rattle.std.proofs.Common.{◌≡◌, ◌≢◌, ◌⊎◌, inl, inr, ℕ, zero, suc, ◌+◌, ◌<◌, ◌≤◌, List, length}
 use Rattle.std.proofs.Common.{Option, None, Some, option_map, slice_set, refl, sym, ◌∙◌, ap, subst}
@@ -38,7 +38,7 @@ use Rattle.bsc_line_model.proofs.Stations.{receiving_into}
 abbrev pub IsBidMessage : Message → Type 0
 IsBidMessage w = IsTextMessage w ⊎ (w ≡ m.Enq)
 
--- it is not cut short
+-- such a message is not cut short
 pub never_cut : (w v : Message) → IsBidMessage w → IsCallCutShort w v → ⊥
 never_cut (m.Call z) v (inl b) f = b
 never_cut (m.Call z) v (inr b) f = absurd (cc)
@@ -47,7 +47,7 @@ never_cut (m.Text z) v b f = f
 never_cut m.Enq v b f = f
 never_cut (m.Reply r) v b f = f
 
--- and is heard as no call and no EOT
+-- and is heard neither as a call nor as EOT
 pub no_call : (w : Message) → IsBidMessage w → IsNoCall (Whole w)
 no_call (m.Text z) b = tt
 no_call m.Enq b = tt
@@ -73,7 +73,7 @@ pub same_terminal : (addressed : Option (ℕ × Way)) (t u : ℕ) (way other : W
     ≡ Some (t, way) → addressed ≡ Some (u, other) → t ≡ u
 same_terminal addressed t u way other a b = ap place_of (sym a ∙ b)
 
--- another terminal than the addressed one is in control mode
+-- any terminal but the addressed one is in control mode
 pub others_in_control : (addressed : Option (ℕ × Way)) (e t : ℕ) (way : Way) (mode : Mode)
     → addressed ≡ Some (e, way) → t ≢ e → IsTuned addressed t mode → mode ≡ Control
 others_in_control addressed e t way Control is differ k = refl
@@ -81,7 +81,7 @@ others_in_control addressed e t way (Receiving s) is differ k =
     absurd (differ (ap place_of (sym k ∙ is)))
 others_in_control addressed e t way Sending is differ k = absurd (differ (ap place_of (sym k ∙ is)))
 
--- where nobody else answers, the first answer is that of one terminal
+-- if no other terminal answers, the first answer is that of one terminal
 pub none_before : (old : List TributaryValue) (hears : ℕ → Heard) (new : List TributaryValue)
     (e n : ℕ) → n ≤ e → ((k : ℕ) → k < n → k ≢ e → answer_of old hears new k ≡ None)
     → first_answer old hears new n ≡ None
@@ -118,7 +118,7 @@ first_answer_is old hears new e (suc n) less f =
           ) (first_stays e n (answer_of old hears new e)))
     ]
 
--- a terminal in control mode does nothing with it
+-- a terminal in control mode does nothing with such a message
 pub control_mode_stays : (t : TributaryValue) (h : Heard) (u : TributaryValue)
     (out : Option Message)
     → AfterHearing t h u out → t.mode ≡ Control → IsNoCall h → (u ≡ t) × (out ≡ None)
@@ -150,13 +150,13 @@ one_hears old hears new addressed e way there is tuned never keeps =
           (λ t less differ. (quiet t less differ).1);
     }
 
--- the reply is on the line
+-- the reply is pending
 reply_flies : (e : ℕ) (reply : Option Reply)
     → FliesDown (sent_by (sp.Terminal e) (option_map m.Reply reply)) e (reply_flight reply)
 reply_flies e None = refl
 reply_flies e (Some r) = (refl, (r, refl, refl))
 
--- the terminal that is sent to has heard
+-- the terminal to which it is sent has heard it
 pub receives_down : (laws : BidLaws) (p : PeerValue) (e s : ℕ) (w : Message) (h : Heard)
     (t u : TributaryValue) (out : Option Message) → s < length t.spools →
     IsInBidDown (Some (record { speaker = sp.Control; message = w })) p e s t → IsBidMessage w
@@ -205,7 +205,7 @@ receives_down laws p e s w h t u out there b bid fair x after =
     subst (λ (o : TributaryStep). IsInBidDown (sent_by (sp.Terminal e) o.sent) p e s o.tributary)
     (sym row) made
 
--- the control station goes on sending
+-- the control station continues to send
 pub sends_down : (laws : BidLaws) (c : ControlValue) (old : List TributaryValue)
     (addressed : Option (ℕ × Way)) (s : ℕ) (w : Message) (hears : ℕ → Heard)
     (new : List TributaryValue) → current c < length old →

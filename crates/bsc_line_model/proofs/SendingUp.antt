@@ -1,5 +1,5 @@
--- A terminal's reply is heard by the control station that sends to it: the bid goes on, or the next
--- call is made.
+-- The control station hears the reply of a terminal to which it sends: the bid continues, or the
+-- next call is made.
 use Rattle.std.proofs.Common.{◌≡◌, ◌≢◌, inl, inr, ℕ, ◌<◌, List, length, Option, None, Some, refl}
 use Rattle.std.proofs.Common.{sym, ◌∙◌, ap, subst, arith, get_or-set_other, get_or-set_same}
 use Rattle.std.proofs.lemmas.List.{length-set}
@@ -42,7 +42,7 @@ use Rattle.bsc_control.proofs.Calls.{HasPlaces, places, same_places, current_the
 use Rattle.bsc_line_model.specs.Kept.{AreStations}
 use Rattle.bsc_control.specs.Kept.{SuitsTask, IsInBid}
 
--- a bid is over where the sender is at rest
+-- a bid is over if the sender is at rest
 pub rests : (phase : Phase) (q : QueueValue) (alternation : Alternation) (last : Reply)
     (spooled : List (List ℕ)) (f : Flight) → IsAtRest phase
     → Continues phase q alternation last spooled f → IsResting phase q spooled
@@ -51,7 +51,7 @@ rests (InDoubt k) q alternation last spooled f n h = h.0
 rests (Unanswered b) q alternation last spooled f n h = absurd n
 rests (Held end x) q alternation last spooled f n h = absurd n
 
--- and goes on where it is not
+-- and continues if the sender is not
 pub stays : (phase : Phase) (q : QueueValue) (alternation : Alternation) (last : Reply)
     (spooled : List (List ℕ)) (f : Flight) → IsGoing phase
     → Continues phase q alternation last spooled f → InBid phase q alternation last spooled f
@@ -60,8 +60,8 @@ stays (InDoubt k) q alternation last spooled f n h = absurd n
 stays (Unanswered b) q alternation last spooled f n h = h
 stays (Held end x) q alternation last spooled f n h = h
 
--- the control station after a step of the sender to selection address s, and the terminal that it
--- sends to
+-- the control station after a step of the sender to selection address s, and the terminal to which
+-- it sends
 pub record HasActed (c : ControlValue) (ts : List TributaryValue) (s : ℕ) (step : SenderStep) : Type
     0 where
   pub there : current c < length c.peers
@@ -106,7 +106,7 @@ down_after p s o x down k less differ =
     subst (λ (z : OutboundValue). IsResting z.sender.phase z.queue (spool_at x.spools k).records)
     (sym (outbound_other p s k o differ)) (down k before differ)
 
--- the bid goes on with this flight
+-- the bid continues with this message under way
 bid_after : (c : ControlValue) (ts : List TributaryValue) (s : ℕ) (step : SenderStep)
     (pending : Option Transmission) (f : Flight) → HasActed c ts s step
     → FliesDown pending (current c) f →
@@ -136,7 +136,7 @@ bid_after c ts s step pending f h flies bid =
           made;
     }
 
--- the bid is over: none goes on
+-- the bid is over: none is in progress
 no_bids_after : (c : ControlValue) (ts : List TributaryValue) (s : ℕ) (step : SenderStep)
     → HasActed c ts s step → IsAtRest step.sender.phase → NoBids (after_step c s step) ts
 no_bids_after c ts s step h at_rest t less =
@@ -172,7 +172,7 @@ places_after c s step h =
     same_places c (after_step c s step) refl refl
     (length-set c.peers (current c) (with_outbound (peer c) s (outbound_after step))) h
 
--- the control station does what its sender's act says
+-- the control station acts as its sender says
 pub performed : (laws : BidLaws) (c : ControlValue) (ts : List TributaryValue) (s : ℕ)
     (step : SenderStep) (after : After) (act : Act) → step.act ≡ act → HasActed c ts s step
     → (act ≡ a.Quiet → (c.task ≡ Sending s) × IsGoing step.sender.phase) →
@@ -217,13 +217,13 @@ performed laws c ts s step after a.Quiet is h keeps count entries =
     (subst (λ (z : Act). Continues step.sender.phase step.queue x.receiver.alternation
     x.receiver.last (spool_at x.spools s).records (sent_flight z)) is h.continues))))
 
--- a quiet sender goes on in its bid
+-- a sender that does nothing continues its bid
 pub keeps_going : (act : Act) (old new : Phase) → FitsAct act old new → act ≡ a.Quiet → IsGoing old
     → IsGoing new
 keeps_going act old new fits is going =
     subst IsGoing (sym (subst (λ (z : Act). FitsAct z old new) is fits)) going
 
--- the phase of a bid that goes on
+-- the phase of a bid in progress
 pub going_in : (phase : Phase) (q : QueueValue) (alternation : Alternation) (last : Reply)
     (spooled : List (List ℕ)) (f : Flight) → InBid phase q alternation last spooled f
     → IsGoing phase
@@ -232,7 +232,7 @@ going_in (InDoubt k) q alternation last spooled f b = absurd b.agree
 going_in (Unanswered b) q alternation last spooled f i = tt
 going_in (Held end x) q alternation last spooled f i = tt
 
--- the control station's sender has made a step in its bid: what it then does
+-- the sender of the control station made a step in its bid: what the station then does
 pub stepped_down : (laws : BidLaws) (c : ControlValue) (ts : List TributaryValue) (s : ℕ)
     (pending : Option Transmission) (step : SenderStep) (after : After) → AreStations c ts → c.task
     ≡ Sending s → IsSending pending c ts s →
@@ -265,7 +265,7 @@ stepped_down laws c ts s pending step after stations task sending agrees fits =
     )) stations.count
     (places_after c s step (places c stations.control.entries))
 
--- it hears the terminal's reply, or noise
+-- the control station hears the terminal's reply, or noise
 pub answers_down : (laws : BidLaws) (c : ControlValue) (ts : List TributaryValue) (s t : ℕ)
     (w : Message) (h : Heard) → AreStations c ts → c.task ≡ Sending s
     → IsSending (Some (record { speaker = sp.Terminal t; message = w })) c ts s → IsFairlyHeard w h
@@ -293,7 +293,7 @@ answers_down laws c ts s t w h stations task sending fair =
     (spool_at x.spools s).records (Some r) (Some h) bid heard)
     (laws.fits.reply o.sender o.queue (reply_in h))
 
--- a silence comes to it
+-- the control station acts on a silence
 pub times_out_down : (laws : BidLaws) (c : ControlValue) (ts : List TributaryValue) (s : ℕ)
     → AreStations c ts → c.task ≡ Sending s → IsSending None c ts s →
     let step : SenderStep =

@@ -1,5 +1,5 @@
--- A silence comes to the owner of the line, with nothing on the line: the terminal that sends, else
--- the control station.
+-- The owner of the line acts on a silence, with nothing pending: the terminal that sends, else the
+-- control station.
 use Rattle.std.proofs.Common.{◌≡◌, ◌≢◌, ◌⊎◌, inl, inr, ℕ, ◌+◌, ◌<◌, Bool, true, false, nat_lt, List}
 use Rattle.std.proofs.Common.{length, Option, None, Some, slice_set, refl, sym, ◌∙◌, ap, subst}
 use Rattle.std.proofs.Common.{arith, get_or-set_other, get_or-set_same, if◌then◌else◌}
@@ -71,7 +71,7 @@ polls_again c ts false stations all =
     polled_next c ts c.place (c.failures + 1) (current_there c (places c stations.control.entries))
     stations.count all
 
--- the control station acts on a silence where no terminal sends
+-- the control station acts on a silence while no terminal sends
 pub silent_control : (laws : BidLaws) (c d : ControlValue) (ts : List TributaryValue)
     (out : Option Message) → AreStations c ts
     → ((t : ℕ) → t < length ts → (terminal_in ts t).mode ≢ Sends) → InTask c.task None c ts
@@ -110,7 +110,7 @@ silent_control laws c d ts out stations nobody together row = by_task c.task ref
     by_task (Polling WithRvi) is k =
         by_row (Polling WithRvi) is (next_made c ts (Poll true) stations (no_bids WithRvi k))
 
--- the sending terminal acts on a silence: it is the polled one
+-- the sending terminal, which is the polled one, acts on a silence
 times_out_up : (laws : BidLaws) (c : ControlValue) (ts : List TributaryValue)
     (addressed : Option (ℕ × Way)) (u : TributaryValue) (out : Option Message) (replied : Replied)
     → current c < length ts → AreTuned addressed ts → NoOtherBids c ts (current c) →

@@ -1,4 +1,4 @@
--- Where the stations go together each channel is sound.
+-- If the stations fit together, each channel is sound.
 use Rattle.std.proofs.Common.{inl, inr, ℕ, ◌<◌, List, length, Option, sym, subst, arith}
 use Rattle.bsc_bid.specs.Channel.{channel, IsSound}
 use Rattle.bsc_bid.specs.Terminal.{TerminalValue}
@@ -18,14 +18,14 @@ use Rattle.bsc_line_model.specs.Together.{AreSound}
 use Rattle.bsc_line_model.specs.BidLaws.{BidLaws}
 use Rattle.bsc_line_model.proofs.Stations.{same_or_not}
 
--- the channels between a terminal and what the control station keeps for it
+-- soundness of a channel between a terminal and what the control station keeps for it
 abbrev IsSoundWith : PeerValue → TributaryValue → Way → Type 0
 IsSoundWith p x FromTerminal = IsSound x.sender.phase (channel x.queue p.spool.records)
 IsSoundWith p x (ToTerminal s) =
     IsSound (outbound_at p s).sender.phase
     (channel (outbound_at p s).queue (spool_at x.spools s).records)
 
--- a way to it that the control station has
+-- a way to the terminal that the control station has
 abbrev HasWay : PeerValue → Way → Type 0
 HasWay p FromTerminal = Unit {0}
 HasWay p (ToTerminal s) = s < length p.outbounds

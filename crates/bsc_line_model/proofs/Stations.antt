@@ -34,7 +34,7 @@ pub current_terminal_there : (c : ControlValue) (ts : List TributaryValue) → A
 current_terminal_there c ts s =
     subst (λ (n : ℕ). current c < n) s.count (current_there c (places c s.control.entries))
 
--- the addresses of a terminal stand in the control station's list
+-- the addresses of a terminal are in the control station's list
 pub terminal_there : (c : ControlValue) (ts : List TributaryValue) (t : ℕ) → AreStations c ts → t
     < length ts → slice_get (terminals c) t ≡ Some (terminal_in ts t).terminal
 terminal_there c ts t s less =
@@ -87,7 +87,7 @@ stations_up c d ts s is k =
           };
     }
 
--- two places are the same or not
+-- two numbers are equal or not
 pub same_or_not : (a b : ℕ) → (a ≡ b) ⊎ (a ≢ b)
 same_or_not a b = by_test (nat_eq a b) refl
   where
@@ -95,7 +95,7 @@ same_or_not a b = by_test (nat_eq a b) refl
     by_test true is = inl (grind (arith, nat_tests))
     by_test false is = inr (grind (arith, nat_tests))
 
--- what holds of one terminal that changed, and of the others as they were
+-- what holds of one terminal that changed, and of the others, which did not
 pub one_changed : (P : ℕ → TributaryValue → Type 0) (ts : List TributaryValue) (e : ℕ)
     (u : TributaryValue) → e < length ts → P e u
     → ((t : ℕ) → t < length ts → P t (terminal_in ts t)) → (t : ℕ) → t < length (slice_set ts e u)
@@ -112,7 +112,7 @@ one_changed P ts e u there new others t less =
           (others t before))
     ]
 
--- something changed at a terminal that keeps its addresses and settings
+-- a terminal was replaced by one with the same addresses and settings
 pub stations_set : (c : ControlValue) (ts : List TributaryValue) (e : ℕ) (u : TributaryValue)
     → AreStations c ts → e < length ts → IsTributary u → u.terminal ≡ (terminal_in ts e).terminal
     → u.sender.setup ≡ (terminal_in ts e).sender.setup → AreStations c (slice_set ts e u)
@@ -136,7 +136,7 @@ pub stations_at : (c : ControlValue) (ts : List TributaryValue) (e : ℕ) (u : T
     → AreStations c (slice_set ts e u)
 stations_at c ts e u s there is k = stations_set c ts e u s there is k.terminal k.setup
 
--- after a silence its mode is control mode or as it was
+-- after a silence a terminal is in control mode, or its mode is unchanged
 pub tuned_at : (addressed : Option (ℕ × Way)) (ts : List TributaryValue) (e : ℕ)
     (u : TributaryValue) → e < length ts → ((u.mode ≡ Control) ⊎ (u.mode ≡ (terminal_in ts e).mode))
     → AreTuned addressed ts → AreTuned addressed (slice_set ts e u)

@@ -1,5 +1,5 @@
--- What one transmission of a visit leaves as it was: all channels but one, and that no end asks for
--- the line.
+-- What one transmission of a visit leaves unchanged: all channels but one, and that neither end
+-- asks for the line.
 use Rattle.std.proofs.Common.{◌≡◌, ◌≢◌, inl, inr, ℕ, ◌<◌, true, false, List, length, slice_set}
 use Rattle.std.proofs.Common.{refl, sym, ◌∙◌, ap, subst, arith, get_or-set_other, get_or-set_same}
 use Rattle.std.proofs.lemmas.List.{length-set}
@@ -18,7 +18,7 @@ use Rattle.bsc_line_model.proofs.Stations.{same_or_not}
 abbrev pub IsElsewhere : ℕ → Way → ℕ → Way → Type 0
 IsElsewhere t other e way = t ≡ e → other ≡ way → ⊥
 
--- what the control station keeps for terminal t, where the channel (e, way) moves at most
+-- what the control station keeps for terminal t, if at most the channel (e, way) moves
 pub record PeerStays (e : ℕ) (way : Way) (t : ℕ) (old new : PeerValue) : Type 0 where
   pub terminal : new.terminal ≡ old.terminal
   pub urgent : old.urgent ≡ false → new.urgent ≡ false
@@ -31,7 +31,7 @@ pub record ControlStays (e : ℕ) (way : Way) (old new : ControlValue) : Type 0 
   pub count : length new.peers ≡ length old.peers
   pub peers : (t : ℕ) → PeerStays e way t (peer_at old t) (peer_at new t)
 
--- and a terminal
+-- and a terminal in the same case
 pub record TerminalStays (e : ℕ) (way : Way) (t : ℕ) (old new : TributaryValue) : Type 0 where
   pub ready : new.ready ≡ old.ready
   pub urgent : old.urgent ≡ false → new.urgent ≡ false
@@ -82,7 +82,7 @@ terminals_same e way ts us same =
           λ t less. terminal_same e way t (terminal_in ts t) (terminal_in ts t) refl;
     })
 
--- one after the other
+-- one step after the other
 peer_then : (e : ℕ) (way : Way) (t : ℕ) (p q r : PeerValue) → PeerStays e way t p q
     → PeerStays e way t q r → PeerStays e way t p r
 peer_then e way t p q r a b =
@@ -131,7 +131,7 @@ stays_then e way a b c x y =
           terminals_then e way a.terminals b.terminals c.terminals x.terminals y.terminals;
     }
 
--- one peer is written
+-- one peer is replaced
 pub peer_written : (e : ℕ) (way : Way) (c d : ControlValue) (t : ℕ) (p : PeerValue) → t
     < length c.peers → PeerStays e way t (peer_at c t) p → d.peers ≡ slice_set c.peers t p
     → d.poll_list ≡ c.poll_list → ControlStays e way c d
@@ -187,7 +187,7 @@ call_stays e way c place (ToTerminal s) there =
           λ k. refl;
     }) refl refl
 
--- a step of the sender to selection address s moves its own channel
+-- a step of the sender to selection address s moves its own channel only
 pub sender_stays : (c : ControlValue) (s : ℕ) (o : OutboundValue) (d : ControlValue) → current c
     < length c.peers → d.peers ≡ slice_set c.peers (current c) (with_outbound (peer c) s o)
     → d.poll_list ≡ c.poll_list → ControlStays (current c) (ToTerminal s) c d

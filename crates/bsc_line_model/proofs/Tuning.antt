@@ -1,5 +1,4 @@
--- At most one terminal is out of control mode, and it is the addressed one, where the line is
--- trusted.
+-- On a trusted line, at most one terminal is out of control mode, and it is the addressed one.
 use Rattle.std.proofs.Common.{◌≡◌, ◌≢◌, ◌⊎◌, inl, inr, ◌↔◌, ℕ, ◌<◌, Bool, true, false, List, Option}
 use Rattle.std.proofs.Common.{Some, slice_get, refl, sym, ap, subst}
 use Rattle.bsc_frame.specs.declared.message.Message.{Message}
@@ -22,7 +21,7 @@ use Rattle.bsc_directory.specs.Addresses.{IsAddressOf}
 use Rattle.bsc_line_model.specs.Trust.{EachOf, IsMissed, IsHeardFairly, is_call, IsAddressedAfter}
 use Rattle.bsc_line_model.specs.Kept.{IsTuned}
 
--- which of a terminal's addresses a call names: what the terminals' own law says
+-- which of a terminal's addresses a call names, as the law of the terminals says
 pub record NamesOwn : Type 0 where
   pub polling : (t : TerminalValue) (address : List ℕ)
       → (called_as t address ≡ Polling) ↔ (address ≡ t.poll)
@@ -32,7 +31,7 @@ pub record NamesOwn : Type 0 where
 abbrev Addressed : Type 0
 Addressed = Option (ℕ × Way)
 
--- control mode suits every line
+-- control mode is always allowed
 in_control_mode : (new : Addressed) (t : ℕ) (mode : Mode) → mode ≡ Control → IsTuned new t mode
 in_control_mode new t mode e = subst (λ (k : Mode). IsTuned new t k) (sym e) tt
 
@@ -66,11 +65,11 @@ called_tuned laws new ts t x a mode b (Selection s) e (inr k) =
           (laws.selection x a s b.distinct).0 e;
     }))
 
--- what it heard is no call
+-- a transmission that is not a call
 abbrev pub IsNotCalled : Heard → Type 0
 IsNotCalled h = (a : List ℕ) → h ≡ Whole (m.Call a) → ⊥
 
--- the mode stays, and so does what is addressed
+-- the mode stays, and so does the addressed channel
 kept_tuned : (old new : Addressed) (t : ℕ) (was mode : Mode) → ((mode ≡ Control) ⊎ (mode ≡ was))
     → IsTuned old t was → new ≡ old → IsTuned new t mode
 kept_tuned old new t was mode (inl e) k same = in_control_mode new t mode e
@@ -78,7 +77,7 @@ kept_tuned old new t was mode (inr e) k same =
     subst (λ (n : Mode). IsTuned new t n) (sym e)
     (subst (λ (o : Addressed). IsTuned o t was) (sym same) k)
 
--- where a terminal hears no call and no EOT, nothing else is addressed than before
+-- if a terminal hears neither a call nor EOT, the addressed channel stays
 same_addressed : (ts : List TerminalValue) (n : ℕ) (hears : ℕ → Heard) (old new : Addressed) (t : ℕ)
     → t < n → IsAddressedAfter ts n hears old new → IsNotCalled (hears t) → hears t ≢ Whole m.Eot
     → new ≡ old
@@ -109,7 +108,7 @@ not_called_tuned ts n hears old new t x mode less a k Noise e never after =
     kept_tuned old new t x.mode mode after k
     (same_addressed ts n hears old new t less a (λ z f. cc) (λ f. cc))
 
--- what is fairly heard of a message that is no call is no call
+-- a message that is not a call is not heard as a call, if it is heard fairly
 not_cut : (w : Message) (a : List ℕ) → IsCallCutShort w (m.Call a) → ⊥
 not_cut (m.Call z) a h = h
 not_cut m.Eot a h = h
@@ -135,7 +134,7 @@ missed_not_called (Whole (m.Text z)) f a e = absurd f
 missed_not_called (Whole m.Enq) f a e = absurd f
 missed_not_called (Whole (m.Reply r)) f a e = absurd f
 
--- a message that is no call, as it is heard fairly
+-- a message that is not a call, heard fairly
 pub each_fairly : (w : Message) (n : ℕ) (hears : ℕ → Heard) → is_call w ≡ false
     → IsHeardFairly w n hears → EachOf n (λ t. IsFairlyHeard w (hears t))
 each_fairly (m.Call a) n hears never f = absurd (cc)
@@ -144,7 +143,7 @@ each_fairly (m.Text z) n hears never f = f
 each_fairly m.Enq n hears never f = f
 each_fairly (m.Reply r) n hears never f = f
 
--- a terminal of the line, as it was
+-- a terminal of the line before the transmission
 pub record WasTuned (ts : List TerminalValue) (old : Addressed) (t : ℕ) (x : TributaryValue) : Type
     0 where
   pub there : slice_get ts t ≡ Some x.terminal

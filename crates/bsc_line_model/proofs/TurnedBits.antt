@@ -18,7 +18,7 @@ use Rattle.bsc_line_model.specs.TurnedBits.{IsTurned, IsSpoiled, TurnedIsFair, T
 use Rattle.bsc_line_model.specs.TurnedBits.{TurnedEachIsFair, TurnedForSomeIsFair}
 use Rattle.bsc_line_model.proofs.OctetsHeard.{Reads}
 
--- what is heard where one bit is turned
+-- what is heard if one bit is turned
 pub record Turns : Type 0 where
   pub sent : (w : Message) → IsMessage w → Spells (wire w) w
   pub failed : (w : Message) (place bit : ℕ) → IsMessage w → place < length (wire w) → bit < 8
@@ -27,7 +27,7 @@ pub record Turns : Type 0 where
       → ((2 < place) × IsSomeText w → ⊥) → IsNoise (with_turned_bit place bit (wire w))
 
 module _ (reads : Reads) (turns : Turns) where
-  -- nothing of it is heard
+  -- such octets are heard as noise, unless the bit is turned after the STX of a text
   is_noise : (w : Message) (octets : List ℕ) → IsMessage w → (t : IsTurned w octets)
       → ((2 < t.place) × IsSomeText w → ⊥) → heard octets ≡ Noise
   is_noise w octets h t q = ap heard t.whole

@@ -1,6 +1,5 @@
--- What the control station does in a poll where all is heard and no room is refused: each block is
--- acknowledged, and
--- after EOT the next entry is called.
+-- What the control station does in a poll if all is heard and no room is refused: each block is
+-- acknowledged, and after EOT the next entry is called.
 use Rattle.std.proofs.Common.{◌≡◌, ℕ, ◌^◌, ◌-◌, ◌<◌, false, Bool, List, length, Option, Some}
 use Rattle.std.proofs.Common.{option_map, refl, sym, ◌∙◌, ap, subst, if◌then◌else◌, get_or-set_same}
 use Rattle.bsc_frame.specs.declared.message.Message.{Message}
@@ -29,14 +28,14 @@ use Rattle.bsc_line_model.proofs.Staying.{ControlStays, peer_written, call_stays
 use Rattle.bsc_line_model.proofs.DownControl.{HasCalled, call_is, call_lists}
 use Rattle.bsc_line_model.proofs.DownTerminals.{calm, twice_other, taken_exact}
 
--- a poll in which RVI was not sent goes on
+-- a poll in which RVI was not sent is in progress
 pub record IsPolled (c : ControlValue) (place : ℕ) : Type 0 where
   pub place_is : c.place ≡ place
   pub replied : Replied
   pub task : c.task ≡ Polling replied
   pub without_rvi : has_rvi replied ≡ false
 
--- an acknowledgement is no RVI
+-- an acknowledgement is not RVI
 without : (r : Replied) (p : Alternation) → has_rvi r ≡ false
     → has_rvi (replied_after r (Some (ack p))) ≡ false
 without Nothing Even e = refl

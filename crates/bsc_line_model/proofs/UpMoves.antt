@@ -1,6 +1,6 @@
--- A terminal's transmission is heard on a trusted line: records land on the addressed channel from
--- the polled terminal, or
--- the control station learns of the addressed channel; nothing else moves.
+-- A terminal's transmission is heard on a trusted line: records arrive on the addressed channel
+-- from the polled terminal, or the control station learns that its records arrived; nothing else
+-- moves.
 use Rattle.std.proofs.Common.{◌≡◌, inl, inr, ℕ, ◌<◌, List, length, IsTrue, Option, Some, false}
 use Rattle.std.proofs.Common.{refl, sym, ◌∙◌, ap, subst, get_or-set_same, if◌then◌else◌}
 use Rattle.bsc_frame.specs.declared.message.Message.{Message}
@@ -42,7 +42,7 @@ use Rattle.bsc_line_model.proofs.OutboundSteps.{LearnsDown, outbound_queue}
 use Rattle.bsc_line_model.proofs.DownMoves.{text_sent, if_lands, if_learns}
 use Rattle.bsc_line_model.proofs.Moving.{MovesIfAddressed, EachMoves}
 
--- a terminal's message is heard on a line
+-- the control station of a line hears a terminal's message
 pub record HearsTerminal (old new : LineValue) (from : ℕ) (w : Message) (h : Heard) : Type 0 where
   pub line : IsLine old
   pub pending : old.pending ≡ Some (record { speaker = sp.Terminal from; message = w })
@@ -66,7 +66,7 @@ present_there l is =
     subst (λ (n : ℕ). current l.control < n) is.stations.count
     (current_there l.control (places l.control is.stations.control.entries))
 
--- a text in a poll is of the bid of the polled terminal
+-- a text in a poll belongs to the bid of the polled terminal
 bid_from : (c : ControlValue) (ts : List TributaryValue) (from : ℕ) (t : TextValue)
     (replied : Replied)
     → IsPolling (Some (record { speaker = sp.Terminal from; message = m.Text t })) c ts replied →
@@ -78,7 +78,7 @@ bid_from c ts from t replied k =
       | inr b ↦ b
     ]
 
--- the spool that the text comes into
+-- the spool that takes the text
 spool_after : (c d : ControlValue) (t : TextValue) (out : Option Message) (replied : Replied)
     → Hears c (Whole (m.Text t)) d out → c.task ≡ Polling replied → current c < length c.peers →
     (peer_at d (current c)).spool

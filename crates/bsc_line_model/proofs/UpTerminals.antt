@@ -1,6 +1,5 @@
--- What a terminal does where it is polled and all is heard: the first block or EOT, and on each
--- acknowledgement the
--- next block, or EOT after the last.
+-- What a terminal does if it is polled and all is heard: the first block or EOT, and on each
+-- acknowledgement the next block, or EOT after the last.
 use Rattle.std.proofs.Common.{◌≡◌, ℕ, zero, suc, true, false, Bool, nat_eq, List, length, Option}
 use Rattle.std.proofs.Common.{Some, refl, sym, ◌∙◌, ap, subst, arith, if◌then◌else◌}
 use Rattle.bsc_frame.specs.declared.message.Message.{Message}
@@ -38,7 +37,7 @@ use Rattle.bsc_line_model.proofs.Staying.{TerminalStays}
 use Rattle.bsc_line_model.proofs.DownControl.{ack_step}
 use Rattle.bsc_bid.proofs.RestLemmas.{cut_at_rest}
 
--- its block b is unanswered, with n after it
+-- block b of the terminal is unanswered, with n blocks after it
 pub record IsInBlockUp (x : TributaryValue) (n : ℕ) (b : SentBlock) : Type 0 where
   pub mode : x.mode ≡ Sending
   pub phase : x.sender.phase ≡ Unanswered b
@@ -50,18 +49,18 @@ pub record SendsUp (x : TributaryValue) (out : Option Message) (n : ℕ) : Type 
   pub in_block : IsInBlockUp x n block
   pub text : out ≡ Some (m.Text (text_of x.queue block))
 
--- nothing is left to send, and nothing in doubt: EOT
+-- no record is left to send, and none in doubt: EOT
 pub record EndsUp (x : TributaryValue) (out : Option Message) : Type 0 where
   pub eot : out ≡ Some m.Eot
   pub idle : is_in_doubt x.sender.phase ≡ false
   pub rest : block_count x.queue ≡ 0
 
--- with n blocks to send
+-- what follows with n blocks to send
 abbrev pub GoesOnUp : TributaryValue → Option Message → ℕ → Type 0
 GoesOnUp x out zero = EndsUp x out
 GoesOnUp x out (suc n) = SendsUp x out n
 
--- only its own channel moves
+-- only the terminal's own channel moves
 terminal_stays_up : (e : ℕ) (x u : TributaryValue) → u.ready ≡ x.ready
     → (x.urgent ≡ false → u.urgent ≡ false) → u.spools ≡ x.spools
     → TerminalStays e FromTerminal e x u
@@ -94,7 +93,7 @@ sends_up laws x u out n y q alternation is count row =
       text = refl;
     })
 
--- an acknowledgement is no call
+-- an acknowledgement is neither a call nor EOT
 pub ack_no_call : (p : Alternation) → IsNoCall (Whole (m.Reply (ack p)))
 ack_no_call Even = tt
 ack_no_call Odd = tt
@@ -131,11 +130,11 @@ hears_ack laws e x u out n b i is h =
         sends_up laws x u out k x.sender (with_known x.queue b.count) (other b.alternation) is rest
         row
 
--- its polling address is called
+-- the terminal when its polling address is called
 abbrev pub called_up : TributaryValue → TributaryValue
 called_up x = record (without_line x) { urgent = false }
 
--- what the row says by the two tests
+-- the step of the row, by its two tests
 abbrev pub poll_by : TributaryValue → Bool → Bool → TributaryStep
 poll_by x doubt none =
     if doubt then answer_step (called_up x) m.Eot

@@ -1,4 +1,4 @@
--- The number of a visit, and of a visit of a terminal for which nothing waits any more.
+-- The length of a visit, also if no record waits for its terminal.
 use Rattle.std.proofs.Common.{◌≡◌, ℕ, zero, suc, ◌+◌, ◌<◌, ◌≤◌, List, ◌∷◌, length, drop, sum_by}
 use Rattle.std.proofs.Common.{slice_get, Some, refl, sym, ◌∙◌, ap, subst, arith}
 use Rattle.std.proofs.Math.Seq.{drop-cons}
@@ -42,7 +42,7 @@ sum_from p from (suc k) is =
     ∙ sum_by-cons outbound_length (outbound_at p from) (drop (suc from) p.outbounds)
     ∙ ap (λ (j : ℕ). outbound_length (outbound_at p from) + j) rest
 
--- the number is that of the visit
+-- the length is that of the visit
 pub visit_is : (l : LineValue) (t : ℕ) → visit_length l t
     ≡ selections_length (peer_at l.control t) 0 (length (peer_at l.control t).outbounds)
     + poll_length (block_count (terminal_at l t).queue)
@@ -50,7 +50,7 @@ visit_is l t =
     ap (λ (n : ℕ). n + poll_length (block_count (terminal_at l t).queue))
     (sum_from (peer_at l.control t) 0 (length (peer_at l.control t).outbounds) (omega arith))
 
--- where nothing waits no address is called
+-- if no record waits, no address is called
 pub no_selections : (p : PeerValue) (from k : ℕ) → from + k ≤ length p.outbounds
     → ((s : ℕ) → s < length p.outbounds → block_count (outbound_at p s).queue ≡ 0)
     → selections_length p from k ≡ 0

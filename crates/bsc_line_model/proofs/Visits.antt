@@ -1,4 +1,4 @@
--- A visit where all is heard: the selections in the order of their addresses, then the poll.
+-- A visit in which all is heard: the selections in the order of their addresses, then the poll.
 use Rattle.std.proofs.Common.{◌≡◌, ◌≢◌, ◌⊎◌, inl, inr, ℕ, zero, suc, ◌+◌, ◌*◌, ◌<◌, ◌≤◌, true}
 use Rattle.std.proofs.Common.{false, Bool, IsTrue, not, nat_eq, List, [], ◌∷◌, length, drop, Result}
 use Rattle.std.proofs.Common.{refl, sym, ◌∙◌, ap, subst, arith, if◌then◌else◌}
@@ -31,7 +31,7 @@ use Rattle.bsc_line_model.proofs.Selections.{current_same}
 use Rattle.bsc_line_model.proofs.Polls.{IsPollDone, poll}
 use Rattle.bsc_line_model.proofs.VisitWays.{way_in, first_way, later_way}
 
--- all but the channels of terminal e is as it was
+-- all but the channels of terminal e is unchanged
 pub record StaysBut (e : ℕ) (old new : LineValue) : Type 0 where
   pub poll_list : new.control.poll_list ≡ old.control.poll_list
   pub count : length new.terminals ≡ length old.terminals
@@ -131,7 +131,7 @@ same_lengths p q from (suc k) same =
     same_lengths p q (from + 1) k (λ s less. same s (omega arith)) in
     rw (same from (omega arith), rest) refl
 
--- terminal e is ready to be visited
+-- terminal e is ready for a visit
 pub record IsCalmAt (l : LineValue) (e : ℕ) : Type 0 where
   pub ready : IsTrue (terminal_at l e).ready
   pub urgent_at : (terminal_at l e).urgent ≡ false
@@ -139,7 +139,7 @@ pub record IsCalmAt (l : LineValue) (e : ℕ) : Type 0 where
   pub sure_up : is_in_doubt (terminal_at l e).sender.phase ≡ false
   pub sure_down : (s : ℕ) → is_in_doubt (outbound_of l.control e s).sender.phase ≡ false
 
--- the visit goes on at a selection address, with i blocks to come from the terminal
+-- the visit has reached a selection address, with i blocks to come from the terminal
 pub record IsVisited (e place from i : ℕ) (start l : LineValue) : Type 0 where
   pub good : IsGood l
   pub present : current l.control ≡ e
@@ -150,7 +150,7 @@ pub record IsVisited (e place from i : ℕ) (start l : LineValue) : Type 0 where
   pub blocks_up : block_count (terminal_at l e).queue ≡ i
   pub stays : StaysBut e start l
 
--- it is over
+-- the visit is over
 pub record IsVisitDone (e place : ℕ) (start l : LineValue) : Type 0 where
   pub good : IsGood l
   pub calls : Calls l (place_after start.control.poll_list place) (way_from (peer l.control) 0)
@@ -269,7 +269,7 @@ selection_ends e place from i start l new there v h =
       stays = but_then e start l new v.stays (but_of e (ToTerminal from) l new h.stays);
     }
 
--- what is called: where records wait without doubt
+-- an address is called if records wait for it without doubt
 true_or_false : (b : Bool) → (b ≡ true) ⊎ (b ≡ false)
 true_or_false true = inl refl
 true_or_false false = inr refl
@@ -305,7 +305,7 @@ no_blocks laws q [] is none = ap (λ (xs : List (List ℕ)). length (blocks q.fo
     ∙ ap (λ (bs : List (List (List ℕ))). length bs) (laws.none q.format)
 no_blocks laws q (x ∷ rs) is none = absurd (omega (arith, none))
 
--- an address for which nothing waits is passed over
+-- an address for which no record waits is passed over
 passes_over : (laws : VisitLaws) (e place from i : ℕ) (start l : LineValue) → from
     < length (peer_at l.control e).outbounds → is_selectable (outbound_of l.control e from) ≡ false
     → IsVisited e place from i start l → IsVisited e place (from + 1) i start l
@@ -373,7 +373,7 @@ polls_it e place from i start l all v =
     (ap (λ (os : List OutboundValue). way_in from os)
     (drop_all from (peer_at l.control e).outbounds all)) v.calls
 
--- the visit from a selection address on
+-- the visit, from this selection address on
 pub visit_from : (laws : VisitLaws) (k at more count e place from i : ℕ) (start l new : LineValue)
     (r : Result (Unit {0}) Stopped) → IsVisited e place from i start l → e < length l.terminals
     → from + k ≡ length (peer_at l.control e).outbounds →

@@ -1,4 +1,4 @@
--- A walk: transmissions in a row that are each heard as they were sent, and no room is refused.
+-- A walk: transmissions in a row, each heard as it was sent, during which no room is refused.
 use Rattle.std.proofs.Common.{◌≡◌, ◌⊎◌, inl, inr, ℕ, zero, suc, ◌+◌, IsTrue, None, Some, Result, Ok}
 use Rattle.std.proofs.Common.{Err, sym, ◌∙◌, subst}
 use Rattle.bsc_frame.specs.declared.message.Heard.TheVariants.{Whole}
@@ -14,7 +14,7 @@ use Rattle.bsc_line_model.specs.Together.{AreTogether}
 use Rattle.bsc_line_model.specs.Rounds.{SameDelays}
 use Rattle.bsc_control.proofs.Calls.{HasPlaces, places}
 
--- a trusted line, together
+-- a trusted line that keeps the invariant
 pub record IsGood (l : LineValue) : Type 0 where
   pub line : IsLine l
   pub trusted : IsTrue l.trusted
@@ -35,7 +35,7 @@ pub record Halts (at : ℕ) (old : LineValue) (stopped : Stopped) (new : LineVal
   pub place : stopped.at ≡ at
   pub refused : Carries (λ (sent : Transmission). Whole sent.message) old (Err stopped.why) new
 
--- this many transmissions, or fewer where one is refused
+-- this many transmissions, or fewer if one is refused
 abbrev pub Walks : ℕ → ℕ → LineValue → Result (Unit {0}) Stopped → LineValue → Type 0
 Walks at zero old (Ok done) new = new ≡ old
 Walks at zero old (Err e) new = ⊥
@@ -43,7 +43,7 @@ Walks at (suc n) old (Ok done) new = Goes old (λ mid. Walks (at + 1) n mid (Ok 
 Walks at (suc n) old (Err e) new = Halts at old e new
     ⊎ Goes old (λ mid. Walks (at + 1) n mid (Err e) new)
 
--- what is pending is not refused
+-- a pending transmission is not refused
 never_refused : (old new : LineValue) (why : LineError) (s : Transmission) → old.pending ≡ Some s
     → Carries (λ (sent : Transmission). Whole sent.message) old (Err why) new → ⊥
 never_refused old new e.NothingSent s is h = let none : old.pending ≡ None = h.0 in

@@ -1,5 +1,5 @@
--- The laws of one step of a bid, as bsc_bid's each_step ensures them: the lemmas of the line take
--- them as one value.
+-- The laws of one step of a bid, as `each_step` of bsc_bid ensures them. The lemmas of the line
+-- take them as one value.
 use Rattle.bsc_bid.specs.EachStep.{HearingAgrees, AnsweringAgrees, SilenceAgrees, BeginAgrees}
 use Rattle.bsc_bid.specs.EachStep.{OfferAgrees, OfferKeepsRest, ReleaseKeepsRest, AgreementIsSound}
 use Rattle.bsc_bid.specs.EachStep.{LossAgrees, BidContinues, SendingGoesOn, OutwardIsTextOrEnq}

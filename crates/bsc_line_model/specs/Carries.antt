@@ -1,5 +1,5 @@
 -- What a transmission and a silence do to a line (GA27-3004: the terminals of a centralised
--- multipoint line hear only the control station; who acts on a silence is own).
+-- multipoint line hear only the control station).
 use Rattle.std.specs.Prelude.{◌≡◌, ℕ, ◌<◌, Option, None, Some}
 use Rattle.bsc_frame.specs.declared.message.Message.{Message}
 use Rattle.bsc_frame.specs.declared.message.Heard.{Heard}
@@ -17,8 +17,8 @@ use Rattle.bsc_line_model.specs.Line.{LineValue, terminal_at, terminal_count, wi
 use Rattle.bsc_line_model.specs.Terminals.{EachHears, EachKeeps, first_answer}
 use Rattle.bsc_line_model.specs.Trust.{IsHeardFairly, IsTrustAfter, IsAddressedAfter}
 
--- the control station's message is heard by each terminal so: nobody else changes, and the answer
--- of the least numbered terminal that answers is then on the line
+-- each terminal hears the control station's message as `hears` says: no other station changes, and
+-- then the answer of the terminal with the least number among those that answer is pending
 pub record IsCarriedDown (message : Message) (hears : ℕ → Heard) (old new : LineValue)
     : Type 0 where
   pub control : new.control ≡ old.control
@@ -30,8 +30,8 @@ pub record IsCarriedDown (message : Message) (hears : ℕ → Heard) (old new : 
   pub trusted : IsTrustAfter old.trusted (IsHeardFairly message (terminal_count old) hears)
       new.trusted
 
--- a terminal's message is heard by the control station so: nobody else changes, and what the
--- control station answers is then on the line
+-- the control station hears a terminal's message as `heard`: no other station changes, and then the
+-- answer of the control station is pending
 pub record IsCarriedUp (message : Message) (heard : Heard) (old new : LineValue) : Type 0 where
   pub sent : Option Message
   pub control : ControlHears old.control heard new.control sent
@@ -41,13 +41,13 @@ pub record IsCarriedUp (message : Message) (heard : Heard) (old new : LineValue)
   pub addressed : new.addressed ≡ old.addressed
   pub trusted : IsTrustAfter old.trusted (IsFairlyHeard message heard) new.trusted
 
--- what is on the line is heard so, by its speaker: the control station is heard by all terminals
--- alike, a terminal by the control station
+-- the pending transmission is heard as `heard`, by its speaker: the control station by all
+-- terminals alike, a terminal by the control station
 abbrev pub IsCarriedBy : Speaker → Message → Heard → LineValue → LineValue → Type 0
 IsCarriedBy Control message heard old new = IsCarriedDown message (λ t. heard) old new
 IsCarriedBy (Terminal t) message heard old new = IsCarriedUp message heard old new
 
--- a terminal acts on a silence: nobody else changes
+-- a terminal acts on a silence: no other station changes
 pub record TerminalActsAlone (t : ℕ) (old new : LineValue) : Type 0 where
   pub sent : Option Message
   pub there : t < terminal_count old
@@ -57,14 +57,14 @@ pub record TerminalActsAlone (t : ℕ) (old new : LineValue) : Type 0 where
     pending = sent_by (Terminal t) sent;
   }
 
--- the control station acts on a silence: nobody else changes
+-- the control station acts on a silence: no other station changes
 pub record ControlActsAlone (old new : LineValue) : Type 0 where
   pub sent : Option Message
   pub row : ControlActs old.control new.control sent
   pub kept : ControlKeepsSilence old.control new.control sent
   pub becomes : new ≡ record old { control = new.control; pending = sent_by Control sent }
 
--- the owner of the line acts; None is the control station
+-- the owner of the line acts; None stands for the control station
 abbrev pub OwnerActs : Option ℕ → LineValue → LineValue → Type 0
 OwnerActs None old new = ControlActsAlone old new
 OwnerActs (Some t) old new = TerminalActsAlone t old new

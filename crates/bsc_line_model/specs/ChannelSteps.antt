@@ -1,4 +1,4 @@
--- What each event does to each channel of a trusted line (own).
+-- What each event does to each channel of a trusted line.
 use Rattle.std.specs.Prelude.{◌≡◌, ◌⊎◌, ℕ, Option, None, Some}
 use Rattle.bsc_bid.specs.Channel.{Move, Offer, Land, Learn, Makes}
 use Rattle.bsc_directory.specs.declared.way.Way.{Way}
@@ -10,7 +10,7 @@ use Rattle.bsc_line_model.specs.declared.event.Event.TheVariants.{Ready, UrgentA
 use Rattle.bsc_line_model.specs.declared.event.Event.TheVariants.{Release}
 use Rattle.bsc_line_model.specs.Line.{LineValue, IsChannel, channel_of}
 
--- channel (t, way) makes this move, and all others none
+-- channel (t, way) makes this move, and all others stay
 pub record MovesOne (t : ℕ) (way : Way) (move : Move) (old new : LineValue) : Type 0 where
   pub this : Makes move (channel_of old t way) (channel_of new t way)
   pub others : (u : ℕ) (other : Way) → IsChannel old u other → (u ≡ t → other ≡ way → ⊥) →
@@ -21,13 +21,13 @@ abbrev pub MovesNothing : LineValue → LineValue → Type 0
 MovesNothing old new =
     (t : ℕ) (way : Way) → IsChannel old t way → channel_of new t way ≡ channel_of old t way
 
--- some records land at this channel
+-- a number of records arrive on this channel
 pub record Lands (t : ℕ) (way : Way) (old new : LineValue) : Type 0 where
   pub count : ℕ
   pub moves : MovesOne t way (Land count) old new
 
--- the addressed channel makes no move, or some records land, or its sending end learns; all others
--- make none
+-- the addressed channel stays, or records arrive on it, or its sending end learns that they
+-- arrived; all others stay
 abbrev pub MovesAddressed : Option (ℕ × Way) → LineValue → LineValue → Type 0
 MovesAddressed None old new = MovesNothing old new
 MovesAddressed (Some a) old new =

@@ -1,7 +1,7 @@
--- The promise of a line that is still trusted, whatever events it met (own): the records that
--- arrived on a channel are the first of those that were offered on it, in order and each once;
--- the sending end counts none as delivered that did not arrive; and no record reaches a terminal
--- that is not addressed.
+-- The main promise of a line that is still trusted, whatever its events were: the records that
+-- arrived on a channel are the first of those that were offered on it, in order and each once; the
+-- sending end counts none as delivered that did not arrive; and no record reaches a terminal that
+-- is not addressed.
 use Rattle.std.specs.Prelude.{◌≡◌, ◌⊎◌, ◌<◌, ◌≤◌, ◌+◌, ◌++◌, ℕ, IsTrue, List, [], ◌∷◌, length}
 use Rattle.std.specs.Prelude.{take, drop, slice_get, Some, Result, Ok, Err}
 use Rattle.bsc_bid.specs.declared.phase.Phase.{Phase}
@@ -39,10 +39,10 @@ IsSettled (Held end alternation) = Unit {0}
 IsSettled (Unanswered block) = ⊥
 IsSettled (InDoubt count) = ⊥
 
--- What a run leaves of a channel. Offered are the records that were offered before it, and then
--- those of its accepted offers, in order. The records that arrived are the first of these, in
+-- What a run leaves on a channel. The offered records are those that were offered before it, and
+-- then those of its accepted offers, in order. The records that arrived are the first of these, in
 -- order and each once. Those that the sending end counts as delivered are among them, and are all
--- of them where no block is unanswered or in doubt.
+-- of them if no block is unanswered or in doubt.
 pub record ArrivesInOrder (old new : LineValue) (accepted : List Event) (t : ℕ) (way : Way)
     : Type 0 where
   pub offered : offered_on new t way ≡ offered_on old t way ++ offered_in accepted t way
@@ -51,16 +51,16 @@ pub record ArrivesInOrder (old new : LineValue) (accepted : List Event) (t : ℕ
   pub all_known : IsSettled (phase_of new t way)
       → known_on new t way ≡ length (spooled_on new t way)
 
--- what arrived on a channel stays as it was, or the channel is the addressed one: the one that the
--- last whole call named
+-- either the records that arrived on a channel are unchanged, or the channel is the addressed one,
+-- that is, the one that the last whole call named
 abbrev pub ReachesAddressed : LineValue → LineValue → Type 0
 ReachesAddressed before after =
     (t : ℕ) (way : Way) → IsChannel before t way
     → (spooled_on after t way ≡ spooled_on before t way) ⊎ (before.addressed ≡ Some (t, way))
 
 -- The event at place i of a run. The events before it lead to a line on which it is accepted, and
--- the run goes on from what it leaves. That is trusted, and the event moves the channels as its
--- row says.
+-- the run continues from the line that it leaves. That line is trusted, and the event moves the
+-- channels as its row says.
 pub record PassesEvent (old : LineValue) (events : List Event) (result : Result (Unit {0}) Stopped)
     (new : LineValue) (i : ℕ) : Type 0 where
   pub event : Event
@@ -76,7 +76,7 @@ pub record PassesEvent (old : LineValue) (events : List Event) (result : Result 
   pub reaches : ReachesAddressed before after
 
 -- what a run keeps: it began with a trusted line, on each channel the records arrive in order, and
--- each accepted event moves what its row says and nothing else
+-- each accepted event makes the moves of its row and no others
 pub record KeepsRecords (old : LineValue) (events : List Event) (result : Result (Unit {0}) Stopped)
     (new : LineValue) : Type 0 where
   pub trusted : IsTrue old.trusted

@@ -1,5 +1,5 @@
--- What holds of every line (own). That at most one terminal is out of control mode holds where the
--- line is trusted.
+-- What holds of every line. That at most one terminal is out of control mode holds if the line is
+-- trusted.
 use Rattle.std.specs.Prelude.{◌≡◌, ◌<◌, ℕ, true, IsTrue, List, length, slice_index_or, Option, None}
 use Rattle.std.specs.Prelude.{Some}
 use Rattle.bsc_bid.specs.Terminal.{TerminalValue, HasDistinctAddresses}
@@ -29,8 +29,8 @@ pub record AreStations (c : ControlValue) (ts : List TributaryValue) : Type 0 wh
   pub count : length c.peers ≡ length ts
   pub members : (t : ℕ) → t < length ts → IsMember c t (terminal_in ts t)
 
--- a terminal is in control mode, or its channel is the addressed one and it does what the way says:
--- it receives where the way is to it, and sends where the way is from it
+-- a terminal is in control mode, or its channel is the addressed one and its mode is that of the
+-- way: it receives if the way is to it, and sends if the way is from it
 abbrev pub IsTuned : Option (ℕ × Way) → ℕ → Mode → Type 0
 IsTuned addressed t Control = Unit {0}
 IsTuned addressed t (Receiving s) = addressed ≡ Some (t, ToTerminal s)
@@ -40,7 +40,7 @@ IsTuned addressed t Sending = addressed ≡ Some (t, FromTerminal)
 abbrev pub AreTuned : Option (ℕ × Way) → List TributaryValue → Type 0
 AreTuned addressed ts = (t : ℕ) → t < length ts → IsTuned addressed t (terminal_in ts t).mode
 
--- a line: its stations, and where it is trusted, how they go together
+-- a line: its stations, and, if it is trusted, how they fit together
 pub record IsLine (l : LineValue) : Type 0 where
   pub stations : AreStations l.control l.terminals
   pub tuned : IsTrue l.trusted → AreTuned l.addressed l.terminals
@@ -59,8 +59,8 @@ pub record AreNewTerminals (setup : SetupValue) (given : List TerminalValue)
   pub each : (t : ℕ) → t < length given →
       IsNewTerminal setup (slice_index_or given t no_peer.terminal) (terminal_in ts t)
 
--- a new line has new stations for what it was given, nothing on it and nobody addressed, and it is
--- trusted
+-- a new line has new stations made of these values, nothing pending and no channel addressed, and
+-- it is trusted
 pub record IsNewLine (setup : SetupValue) (given : List TerminalValue) (poll_list : List ℕ)
     (l : LineValue) : Type 0 where
   pub control : IsNewControl setup given poll_list l.control

@@ -1,4 +1,4 @@
--- What offers, flags and releases do to a line (own).
+-- What offers, flags and releases do to a line.
 use Rattle.std.specs.Prelude.{◌≡◌, ◌<◌, ◌≤◌, ℕ, Bool, true, List, length, Result, Ok, Err}
 use Rattle.bsc_block.specs.declared.record.RecordError.{RecordError}
 use Rattle.bsc_block.specs.Records.{record_of}
@@ -23,7 +23,7 @@ use Rattle.bsc_line_model.specs.Line.{with_control}
 abbrev pub full_length : LineValue → ℕ
 full_length l = l.control.setup.format.full
 
--- the record of these codes, or why they are none
+-- the record of these codes, or why they are not a record
 abbrev pub or_bad : Result (List ℕ) RecordError → Result (List ℕ) LineError
 or_bad (Ok r) = Ok r
 or_bad (Err e) = Err (BadRecord e)
@@ -31,7 +31,7 @@ or_bad (Err e) = Err (BadRecord e)
 abbrev pub read_for : ℕ → List ℕ → Result (List ℕ) LineError
 read_for full codes = or_bad (record_of full codes)
 
--- how many selection addresses a terminal has
+-- the number of selection addresses of a terminal
 abbrev pub select_count : LineValue → ℕ → ℕ
 select_count l t = length (terminal_at l t).terminal.selects
 
@@ -46,7 +46,7 @@ abbrev pub offered_for : LineValue → ℕ → ℕ → List ℕ → LineValue
 offered_for l t s r =
     with_control l (with_peer l.control t (offered_to (peer_at l.control t) s r))
 
--- an offer at a terminal, and why it is refused
+-- an offer at a terminal, and each refusal of it
 abbrev pub OffersAt :
     LineValue → ℕ → List ℕ → Result (Unit {0}) LineError → LineValue → Type 0
 OffersAt old t codes (Ok done) new =
@@ -59,7 +59,7 @@ OffersAt old t codes (Err Memory) new =
     (t < terminal_count old) × (record_of (full_length old) codes ≡ Ok codes) × (new ≡ old)
 OffersAt old t codes (Err _) new = ⊥
 
--- an offer for a selection address, and why it is refused
+-- an offer for a selection address, and each refusal of it
 abbrev pub OffersFor :
     LineValue → ℕ → ℕ → List ℕ → Result (Unit {0}) LineError → LineValue → Type 0
 OffersFor old t s codes (Ok done) new =
@@ -76,7 +76,7 @@ OffersFor old t s codes (Err Memory) new =
     × (record_of (full_length old) codes ≡ Ok codes) × (new ≡ old)
 OffersFor old t s codes (Err _) new = ⊥
 
--- a flag of terminal t is set, where there is such a terminal
+-- a flag of terminal t is set if the terminal exists
 abbrev pub Sets :
     LineValue → ℕ → LineValue → Result (Unit {0}) LineError → LineValue → Type 0
 Sets old t set (Ok done) new = (t < terminal_count old) × (new ≡ set)
@@ -96,21 +96,21 @@ abbrev pub urgent_set_for : LineValue → ℕ → LineValue
 urgent_set_for l t =
     with_control l (with_peer l.control t (record (peer_at l.control t) { urgent = true }))
 
--- how a release's answer is told
+-- the answer of a release, as the line's
 abbrev pub told : Result (Unit {0}) ReleaseError → Result (Unit {0}) LineError
 told (Ok done) = Ok tt
 told (Err r.NotInDoubt) = Err NotInDoubt
 told (Err r.CountMismatch) = Err CountMismatch
 
--- how many records the control station has from a terminal
+-- the number of records that arrived at the control station from a terminal
 abbrev pub count_from : LineValue → ℕ → ℕ
 count_from l t = length (peer_at l.control t).spool.records
 
--- how many records a terminal has for a selection address
+-- the number of records that arrived at a terminal for a selection address
 abbrev pub count_to : LineValue → ℕ → ℕ → ℕ
 count_to l t s = length (spool_at (terminal_at l t).spools s).records
 
--- the terminal's doubt is ended by the count of the control station's spool
+-- the terminal's doubt is ended by the count of the records in the control station's spool
 pub record ReleasesFrom (old : LineValue) (t : ℕ) (result : Result (Unit {0}) LineError)
     (new : LineValue) : Type 0 where
   pub there : t < terminal_count old
@@ -118,7 +118,7 @@ pub record ReleasesFrom (old : LineValue) (t : ℕ) (result : Result (Unit {0}) 
       (terminal_at old t).queue (count_from old t)).answer
   pub becomes : new ≡ with_terminal old t (after_release (terminal_at old t) (count_from old t))
 
--- the control station's doubt is ended by the count of the terminal's spool
+-- the control station's doubt is ended by the count of the records in the terminal's spool
 pub record ReleasesTo (old : LineValue) (t s : ℕ) (result : Result (Unit {0}) LineError)
     (new : LineValue) : Type 0 where
   pub there : t < terminal_count old
@@ -134,12 +134,12 @@ abbrev pub ReleasesWay :
 ReleasesWay old t FromTerminal result new = ReleasesFrom old t result new
 ReleasesWay old t (ToTerminal s) result new = ReleasesTo old t s result new
 
--- the way is none of the terminal's
+-- the terminal does not have this way
 abbrev pub IsNoWay : LineValue → ℕ → Way → Type 0
 IsNoWay l t FromTerminal = ⊥
 IsNoWay l t (ToTerminal s) = select_count l t ≤ s
 
--- a release, and why it is refused
+-- a release, and each refusal of it
 abbrev pub Releases :
     LineValue → ℕ → Way → Result (Unit {0}) LineError → LineValue → Type 0
 Releases old t way (Err NoSuchTerminal) new = (terminal_count old ≤ t) × (new ≡ old)

@@ -1,5 +1,5 @@
--- How many transmissions a visit of a terminal and a round of the poll list take where all is heard
--- (own), and what they deliver.
+-- How many transmissions a visit of a terminal and a round of the poll list take if all are heard,
+-- and what they deliver.
 use Rattle.std.specs.Prelude.{◌≡◌, ◌≢◌, ◌<◌, ◌+◌, ◌*◌, ◌-◌, ◌^◌, ℕ, zero, suc, Bool, true, false}
 use Rattle.std.specs.Prelude.{IsTrue, nat_eq}
 use Rattle.std.specs.Prelude.{is_some, position, List, [], ◌∷◌, length, sum_by, replicate}
@@ -26,12 +26,12 @@ use Rattle.bsc_line_model.specs.Line.{phase_of}
 use Rattle.bsc_line_model.specs.Kept.{IsLine}
 use Rattle.bsc_line_model.specs.Runs.{Runs}
 
--- how many blocks the waiting records of a queue make
+-- the number of blocks that the waiting records of a queue make
 abbrev pub block_count : QueueValue → ℕ
 block_count q = length (blocks q.format (waiting q))
 
 -- the transmissions of a bid of this many blocks to a selection address: call and answer, and two
--- for each block; none where there is no block, for then the address is not called
+-- for each block; none if there is no block, for then the address is not called
 abbrev pub selection_length : ℕ → ℕ
 selection_length zero = 0
 selection_length (suc n) = 2 + 2 * suc n
@@ -40,12 +40,12 @@ selection_length (suc n) = 2 + 2 * suc n
 abbrev pub poll_length : ℕ → ℕ
 poll_length n = 2 + 2 * n
 
--- the transmissions of a bid with all that waits for a selection address
+-- the transmissions of a bid with all records that wait for a selection address
 abbrev pub outbound_length : OutboundValue → ℕ
 outbound_length o = selection_length (block_count o.queue)
 
--- the transmissions of a visit of a terminal: a selection of each of its selection addresses, and a
--- poll
+-- the transmissions of a visit of a terminal: a selection of each of its selection addresses for
+-- which records wait, and a poll
 abbrev pub visit_length : LineValue → ℕ → ℕ
 visit_length l t =
     sum_by outbound_length (peer_at l.control t).outbounds
@@ -56,7 +56,7 @@ abbrev pub is_seen : ℕ → List ℕ → Bool
 is_seen t seen = is_some (position (nat_eq t) seen)
 
 -- the transmissions of these entries of the poll list: the first entry of a terminal is a visit of
--- it, and each later one is a poll in which it has nothing to send
+-- it, and each later one a poll in which it has nothing to send
 abbrev pub entries_length : LineValue → List ℕ → List ℕ → ℕ
 entries_length l seen [] = 0
 entries_length l seen (t ∷ ts) =
@@ -71,8 +71,8 @@ round_length l = entries_length l [] l.control.poll_list
 abbrev pub entry_at : LineValue → ℕ → ℕ
 entry_at l place = slice_index l.control.poll_list place
 
--- terminal t is ready for a visit: it takes selections, no end asks for the line, and nothing is in
--- doubt
+-- terminal t is ready for a visit: it accepts selections, neither end asks for the line, and no
+-- channel of it is in doubt
 pub record IsCalm (l : LineValue) (t : ℕ) : Type 0 where
   pub ready : IsTrue (terminal_at l t).ready
   pub not_urgent_at : (terminal_at l t).urgent ≡ false
@@ -80,15 +80,15 @@ pub record IsCalm (l : LineValue) (t : ℕ) : Type 0 where
   pub no_doubt : (way : Way) → IsChannel l t way → is_in_doubt (phase_of l t way) ≡ false
 
 -- the control station has made this call, with this address, and nothing has answered it yet; the
--- call may be one that was repeated after a silence
+-- call may have been repeated after a silence
 pub record HasMadeCall (c : ControlValue) (call : Call) (address : List ℕ) : Type 0 where
   pub place : c.place ≡ call.place
   pub called : IsAddressOf (terminals c) (current c) call.way address
   pub task : IsTaskOf call.way c.task
 
--- A visit begins: on the line is the first call of the entry, the one that the call order gives for
--- the records that wait; the line is trusted, and every terminal in the poll list is ready for a
--- visit.
+-- A visit begins: the first call of the entry is pending, which is the one that the call order
+-- gives for the records that wait; the line is trusted, and every terminal in the poll list is
+-- ready for a visit.
 pub record BeginsVisit (l : LineValue) (place : ℕ) : Type 0 where
   pub address : List ℕ
   pub pending : l.pending ≡ Some (record { speaker = Control; message = m.Call address })
@@ -96,22 +96,21 @@ pub record BeginsVisit (l : LineValue) (place : ℕ) : Type 0 where
   pub trusted : IsTrue l.trusted
   pub calm : (k : ℕ) → k < length l.control.poll_list → IsCalm l (entry_at l k)
 
--- all that was offered on a channel arrived, and is known to have arrived
+-- all records that were offered on a channel arrived, and are known to have arrived
 pub record IsAllDelivered (channel : Channel) : Type 0 where
   pub known : channel.known ≡ length channel.offered
   pub spooled : channel.spooled ≡ channel.offered
 
--- all is delivered on every channel of terminal t
+-- all records are delivered on every channel of terminal t
 abbrev pub IsDelivered : LineValue → ℕ → Type 0
 IsDelivered l t = (way : Way) → IsChannel l t way → IsAllDelivered (channel_of l t way)
 
--- how often a spool was refused room, in two states: this often in both, with the count below its
--- greatest value, at which it stays
+-- the counts of refusals of room to a spool in two states: equal, and below the greatest value, at
+-- which the count saturates
 abbrev pub SameDelay : ℕ → ℕ → Type 0
 SameDelay old new = (new ≡ old) × (old < 2 ^ 64 - 1)
 
--- no spool was refused room: neither one that the control station has for a terminal nor one that a
--- terminal has for a selection address
+-- no spool was refused room, neither at the control station nor at a terminal
 pub record SameDelays (old new : LineValue) : Type 0 where
   pub control : (t : ℕ) → t < terminal_count old →
       SameDelay (peer_at old.control t).spool.delays (peer_at new.control t).spool.delays
@@ -123,41 +122,41 @@ pub record SameDelays (old new : LineValue) : Type 0 where
 abbrev pub sent_times : ℕ → List Event
 sent_times n = replicate n CarrySent
 
--- a visit is done: the channels of the terminal are delivered, those of the other terminals are as
--- they were, and the visit of the next entry begins
+-- a visit is done: the records on the channels of the terminal are delivered, the channels of the
+-- other terminals are unchanged, and the visit of the next entry begins
 pub record IsVisited (old new : LineValue) (place : ℕ) : Type 0 where
   pub delivered : IsDelivered new (entry_at old place)
   pub others : (t : ℕ) (way : Way) → IsChannel old t way → t ≢ entry_at old place →
       channel_of new t way ≡ channel_of old t way
   pub next : BeginsVisit new (place_after old.control.poll_list place)
 
--- these events are the transmissions of a visit that begins, as many as its length, each heard as
--- it was sent, and no spool is refused room
+-- these events are the transmissions of a visit from its beginning, as many as its length, each
+-- heard as it was sent, and no spool is refused room
 pub record IsFairVisit (old : LineValue) (place : ℕ) (events : List Event) (new : LineValue)
     : Type 0 where
   pub begins : BeginsVisit old place
   pub transmissions : events ≡ sent_times (visit_length old (entry_at old place))
   pub delays : SameDelays old new
 
--- delivery by a number, a visit: such events are accepted, and the visit is done
+-- delivery within a visit: such events are accepted, and the visit is done
 abbrev pub DeliversVisit : LineValue → List Event → Result (Unit {0}) Stopped → LineValue → Type 0
 DeliversVisit old events result new =
     (place : ℕ) → IsFairVisit old place events new → (result ≡ Ok tt) × IsVisited old new place
 
--- a round is done: the channels of every terminal in the poll list are delivered, and the next
--- round begins
+-- a round is done: the records on the channels of every terminal in the poll list are delivered,
+-- and the next round begins
 pub record IsRoundDone (old new : LineValue) : Type 0 where
   pub delivered : (k : ℕ) → k < length old.control.poll_list → IsDelivered new (entry_at old k)
   pub next : BeginsVisit new 0
 
--- these events are the transmissions of a round that begins, as many as its length, each heard as
--- it was sent, and no spool is refused room
+-- these events are the transmissions of a round from its beginning, as many as its length, each
+-- heard as it was sent, and no spool is refused room
 pub record IsFairRound (old : LineValue) (events : List Event) (new : LineValue) : Type 0 where
   pub begins : BeginsVisit old 0
   pub transmissions : events ≡ sent_times (round_length old)
   pub delays : SameDelays old new
 
--- delivery by a number, a round: such events are accepted, and the round is done
+-- delivery within a round: such events are accepted, and the round is done
 abbrev pub DeliversRound : LineValue → List Event → Result (Unit {0}) Stopped → LineValue → Type 0
 DeliversRound old events result new =
     IsFairRound old events new → (result ≡ Ok tt) × IsRoundDone old new
@@ -173,7 +172,7 @@ RunsDeliverRound =
     (old new : LineValue) (events : List Event) (result : Result (Unit {0}) Stopped) → IsLine old
     → Runs old events result new → DeliversRound old events result new
 
--- a terminal was visited where it is the one visited last, or was visited before it
+-- a terminal was visited if it is the one visited last, or was visited before that one
 abbrev pub SeesLast : Type 0
 SeesLast = (t e : ℕ) (seen : List ℕ) → t ≡ e → is_seen t (e ∷ seen) ≡ true
 

@@ -1,4 +1,4 @@
--- What each event does to a line, and what a list of events does (own).
+-- What each event does to a line, and what a list of events does.
 use Rattle.std.specs.Prelude.{◌≡◌, ◌≢◌, ◌⊎◌, ◌+◌, ℕ, List, [], ◌∷◌, length, Option, None, Some}
 use Rattle.std.specs.Prelude.{Result, Ok, Err}
 use Rattle.std.specs.Borrow.{Bor}
@@ -23,7 +23,7 @@ use Rattle.bsc_line_model.specs.Carries.{IsCarriedBy, IsCarriedDown, OwnerActs}
 use Rattle.bsc_line_model.specs.Offers.{OffersAt, OffersFor, Sets, ready_set, urgent_set_at}
 use Rattle.bsc_line_model.specs.Offers.{urgent_set_for, Releases}
 
--- what is pending is heard so
+-- the pending transmission is heard as `hear` says
 pub record CarriesAs (hear : Transmission → Heard) (old new : LineValue) : Type 0 where
   pub sent : Transmission
   pub pending : old.pending ≡ Some sent
@@ -57,7 +57,7 @@ pub record IsFromControl (l : LineValue) : Type 0 where
   pub pending : l.pending ≡ Some sent
   pub speaker : sent.speaker ≡ Control
 
--- each terminal hears its item, or why it is refused
+-- each terminal hears its item, or the event is refused
 abbrev pub CarriesEach : List (Option (Bor (List ℕ))) →
     LineValue → Result (Unit {0}) LineError → LineValue → Type 0
 CarriesEach items old (Ok done) new = CarriesEachAs items old new
@@ -67,18 +67,18 @@ CarriesEach items old (Err WrongCount) new =
     IsFromControl old × (length items ≢ terminal_count old) × (new ≡ old)
 CarriesEach items old (Err _) new = ⊥
 
--- a silence goes to the owner of the line
+-- a silence passes: the owner of the line acts
 pub record PassesSilence (old new : LineValue) : Type 0 where
   pub nothing : old.pending ≡ None
   pub acts : OwnerActs (line_owner old.terminals) old new
 
--- a silence passes, or something is pending
+-- a silence passes, or a transmission is pending
 abbrev pub FallsSilent : LineValue → Result (Unit {0}) LineError → LineValue → Type 0
 FallsSilent old (Ok done) new = PassesSilence old new
 FallsSilent old (Err Pending) new = (old.pending ≢ None) × (new ≡ old)
 FallsSilent old (Err _) new = ⊥
 
--- what an event does, a row for each kind of event: the line before, the answer, the line after
+-- the relation of an event, a row for each kind: the line before, the answer, and the line after
 abbrev pub Does : Event → LineValue → Result (Unit {0}) LineError → LineValue → Type 0
 Does (OfferAt t codes) old result new = OffersAt old t codes.now result new
 Does (OfferFor t s codes) old result new = OffersFor old t s codes.now result new
@@ -92,7 +92,7 @@ Does (UrgentAt t) old result new = Sets old t (urgent_set_at old t) result new
 Does (UrgentFor t) old result new = Sets old t (urgent_set_for old t) result new
 Does (Release t way) old result new = Releases old t way result new
 
--- the event is accepted, and a run of the rest goes on from a line
+-- the event is accepted, and a run of the rest continues from the line that it leaves
 pub record GoesOn (event : Event) (old : LineValue) (Rest : LineValue → Type 0) : Type 0 where
   pub mid : LineValue
   pub line : IsLine mid
@@ -105,7 +105,8 @@ pub record StopsAt (event : Event) (at : ℕ) (old : LineValue) (stopped : Stopp
   pub place : stopped.at ≡ at
   pub refused : Does event old (Err stopped.why) new
 
--- events are done in order, up to the first that is refused; at is the place of the first of them
+-- the events are applied in order, up to the first that is refused; `at` is the place of the first
+-- of them
 abbrev pub RunsFrom :
     ℕ → LineValue → List Event → Result (Unit {0}) Stopped → LineValue → Type 0
 RunsFrom at old [] (Ok done) new = new ≡ old

@@ -1,5 +1,5 @@
--- Every event leaves a line a line. What a station's own type keeps is a premise here: that a
--- terminal is a terminal, and a control station a control station.
+-- Every event keeps the invariant of a line. The invariants of the stations' own types are premises
+-- here: that a terminal is a terminal, and a control station a control station.
 use Rattle.std.specs.Prelude.{◌≡◌, ◌≢◌, ℕ, ◌<◌, ◌≤◌, Bool, true, List, length, Some}
 use Rattle.bsc_frame.specs.declared.message.Heard.{Heard}
 use Rattle.bsc_spool.specs.Queue.{with_offered}
@@ -19,20 +19,20 @@ use Rattle.bsc_line_model.specs.Offers.{full_length, select_count, count_from, c
 use Rattle.bsc_line_model.specs.Runs.{PassesSilence}
 use Rattle.bsc_line_model.specs.Kept.{IsLine, IsNewLine}
 
--- a new line is a line
+-- a new line keeps the invariant
 abbrev pub NewLineStays : Type 0
 NewLineStays =
     (setup : SetupValue) (given : List TerminalValue) (poll_list : List ℕ) (l : LineValue) →
     IsNewLine setup given poll_list l → IsControl l.control → IsLine l
 
--- the control station's transmission is heard by the terminals
+-- the terminals hear the control station's transmission
 abbrev pub DownStays : Type 0
 DownStays =
     (sent : Transmission) (hears : ℕ → Heard) (old new : LineValue) → IsLine old →
     old.pending ≡ Some sent → sent.speaker ≡ Control →
     IsCarriedDown sent.message hears old new → IsLine new
 
--- a terminal's transmission is heard by the control station
+-- the control station hears a terminal's transmission
 abbrev pub UpStays : Type 0
 UpStays =
     (sent : Transmission) (heard : Heard) (old new : LineValue) → IsLine old →
@@ -64,7 +64,8 @@ UrgentAtStays =
     (l : LineValue) (t : ℕ) (x : TributaryValue) → IsLine l → t < terminal_count l →
     IsTributary x → x ≡ record (terminal_at l t) { urgent = true } → IsLine (with_terminal l t x)
 
--- a terminal's doubt is ended by the count of the control station's spool, or that is refused
+-- a terminal's doubt is ended by the count of the records in the control station's spool, or the
+-- release is refused
 abbrev pub ReleaseFromStays : Type 0
 ReleaseFromStays =
     (l : LineValue) (t : ℕ) (x : TributaryValue) → IsLine l → t < terminal_count l →
@@ -85,7 +86,8 @@ UrgentForStays =
     IsControl c → c ≡ with_peer l.control t (record (peer_at l.control t) { urgent = true }) →
     IsLine (with_control l c)
 
--- the control station's doubt is ended by the count of a terminal's spool, or that is refused
+-- the control station's doubt is ended by the count of the records in a terminal's spool, or the
+-- release is refused
 abbrev pub ReleaseToStays : Type 0
 ReleaseToStays =
     (l : LineValue) (t s : ℕ) (c : ControlValue) → IsLine l → t < terminal_count l →

@@ -1,4 +1,4 @@
--- What every event of a line keeps (own).
+-- What every event of a line keeps.
 use Rattle.std.specs.Prelude.{◌≡◌, ◌<◌, ◌++◌, ◌&&◌, ℕ, List, [], ◌∷◌, IsTrue, is_some, nat_eq}
 use Rattle.std.specs.Prelude.{Ok, Err, if◌then◌else◌}
 use Rattle.bsc_frame.specs.declared.message.Message.{Message}
@@ -26,7 +26,7 @@ use Rattle.bsc_line_model.specs.Runs.{Does}
 use Rattle.bsc_line_model.specs.Kept.{IsLine, IsNewLine}
 use Rattle.bsc_line_model.specs.ChannelSteps.{StepsChannels}
 
--- each accepted event moves the channels as its row says, where the line is trusted after it
+-- each accepted event moves the channels as its row says, if the line is trusted after it
 abbrev pub EachStepsChannels : Type 0
 EachStepsChannels =
     (event : Event) (old new : LineValue) → IsLine old → Does event old (Ok tt) new
@@ -42,8 +42,8 @@ offered_by (OfferAt u r) t FromTerminal = if nat_eq t u then r.now ∷ [] else [
 offered_by (OfferFor u k r) t (ToTerminal s) = if nat_eq t u && nat_eq s k then r.now ∷ [] else []
 offered_by _ t way = []
 
--- what is offered on a channel grows by the accepted offers of it, trusted or not, and by nothing
--- else
+-- the records that are offered on a channel grow by the accepted offers of it, trusted or not, and
+-- by nothing else
 abbrev pub GrowsByOffers : Type 0
 GrowsByOffers =
     (event : Event) (old new : LineValue) → IsLine old → Does event old (Ok tt) new
@@ -62,7 +62,7 @@ TrustOnlyFalls =
     (event : Event) (old new : LineValue) → Does event old (Ok tt) new → IsTrue new.trusted
     → IsTrue old.trusted
 
--- terminal t is the one that the control station polls
+-- the control station polls terminal t
 pub record IsPolled (l : LineValue) (t : ℕ) : Type 0 where
   pub present : t ≡ current l.control
   pub replied : Replied
@@ -74,7 +74,7 @@ HoldsWhilePolled =
     (l : LineValue) (t : ℕ) → IsLine l → IsTrue l.trusted → t < terminal_count l
     → IsTrue (holds (terminal_at l t).mode) → IsPolled l t
 
--- on a trusted line no count mismatches
+-- on a trusted line, no release is refused with CountMismatch
 abbrev pub NeverMismatches : Type 0
 NeverMismatches =
     (old new : LineValue) (t : ℕ) (way : Way) → IsLine old → IsTrue old.trusted
@@ -84,8 +84,8 @@ NeverMismatches =
 abbrev pub Answers : (ℕ → Heard) → LineValue → LineValue → ℕ → Type 0
 Answers hears old new t = IsTrue (is_some (answer_of old.terminals hears new.terminals t))
 
--- at most one terminal answers a transmission of the control station, where the line is trusted
--- after it
+-- at most one terminal answers a transmission of the control station, if the line is trusted after
+-- it
 abbrev pub OneAnswers : Type 0
 OneAnswers =
     (message : Message) (hears : ℕ → Heard) (old new : LineValue) → IsLine old
@@ -93,23 +93,23 @@ OneAnswers =
     → t < terminal_count old → u < terminal_count old
     → Answers hears old new t → Answers hears old new u → t ≡ u
 
--- where all n terminals hear the same, trust asks of it what it asks of what one station hears
+-- what one station would hear fairly, n terminals that all hear it hear fairly
 abbrev pub AlikeIsFair : Type 0
 AlikeIsFair =
     (message : Message) (n : ℕ) (heard : Heard) → IsFairlyHeard message heard
     → IsHeardFairly message n (all_hear heard)
 
--- what trust asks of a message that n terminals hear alike, it asks of what one station hears
+-- and conversely, if there is at least one terminal
 abbrev pub FairIsAlike : Type 0
 FairIsAlike =
     (message : Message) (n : ℕ) (heard : Heard) → 0 < n
     → IsHeardFairly message n (all_hear heard) → IsFairlyHeard message heard
 
--- a channel with nothing offered, known or spooled
+-- a channel on which no record is offered, known or spooled
 abbrev pub no_records : Channel
 no_records = record { offered = []; known = 0; spooled = [] }
 
--- nothing is offered, known or spooled on the channels of a new line
+-- no record is offered, known or spooled on the channels of a new line
 abbrev pub NewChannelsAreEmpty : Type 0
 NewChannelsAreEmpty =
     (setup : SetupValue) (given : List TerminalValue) (poll_list : List ℕ) (l : LineValue) (t : ℕ)

@@ -1,5 +1,5 @@
--- How the stations of a trusted line go together, by what the control station does (own). Every
--- event keeps it; that each channel is sound rests on it.
+-- How the stations of a trusted line fit together, by the task of the control station. Every event
+-- keeps it, and it implies that each channel is sound.
 use Rattle.std.specs.Prelude.{◌≡◌, ◌≢◌, ◌⊎◌, ◌<◌, ℕ, Bool, true, false, List, length, Option, None}
 use Rattle.std.specs.Prelude.{Some}
 use Rattle.bsc_frame.specs.declared.message.Message.{Message}
@@ -24,26 +24,26 @@ use Rattle.bsc_line_model.specs.declared.transmission.Speaker.TheVariants.{Contr
 use Rattle.bsc_line_model.specs.declared.transmission.Transmission.{Transmission}
 use Rattle.bsc_line_model.specs.Line.{LineValue, terminal_in, IsChannel, channel_of, phase_of}
 
--- no bid goes on from the terminal, and the channel is sound
+-- no bid from the terminal is in progress, and the channel is sound
 abbrev pub RestsUp : PeerValue → TributaryValue → Type 0
 RestsUp p x = IsResting x.sender.phase x.queue p.spool.records
 
--- no bid goes on to the terminal's selection address s, and the channel is sound
+-- no bid to the terminal's selection address s is in progress, and the channel is sound
 abbrev pub RestsDown : PeerValue → TributaryValue → ℕ → Type 0
 RestsDown p x s =
     IsResting (outbound_at p s).sender.phase (outbound_at p s).queue (spool_at x.spools s).records
 
--- no bid goes on with this terminal, and its channels are sound
+-- no bid with this terminal is in progress, and its channels are sound
 pub record HasNoBid (p : PeerValue) (x : TributaryValue) : Type 0 where
   pub mode : x.mode ≢ mode.Sending
   pub up : RestsUp p x
   pub down : (s : ℕ) → s < length p.outbounds → RestsDown p x s
 
--- no bid goes on with any terminal but this one, and the channels of the others are sound
+-- no bid with any terminal but this one is in progress, and the channels of the others are sound
 abbrev pub NoOtherBids : ControlValue → List TributaryValue → ℕ → Type 0
 NoOtherBids c ts e = (t : ℕ) → t < length ts → t ≢ e → HasNoBid (peer_at c t) (terminal_in ts t)
 
--- no bid goes on with any terminal, and all channels are sound
+-- no bid is in progress, and all channels are sound
 abbrev pub NoBids : ControlValue → List TributaryValue → Type 0
 NoBids c ts = (t : ℕ) → t < length ts → HasNoBid (peer_at c t) (terminal_in ts t)
 
@@ -51,22 +51,22 @@ NoBids c ts = (t : ℕ) → t < length ts → HasNoBid (peer_at c t) (terminal_i
 abbrev pub AllInControlMode : List TributaryValue → Type 0
 AllInControlMode ts = (t : ℕ) → t < length ts → (terminal_in ts t).mode ≡ mode.Control
 
--- a terminal that was selected, and has taken nothing since
+-- a terminal that was selected, and has taken no text since
 pub record IsFresh (x : TributaryValue) (s : ℕ) : Type 0 where
   pub mode : x.mode ≡ mode.Receiving s
   pub even : x.receiver.alternation ≡ Even
   pub last : (x.receiver.last ≡ Ack0) ⊎ (x.receiver.last ≡ Wack)
 
--- the answer of a selected terminal: NAK with all in control mode, else its last reply while it is
--- fresh
+-- the answer of a selected terminal: NAK if all are in control mode, else its last reply while it
+-- is fresh
 abbrev pub IsAnswer : Message → TributaryValue → ℕ → List TributaryValue → Type 0
 IsAnswer (m.Reply Nak) x s ts = AllInControlMode ts
 IsAnswer (m.Reply Ack0) x s ts = IsFresh x s × (x.receiver.last ≡ Ack0)
 IsAnswer (m.Reply Wack) x s ts = IsFresh x s × (x.receiver.last ≡ Wack)
 IsAnswer _ x s ts = ⊥
 
--- on the line while a selection address is called: the call, and ENQ where ENQ was sent last; or
--- the answer
+-- the message that is pending while a selection address is called: the call, or ENQ if ENQ was sent
+-- last; or the answer
 abbrev pub IsSelectedBy : Speaker → Message → Bool → PeerValue → ℕ → ℕ → TributaryValue →
     List TributaryValue → Type 0
 IsSelectedBy Control w true p e s x ts = w ≡ m.Enq
@@ -79,12 +79,12 @@ IsSelectedWith None enquired p e s x ts = Unit {0}
 IsSelectedWith (Some sent) enquired p e s x ts =
     IsSelectedBy sent.speaker sent.message enquired p e s x ts
 
--- where ENQ was sent last the terminal is fresh
+-- if ENQ was sent last, the terminal is fresh
 abbrev pub IsFreshAfter : Bool → TributaryValue → ℕ → Type 0
 IsFreshAfter true x s = IsFresh x s
 IsFreshAfter false x s = Unit {0}
 
--- what is on its way in a bid to terminal e
+-- the message under way in a bid to terminal e
 abbrev pub FliesDownBy : Speaker → Message → ℕ → Flight → Type 0
 FliesDownBy Control w e f = f ≡ Outward w
 FliesDownBy (Terminal t) w e f = (t ≡ e) × ((r : Reply) × (w ≡ m.Reply r) × (f ≡ Back r))
@@ -93,7 +93,7 @@ abbrev pub FliesDown : Option Transmission → ℕ → Flight → Type 0
 FliesDown None e f = f ≡ Still
 FliesDown (Some sent) e f = FliesDownBy sent.speaker sent.message e f
 
--- what is on its way in a bid of terminal e
+-- the message under way in a bid of terminal e
 abbrev pub FliesUpBy : Speaker → Message → ℕ → Flight → Type 0
 FliesUpBy Control w e f = (r : Reply) × (w ≡ m.Reply r) × (f ≡ Back r)
 FliesUpBy (Terminal t) w e f = (t ≡ e) × (f ≡ Outward w)
@@ -102,7 +102,7 @@ abbrev pub FliesUp : Option Transmission → ℕ → Flight → Type 0
 FliesUp None e f = f ≡ Still
 FliesUp (Some sent) e f = FliesUpBy sent.speaker sent.message e f
 
--- a bid to selection address s of terminal e goes on
+-- a bid to selection address s of terminal e is in progress
 pub record IsInBidDown (pending : Option Transmission) (p : PeerValue) (e s : ℕ)
     (x : TributaryValue) : Type 0 where
   pub mode : x.mode ≡ mode.Receiving s
@@ -113,7 +113,7 @@ pub record IsInBidDown (pending : Option Transmission) (p : PeerValue) (e s : �
   pub bid : InBid (outbound_at p s).sender.phase (outbound_at p s).queue x.receiver.alternation
       x.receiver.last (spool_at x.spools s).records flight
 
--- a bid of terminal e goes on
+-- a bid of terminal e is in progress
 pub record IsInBidUp (pending : Option Transmission) (p : PeerValue) (e : ℕ) (x : TributaryValue)
     : Type 0 where
   pub mode : x.mode ≡ mode.Sending
@@ -123,8 +123,8 @@ pub record IsInBidUp (pending : Option Transmission) (p : PeerValue) (e : ℕ) (
   pub bid : InBid x.sender.phase x.queue p.receiver.alternation p.receiver.last
       p.spool.records flight
 
--- on the line in a poll that no text has answered: the call, with no reply sent, or EOT with all in
--- control mode
+-- the message that is pending in a poll that no text has answered: the call, if no reply was sent,
+-- or EOT, if all are in control mode
 abbrev pub IsPolledBy : Speaker → Message → Replied → PeerValue → ℕ → List TributaryValue → Type 0
 IsPolledBy Control w replied p e ts = (w ≡ m.Call p.terminal.poll) × (replied ≡ Nothing)
 IsPolledBy (Terminal t) w replied p e ts = (t ≡ e) × (w ≡ m.Eot) × AllInControlMode ts
@@ -134,7 +134,7 @@ abbrev pub IsPolledWith :
 IsPolledWith None replied p e ts = Unit {0}
 IsPolledWith (Some sent) replied p e ts = IsPolledBy sent.speaker sent.message replied p e ts
 
--- the stations go together during this task
+-- the stations fit together during this task
 pub record IsSelecting (pending : Option Transmission) (c : ControlValue)
     (ts : List TributaryValue) (s : ℕ) (enquired : Bool) : Type 0 where
   pub no_bids : NoBids c ts
@@ -167,7 +167,7 @@ InTask (Selecting s enquired) pending c ts = IsSelecting pending c ts s enquired
 InTask (Sending s) pending c ts = IsSending pending c ts s
 InTask (Polling replied) pending c ts = IsPolling pending c ts replied
 
--- the stations of a line go together
+-- the stations of a line fit together
 abbrev pub AreTogether : LineValue → Type 0
 AreTogether l = InTask l.control.task l.pending l.control l.terminals
 

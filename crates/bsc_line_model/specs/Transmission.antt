@@ -1,4 +1,4 @@
--- What is on the line (own).
+-- The pending transmission.
 use Rattle.std.specs.Prelude.{◌≡◌, ℕ, List, [], Option, None, Some}
 use Rattle.std.specs.Borrow.{Bor}
 use Rattle.bsc_frame.specs.declared.message.Message.{Message}
@@ -7,23 +7,23 @@ use Rattle.bsc_frame.specs.Wire.{wire}
 use Rattle.bsc_line_model.specs.declared.transmission.Speaker.{Speaker}
 use Rattle.bsc_line_model.specs.declared.transmission.Transmission.{Transmission}
 
--- the transmission of this station, where it sends a message
+-- the transmission by this station of the message, if there is one
 abbrev pub sent_by : Speaker → Option Message → Option Transmission
 sent_by speaker None = None
 sent_by speaker (Some message) = Some (record { speaker = speaker; message = message })
 
--- who sent what is on the line
+-- the sender of the pending transmission
 abbrev pub speaker_of : Option Transmission → Option Speaker
 speaker_of None = None
 speaker_of (Some sent) = Some sent.speaker
 
--- the octets are those of what is on the line, whose message keeps its limits, and none where
--- nothing is
+-- the octets are those of the pending transmission, whose message keeps its limits; none if nothing
+-- is pending
 abbrev pub IsOnWire : Option Transmission → List ℕ → Type 0
 IsOnWire None octets = octets ≡ []
 IsOnWire (Some sent) octets = (octets ≡ wire sent.message) × IsMessage sent.message
 
--- what is on the line is told by its speaker and its octets
+-- the pending transmission is given by its sender and its octets
 abbrev pub IsPending : Option Transmission → Option (Speaker × Bor (List ℕ)) → Type 0
 IsPending None None = Unit {0}
 IsPending (Some sent) (Some told) =

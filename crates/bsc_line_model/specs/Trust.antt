@@ -1,5 +1,5 @@
 -- When a line is trusted: every transmission that was spoiled failed its check, and each call of
--- the control station reached all terminals whole or none (GA27-3004: VRC and LRC checking; own).
+-- the control station reached either all terminals whole or none (GA27-3004: VRC and LRC checking).
 use Rattle.std.specs.Prelude.{◌≡◌, ◌⊎◌, ◌<◌, ◌↔◌, ℕ, IsTrue, Bool, true, false, List, Option, None}
 use Rattle.std.specs.Prelude.{Some}
 use Rattle.bsc_frame.specs.declared.message.Message.{Message}
@@ -34,20 +34,20 @@ abbrev pub is_call : Message → Bool
 is_call (m.Call a) = true
 is_call _ = false
 
--- what the n terminals may hear of the control station's message while the line is trusted: of a
--- call all hear the whole or none does; of any other message each hears the whole, or what fails
--- its check
+-- what the n terminals may hear of the control station's message while the line is trusted: a call
+-- is heard whole by all or by none; any other message is heard fairly by each, that is, whole or as
+-- a transmission that fails its check
 abbrev pub IsHeardFairly : Message → ℕ → (ℕ → Heard) → Type 0
 IsHeardFairly (m.Call a) n hears = IsCallFair n hears (m.Call a)
 IsHeardFairly w n hears = EachOf n (λ t. IsFairlyHeard w (hears t))
 
--- the line is trusted after a transmission exactly where it was before and this was heard fairly
+-- the line is trusted after a transmission exactly if it was before and this was heard fairly
 abbrev pub IsTrustAfter : Bool → Type 0 → Bool → Type 0
 IsTrustAfter old fair new = IsTrue new ↔ (IsTrue old × fair)
 
 -- the channel that is addressed after the control station's transmission: a call that all hear
--- addresses the channel whose address it is, or nobody; an EOT that all hear addresses nobody; all
--- else leaves it as it was
+-- addresses the channel of its address, or none if no terminal has the address; an EOT that all
+-- hear addresses none; any other transmission leaves the addressed channel as it was
 pub record IsAddressedAfter (ts : List TerminalValue) (n : ℕ) (hears : ℕ → Heard)
     (old new : Option (ℕ × Way)) : Type 0 where
   pub called : (a : List ℕ) → AllHear n hears (m.Call a) →

@@ -1,5 +1,4 @@
--- A transmission of which one bit was turned on the line is heard fairly (GA27-3004: VRC checking;
--- own).
+-- A transmission with one bit turned on the line is heard fairly (GA27-3004: VRC checking).
 use Rattle.std.specs.Prelude.{◌≡◌, ◌⊎◌, ◌<◌, ℕ, false, List, length, Option, None, Some}
 use Rattle.bsc_frame.specs.Message.{IsMessage}
 use Rattle.bsc_frame.specs.Wire.{wire}
@@ -9,7 +8,7 @@ use Rattle.bsc_bid.specs.Fair.{IsFairlyHeard}
 use Rattle.bsc_line_model.specs.Hearing.{heard_in, all_hear}
 use Rattle.bsc_line_model.specs.Trust.{EachOf, IsHeardFairly, is_call}
 
--- the octets are what is sent for the message, but for one bit of one octet, which was turned
+-- the octets are those of the message with one bit of one octet turned
 pub record IsTurned (sent : Message) (octets : List ℕ) : Type 0 where
   pub place : ℕ
   pub bit : ℕ
@@ -34,14 +33,14 @@ TurnedAlikeIsFair =
     (sent : Message) (n : ℕ) (item : Option (List ℕ)) → IsMessage sent → IsSpoiled sent item
     → IsHeardFairly sent n (all_hear (heard_in item))
 
--- n terminals of which each hears an item of its own, with one bit turned or none, hear fairly
+-- n terminals each of which hears an item of its own, with one bit turned or nothing, hear fairly
 abbrev pub TurnedEachIsFair : Type 0
 TurnedEachIsFair =
     (sent : Message) (n : ℕ) (items : ℕ → Option (List ℕ)) → IsMessage sent
     → EachOf n (λ t. IsSpoiled sent (items t))
     → IsHeardFairly sent n (λ t. heard_in (items t))
 
--- of a message that is no call some terminals may also hear the whole
+-- of a message that is not a call, some terminals may also hear the whole
 abbrev pub TurnedForSomeIsFair : Type 0
 TurnedForSomeIsFair =
     (sent : Message) (n : ℕ) (items : ℕ → Option (List ℕ)) → IsMessage sent

@@ -4,7 +4,7 @@ ghost use Rattle.bsc_line_model.specs.BidLaws.{BidLaws};
 
 use bsc_bid::laws::each_step;
 
-/// What each single step of a bid keeps.
+/// States what each single step of a bid keeps.
 pub(crate) fn bid_laws()
     ensures { BidLaws }
 {

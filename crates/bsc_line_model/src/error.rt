@@ -6,15 +6,15 @@ use thiserror::Error;
 /// Why an event is refused. A refused event changes nothing.
 #[derive(Clone, Copy, Debug, PartialEq, Eq, Error)]
 pub enum LineError {
-    /// Something was to be heard, and nothing is pending.
+    /// A transmission was to be heard, and nothing is pending.
     #[error("nothing sent")]
     NothingSent,
 
-    /// Each terminal was given something to hear, and a terminal's transmission is pending.
+    /// Each terminal was given an item to hear, and a terminal's transmission is pending.
     #[error("control is not sending")]
     NotControl,
 
-    /// There is not one item for each terminal.
+    /// The number of items is not that of the terminals.
     #[error("wrong number of hearings")]
     WrongCount,
 
@@ -22,7 +22,7 @@ pub enum LineError {
     #[error("a transmission is pending")]
     Pending,
 
-    /// There is no terminal of this number.
+    /// No terminal has this number.
     #[error("no such terminal")]
     NoSuchTerminal,
 
@@ -30,11 +30,11 @@ pub enum LineError {
     #[error("no such address")]
     NoSuchAddress,
 
-    /// The codes are no record.
+    /// The codes are not a record.
     #[error("{0}")]
     BadRecord(RecordError),
 
-    /// There is no memory for the record.
+    /// Out of memory for the record.
     #[error("out of memory")]
     Memory,
 
@@ -42,16 +42,16 @@ pub enum LineError {
     #[error("not in doubt")]
     NotInDoubt,
 
-    /// The count at the other end is neither that of the known records nor that with the doubtful
-    /// block.
+    /// The count at the other end is neither the number of the known records nor that number with
+    /// the doubtful block.
     #[error("count mismatch")]
     CountMismatch,
 }
 
-/// The first event that was refused. Those before it are done.
+/// The first event that was refused. Those before it were accepted.
 #[derive(Clone, Copy, Debug, PartialEq, Eq)]
 pub struct Stopped {
-    /// Its place in the list, counted from 0.
+    /// The index of the event in the list, counted from 0.
     pub at: usize,
 
     /// Why it was refused.

@@ -1,9 +1,9 @@
-//! What happens on a line.
+//! The events of a line.
 
 use bsc_control::Way;
 
-/// One event of a line: one call of it. Terminals are counted from 0, and so are the selection
-/// addresses of each terminal.
+/// One event of a line: one call of a method of it. Terminals are counted from 0, and so are the
+/// selection addresses of each terminal.
 #[derive(Clone, Copy)]
 pub enum Event<'a> {
     /// A record of these codes is offered at a terminal, for the control station.
@@ -20,24 +20,25 @@ pub enum Event<'a> {
         codes: &'a [u8],
     },
 
-    /// What is pending is heard as these octets by all who hear it; None is lost.
+    /// The pending transmission is heard as these octets, by all terminals or by the control
+    /// station; `None` means that it is lost.
     Carry {
         heard: Option<&'a [u8]>,
     },
 
-    /// What the control station sent is heard by each terminal as the item of its number; None is
-    /// lost.
+    /// The control station's transmission is heard by each terminal as the item of its number;
+    /// `None` means that it is lost there.
     CarryEach {
         heard: &'a [Option<&'a [u8]>],
     },
 
-    /// What is pending is heard as it was sent.
+    /// The pending transmission is heard as it was sent.
     CarrySent,
 
     /// Nothing is heard for the time of a time-out.
     Silence,
 
-    /// A terminal takes selections, or it does not.
+    /// A terminal is set to accept selections, or to refuse them.
     Ready {
         terminal: usize,
         ready: bool,

@@ -1,4 +1,4 @@
-//! Laws over the definitions only.
+//! The laws of a line. They are about its definitions only.
 
 ghost use Rattle.std.specs.Prelude.{IsTrue};
 ghost use Rattle.bsc_line_model.specs.Kept.{IsLine};
@@ -25,7 +25,7 @@ use bsc_block::laws::cut_into_blocks;
 use bsc_frame::laws::{one_bit, one_reading, reading};
 use bsc_tributary::laws::own_addresses;
 
-/// Every event leaves a line a line.
+/// Every event leaves a line that keeps its invariant.
 pub fn each_event()
     ensures new_line { NewLineStays }
     ensures down { DownStays }
@@ -43,9 +43,9 @@ pub fn each_event()
     bid_laws();
 }
 
-/// Each channel of a trusted line is sound: what was spooled at one end is the first of what was
-/// offered at the other, in order and each record once, and what the sending end knows of is among
-/// it.
+/// Each channel of a trusted line is sound: the records that were spooled at one end are the first
+/// of those that were offered at the other, in order and each once, and they include all that the
+/// sending end knows to have arrived.
 pub fn sound_channels()
     ensures { (l : LineValue) → IsLine l → IsTrue l.trusted → AreSound l }
 {
@@ -59,16 +59,16 @@ pub fn channel_steps()
     bid_laws();
 }
 
-/// What is offered on a channel grows by the accepted offers of it, trusted or not, and by nothing
-/// else; a refused event changes nothing; and trust that is lost never comes back.
+/// The records that are offered on a channel grow by the accepted offers of it, trusted or not, and
+/// by nothing else; a refused event changes nothing; and trust that is lost never comes back.
 pub fn offers_and_refusals()
     ensures offers { GrowsByOffers }
     ensures refusals { RefusedChangesNothing }
     ensures trust { TrustOnlyFalls }
 {}
 
-/// On a trusted line a terminal holds the line only while the control station polls it, and no
-/// count mismatches.
+/// On a trusted line, a terminal holds the line only while the control station polls it, and no
+/// release is refused with `CountMismatch`.
 pub fn line_holder()
     ensures holder { HoldsWhilePolled }
     ensures count { NeverMismatches }
@@ -83,25 +83,25 @@ pub fn one_answer()
     own_addresses();
 }
 
-/// Where all terminals hear the control station alike, trust asks of its transmission what it asks
-/// of one that the control station hears: that it is heard fairly.
+/// If all terminals hear the control station alike, trust requires of its transmission what it
+/// requires of one that the control station hears: that it is heard fairly.
 pub fn heard_alike()
     ensures fair { AlikeIsFair }
     ensures only { FairIsAlike }
 {}
 
-/// What is heard of octets is heard fairly exactly where they spell what was sent, or EOT of a
-/// call, or spell no message, which may have failed its check where a text was sent.
+/// Octets are heard fairly exactly if they spell the message that was sent, or EOT of a call, or
+/// spell no message; a failed text is fair only if a text was sent.
 pub fn fair_in_octets()
     ensures { FairInOctets }
 {
     reading();
 }
 
-/// One turned bit in a transmission is heard fairly, so it never costs the line's trust: by the
-/// control station, by terminals that all hear the same, and by terminals of which each hears
-/// another bit turned, or nothing. Where the message is no call, other terminals may also hear the
-/// whole (GA27-3004: VRC checking; own).
+/// A transmission with one turned bit is heard fairly, so it never costs the line's trust: by the
+/// control station, by terminals that all hear the same, and by terminals each of which hears
+/// another bit turned, or nothing. If the message is not a call, other terminals may also hear it
+/// whole (GA27-3004: VRC checking).
 pub fn turned_bits()
     ensures heard { TurnedIsFair }
     ensures alike { TurnedAlikeIsFair }
@@ -113,24 +113,24 @@ pub fn turned_bits()
     one_bit();
 }
 
-/// On a new line nothing is offered, known or spooled.
+/// On a new line, no record is offered, known or spooled.
 pub fn new_channels()
     ensures { NewChannelsAreEmpty }
 {}
 
-/// The promise of a line: where it is still trusted, whatever events it met, the records that
-/// arrived on each channel are the first of those that were offered on it, in order and each once;
-/// the sending end counts none as delivered that did not arrive; and no record reaches a terminal
-/// that is not addressed.
+/// The main promise of a line. If the line is still trusted, whatever its events were, the records
+/// that arrived on each channel are the first of those that were offered on it, in order and each
+/// once; the sending end counts none as delivered that did not arrive; and no record reaches a
+/// terminal that is not addressed.
 pub fn headline()
     ensures { RunsKeepRecords }
 {
     bid_laws();
 }
 
-/// Delivery by a number, a visit: where all is heard and no spool is refused room, exactly as many
-/// transmissions as the visit's length deliver all that waits on the channels of its terminal, and
-/// then the visit of the next entry begins.
+/// Delivery within a visit: if all transmissions are heard and no spool is refused room, exactly as
+/// many transmissions as the length of the visit deliver all records that wait on the channels of
+/// its terminal, and then the visit of the next entry begins.
 pub fn visit()
     ensures { RunsDeliverVisit }
 {
@@ -138,9 +138,9 @@ pub fn visit()
     own_addresses();
 }
 
-/// Delivery by a number, a round: where all is heard and no spool is refused room, exactly as many
-/// transmissions as the round's length deliver all that waits on the channels of every terminal in
-/// the poll list, and then the next round begins.
+/// Delivery within a round: if all transmissions are heard and no spool is refused room, exactly as
+/// many transmissions as the length of the round deliver all records that wait on the channels of
+/// every terminal in the poll list, and then the next round begins.
 pub fn round()
     ensures { RunsDeliverRound }
 {

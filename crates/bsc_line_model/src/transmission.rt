@@ -1,11 +1,11 @@
-//! What is on the line.
+//! The pending transmission.
 
 ghost use Rattle.std.specs.Prelude.{◌≡◌};
 ghost use Rattle.bsc_line_model.specs.Transmission.{sent_by};
 
 use bsc_frame::Message;
 
-/// Who sent what is on the line (GA27-3004, centralised multipoint operation).
+/// The sender of a transmission (GA27-3004, centralised multipoint operation).
 #[derive(Clone, Copy, Debug, PartialEq, Eq)]
 pub enum Speaker {
     /// The control station, which all terminals hear.
@@ -18,15 +18,15 @@ pub enum Speaker {
 /// A transmission that nobody has heard yet.
 #[derive(Drop)]
 pub struct Transmission {
-    /// Who sent it.
+    /// The sender.
     pub speaker: Speaker,
 
-    /// What was sent.
+    /// The message.
     pub message: Message,
 }
 
 impl Transmission {
-    /// The transmission of this station, where it sends a message.
+    /// Returns the transmission by this station of the message, or `None` if there is no message.
     pub fn by(speaker: Speaker, message: Option<Message>) -> Option<Transmission>
         ensures { result ≡ sent_by speaker message }
     {

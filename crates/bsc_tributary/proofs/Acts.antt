@@ -24,21 +24,21 @@ use Rattle.bsc_tributary.specs.declared.mode.Mode.TheVariants.{Control, Receivin
 use Rattle.bsc_tributary.specs.Tributary.{mode_left, mode_after, message_left, message_of_act}
 use Rattle.bsc_tributary.specs.Kept.{SuitsMode}
 
--- no bid goes on once it is cut off
+-- a phase that was cut off is at rest
 pub is_at_rest_cut_phase : (p : Phase) → IsAtRest (cut_phase p)
 is_at_rest_cut_phase Idle = tt
 is_at_rest_cut_phase (Unanswered b) = tt
 is_at_rest_cut_phase (Held end alternation) = tt
 is_at_rest_cut_phase (InDoubt count) = tt
 
--- what becomes of the mode by what a call of the sender tells is what its act makes of it
+-- the mode by the outcome of a method of the sender is the mode by its act
 pub mode_told : (mode left : Mode) (s : SenderValue) (q : QueueValue) (outcome : Outcome)
     (sent : Option Message) (step : SenderStep) → Tells s q outcome sent step
     → left ≡ mode_left outcome mode → left ≡ mode_after step.act mode
 mode_told mode left s q outcome sent step h e =
     e ∙ ap (λ (x : SenderAnswer). mode_left x.outcome mode) h
 
--- and what is sent is the message of its act
+-- and the message that is sent is that of its act
 pub sent_told : (last : Option Message) (s : SenderValue) (q : QueueValue) (outcome : Outcome)
     (sent : Option Message) (step : SenderStep) → Tells s q outcome sent step
     → last ≡ message_left outcome sent → last ≡ message_of_act step.act
@@ -53,15 +53,14 @@ mode_after_sending a.Enq = inr refl
 mode_after_sending a.Over = inl refl
 mode_after_sending a.Quiet = inr refl
 
--- and so it does not receive
+-- so the terminal does not receive
 pub not_receiving : (mode : Mode) (s : ℕ) → (mode ≡ Control) ⊎ (mode ≡ Sending) → mode ≡ Receiving s
     → ⊥
 not_receiving mode s (inl e) is = cc
 not_receiving mode s (inr e) is = cc
 
--- A step of the sender: the mode that its act makes suits the phase that it leaves, and the
--- settings, the format
--- and the offered records are these.
+-- A step of the sender: the mode after its act suits the phase that it leaves, and the settings,
+-- the format and the offered records are the given ones.
 pub record Follows (mode : Mode) (n : ℕ) (setup : SetupValue) (format : FormatValue)
     (offered : List (List ℕ))
     (step : SenderStep) : Type 0 where
@@ -70,7 +69,7 @@ pub record Follows (mode : Mode) (n : ℕ) (setup : SetupValue) (format : Format
   pub format_is : step.queue.format ≡ format
   pub offered_is : step.queue.offered ≡ offered
 
--- that of a sender with this queue
+-- a step of a sender with this queue
 abbrev pub FollowsFrom : Mode → ℕ → SenderValue → QueueValue → SenderStep → Type 0
 FollowsFrom mode n s q step = Follows mode n s.setup q.format q.offered step
 
@@ -89,7 +88,7 @@ suits_by a.Enq old new n goes fits = fits
 suits_by a.Over old new n goes fits = fits
 suits_by a.Quiet old new n goes fits = subst IsGoing (sym fits) goes
 
--- a step in a bid that goes on
+-- a step while a bid is in progress
 follows : (n : ℕ) (s : SenderValue) (q : QueueValue) (step : SenderStep) → IsGoing s.phase
     → FitsAct step.act s.phase step.sender.phase → StepKeeps s q step
     → FollowsFrom Sending n s q step
@@ -101,14 +100,14 @@ follows n s q step goes fits keeps =
       offered_is = keeps.offered_is;
     }
 
--- a reply, or something else, is heard while a bid goes on
+-- a reply, or another transmission, is heard while a bid is in progress
 pub follows_reply_step : (n : ℕ) (s : SenderValue) (q : QueueValue) (r : Option Reply)
     → IsGoing s.phase →
     FollowsFrom Sending n s q (reply_step s q r)
 follows_reply_step n s q r goes =
     follows n s q (reply_step s q r) goes (fits_reply s q r) (keeps_reply s q r)
 
--- a silence while a bid goes on
+-- a silence while a bid is in progress
 pub follows_silence_step : (n : ℕ) (s : SenderValue) (q : QueueValue) → IsGoing s.phase →
     FollowsFrom Sending n s q (silence_step s q)
 follows_silence_step n s q goes =

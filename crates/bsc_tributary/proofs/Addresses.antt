@@ -12,7 +12,7 @@ use Rattle.bsc_bid.specs.Terminal.{TerminalValue, own_addresses, HasDistinctAddr
 use Rattle.bsc_tributary.specs.declared.called.Called.TheVariants.{Polling, Selection, Other}
 use Rattle.bsc_tributary.specs.Called.{is_same, selection, called_as}
 
--- the test of two addresses
+-- addresses that pass the test are the same
 pub is_same-≡ : (a b : List ℕ) → is_same a b ≡ true → a ≡ b
 is_same-≡ a b e = same_text a b (sym e)
 
@@ -31,7 +31,7 @@ is_same-≢ a b ne =
     elim (is_same_told a b (is_same a b) refl)
     [ inl same ↦ absurd (ne same.0) | inr differ ↦ differ.1 ]
 
--- the first place that passes
+-- the first element that passes a test
 pub position_at : (p : List ℕ → Bool) (xs : List (List ℕ)) (i : ℕ) → i < length xs →
     ((k : ℕ) → k < i → p (get_or xs k []) ≡ false) → p (get_or xs i []) ≡ true → position p xs
     ≡ Some i
@@ -50,7 +50,7 @@ position_none p xs each =
     let none : nat_lt (length xs) (length xs) ≡ false = grind (arith, nat_tests) in
     rw (all, none) refl
 
--- where a search finds none, no element passes
+-- if a search finds no element, none passes
 pub none_passes : {X : Type 0} → (p : X → Bool) (xs : List X) (k : ℕ) (d : X) → position p xs ≡ None
     → k < length xs → p (get_or xs k d) ≡ false
 none_passes p xs k d none within =
@@ -62,7 +62,7 @@ none_passes p xs k d none within =
     by_test false e found = let far : length xs ≤ position_or_len p xs = grind (arith, nat_tests) in
         fails_before_first p xs k d (omega (arith, within, far))
 
--- what the answers to both questions say of the address
+-- a call that is not of the polling address names the first selection address that is the same
 pub called_as_selection : (t : TerminalValue) (address : List ℕ) (s : ℕ) → is_same address t.poll
     ≡ false →
     position (is_same address) t.selects ≡ Some s → called_as t address ≡ Selection s
@@ -96,7 +96,7 @@ selection_is t address s e =
     slice_get-get_or t.selects s [] p.0 ∙ ap (λ (a : List ℕ). Some a)
     (sym (is_same-≡ address (get_or t.selects s []) p.1))
 
--- and the other way round, where the addresses differ
+-- and conversely, if the addresses differ
 pub is_selection : (t : TerminalValue) (address : List ℕ) (s : ℕ) → HasDistinctAddresses t →
     slice_get t.selects s ≡ Some address → called_as t address ≡ Selection s
 is_selection t address s distinct at =
@@ -147,7 +147,7 @@ is_other t address none =
           (slice_get-get_or t.selects k [] within) ∙ sym e,
     ))))
 
--- where each selection address is the first that it equals, the addresses differ
+-- if a call of each selection address names that address, the addresses differ
 distinct_at : (t : TerminalValue)
     → ((k : ℕ) → k < length t.selects → called_as t (get_or t.selects k []) ≡
     Selection k) → (i j : ℕ) (d : List ℕ) → i < j → j < length (own_addresses t) →

@@ -1,5 +1,5 @@
--- What a terminal does at a call of its own: the steps of the code, put together, are the rows of
--- the table.
+-- What a terminal does on a call of one of its own addresses: the steps of the code together are
+-- the rows of the table.
 use Rattle.std.proofs.Common.{◌≡◌, ◌∙◌, ◌<◌, ℕ, sym, ap, subst, refl, Bool, true, false, List}
 use Rattle.std.proofs.Common.{length, nat_eq, not, slice_set, Option, if◌then◌else◌, arith}
 use Rattle.std.proofs.lemmas.List.{get_or-set_same, length-set}
@@ -24,7 +24,7 @@ use Rattle.bsc_tributary.proofs.Acts.{FollowsFrom, follows_sent_next, is_at_rest
 use Rattle.bsc_tributary.proofs.Stays.{stays_act_step, stays_flags}
 use Rattle.bsc_bid.proofs.RestLemmas.{idle_at_rest}
 
--- the answer to a poll, of a terminal from which the line was taken
+-- the answer to a poll of a terminal from which the line was taken
 abbrev poll_from : TributaryValue → TributaryStep
 poll_from d =
     if is_in_doubt d.sender.phase then answer_step d m.Eot
@@ -43,7 +43,7 @@ is_false : (b : Bool) → not b ≡ true → b ≡ false
 is_false true e = absurd (cc)
 is_false false e = refl
 
--- EOT, in doubt
+-- EOT, because the terminal is in doubt
 pub poll_step_in_doubt : (t old : TributaryValue) → t ≡ without_line old
     → is_in_doubt t.sender.phase ≡ true →
     answer_step (record t { urgent = false }) m.Eot ≡ poll_step old
@@ -52,7 +52,7 @@ poll_step_in_doubt t old e doubt =
     (record t { urgent = false }) = rw doubt refl in
     here ∙ poll_from_poll_step t old e
 
--- EOT, with nothing to send
+-- EOT, because no record waits
 pub poll_step_empty : (t old : TributaryValue) → t ≡ without_line old → is_in_doubt t.sender.phase
     ≡ false →
     not (nat_eq (length (waiting t.queue)) 0) ≡ false →
@@ -108,7 +108,7 @@ stays_begun t step mode is row mode_is ready =
     (subst (FollowsFrom t.mode (length t.spools) t.sender t.queue) (sym row)
     (follows_sent_next t.mode (length t.spools) t.sender t.queue Odd (next_block t.queue))) ready
 
--- the answer to a selection, of a terminal from which the line was taken
+-- the answer to a selection of a terminal from which the line was taken
 abbrev selection_from : TributaryValue → ℕ → Bool → TributaryStep
 selection_from d s room =
     if d.ready

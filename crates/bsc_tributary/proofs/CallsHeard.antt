@@ -1,4 +1,4 @@
--- A call that is heard: each answer is the row of the table for the address that the call names.
+-- A call is heard: each answer is the row of the table for the address that the call names.
 use Rattle.std.proofs.Common.{◌≡◌, ◌∙◌, ◌⊎◌, inl, inr, ◌<◌, ℕ, sym, ap, refl, Bool, true, false}
 use Rattle.std.proofs.Common.{List, length, nat_eq, Option, None, Some}
 use Rattle.std.proofs.lemmas.Option.{slice_get_within}
@@ -24,7 +24,7 @@ use Rattle.bsc_tributary.specs.Tributary.{call_step, Hears}
 use Rattle.bsc_tributary.proofs.Acts.{not_receiving}
 use Rattle.bsc_tributary.proofs.Addresses.{selection_is}
 
--- after a poll the terminal is in control mode or sends
+-- after a poll the terminal is in control mode, or sends
 pub begun_mode : (s : SenderValue) (q : QueueValue) (alternation : Alternation) (next : Option Next)
     →
     (mode_after (sent_next s q alternation next).act Control ≡ Control) ⊎ (mode_after
@@ -56,7 +56,7 @@ hears_polling t new address sent called row =
           (sym (ap (λ (o : TributaryStep). o.tributary.mode) row) ∙ is));
     }
 
--- a terminal that is not ready is left in control mode, and the tries for room are not looked at
+-- a terminal that is not ready is left in control mode, whether there is room or not
 selected_row : (t new : TributaryValue) (s : ℕ) (sent : Option Message) (ready : Bool) →
     record { tributary = new; sent = sent } ≡ selection_step (record t { ready = ready }) s
     (spool_at new.spools s).room →
@@ -113,7 +113,7 @@ pub within_selects : (t : TerminalValue) (address : List ℕ) (s : ℕ) → Sele
 within_selects t address s called =
     slice_get_within t.selects s address (selection_is t address s (sym called))
 
--- which address the code found, seen from the terminal as it was passed
+-- the address that the code found, as that of the terminal before the call
 pub called_from : (t old : TributaryValue) (address : List ℕ) (found called : Called) → t ≡ old
     → found ≡ called →
     found ≡ called_as t.terminal address → called ≡ called_as old.terminal address

@@ -52,7 +52,7 @@ record Changes (old : TributaryValue) (h : Heard) (step : TributaryStep) : Type 
   control : old.mode ≡ Control → IsNoCall h → StaysQuiet old step.tributary step.sent
   noise : h ≡ Noise → StaysQuiet old step.tributary step.sent
 
--- a write at one spool: that spool, or another one
+-- a write to one spool: that spool, or another one
 record At (spools : List SpoolValue) (s r : ℕ) (spool : SpoolValue) : Type 0 where
   same : r ≡ s
   is : spool_at (slice_set spools s spool) r ≡ spool
@@ -375,7 +375,7 @@ changes t (Whole (m.Text text)) rooms is = from_mode t (Whole (m.Text text)) roo
 changes t (Whole m.Enq) rooms is = from_mode t (Whole m.Enq) rooms tt is
 changes t (Whole (m.Reply r)) rooms is = from_mode t (Whole (m.Reply r)) rooms tt is
 
--- what holds of a terminal that has heard a transmission
+-- what holds of a terminal after it heard a transmission
 pub after_hearing : (old : TributaryValue) (h : Heard) (new : TributaryValue)
     (sent : Option Message) →
     IsTributary old → IsTributary new → Hears old h new sent → AfterHearing old h new sent
@@ -414,7 +414,7 @@ hears_eot t old sender view is cut ready =
           hears;
     })
 
--- and after a silence
+-- what holds of a terminal after a silence
 pub after_silence : (t old : TributaryValue) (mode : Mode) (step : SenderStep)
     (sent : Option Message) → t ≡ old →
     IsTributary t → t.mode ≡ Sending → step ≡ silence_step t.sender t.queue → mode

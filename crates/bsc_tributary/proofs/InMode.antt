@@ -23,7 +23,7 @@ use Rattle.bsc_tributary.proofs.Acts.{FollowsFrom, follows_reply_step, follows_s
 use Rattle.bsc_tributary.proofs.Acts.{mode_after_sending, not_receiving}
 use Rattle.bsc_tributary.proofs.Stays.{stays_act_step}
 
--- what is no call and no EOT is heard by the mode
+-- a transmission that is neither a call nor EOT is heard by the row of the mode
 pub hear_step_no_call : (t : TributaryValue) (h : Heard) (rooms : Rooms) → IsNoCall h →
     hear_step t h rooms ≡ mode_step t t.mode h rooms
 hear_step_no_call t (Whole m.Eot) rooms plain = absurd plain
@@ -44,7 +44,7 @@ hears_control t old h plain view control =
       room = λ s is had. absurd (cc);
     }
 
--- the terminal with what its receiver left
+-- the terminal after a step of its receiver
 abbrev pub with_receiver : TributaryValue → Bool → ReceiverValue → List SpoolValue → TributaryValue
 with_receiver t urgent receiver spools =
     record t { urgent = urgent; receiver = receiver; spools = spools }
@@ -109,7 +109,7 @@ stays_receive_step t s urgent receiver spools is spools_is =
       bid = subst (SuitsMode t.mode t.sender.phase) (sym same) is.bid;
     }
 
--- the terminal with what its sender left
+-- the terminal after a step of its sender
 abbrev pub with_sender : TributaryValue → Mode → SenderStep → TributaryValue
 with_sender t mode step = record t { mode = mode; sender = step.sender; queue = step.queue }
 

@@ -1,4 +1,4 @@
--- The queue has what the sender counts on, whatever is offered, and after a release.
+-- The queue has the records that the sender counts on after every offer and after a release.
 use Rattle.std.proofs.Common.{◌≡◌, ◌∙◌, ◌⊎◌, inl, inr, ℕ, ◌+◌, ◌≤◌, ◌==◌, ◌||◌, sym, ap, subst}
 use Rattle.std.proofs.Common.{refl, List, [], ◌∷◌, ◌++◌, length, Result, Ok, Err}
 use Rattle.std.specs.Result.{OnOk, OnErr}
@@ -78,7 +78,7 @@ stays_release t count step is row ready =
       bid = r.suits;
     }
 
--- an offer that was accepted, or came back
+-- an offer was accepted, or the record was given back
 pub offered_either : {E : Type 0} (r : Result (Unit {0}) E) (queue old more : QueueValue)
     → OnOk r (queue ≡ more) →
     OnErr r (queue ≡ old) → (queue ≡ more) ⊎ (queue ≡ old)
@@ -102,7 +102,7 @@ stays_offer t old r queue is view short (inr same) =
     subst (λ (q : QueueValue). IsTributary (with_queue t q))
     (sym same) is
 
--- what the terminal is, seen from the one before
+-- the terminal after an offer, in terms of the one before
 pub offer_ok : {E : Type 0} (res : Result (Unit {0}) E) (t old : TributaryValue) (r : List ℕ)
     (queue : QueueValue) →
     t ≡ old → OnOk res (queue ≡ record t.queue { offered = t.queue.offered ++ r ∷ [] }) →
@@ -133,7 +133,7 @@ pub release_answer : (t old : TributaryValue) (count : ℕ) (step : ReleaseStep)
 release_answer t old count step view row = ap (λ (s : ReleaseStep). s.answer) row
     ∙ ap (λ (v : TributaryValue). (release_step v.sender v.queue count).answer) view
 
--- the addresses, settings and mode that it had
+-- the terminal has the same addresses, settings and mode
 pub same_offer : (t old : TributaryValue) (queue : QueueValue) → t ≡ old
     → IsTributary (with_queue t queue) →
     KeepsSetupAndMode old (with_queue t queue)

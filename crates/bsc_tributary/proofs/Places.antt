@@ -1,4 +1,4 @@
--- The table of spools, of which the first places are in use.
+-- The table of spools, of which the first ones are in use.
 use Rattle.std.proofs.Common.{◌≡◌, ◌∙◌, ℕ, ◌<◌, sym, ap, refl, List, length, take, get_or}
 use Rattle.std.proofs.Common.{slice_set, arith}
 use Rattle.std.proofs.Math.Seq.{take-set-lt}
@@ -7,8 +7,7 @@ use Rattle.std.proofs.lemmas.Option.{slice_get_read, get_or_from_slice_get}
 use Rattle.bsc_spool.specs.Spool.{SpoolValue}
 use Rattle.bsc_tributary.specs.Tributary.{spool_at, empty_spool}
 
--- a write at a place in use: the spool that was there, the table after it, and the spool that is
--- there then
+-- a write to a spool in use: the spool before, the table after the write, and the spool after it
 pub record Written (n : ℕ) (table : List SpoolValue) (s : ℕ) (before after : SpoolValue)
     (spools : List SpoolValue) : Type 0 where
   pub there : spool_at spools s ≡ before

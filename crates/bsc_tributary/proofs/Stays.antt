@@ -1,4 +1,4 @@
--- Each change that a call makes leaves a terminal: what is said of every terminal still holds.
+-- Each change that a method makes leaves a terminal: what holds of every terminal still holds.
 use Rattle.std.proofs.Common.{◌≡◌, ◌∙◌, Bool, true, false, sym, ap, subst, refl, List, [], length}
 use Rattle.std.proofs.Common.{arith}
 use Rattle.bsc_spool.specs.Queue.{QueueValue}
@@ -15,7 +15,7 @@ use Rattle.bsc_tributary.specs.Tributary.{TributaryValue, mode_after}
 use Rattle.bsc_tributary.specs.Kept.{IsTributary, SuitsMode}
 use Rattle.bsc_tributary.proofs.Acts.{FollowsFrom, is_at_rest_cut_phase}
 
--- the line is taken from it
+-- the line is taken from the terminal
 pub stays_without_line : (t : TributaryValue) (sender : SenderValue) → IsTributary t →
     sender ≡ with_phase t.sender (cut_phase t.sender.phase) → IsReady sender t.queue →
     IsTributary (record t { mode = Control; sender = sender })
@@ -30,7 +30,7 @@ stays_without_line t sender is cut ready =
           (is_at_rest_cut_phase t.sender.phase);
     }
 
--- its sender acts
+-- the sender acts
 pub stays_act_step : (t : TributaryValue) (mode from : Mode) (step : SenderStep) → IsTributary t →
     mode ≡ mode_after step.act from → FollowsFrom from (length t.spools) t.sender t.queue step →
     IsReady step.sender step.queue →
@@ -47,7 +47,7 @@ stays_act_step t mode from step is e follows ready =
           follows.suits;
     }
 
--- a new one
+-- a new terminal
 pub new_is : (terminal : TerminalValue) (setup : SetupValue) (sender : SenderValue)
     (receiver : ReceiverValue)
     (queue : QueueValue) (spools : List SpoolValue) → HasDistinctAddresses terminal
@@ -80,7 +80,7 @@ new_is terminal setup sender receiver queue spools distinct is limits s q count 
       bid = tt;
     })
 
--- its flags and its receiver change
+-- the flags and the receiver change
 pub stays_flags : (t : TributaryValue) (ready urgent : Bool) (receiver : ReceiverValue)
     → IsTributary t →
     IsTributary (record t { ready = ready; urgent = urgent; receiver = receiver })

@@ -1,4 +1,4 @@
--- Whose call is heard (GA27-3004: polling and selection; several selection addresses are own).
+-- Which of a terminal's addresses a call names (GA27-3004: polling and selection).
 use Rattle.std.specs.Prelude.{ℕ, Bool, ◌==◌, List, Option, None, Some, if◌then◌else◌}
 use Rattle.std.specs.List.{position}
 use lib.Pointwise.{pointwise}

@@ -1,4 +1,4 @@
--- What holds of every terminal, and what a transmission or a silence may change of it (own).
+-- What holds of every terminal, and what a transmission or a silence may change of it.
 use Rattle.std.specs.Prelude.{◌≡◌, ◌≢◌, ◌⊎◌, ℕ, ◌<◌, true, false, List, [], ◌++◌, length, All}
 use Rattle.std.specs.Prelude.{Option, None}
 use Rattle.bsc_frame.specs.declared.message.Message.{Message}
@@ -23,14 +23,14 @@ use Rattle.bsc_tributary.specs.Called.{called_as}
 use Rattle.bsc_tributary.specs.Tributary.{TributaryValue, Hears, ActsOnSilence, spool_at}
 use Rattle.bsc_bid.specs.Station.{StaysQuiet}
 
--- a bid goes on exactly while the terminal sends, and it receives into a spool that it has
+-- a bid is in progress exactly while the terminal sends, and it receives into a spool that it has
 abbrev pub SuitsMode : Mode → Phase → ℕ → Type 0
 SuitsMode Control phase spools = IsAtRest phase
 SuitsMode (Receiving s) phase spools = IsAtRest phase × (s < spools)
 SuitsMode Sending phase spools = IsGoing phase
 
--- a terminal: its addresses differ, each selection address has its spool, the queue has what the
--- sender counts on, and a bid goes on exactly while it sends
+-- a terminal: its addresses differ, each selection address has its spool, the queue has the records
+-- that the sender counts on, and a bid is in progress exactly while the terminal sends
 pub record IsTributary (t : TributaryValue) : Type 0 where
   pub distinct : HasDistinctAddresses t.terminal
   pub terminal : IsTerminal t.terminal
@@ -53,8 +53,7 @@ pub record IsNewTerminal (setup : SetupValue) (terminal : TerminalValue) (t : Tr
   pub spools : All (λ (s : SpoolValue). (s.records ≡ []) × (s.delays ≡ 0)) t.spools
   pub tributary : IsTributary t
 
--- what an offer, a release or a flag leaves: a terminal with the addresses, settings and mode that
--- it had
+-- what an offer, a release or a flag leaves: a terminal with the same addresses, settings and mode
 pub record KeepsSetupAndMode (old new : TributaryValue) : Type 0 where
   pub tributary : IsTributary new
   pub addresses : new.terminal ≡ old.terminal
@@ -71,15 +70,14 @@ pub record Keeps (old new : TributaryValue) : Type 0 where
   pub offered : new.queue.offered ≡ old.queue.offered
   pub spools : length new.spools ≡ length old.spools
 
--- a whole text was heard while receiving into spool s, and the records become the old ones and all
--- of its
+-- a whole text was heard while receiving into spool s, and its records were added to the old ones
 pub record Stores (mode : Mode) (h : Heard) (s : ℕ) (old new : List (List ℕ)) : Type 0 where
   pub text : TextValue
   pub heard : h ≡ Whole (m.Text text)
   pub receiving : mode ≡ Receiving s
   pub becomes : new ≡ old ++ records_in text.units
 
--- a spool has the records that it had, or stores those of a text
+-- a spool is unchanged, or stores the records of a text
 abbrev pub GrowsByText : Mode → Heard → ℕ → List (List ℕ) → List (List ℕ) → Type 0
 GrowsByText mode h s old new = (new ≡ old) ⊎ Stores mode h s old new
 
@@ -107,7 +105,7 @@ IsNoCall (Whole m.Eot) = ⊥
 IsNoCall (Whole (m.Call address)) = ⊥
 IsNoCall h = Unit {0}
 
--- what a terminal is once it has heard a transmission, and what it may send
+-- a terminal after it heard a transmission, and what it may send
 pub record AfterHearing (old : TributaryValue) (h : Heard) (new : TributaryValue)
     (sent : Option Message) : Type 0 where
   pub tributary : IsTributary new
@@ -121,7 +119,7 @@ pub record AfterHearing (old : TributaryValue) (h : Heard) (new : TributaryValue
   pub control : old.mode ≡ Control → IsNoCall h → StaysQuiet old new sent
   pub noise : h ≡ Noise → StaysQuiet old new sent
 
--- what a terminal is after a silence
+-- a terminal after a silence
 pub record AfterSilence (old new : TributaryValue) (sent : Option Message) : Type 0 where
   pub tributary : IsTributary new
   pub keeps : Keeps old new
@@ -129,13 +127,13 @@ pub record AfterSilence (old new : TributaryValue) (sent : Option Message) : Typ
   pub spools : new.spools ≡ old.spools
   pub still : old.mode ≢ Sending → StaysQuiet old new sent
 
--- a terminal hears a transmission: by the row of its table, and with what that keeps
+-- a terminal hears a transmission: the row of its table, and what the row keeps
 pub record IsHearing (old : TributaryValue) (h : Heard) (new : TributaryValue)
     (sent : Option Message) : Type 0 where
   pub row : Hears old h new sent
   pub after : AfterHearing old h new sent
 
--- a silence passes at a terminal: by the row of its table, and with what that keeps
+-- a silence passes at a terminal: the row of its table, and what the row keeps
 pub record IsSilence (old new : TributaryValue) (sent : Option Message) : Type 0 where
   pub row : ActsOnSilence old new sent
   pub after : AfterSilence old new sent

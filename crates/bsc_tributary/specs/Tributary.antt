@@ -1,6 +1,5 @@
 -- The terminal's table (GA27-3004: polling, selection, control mode, and the tributary's side of a
--- bid; that a sending terminal acts on a silence, the ready and urgent flags and several spools are
--- own). What no line lists changes nothing, and nothing is sent.
+-- bid). What no row names changes nothing, and nothing is sent.
 use Rattle.std.specs.Prelude.{◌≡◌, ℕ, Bool, true, false, nat_eq, List, [], length, slice_index_or}
 use Rattle.std.specs.Prelude.{slice_set, Option, None, Some, option_map, if◌then◌else◌}
 use Rattle.bsc_frame.specs.declared.message.Message.{Message}
@@ -25,8 +24,8 @@ use Rattle.bsc_tributary.specs.declared.mode.Mode.{Mode}
 use Rattle.bsc_tributary.specs.declared.mode.Mode.TheVariants.{Control, Receiving, Sending}
 use Rattle.bsc_tributary.specs.Called.{called_as}
 
--- a terminal: its addresses, its mode, its two flags, the two ends of its bids, the records that it
--- has to send, and for each selection address the records that arrived
+-- a terminal: its addresses, its mode, its two flags, the sender and the receiver of its bids, the
+-- records that it has to send, and for each selection address the records that arrived
 pub record TributaryValue : Type 0 where
   pub terminal : TerminalValue
   pub mode : Mode
@@ -51,7 +50,7 @@ tributary_of terminal mode ready urgent sender receiver queue spools =
       spools = spools;
     }
 
--- what is left of the terminal, and the message that it sends
+-- the terminal after a step, and the message that it sends
 pub record TributaryStep : Type 0 where
   pub tributary : TributaryValue
   pub sent : Option Message
@@ -71,24 +70,24 @@ quiet_step t = record { tributary = t; sent = None }
 abbrev pub answer_step : TributaryValue → Message → TributaryStep
 answer_step t message = record { tributary = t; sent = Some message }
 
--- the line is taken from the terminal: an unanswered block is cut off, and it is in control mode
+-- the line is taken from the terminal: an unanswered block is cut off, and the mode is control mode
 abbrev pub without_line : TributaryValue → TributaryValue
 without_line t =
     record t { mode = Control; sender = with_phase t.sender (cut_phase t.sender.phase) }
 
--- what becomes of the mode with the bid
+-- the mode after an outcome of the sender's bid
 abbrev pub mode_left : Outcome → Mode → Mode
 mode_left o.Sends mode = Sending
 mode_left o.Over mode = Control
 mode_left o.Quiet mode = mode
 
--- the message that is sent where the sender left this one: a bid that is over is ended by EOT
+-- the message that is sent if the sender left this one: a bid that is over is ended by EOT
 abbrev pub message_left : Outcome → Option Message → Option Message
 message_left o.Over message = Some m.Eot
 message_left o.Sends message = message
 message_left o.Quiet message = message
 
--- what the sender's act makes of the mode
+-- the mode after the sender's act
 abbrev pub mode_after : Act → Mode → Mode
 mode_after act mode = mode_left (outcome_of act) mode
 
@@ -108,7 +107,7 @@ act_step t step =
       sent = message_of_act step.act;
     }
 
--- the receiver replies, from the spool of this number; RVI clears the urgent flag
+-- the receiver replies, with the spool of this number; RVI clears the urgent flag
 abbrev pub receive_step : TributaryValue → ℕ → ReceiverStep → TributaryStep
 receive_step t s step =
     record {
@@ -120,7 +119,8 @@ receive_step t s step =
       sent = option_map m.Reply step.reply;
     }
 
--- a call of its polling address: EOT where it is in doubt or no record waits, else the first block
+-- a call of the polling address: EOT if the terminal is in doubt or no record waits, else the first
+-- block
 abbrev pub poll_step : TributaryValue → TributaryStep
 poll_step t =
     let d : TributaryValue = record (without_line t) { urgent = false } in
@@ -128,7 +128,8 @@ poll_step t =
     else if nat_eq (length (waiting d.queue)) 0 then answer_step d m.Eot
     else act_step d (begin_step d.sender d.queue)
 
--- a call of its selection address of this number: NAK where it is not ready, else as there is room
+-- a call of the selection address of this number: NAK if the terminal is not ready, else a reply by
+-- whether there is room
 abbrev pub selection_step : TributaryValue → ℕ → Bool → TributaryStep
 selection_step t s room =
     let d : TributaryValue = without_line t in
@@ -145,7 +146,7 @@ call_step t Polling rooms = poll_step t
 call_step t (Selection s) rooms = selection_step t s rooms.first
 call_step t Other rooms = quiet_step (without_line t)
 
--- what is no call and no EOT, in this mode
+-- a transmission that is neither a call nor EOT, in this mode
 abbrev pub mode_step : TributaryValue → Mode → Heard → Rooms → TributaryStep
 mode_step t Control h rooms = quiet_step t
 mode_step t (Receiving s) h rooms =
@@ -164,28 +165,28 @@ silence_in t Control = quiet_step t
 silence_in t (Receiving s) = quiet_step t
 silence_in t Sending = act_step t (silence_step t.sender t.queue)
 
--- the spool that is received into in this mode
+-- the spool that takes texts in this mode
 abbrev pub spool_in : Mode → List SpoolValue → SpoolValue
 spool_in (Receiving s) spools = spool_at spools s
 spool_in _ spools = empty_spool
 
--- what the tries for room found, read from the state that they left
+-- the outcomes of the attempts to get room, as the state that they left shows them
 abbrev pub rooms_after : Heard → TributaryValue → Rooms
 rooms_after h new = rooms_left h new.receiver.last (spool_in new.mode new.spools)
 
--- The terminal and what it sends are those of the table. Where there was room, the first try found
--- it.
+-- The terminal and the message that it sends are those of the table. If there was room, the first
+-- attempt found it.
 pub record Hears (old : TributaryValue) (h : Heard) (new : TributaryValue) (sent : Option Message)
     : Type 0 where
   pub row : record { tributary = new; sent = sent } ≡ hear_step old h (rooms_after h new)
   pub room : (s : ℕ) → new.mode ≡ Receiving s → (spool_at old.spools s).room ≡ true
       → (rooms_after h new).first ≡ true
 
--- at a silence the terminal and what it sends are those of the table
+-- the terminal and the message that it sends are those of the table for a silence
 abbrev pub ActsOnSilence : TributaryValue → TributaryValue → Option Message → Type 0
 ActsOnSilence old new sent = record { tributary = new; sent = sent } ≡ silence_in old old.mode
 
--- whether it holds the line
+-- whether a terminal in this mode holds the line
 abbrev pub holds : Mode → Bool
 holds Control = false
 holds (Receiving s) = false

@@ -1,4 +1,4 @@
-//! Whose call is heard: every terminal hears the calls of all.
+//! Which of a terminal's addresses a call names. Every terminal hears the calls of all terminals.
 
 ghost use Rattle.std.specs.Prelude.{◌≡◌, ◌↔◌, ◌<◌, [], length, slice_index_or, IsTrue};
 ghost use Rattle.bsc_bid.specs.Terminal.{HasDistinctAddresses};
@@ -16,11 +16,11 @@ pub enum Called {
     /// The selection address of this number.
     Selection { select: usize },
 
-    /// None of its own.
+    /// No address of the terminal.
     Other,
 }
 
-/// Which of the terminal's addresses this is.
+/// Returns which of the terminal's addresses this is.
 pub(crate) fn called_address(terminal: &Terminal, address: &Address) -> Called
     ensures { result ≡ called_as terminal.now address.now }
 {
@@ -35,8 +35,8 @@ pub(crate) fn called_address(terminal: &Terminal, address: &Address) -> Called
     Called::Other
 }
 
-/// Whether a call of the selection address of this number is taken as a call of it: no address
-/// before it is the same.
+/// Whether a call of the selection address of this number is taken as a call of that number, that
+/// is, whether the polling address and the selection addresses before it all differ from it.
 fn is_first(terminal: &Terminal, select: usize) -> bool
     requires { select < length terminal.now.selects }
     ensures { let address = slice_index_or terminal.now.selects select [] in
@@ -48,7 +48,7 @@ fn is_first(terminal: &Terminal, select: usize) -> bool
     }
 }
 
-/// Whether all addresses of the terminal differ, as a tributary needs it. (Own.)
+/// Whether all addresses of the terminal differ, as a tributary requires.
 pub fn addresses_differ(terminal: &Terminal) -> bool
     ensures { IsTrue result ↔ HasDistinctAddresses terminal.now }
 {

@@ -3,7 +3,7 @@
 /// The mode of a terminal (GA27-3004, control mode and text mode).
 #[derive(Clone, Copy, Debug, PartialEq, Eq)]
 pub enum Mode {
-    /// It listens only for calls.
+    /// It listens for calls only.
     Control,
 
     /// It was selected by the address of this number, and takes texts into the spool of that

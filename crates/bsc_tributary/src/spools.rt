@@ -1,4 +1,4 @@
-//! The spools of a terminal: one for each selection address.
+//! The spools of a terminal, one for each selection address.
 
 ghost use Rattle.std.specs.Prelude.{◌≡◌, ◌<◌, ◌≤◌, [], true, length, slice_set, All};
 ghost use Rattle.bsc_bid.specs.Receiver.{Receives};
@@ -12,24 +12,25 @@ use bsc_spool::Spool;
 use std::alloc::Allocator;
 use std::marker::Model;
 
-/// A spool for each selection address, in their order. They lie in the terminal itself, so that a
-/// new terminal takes no memory: each place has a spool, and the first `count` are in use. They are
-/// no array, for an array of them would have callers show that a terminal fits into memory.
+/// A spool for each selection address, in the order of the addresses. The spools are fields of the
+/// terminal, so that a new terminal allocates nothing; all four exist, and the first `count` are in
+/// use. They are not an array, because callers would have to show that an array of them fits into
+/// memory.
 #[derive(Drop)]
 pub(crate) struct Spools<A: Allocator> {
     /// The spool of the first selection address.
     first: Spool<A>,
 
-    /// The spool of the second one; empty where there is none.
+    /// The spool of the second selection address; empty if there is no such address.
     second: Spool<A>,
 
-    /// The spool of the third one; empty where there is none.
+    /// The spool of the third selection address; empty if there is no such address.
     third: Spool<A>,
 
-    /// The spool of the fourth one; empty where there is none.
+    /// The spool of the fourth selection address; empty if there is no such address.
     fourth: Spool<A>,
 
-    /// How many of them are in use, from the first on: at most 4.
+    /// The number of spools in use, from the first on: at most 4.
     count: usize,
 }
 
@@ -46,7 +47,7 @@ impl<A: Allocator> Model for Spools<A> {
 }
 
 impl<A: Allocator> Spools<A> {
-    /// This many empty spools.
+    /// Returns this many empty spools. Condition: `count` is at most 4.
     pub(crate) fn new(alloc: A, count: usize) -> Self
     where
         A: Copy,
@@ -63,7 +64,7 @@ impl<A: Allocator> Spools<A> {
         }
     }
 
-    /// The spool of this number.
+    /// Returns the spool of this number. Condition: it is in use.
     pub(crate) fn spool(&self, select: usize) -> &Spool<A>
         requires { select < length self.now }
         ensures { result.now ≡ spool_at self.now select }
@@ -76,7 +77,8 @@ impl<A: Allocator> Spools<A> {
         }
     }
 
-    /// Makes room in the spool of this number; true where there is room.
+    /// Makes room in the spool of this number. Returns whether there is room. Condition: it is in
+    /// use.
     pub(crate) fn make_room(&mut self, select: usize) -> bool
         requires { select < length self.old }
         ensures spool { self.new
@@ -91,7 +93,8 @@ impl<A: Allocator> Spools<A> {
         }
     }
 
-    /// The receiver hears a transmission, and stores in the spool of this number what it takes.
+    /// Lets the receiver hear a transmission, and stores what it takes in the spool of this number.
+    /// Returns the reply. Condition: the spool is in use.
     pub(crate) fn receive(
         &mut self,
         select: usize,

@@ -25,25 +25,25 @@ use std::marker::Model;
 /// A terminal of the line (GA27-3004, a tributary station of a centralised multipoint line).
 #[derive(Drop)]
 pub struct Tributary<A: Allocator> {
-    /// Its polling address and its selection addresses.
+    /// The polling address and the selection addresses.
     terminal: Terminal,
 
-    /// What it does on the line at present.
+    /// What the terminal does on the line at present.
     mode: Mode,
 
-    /// Whether it takes selections.
+    /// Whether the terminal accepts selections.
     ready: bool,
 
-    /// Whether the next text that it takes is answered by RVI.
+    /// Whether the next text that the terminal takes is answered by RVI.
     urgent: bool,
 
-    /// The sending end of the bids when it is polled.
+    /// The sender of the bids when the terminal is polled.
     sender: Sender,
 
-    /// The receiving end of the bids when it is selected.
+    /// The receiver of the bids when the terminal is selected.
     receiver: Receiver,
 
-    /// The records that it has to send.
+    /// The records that the terminal has to send.
     queue: Queue<A>,
 
     /// The records that arrived, for each selection address.
@@ -64,8 +64,9 @@ impl<A: Allocator> Model for Tributary<A> {
 }
 
 impl<A: Allocator> Tributary<A> {
-    /// A terminal in control mode, ready, with nothing to send, nothing received and no doubt. It
-    /// takes no memory. Condition: all its addresses differ (`addresses_differ`).
+    /// Returns a terminal in control mode, ready, not urgent, with nothing to send, nothing
+    /// received and no doubt. It allocates nothing. Condition: all its addresses differ
+    /// (`addresses_differ`).
     pub fn new(alloc: A, setup: Setup, terminal: Terminal) -> Self
     where
         A: Copy,
@@ -84,8 +85,9 @@ impl<A: Allocator> Tributary<A> {
         }
     }
 
-    /// Adds a record to those that the terminal has to send. It comes back where there is no memory
-    /// for it, and then nothing changed. Condition: it is not longer than the full length.
+    /// Adds a record to those that the terminal has to send. If there is no memory for the record,
+    /// it is given back and nothing changes. Condition: the record is not longer than the full
+    /// length.
     pub fn offer(&mut self, record: Record) -> Result<(), Record>
         requires { length «record» ≤ self.old.queue.format.full }
         ensures ok { OnOk result (self.new
@@ -97,8 +99,8 @@ impl<A: Allocator> Tributary<A> {
         self.queue.offer(record)
     }
 
-    /// Whether the terminal takes selections: one that is not ready answers them by NAK. A bid that
-    /// it is taking goes on. (GA27-3004, NAK to a selection; the flag is own.)
+    /// Sets whether the terminal accepts selections; if it is not ready, it answers them by NAK. A
+    /// bid that it is receiving continues. (GA27-3004, NAK to a selection.)
     pub fn set_ready(&mut self, ready: bool)
         ensures state { self.new ≡ record self.old { ready = ready } }
         ensures same { KeepsSetupAndMode self.old self.new }
@@ -107,7 +109,7 @@ impl<A: Allocator> Tributary<A> {
     }
 
     /// Asks for the line: the next text that the terminal takes is answered by RVI, unless its last
-    /// reply was RVI too, or it is polled before. (GA27-3004, RVI; the flag is own.)
+    /// reply was RVI too. A poll of the terminal clears the request. (GA27-3004, RVI.)
     pub fn set_urgent(&mut self)
         ensures state { self.new ≡ record self.old { urgent = true } }
         ensures same { KeepsSetupAndMode self.old self.new }
@@ -115,7 +117,8 @@ impl<A: Allocator> Tributary<A> {
         self.urgent = true;
     }
 
-    /// Whether it is not known if the last block that the terminal sent arrived. (Own.)
+    /// Whether the last block that the terminal sent is in doubt, that is, not known to have
+    /// arrived or to have been lost.
     pub fn in_doubt(&self) -> bool
         ensures doubt { result ≡ is_in_doubt self.now.sender.phase }
         ensures tributary { IsTributary self.now }
@@ -123,9 +126,9 @@ impl<A: Allocator> Tributary<A> {
         self.sender.in_doubt()
     }
 
-    /// Ends the doubt: the other end has `count` records of this terminal. `NotInDoubt`, then
-    /// `CountMismatch` where the count is neither that of the known records nor that with the
-    /// doubtful block; both change nothing. (Own.)
+    /// Ends the doubt: the other end has `count` records of this terminal. Errors: `NotInDoubt` if
+    /// there is no doubt, else `CountMismatch` if `count` is neither the number of the known
+    /// records nor that number with the doubtful block. Both change nothing.
     pub fn release(&mut self, count: usize) -> Result<(), ReleaseError>
         ensures state { self.new ≡ after_release self.old count }
         ensures answer { result ≡ (release_step self.old.sender self.old.queue count).answer }
@@ -134,7 +137,8 @@ impl<A: Allocator> Tributary<A> {
         self.sender.release(count, &mut self.queue)
     }
 
-    /// The records that were offered, and how many of them are known to have arrived.
+    /// Returns the queue: the records that were offered, and how many of them are known to have
+    /// arrived.
     pub fn queue(&self) -> &Queue<A>
         ensures value { result.now ≡ self.now.queue }
         ensures tributary { IsTributary self.now }
@@ -142,8 +146,8 @@ impl<A: Allocator> Tributary<A> {
         &self.queue
     }
 
-    /// The records that arrived by selections of the address of this number, counted from 0.
-    /// Condition: the terminal has such an address.
+    /// Returns the spool of the selection address of this number, counted from 0: the records that
+    /// arrived for it. Condition: the terminal has such an address.
     pub fn spool(&self, select: usize) -> &Spool<A>
         requires { select < length self.now.terminal.selects }
         ensures value { result.now ≡ spool_at self.now.spools select }
@@ -152,7 +156,8 @@ impl<A: Allocator> Tributary<A> {
         self.spools.spool(select)
     }
 
-    /// The line is taken from the terminal.
+    /// Takes the line from the terminal: an unanswered block is in doubt, a held sender is idle,
+    /// and the mode is control mode.
     fn drop_line(&mut self)
         ensures state { self.new ≡ without_line self.old }
         ensures hearing { IsHearing self.old (Heard.Whole Message.Eot) self.new None }
@@ -161,7 +166,7 @@ impl<A: Allocator> Tributary<A> {
         self.mode = Mode::Control;
     }
 
-    /// A call of the polling address.
+    /// Answers a call of the polling address.
     fn answer_poll(&mut self, sent: &mut Option<Message>)
         ensures row { record { tributary = self.new; sent = sent.new } ≡ poll_step self.old }
         ensures tributary { IsTributary self.new }
@@ -176,7 +181,7 @@ impl<A: Allocator> Tributary<A> {
         perform(outcome, &mut self.mode, sent);
     }
 
-    /// A call of the selection address of this number.
+    /// Answers a call of the selection address of this number.
     fn answer_selection(&mut self, select: usize, sent: &mut Option<Message>)
         requires { select < length self.old.terminal.selects }
         ensures row { let room = (spool_at self.new.spools select).room in
@@ -197,7 +202,7 @@ impl<A: Allocator> Tributary<A> {
         *sent = Some(Message::Reply(reply));
     }
 
-    /// A call.
+    /// Hears a call.
     fn hear_call(&mut self, address: &Address, sent: &mut Option<Message>)
         ensures { IsHearing self.old (Heard.Whole (Message.Call address.now)) self.new sent.new }
     {
@@ -211,7 +216,7 @@ impl<A: Allocator> Tributary<A> {
         }
     }
 
-    /// What is no call and no EOT.
+    /// Hears a transmission that is neither a call nor EOT.
     fn hear_in_mode(&mut self, heard: &Heard, sent: &mut Option<Message>)
         requires { IsNoCall heard.now }
         ensures { IsHearing self.old heard.now self.new sent.new }
@@ -232,7 +237,8 @@ impl<A: Allocator> Tributary<A> {
         }
     }
 
-    /// A call: one of an address that is not the terminal's own is not answered.
+    /// Hears a call of an address that is not the terminal's own, and returns true. A call of one
+    /// of its own addresses changes nothing and returns false.
     fn overhear_call(&mut self, address: &Address) -> bool
         ensures silent { IsTrue result →
             IsHearing self.old (Heard.Whole (Message.Call address.now)) self.new None }
@@ -249,7 +255,7 @@ impl<A: Allocator> Tributary<A> {
         }
     }
 
-    /// Whether what is no call and no EOT surely changes nothing.
+    /// Whether it is certain that a transmission that is neither a call nor EOT changes nothing.
     fn is_deaf(&self, heard: &Heard) -> bool
         requires { IsNoCall heard.now }
         ensures { IsTrue result → IsHearing self.now heard.now self.now None }
@@ -261,10 +267,10 @@ impl<A: Allocator> Tributary<A> {
         }
     }
 
-    /// Hears what the terminal surely does not answer, and gives true: EOT, a call of another
-    /// terminal, and in control mode all that is no call. Where it may answer it gives false, and
-    /// nothing changed. It is `answer` without the room for a message, for a line of many terminals
-    /// of which one answers.
+    /// Hears a transmission that the terminal certainly does not answer, and returns true: EOT, a
+    /// call of an address that is not its own, and, in control mode, anything but a call. If the
+    /// terminal may answer, it returns false and nothing changes. This is `answer` without the
+    /// space for a message, for a line of many terminals of which one answers.
     pub fn overhear(&mut self, heard: &Heard) -> bool
         ensures silent { IsTrue result → IsHearing self.old heard.now self.new None }
         ensures left { result ≡ false → self.new ≡ self.old }
@@ -323,7 +329,7 @@ impl<A: Allocator> Station for Tributary<A> {
     ghost ignores_noise = { λ old new sent hearing. hearing.after.noise refl };
 }
 
-/// Whether the urgent flag stays up once the terminal gave this reply: RVI clears it.
+/// Whether the urgent flag is still up after this reply: RVI clears it.
 fn still_urgent(urgent: bool, reply: Option<Reply>) -> bool
     ensures { result ≡ (if sends_rvi reply then false else urgent) }
 {
@@ -333,7 +339,7 @@ fn still_urgent(urgent: bool, reply: Option<Reply>) -> bool
     }
 }
 
-/// Leaves the message that carries the reply, or none where there is no reply.
+/// Leaves the message of the reply in `sent`, or `None` if there is no reply.
 fn leave_reply(reply: Option<Reply>, sent: &mut Option<Message>)
     ensures { sent.new ≡ option_map m.Reply reply }
 {
@@ -343,8 +349,8 @@ fn leave_reply(reply: Option<Reply>, sent: &mut Option<Message>)
     }
 }
 
-/// Does to the mode what follows from what becomes of the sender's bid. The message that the sender
-/// left stays, and EOT takes its place where the bid is over.
+/// Changes the mode by the outcome of a step of the sender. The message that the sender left in
+/// `sent` stays, unless the bid is over: then EOT replaces it.
 fn perform(outcome: Outcome, mode: &mut Mode, sent: &mut Option<Message>)
     ensures mode { mode.new ≡ mode_left outcome mode.old }
     ensures sent { sent.new ≡ message_left outcome sent.old }

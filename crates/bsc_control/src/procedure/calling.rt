@@ -13,8 +13,8 @@ use bsc_frame::Message;
 use std::alloc::Allocator;
 
 impl<A: Allocator> Procedure<A> {
-    /// Calls the polling address of an entry, after this many failures. The call is left in `sent`,
-    /// as by each of these.
+    /// Calls the polling address of an entry, with this count of failures. As in each function of
+    /// this module, the call is left in `sent`.
     pub(crate) fn poll(&mut self, place: usize, failures: u8, sent: &mut Option<Message>)
         requires { place < length self.old.poll_list }
         ensures row { record { control = self.new; sent = sent.new }
@@ -33,7 +33,8 @@ impl<A: Allocator> Procedure<A> {
         *sent = Some(Message::Call(peer.terminal.poll()));
     }
 
-    /// Calls a selection address of an entry.
+    /// Calls a selection address of an entry, with the counters at 0. This clears the urgent flag
+    /// of the terminal.
     fn select(&mut self, place: usize, select: usize, sent: &mut Option<Message>)
         requires place { place < length self.old.poll_list }
         requires select { select
@@ -55,7 +56,7 @@ impl<A: Allocator> Procedure<A> {
         *sent = Some(Message::Call(peer.terminal.select(select)));
     }
 
-    /// Makes the first call of an entry from this selection address on.
+    /// Makes the first call of an entry, starting from this selection address.
     fn call_from(&mut self, place: usize, from: usize, sent: &mut Option<Message>)
         requires place { place < length self.old.poll_list }
         requires from { from
@@ -73,7 +74,7 @@ impl<A: Allocator> Procedure<A> {
         }
     }
 
-    /// Makes the first call, that of the present entry.
+    /// Makes the first call of the present entry.
     pub(crate) fn call_first(&mut self, sent: &mut Option<Message>)
         ensures row { record { control = self.new; sent = sent.new }
             ≡ next_call_step self.old Start }
@@ -92,7 +93,8 @@ impl<A: Allocator> Procedure<A> {
         self.call_from(self.place, select + 1, sent);
     }
 
-    /// Makes the call after a poll.
+    /// Makes the call after a poll: that of the same entry if RVI was sent in the poll, else that
+    /// of the next entry.
     pub(crate) fn call_after_poll(&mut self, rvi: bool, sent: &mut Option<Message>)
         ensures row { record { control = self.new; sent = sent.new }
             ≡ next_call_step self.old (Poll rvi) }

@@ -1,4 +1,4 @@
-//! What is heard, and what a silence does, while the polling address is called.
+//! What the station does on a transmission and on a silence while it polls.
 
 ghost use Rattle.std.specs.Prelude.{◌≡◌, true};
 ghost use Rattle.bsc_control.specs.Control.{HasEntries, peer};
@@ -10,7 +10,7 @@ use bsc_frame::{Heard, Message};
 use std::alloc::Allocator;
 
 impl<A: Allocator> Procedure<A> {
-    /// Something is heard after a poll.
+    /// Hears a transmission after a poll. EOT ends the poll.
     pub(crate) fn hear_polling(
         &mut self,
         replied: Replied,
@@ -27,7 +27,7 @@ impl<A: Allocator> Procedure<A> {
         }
     }
 
-    /// Something but EOT is heard after a poll.
+    /// Hears a transmission other than EOT after a poll, and replies as the receiver does.
     fn receive(&mut self, replied: Replied, heard: &Heard, sent: &mut Option<Message>)
         requires { IsReceived (Task.Polling replied) heard.now }
         ensures row { record { control = self.new; sent = sent.new }
@@ -48,7 +48,8 @@ impl<A: Allocator> Procedure<A> {
         }
     }
 
-    /// A silence after a poll.
+    /// Acts on a silence after a poll: the call is made again if nothing was replied yet and a try
+    /// is left, else the next call is made.
     pub(crate) fn fail_poll(&mut self, replied: Replied, sent: &mut Option<Message>)
         ensures row { record { control = self.new; sent = sent.new }
             ≡ silence_in self.old (Task.Polling replied) }

@@ -1,4 +1,4 @@
-//! What is heard, and what a silence does, while a selection address is called.
+//! What the station does on a transmission and on a silence while it selects.
 
 ghost use Rattle.std.specs.Prelude.{◌≡◌, ◌<◌, length, Some};
 ghost use Rattle.bsc_frame.specs.Replies.{reply_in};
@@ -12,7 +12,8 @@ use bsc_frame::{Heard, Message, Reply};
 use std::alloc::Allocator;
 
 impl<A: Allocator> Procedure<A> {
-    /// Something is heard after a selection.
+    /// Hears a transmission after a selection: ACK0 begins the bid, NAK leads to the next call,
+    /// WACK is followed by ENQ, and anything else changes nothing.
     pub(crate) fn hear_selecting(
         &mut self,
         select: usize,
@@ -24,7 +25,7 @@ impl<A: Allocator> Procedure<A> {
             ≡ selecting_step self.old select (reply_in heard.now) }
         ensures entries { HasEntries self.new }
     {
-        // A field is read, so that the invariant is known here.
+        // Reading a field makes the invariant known here.
         let _ = &self.task;
         match heard.reply() {
             Some(Reply::Ack0) => self.begin_bid(select, sent),
@@ -34,7 +35,8 @@ impl<A: Allocator> Procedure<A> {
         }
     }
 
-    /// The selected terminal has no room yet.
+    /// Hears WACK: the selected terminal has no room yet. ENQ is sent, or the next call is made
+    /// once the limit of WACKs is reached.
     fn enquire(&mut self, select: usize, sent: &mut Option<Message>)
         requires { select < length (peer self.old).outbounds }
         ensures row { record { control = self.new; sent = sent.new }
@@ -53,7 +55,8 @@ impl<A: Allocator> Procedure<A> {
         *sent = Some(Message::Enq);
     }
 
-    /// A selection is not answered.
+    /// Acts on a silence after a selection: the call, or ENQ if ENQ was sent last, is sent again
+    /// while a try is left, else the next call is made.
     pub(crate) fn fail_selection(
         &mut self,
         select: usize,

@@ -1,4 +1,4 @@
-//! What is heard, and what a silence does, during a bid to a selection address.
+//! What the station does on a transmission and on a silence during a bid to a selection address.
 
 ghost use Rattle.std.specs.Prelude.{if◌then◌else◌, ◌≡◌, ◌<◌, length, Some};
 ghost use Rattle.bsc_frame.specs.Replies.{reply_in};
@@ -17,7 +17,7 @@ use bsc_frame::{Heard, Message, Reply};
 use std::alloc::Allocator;
 
 impl<A: Allocator> Procedure<A> {
-    /// The selected terminal is ready: a bid begins.
+    /// Begins the bid: the selected terminal is ready.
     pub(crate) fn begin_bid(&mut self, select: usize, sent: &mut Option<Message>)
         requires { IsSelected (peer self.old) select }
         ensures row { record { control = self.new; sent = sent.new }
@@ -31,7 +31,7 @@ impl<A: Allocator> Procedure<A> {
         self.perform(outcome, select, false, sent);
     }
 
-    /// Something is heard during a bid.
+    /// Hears a transmission during a bid.
     pub(crate) fn hear_sending(&mut self, select: usize, heard: &Heard, sent: &mut Option<Message>)
         requires { select < length (peer self.old).outbounds }
         ensures row { record { control = self.new; sent = sent.new }
@@ -49,7 +49,7 @@ impl<A: Allocator> Procedure<A> {
         self.perform(outcome, select, interrupted, sent);
     }
 
-    /// A silence during a bid.
+    /// Acts on a silence during a bid.
     pub(crate) fn send_on(&mut self, select: usize, sent: &mut Option<Message>)
         requires { select < length (peer self.old).outbounds }
         ensures row { record { control = self.new; sent = sent.new }
@@ -63,9 +63,9 @@ impl<A: Allocator> Procedure<A> {
         self.perform(outcome, select, false, sent);
     }
 
-    /// Does what follows from what becomes of the bid to a selection address. The message that the
-    /// sender left stays, and the next call takes its place where the bid is over. `interrupted`:
-    /// RVI was heard.
+    /// Acts on the outcome of a step of the sender. The message that the sender left in `sent`
+    /// stays, unless the bid is over: then the next call replaces it. `interrupted` says that RVI
+    /// was heard.
     fn perform(
         &mut self,
         outcome: Outcome,
@@ -79,7 +79,7 @@ impl<A: Allocator> Procedure<A> {
             (if interrupted then Interruption else Selection select) }
         ensures entries { HasEntries self.new }
     {
-        // A field is read, so that the invariant is known here.
+        // Reading a field makes the invariant known here.
         let _ = &self.task;
         match outcome {
             Outcome::Sends => self.task = Task::Sending { select },

@@ -1,4 +1,4 @@
-//! What is on the line is heard.
+//! The pending transmission is heard.
 
 ghost use Rattle.std.specs.Prelude.{◌≡◌, ◌↔◌, IsTrue, Some};
 ghost use Rattle.bsc_frame.specs.declared.message.Heard.TheVariants as h;
@@ -25,9 +25,9 @@ use std::alloc::Allocator;
 impl<A: Allocator> Line<A> {
     ghost use Rattle.bsc_line_model.specs.declared.event.Event.TheVariants as event;
 
-    /// What is on the line is heard as these octets, by all terminals or by the control station;
-    /// None is lost. `NothingSent` where nothing is pending. A station may try to reserve memory; a
-    /// refusal only changes its reply. (Own.)
+    /// Lets the pending transmission be heard as these octets, by all terminals or by the control
+    /// station; `None` means that it is lost. Error: `NothingSent` if nothing is pending. A station
+    /// may try to reserve memory; a refusal only changes its reply.
     pub fn carry(&mut self, heard: Option<&[u8]>) -> Result<(), LineError>
         ensures does { Does (event.Carry heard.entry) self.old result self.new }
         ensures line { IsLine self.new }
@@ -40,11 +40,11 @@ impl<A: Allocator> Line<A> {
         self.carry_as(&hearing(heard))
     }
 
-    /// The control station's transmission is heard by each terminal as the item of its number; None
-    /// is lost there. Refused, in this order: `NothingSent` where nothing is pending, `NotControl`
-    /// where a terminal's transmission is pending, `WrongCount` where the items are not one for
-    /// each terminal. A terminal may try to reserve memory; a refusal only changes its reply.
-    /// (Own.)
+    /// Lets each terminal hear the control station's transmission as the item of its number; `None`
+    /// means that it is lost there. Errors, in this order: `NothingSent` if nothing is pending,
+    /// `NotControl` if a terminal's transmission is pending, `WrongCount` if the number of items is
+    /// not that of the terminals. A terminal may try to reserve memory; a refusal only changes its
+    /// reply.
     pub fn carry_each(&mut self, items: &[Option<&[u8]>]) -> Result<(), LineError>
         ensures does { Does (event.CarryEach items.entry) self.old result self.new }
         ensures line { IsLine self.new }
@@ -61,9 +61,9 @@ impl<A: Allocator> Line<A> {
         Ok(())
     }
 
-    /// What is on the line is heard as it was sent: no octet of it is read. `NothingSent` where
-    /// nothing is pending. A station may try to reserve memory; a refusal only changes its reply.
-    /// (Own.)
+    /// Lets the pending transmission be heard as it was sent, without reading an octet of it.
+    /// Error: `NothingSent` if nothing is pending. A station may try to reserve memory; a refusal
+    /// only changes its reply.
     pub fn carry_sent(&mut self) -> Result<(), LineError>
         ensures does { Does event.CarrySent self.old result self.new }
         ensures line { IsLine self.new }
@@ -76,7 +76,7 @@ impl<A: Allocator> Line<A> {
         Ok(())
     }
 
-    /// What is on the line is heard as this, by all who hear it.
+    /// Lets the pending transmission be heard as this, by all terminals or by the control station.
     fn carry_as(&mut self, heard: &Heard) -> Result<(), LineError>
         ensures does { Carries (λ (sent : TransmissionValue). heard.now) self.old result self.new }
         ensures line { IsLine self.new }
@@ -89,7 +89,7 @@ impl<A: Allocator> Line<A> {
         Ok(())
     }
 
-    /// The control station's transmission is heard.
+    /// Lets the terminals hear the control station's transmission.
     fn carry_down(&mut self, hearings: &Hearings<'_>)
         requires { IsFromControl self.old }
         ensures does { (sent : TransmissionValue) → self.old.pending ≡ Some sent →
@@ -105,7 +105,7 @@ impl<A: Allocator> Line<A> {
         show(&self.sent, &mut self.wire);
     }
 
-    /// The control station's transmission is heard as it was sent, which is fair.
+    /// Lets the terminals hear the control station's transmission as it was sent, which is fair.
     fn carry_down_whole(&mut self)
         requires { IsFromControl self.old }
         ensures does { (sent : TransmissionValue) → self.old.pending ≡ Some sent →
@@ -121,7 +121,7 @@ impl<A: Allocator> Line<A> {
         show(&self.sent, &mut self.wire);
     }
 
-    /// A terminal's transmission is heard.
+    /// Lets the control station hear a terminal's transmission.
     fn carry_up(&mut self, heard: &Heard)
         requires { IsFromTerminal self.old }
         ensures does { (sent : TransmissionValue) → self.old.pending ≡ Some sent →
@@ -137,7 +137,7 @@ impl<A: Allocator> Line<A> {
         show(&self.sent, &mut self.wire);
     }
 
-    /// A terminal's transmission is heard as it was sent, which is fair.
+    /// Lets the control station hear a terminal's transmission as it was sent, which is fair.
     fn carry_up_whole(&mut self)
         requires { IsFromTerminal self.old }
         ensures does { (sent : TransmissionValue) → self.old.pending ≡ Some sent →

@@ -1,4 +1,4 @@
-//! How many transmissions a visit of a terminal and a round of the poll list take.
+//! The number of transmissions that a visit of a terminal and a round of the poll list take.
 
 ghost use Rattle.std.specs.Prelude.{◌≡◌, ◌<◌, ◌+◌, if◌then◌else◌};
 ghost use Rattle.bsc_line_model.specs.Kept.{IsLine};
@@ -13,9 +13,9 @@ use bsc_line_model::laws::seen_terminals;
 use std::alloc::Allocator;
 
 impl<A: Allocator> Line<A> {
-    /// How many transmissions a visit of a terminal takes where all is heard: a poll, and a
-    /// selection of each of its selection addresses for which records wait. A number that 64 bits
-    /// do not hold is the greatest that they hold. Condition: there is such a terminal. (Own.)
+    /// Returns the number of transmissions that a visit of a terminal takes if all are heard: a
+    /// poll, and a selection of each of its selection addresses for which records wait. The number
+    /// saturates at `u64::MAX`. Condition: the terminal exists.
     pub fn visit(&self, terminal: usize) -> u64
         requires { terminal < terminal_count self.now }
         ensures value { result ≡ in_u64 (visit_length self.now terminal) }
@@ -30,9 +30,9 @@ impl<A: Allocator> Line<A> {
         total
     }
 
-    /// How many transmissions a round of the poll list takes where all is heard: a visit at the
-    /// first entry of each terminal, and 2 at each later one. A number that 64 bits do not hold is
-    /// the greatest that they hold. (Own.)
+    /// Returns the number of transmissions that a round of the poll list takes if all are heard: a
+    /// visit at the first entry of each terminal, and 2 at each later entry of it. The number
+    /// saturates at `u64::MAX`.
     pub fn round(&self) -> u64
         ensures value { result ≡ in_u64 (round_length self.now) }
         ensures line { IsLine self.now }
@@ -48,8 +48,8 @@ impl<A: Allocator> Line<A> {
         total
     }
 
-    /// This many transmissions and those of one more entry: a visit of its terminal, or 2 where
-    /// that was visited before.
+    /// Adds the transmissions of one more entry to this total: a visit of its terminal, or 2 if the
+    /// terminal was visited before.
     fn with_entry(&self, total: u64, terminal: usize, seen: bool) -> u64
         requires { terminal < terminal_count self.now }
         ensures { result ≡
@@ -62,7 +62,7 @@ impl<A: Allocator> Line<A> {
     }
 }
 
-/// The transmissions of a selection with this many blocks: none where there is none.
+/// Returns the number of transmissions of a selection with this many blocks: 0 if there are none.
 fn selection_length(blocks: usize) -> u64
     ensures { result ≡ in_u64 (selection blocks) }
 {
@@ -72,7 +72,7 @@ fn selection_length(blocks: usize) -> u64
     poll_length(blocks)
 }
 
-/// The transmissions of a poll with this many blocks.
+/// Returns the number of transmissions of a poll with this many blocks: 2, and 2 for each block.
 fn poll_length(blocks: usize) -> u64
     ensures { result ≡ in_u64 (poll blocks) }
 {

@@ -13,9 +13,9 @@ use std::alloc::Allocator;
 impl<A: Allocator> Line<A> {
     ghost use Rattle.bsc_line_model.specs.declared.event.Event.TheVariants as event;
 
-    /// Offers the record of these codes at a terminal, for the control station. Refused, in this
-    /// order: `NoSuchTerminal`, `BadRecord` where the codes are no record of the line's full
-    /// length, `Memory`. (Own.)
+    /// Offers the record of these codes at a terminal, for the control station. Errors, in this
+    /// order: `NoSuchTerminal`, `BadRecord` if the codes are not a record of at most the line's
+    /// full length, `Memory`.
     pub fn offer_at(&mut self, terminal: usize, codes: &[u8]) -> Result<(), LineError>
         ensures does { Does (event.OfferAt terminal codes.entry) self.old result self.new }
         ensures line { IsLine self.new }
@@ -30,8 +30,8 @@ impl<A: Allocator> Line<A> {
     }
 
     /// Offers the record of these codes at the control station, for a selection address of a
-    /// terminal. Refused, in this order: `NoSuchTerminal`, `NoSuchAddress`, `BadRecord` where the
-    /// codes are no record of the line's full length, `Memory`. (Own.)
+    /// terminal. Errors, in this order: `NoSuchTerminal`, `NoSuchAddress`, `BadRecord` if the codes
+    /// are not a record of at most the line's full length, `Memory`.
     pub fn offer_for(
         &mut self,
         terminal: usize,
@@ -55,9 +55,8 @@ impl<A: Allocator> Line<A> {
         }
     }
 
-    /// Whether a terminal takes selections: one that is not ready answers them by NAK.
-    /// `NoSuchTerminal` where there is no such terminal. (GA27-3004, NAK to a selection; the flag
-    /// is own.)
+    /// Sets whether a terminal accepts selections; if it is not ready, it answers them by NAK.
+    /// Error: `NoSuchTerminal`. (GA27-3004, NAK to a selection.)
     pub fn set_ready(&mut self, terminal: usize, ready: bool) -> Result<(), LineError>
         ensures does { Does (event.Ready terminal ready) self.old result self.new }
         ensures line { IsLine self.new }
@@ -71,9 +70,9 @@ impl<A: Allocator> Line<A> {
         Ok(())
     }
 
-    /// A terminal asks the control station for the line: it answers the next text that it takes by
-    /// RVI, unless its last reply was RVI too, or it is polled before. `NoSuchTerminal` where there
-    /// is no such terminal. (GA27-3004, RVI; the flag is own.)
+    /// Makes a terminal ask the control station for the line: the terminal answers the next text
+    /// that it takes by RVI, unless its last reply was RVI too. A poll of the terminal clears the
+    /// request. Error: `NoSuchTerminal`. (GA27-3004, RVI.)
     pub fn set_urgent_at(&mut self, terminal: usize) -> Result<(), LineError>
         ensures does { Does (event.UrgentAt terminal) self.old result self.new }
         ensures line { IsLine self.new }
@@ -87,9 +86,9 @@ impl<A: Allocator> Line<A> {
         Ok(())
     }
 
-    /// The control station asks a terminal for the line: it answers the next text that it takes of
-    /// the terminal by RVI, unless its last reply was RVI too, or it selects the terminal before.
-    /// `NoSuchTerminal` where there is no such terminal. (GA27-3004, RVI; the flag is own.)
+    /// Makes the control station ask a terminal for the line: the control station answers the next
+    /// text that it takes from the terminal by RVI, unless its last reply was RVI too. A new
+    /// selection of the terminal clears the request. Error: `NoSuchTerminal`. (GA27-3004, RVI.)
     pub fn set_urgent_for(&mut self, terminal: usize) -> Result<(), LineError>
         ensures does { Does (event.UrgentFor terminal) self.old result self.new }
         ensures line { IsLine self.new }

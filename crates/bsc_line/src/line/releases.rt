@@ -1,4 +1,4 @@
-//! A doubt is ended.
+//! A doubt is released.
 
 ghost use Rattle.std.specs.Prelude.{◌<◌};
 ghost use Rattle.bsc_line_model.specs.Line.{terminal_count};
@@ -16,9 +16,9 @@ use std::alloc::Allocator;
 impl<A: Allocator> Line<A> {
     ghost use Rattle.bsc_line_model.specs.declared.event.Event.TheVariants as event;
 
-    /// Ends a doubt by the count of the records at the other end. Refused, in this order:
-    /// `NoSuchTerminal`, `NoSuchAddress`, `NotInDoubt`, `CountMismatch` where that count is neither
-    /// that of the known records nor that with the doubtful block. (Own.)
+    /// Ends a doubt by the count of the records at the other end. Errors, in this order:
+    /// `NoSuchTerminal`, `NoSuchAddress`, `NotInDoubt`, `CountMismatch` if that count is neither
+    /// the number of the known records nor that number with the doubtful block.
     pub fn release(&mut self, terminal: usize, way: Way) -> Result<(), LineError>
         ensures does { Does (event.Release terminal way) self.old result self.new }
         ensures line { IsLine self.new }
@@ -37,7 +37,7 @@ impl<A: Allocator> Line<A> {
         }
     }
 
-    /// A terminal's doubt is ended by the count of the control station's spool.
+    /// Ends a terminal's doubt by the count of the records in the control station's spool.
     fn release_from(&mut self, terminal: usize) -> Result<(), LineError>
         requires { terminal < terminal_count self.old }
         ensures does { ReleasesFrom self.old terminal result self.new }
@@ -49,8 +49,8 @@ impl<A: Allocator> Line<A> {
         tell(station.release(count))
     }
 
-    /// The control station's doubt about a selection address is ended by the count of the
-    /// terminal's spool.
+    /// Ends the control station's doubt about a selection address by the count of the records in
+    /// the terminal's spool.
     fn release_to(&mut self, terminal: usize, select: usize) -> Result<(), LineError>
         requires terminal { terminal < terminal_count self.old }
         requires select { select < select_count self.old terminal }

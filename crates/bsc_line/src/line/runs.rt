@@ -1,4 +1,4 @@
-//! A list of events.
+//! A list of events is run.
 
 ghost use Rattle.std.specs.Prelude.{IsTrue};
 ghost use Rattle.bsc_line_model.specs.Headline.{KeepsRecords};
@@ -12,16 +12,16 @@ use bsc_line_model::{Event, LineError, Stopped};
 use std::alloc::Allocator;
 
 impl<A: Allocator> Line<A> {
-    /// Does the events in order, up to the first that is refused.
+    /// Applies the events in order, up to the first that is refused.
     ///
-    /// Where the line is trusted after them, it has kept the records: on each channel those that
+    /// If the line is trusted after them, it has kept the records: on each channel, those that
     /// arrived are the first of those that were offered, in order and each once; they include all
     /// that the sending end counts as delivered; and none reached a terminal that was not
     /// addressed.
     ///
-    /// Where they are the transmissions of a visit or of a round that begins, as many as its length
-    /// and each heard as it was sent, and no spool is refused room, all that waits there is
-    /// delivered.
+    /// If the events are the transmissions of a visit or of a round from its beginning, as many as
+    /// its length and each heard as it was sent, and no spool is refused room, then all records
+    /// that wait there are delivered.
     pub fn run(&mut self, events: &[Event<'_>]) -> Result<(), Stopped>
         ensures does { Runs self.old events.now result self.new }
         ensures headline { IsTrue self.new.trusted →
@@ -36,7 +36,7 @@ impl<A: Allocator> Line<A> {
         self.do_each(events)
     }
 
-    /// The events, one after the other.
+    /// Applies the events one after the other, up to the first that is refused.
     fn do_each(&mut self, events: &[Event<'_>]) -> Result<(), Stopped>
         ensures { Runs self.old events.now result self.new }
     {
@@ -48,7 +48,7 @@ impl<A: Allocator> Line<A> {
         Ok(())
     }
 
-    /// Does one event.
+    /// Applies one event.
     fn step(&mut self, event: &Event<'_>) -> Result<(), LineError>
         ensures does { Does event.now self.old result self.new }
         ensures line { IsLine self.new }
@@ -71,7 +71,7 @@ impl<A: Allocator> Line<A> {
         }
     }
 
-    /// What holds of every line, for a contract to rest on: the field is read for nothing else.
+    /// States the invariant of the line, for contracts to rest on. The field is read for this only.
     fn is_line(&self)
         ensures { IsLine self.now }
     {

@@ -18,9 +18,9 @@ use std::alloc::Allocator;
 impl<A: Allocator> Line<A> {
     ghost use Rattle.bsc_line_model.specs.declared.event.Event.TheVariants as event;
 
-    /// Nothing is heard for the time of a time-out: the least numbered terminal that holds the line
-    /// acts, else the control station. `Pending` while a transmission is on the line. (GA27-3004,
-    /// time-outs; who acts is own.)
+    /// Lets a silence pass, that is, nothing is heard for the time of a time-out: the terminal with
+    /// the least number among those that hold the line acts, or else the control station. Error:
+    /// `Pending` if a transmission is pending. (GA27-3004, time-outs.)
     pub fn silence(&mut self) -> Result<(), LineError>
         ensures does { Does event.Silence self.old result self.new }
         ensures line { IsLine self.new }
@@ -35,7 +35,7 @@ impl<A: Allocator> Line<A> {
         Ok(())
     }
 
-    /// A terminal acts on a silence.
+    /// Lets a terminal act on a silence.
     fn act_at(&mut self, terminal: usize)
         requires there { terminal < terminal_count self.old }
         requires nothing { self.old.pending ≡ None }
@@ -51,7 +51,7 @@ impl<A: Allocator> Line<A> {
         show(&self.sent, &mut self.wire);
     }
 
-    /// The control station acts on a silence.
+    /// Lets the control station act on a silence.
     fn act_at_control(&mut self)
         requires nothing { self.old.pending ≡ None }
         requires nobody { line_owner self.old.terminals ≡ None }

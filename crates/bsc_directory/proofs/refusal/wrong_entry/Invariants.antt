@@ -1,4 +1,4 @@
--- Each entry that was passed is right.
+-- Each entry so far is right.
 use Rattle.std.proofs.Common.{ℕ, ◌<◌}
 use Rattle.bsc_directory.specs.Refusals.{IsEntry}
 use Rattle.bsc_directory.proofs.refusal.wrong_entry.Given as goal

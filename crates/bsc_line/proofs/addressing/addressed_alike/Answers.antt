@@ -1,3 +1,4 @@
+-- `addressed_alike` returns the channel that is addressed afterwards.
 use Rattle.std.proofs.Common.{sym, ◌∙◌}
 use Rattle.bsc_control.specs.Control.{terminals}
 use Rattle.bsc_line_model.specs.Hearing.{all_hear}

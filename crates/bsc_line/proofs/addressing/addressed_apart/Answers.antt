@@ -1,3 +1,4 @@
+-- `addressed_apart` returns the channel that is addressed afterwards.
 use Rattle.std.proofs.Common.{sym, ◌∙◌, ap}
 use Rattle.bsc_control.specs.Control.{terminals}
 use Rattle.bsc_line_model.specs.Hearing.{heard_in, heard_at}

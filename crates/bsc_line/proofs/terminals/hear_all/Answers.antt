@@ -1,3 +1,4 @@
+-- `hear_all` lets each terminal hear, and returns the first answer.
 use Rattle.std.proofs.Common.{◌≡◌, length, refl, sym, ◌∙◌, ap, subst, arith, ℕ, Option}
 use Rattle.bsc_frame.specs.declared.message.Heard.{Heard}
 use Rattle.bsc_tributary.specs.Tributary.{TributaryValue}

@@ -1,3 +1,4 @@
+-- The terminals so far have heard.
 use Rattle.std.proofs.Common.{◌≡◌}
 use Rattle.bsc_line.specs.Hearings.{hearing_of}
 use Rattle.bsc_line_model.specs.Terminals.{first_answer}

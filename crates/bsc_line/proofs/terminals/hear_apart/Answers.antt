@@ -1,3 +1,4 @@
+-- `hear_apart` lets the terminal hear, and keeps the first answer.
 use Rattle.std.proofs.Common.{Option, subst, ◌∙◌, ap}
 use Rattle.bsc_frame.specs.declared.message.Message.{Message}
 use Rattle.bsc_tributary.specs.Kept.{IsHearing}

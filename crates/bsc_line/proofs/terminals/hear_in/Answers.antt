@@ -1,3 +1,4 @@
+-- `hear_in` lets each terminal hear, and returns the first answer.
 use Rattle.std.proofs.Common.{◌≡◌, length, ◌∙◌}
 use Rattle.bsc_tributary.specs.Tributary.{TributaryValue}
 use Rattle.bsc_line_model.specs.Terminals.{EachHears, EachKeeps, first_answer}

@@ -1,3 +1,4 @@
+-- `new_terminals` returns new terminals with these addresses.
 use Rattle.std.proofs.Common.{sym, subst, arith, ◌∙◌}
 use Rattle.std.proofs.lemmas.List.{get_or_default}
 use Rattle.bsc_bid.specs.Terminal.{HasDistinctAddresses}

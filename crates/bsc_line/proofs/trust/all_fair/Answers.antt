@@ -1,3 +1,4 @@
+-- `all_fair` returns whether each terminal hears the message fairly.
 use Rattle.std.proofs.Common.{◌↔◌, IsTrue, sym, subst}
 use Rattle.bsc_bid.specs.Fair.{IsFairlyHeard}
 use Rattle.bsc_line_model.specs.Trust.{EachOf}

@@ -1,3 +1,4 @@
+-- `all_hear` returns whether all terminals hear the message.
 use Rattle.std.proofs.Common.{◌↔◌, IsTrue, sym, subst}
 use Rattle.bsc_line_model.specs.Trust.{AllHear}
 use Rattle.bsc_line.specs.declared.hearing.Hearings.{Hearings}

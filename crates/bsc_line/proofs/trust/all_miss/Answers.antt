@@ -1,3 +1,4 @@
+-- `all_miss` returns whether all terminals miss a call.
 use Rattle.std.proofs.Common.{◌↔◌, IsTrue, sym, subst}
 use Rattle.bsc_line_model.specs.Trust.{EachOf, IsMissed}
 use Rattle.bsc_line.specs.declared.hearing.Hearings.{Hearings}

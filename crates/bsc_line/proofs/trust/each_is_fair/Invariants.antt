@@ -1,3 +1,4 @@
+-- Each of the items so far is heard fairly.
 use Rattle.bsc_bid.specs.Fair.{IsFairlyHeard}
 use Rattle.bsc_line_model.specs.Hearing.{heard_at}
 use Rattle.bsc_line_model.specs.Trust.{EachOf}

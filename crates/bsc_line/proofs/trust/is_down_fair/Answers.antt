@@ -1,3 +1,4 @@
+-- `is_down_fair` returns whether the transmission keeps the line trusted.
 use Rattle.std.proofs.Common.{◌↔◌, IsTrue, IfSome, Option, sym, subst}
 use Rattle.bsc_line_model.specs.declared.transmission.Transmission.{Transmission}
 use Rattle.bsc_line.specs.Hearings.{hearing_of}

@@ -1,3 +1,4 @@
+-- `bid_laws` follows from the laws of bsc_bid.
 use Rattle.bsc_line_model.proofs.bids.bid_laws.Goals as goal
 
 pub returns : goal.returns

@@ -1,3 +1,4 @@
+-- `each_event`: every event keeps the invariant of a line.
 use Rattle.bsc_line_model.proofs.EachEvent.{new_line_stays, down_stays, up_stays, silence_stays}
 use Rattle.bsc_line_model.proofs.EachEvent.{offer_at_stays, ready_stays, urgent_at_stays}
 use Rattle.bsc_line_model.proofs.EachEvent.{release_from_stays, offer_for_stays, urgent_for_stays}

@@ -1,3 +1,4 @@
+-- `fair_in_octets`: fair hearing in terms of octets.
 use Rattle.bsc_line_model.proofs.OctetsHeard.{fair_in_octets}
 use Rattle.bsc_line_model.proofs.laws.fair_in_octets.Goals as goal
 

@@ -1,3 +1,4 @@
+-- `headline`: every run that leaves the line trusted keeps the records.
 use Rattle.bsc_line_model.proofs.RunsKeep.{runs_keep}
 use Rattle.bsc_line_model.proofs.laws.headline.Goals as goal
 

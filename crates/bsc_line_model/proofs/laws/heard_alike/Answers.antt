@@ -1,3 +1,4 @@
+-- `heard_alike`: trust requires fair hearing if all terminals hear alike.
 use Rattle.bsc_line_model.proofs.HeardAlike.{alike_is_fair, fair_is_alike}
 use Rattle.bsc_line_model.proofs.laws.heard_alike.Goals as goal
 

@@ -1,3 +1,4 @@
+-- `line_holder`: who holds a trusted line, and that no count mismatches.
 use Rattle.bsc_line_model.proofs.Holding.{holds_polled, never_mismatches}
 use Rattle.bsc_line_model.proofs.laws.line_holder.Goals as goal
 

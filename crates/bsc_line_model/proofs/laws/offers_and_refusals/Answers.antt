@@ -1,3 +1,4 @@
+-- `offers_and_refusals`: the offered records, refused events and trust.
 use Rattle.bsc_line_model.proofs.OfferedGrows.{grows_by_offers}
 use Rattle.bsc_line_model.proofs.Refusals.{nothing_changed, was_trusted}
 use Rattle.bsc_line_model.proofs.laws.offers_and_refusals.Goals as goal

@@ -1,3 +1,4 @@
+-- `one_answer`: at most one terminal answers.
 use Rattle.bsc_line_model.proofs.OneAnswer.{same_answerer}
 use Rattle.bsc_line_model.proofs.laws.one_answer.Goals as goal
 

@@ -1,3 +1,4 @@
+-- `round`: the transmissions of a round deliver all records that wait.
 use Rattle.bsc_line_model.proofs.Numbers.{delivers_round}
 use Rattle.bsc_line_model.proofs.laws.round.Goals as goal
 

@@ -1,3 +1,4 @@
+-- `sound_channels`: each channel of a trusted line is sound.
 use Rattle.bsc_line_model.proofs.Soundness.{sound}
 use Rattle.bsc_line_model.proofs.laws.sound_channels.Goals as goal
 

@@ -1,3 +1,4 @@
+-- `turned_bits`: a transmission with one turned bit is heard fairly.
 use Rattle.bsc_line_model.proofs.OctetsHeard.{Reads}
 use Rattle.bsc_line_model.proofs.TurnedBits.{Turns, turned_is_fair, turned_alike_is_fair}
 use Rattle.bsc_line_model.proofs.TurnedBits.{turned_each_is_fair, turned_for_some_is_fair}

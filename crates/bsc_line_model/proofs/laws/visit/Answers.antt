@@ -1,3 +1,4 @@
+-- `visit`: the transmissions of a visit deliver all records that wait.
 use Rattle.bsc_line_model.proofs.Numbers.{delivers_visit}
 use Rattle.bsc_line_model.proofs.laws.visit.Goals as goal
 

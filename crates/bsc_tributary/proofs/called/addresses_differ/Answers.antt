@@ -1,3 +1,4 @@
+-- `addresses_differ` returns whether all addresses of the terminal differ.
 use Rattle.std.proofs.Common.{◌≡◌, ◌∙◌, sym, refl, [], get_or, arith, below_more}
 use Rattle.bsc_tributary.specs.declared.called.Called.TheVariants.{Selection}
 use Rattle.bsc_tributary.specs.Called.{called_as}

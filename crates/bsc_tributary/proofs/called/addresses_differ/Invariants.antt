@@ -1,3 +1,4 @@
+-- A call of each selection address so far names that address.
 use Rattle.std.proofs.Common.{◌≡◌, ℕ, ◌<◌, [], get_or}
 use Rattle.bsc_tributary.specs.declared.called.Called.TheVariants.{Selection}
 use Rattle.bsc_tributary.specs.Called.{called_as}

@@ -1,3 +1,4 @@
+-- `called_address` returns which of the terminal's addresses a call names.
 use Rattle.std.proofs.Common.{◌≡◌, ◌∙◌, sym, ap, List, ℕ, [], get_or, false, arith}
 use Rattle.std.proofs.lemmas.Option.{slice_get_within, get_or_from_slice_get}
 use Rattle.bsc_tributary.specs.Called.{is_same}

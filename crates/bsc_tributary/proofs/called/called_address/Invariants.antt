@@ -1,3 +1,4 @@
+-- The address is none of the selection addresses so far.
 use Rattle.std.proofs.Common.{◌≡◌, ℕ, ◌<◌, false, [], get_or}
 use Rattle.bsc_tributary.specs.Called.{is_same}
 use Rattle.bsc_tributary.proofs.called.called_address.Given as goal

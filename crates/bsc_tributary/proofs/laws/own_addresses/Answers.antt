@@ -1,3 +1,4 @@
+-- `own_addresses`: which of a terminal's addresses a call names.
 use Rattle.bsc_tributary.proofs.Addresses.{selection_is, is_selection, other_is, is_other}
 use Rattle.bsc_tributary.proofs.laws.own_addresses.Goals as goal
 

@@ -1,3 +1,4 @@
+-- `find` returns the terminal and way of the address.
 use Rattle.std.proofs.Common.{List, sym, ◌∙◌, ap, subst}
 use Rattle.std.specs.List.{Contains}
 use Rattle.bsc_directory.specs.Addresses.{numbered}

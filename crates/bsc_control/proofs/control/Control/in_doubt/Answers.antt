@@ -1,3 +1,4 @@
+-- `in_doubt` returns whether the sender is in doubt.
 use Rattle.std.proofs.Common.{◌<◌, length, ap, ◌∙◌}
 use Rattle.bsc_bid.specs.Sender.{is_in_doubt}
 use Rattle.bsc_control.specs.Control.{peer_at}

@@ -1,3 +1,4 @@
+-- `new` returns a new control station, or the first refusal.
 use Rattle.std.proofs.Common.{length, sym, ◌∙◌, ap}
 use Rattle.bsc_directory.specs.Addresses.{numbered}
 use Rattle.bsc_directory.proofs.Refusing.{right_entries}

@@ -1,3 +1,4 @@
+-- `offer` adds the record to its queue, or gives it back.
 use Rattle.std.proofs.Common.{◌<◌, length, sym, ◌∙◌, ap}
 use Rattle.bsc_directory.specs.Addresses.{numbered}
 use Rattle.bsc_control.specs.Control.{peer_at}

@@ -1,3 +1,4 @@
+-- `release` makes the sender's release step and returns its answer.
 use Rattle.std.proofs.Common.{◌<◌, length, sym, ◌∙◌, ap}
 use Rattle.bsc_bid.specs.Sender.{release_step}
 use Rattle.bsc_directory.specs.Addresses.{numbered}

@@ -1,3 +1,4 @@
+-- `set_urgent` raises the urgent flag of the terminal only.
 use Rattle.std.proofs.Common.{true, ◌<◌, length, sym, ◌∙◌, ap}
 use Rattle.bsc_directory.specs.Addresses.{numbered}
 use Rattle.bsc_control.proofs.Entries.{peer_with_flag, entries_with_peer}

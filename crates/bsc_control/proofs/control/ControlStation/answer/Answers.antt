@@ -1,3 +1,4 @@
+-- `answer` does what the table says of a transmission.
 use Rattle.std.proofs.Common.{sym, ◌∙◌, ap}
 use Rattle.bsc_directory.specs.Addresses.{numbered}
 use Rattle.bsc_control.specs.Kept.{AfterHearing}

@@ -1,3 +1,4 @@
+-- `Peer::new` returns the state of a new terminal.
 use Rattle.std.proofs.Common.{◌≡◌, ℕ, ◌≤◌, List, [], ◌∷◌, ◌++◌, length, refl, sym, ap, ◌∙◌, subst}
 use Rattle.std.proofs.Common.{arith}
 use Rattle.std.specs.Prelude.{All, replicate}
@@ -23,7 +24,7 @@ loop-preserved g c =
           c.new.ensures.outbound);
     }
 
--- as many as it has selection addresses were made
+-- the loop made as many sending sides as there are selection addresses
 all_made : (setup : SetupValue) (os : List OutboundValue) (made all count : ℕ)
     → os ≡ replicate made (new_outbound setup) → made ≤ all → all ≤ made → all ≡ count
     → os ≡ replicate count (new_outbound setup)

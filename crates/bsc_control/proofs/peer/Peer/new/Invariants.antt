@@ -1,4 +1,4 @@
--- This many outbounds were made, all of them new.
+-- The loop has made this many sending sides, all of them new.
 use Rattle.std.proofs.Common.{◌≡◌}
 use Rattle.std.specs.Prelude.{replicate, All}
 use Rattle.bsc_control.specs.Peer.{IsOutbound, new_outbound}

@@ -1,3 +1,4 @@
+-- `way_from` returns the first selectable address, or the polling address.
 use Rattle.std.proofs.Common.{drop, ap, ◌∙◌}
 use Rattle.std.proofs.lemmas.List.{take_rest}
 use Rattle.std.specs.Prelude.{position}

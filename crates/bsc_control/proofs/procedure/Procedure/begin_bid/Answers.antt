@@ -1,3 +1,4 @@
+-- `begin_bid` is the row of ACK0 after a selection.
 use Rattle.std.proofs.Common.{◌<◌, length, refl, sym, ◌∙◌, subst}
 use Rattle.bsc_bid.specs.Sender.{begin_step}
 use Rattle.bsc_control.specs.Control.{peer_at}

@@ -1,3 +1,4 @@
+-- `call_from` calls the first address that has a reason to be called.
 use Rattle.std.proofs.Common.{◌<◌, ◌≤◌, length, refl, sym, ap, ◌∙◌, subst}
 use Rattle.bsc_control.specs.CallOrder.{way_from}
 use Rattle.bsc_control.specs.Control.{peer_at}

@@ -1,3 +1,4 @@
+-- `fail_selection` is the row of a silence after a selection.
 use Rattle.std.proofs.Common.{◌<◌, length, sym, ap, ◌∙◌, subst}
 use Rattle.bsc_control.specs.Control.{ControlValue, current}
 use Rattle.bsc_control.specs.Table.{repeated}

@@ -1,3 +1,4 @@
+-- `hear_sending` is the row of a transmission during a bid.
 use Rattle.std.proofs.Common.{◌≡◌, ◌<◌, length, sym, ◌∙◌, subst, if◌then◌else◌, rules}
 use Rattle.bsc_frame.specs.Replies.{reply_in}
 use Rattle.bsc_bid.specs.Sender.{reply_step}

@@ -1,3 +1,4 @@
+-- `Procedure::new` returns a new control station.
 use Rattle.std.proofs.Common.{◌≡◌, ℕ, ◌+◌, ◌<◌, ◌≤◌, List, [], ◌∷◌, ◌++◌, length, map, take, get_or}
 use Rattle.std.proofs.Common.{replicate, refl, sym, ap, ◌∙◌, subst, add-one, take_all}
 use Rattle.std.specs.List.{All}
@@ -9,7 +10,7 @@ use Rattle.bsc_bid.specs.Terminal.{TerminalValue}
 use Rattle.bsc_control.specs.Peer.{PeerValue, IsPeer, IsNewPeer, new_outbound}
 use Rattle.bsc_control.proofs.procedure.Procedure.new.Goals as goal
 
--- the terminals up to one more
+-- the terminals so far and one more
 made_more : (ts : List TerminalValue) (n : ℕ) (x : TerminalValue) (ps : List PeerValue)
     (p : PeerValue) → n < length ts → x ≡ get_or ts n x → map (λ (q : PeerValue). q.terminal) ps
     ≡ take n ts → p.terminal ≡ x

@@ -1,4 +1,4 @@
--- The parts of this many terminals were made, all of them new.
+-- The loop has made the parts of this many terminals, all of them new.
 use Rattle.std.proofs.Common.{◌≡◌, map, take}
 use Rattle.std.specs.List.{All}
 use Rattle.bsc_control.specs.Peer.{PeerValue, IsPeer, IsNewPeer}

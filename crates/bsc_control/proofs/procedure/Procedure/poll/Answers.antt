@@ -1,3 +1,4 @@
+-- `poll` is the step that calls a polling address.
 use Rattle.std.proofs.Common.{◌<◌, length, sym, subst}
 use Rattle.bsc_control.specs.Control.{ControlValue}
 use Rattle.bsc_control.proofs.Entries.{peer_with_receiver, entries_with_peer}

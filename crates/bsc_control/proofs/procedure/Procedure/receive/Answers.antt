@@ -1,3 +1,4 @@
+-- `receive` is the row of a transmission in a poll.
 use Rattle.std.proofs.Common.{◌≡◌, refl, sym, ap, ◌∙◌, Some}
 use Rattle.std.specs.Prelude.{option_map}
 use Rattle.bsc_control.proofs.Entries.{entries_with_peer}

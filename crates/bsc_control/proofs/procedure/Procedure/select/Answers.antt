@@ -1,3 +1,4 @@
+-- `select` is the step that calls a selection address.
 use Rattle.std.proofs.Common.{false, ◌<◌, length, sym, subst}
 use Rattle.bsc_control.specs.Control.{ControlValue}
 use Rattle.bsc_control.proofs.Entries.{peer_with_flag, entries_with_peer}

@@ -1,3 +1,4 @@
+-- `send_on` is the row of a silence during a bid.
 use Rattle.std.proofs.Common.{◌<◌, length, refl, sym, ◌∙◌, subst}
 use Rattle.bsc_bid.specs.Sender.{silence_step}
 use Rattle.bsc_control.specs.Control.{peer_at}

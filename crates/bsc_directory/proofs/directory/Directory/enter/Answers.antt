@@ -1,3 +1,4 @@
+-- `enter` appends the address, or refuses one that came before.
 use Rattle.std.proofs.Common.{◌≡◌, ◌==◌, false, List, ◌++◌, ◌∷◌, [], Option, None, Some, is_some}
 use Rattle.std.proofs.Common.{refl, sym, ◌∙◌, ap, subst}
 use Rattle.indexmap.proofs.CallerLemmas.{insert_entry-new}

@@ -1,3 +1,4 @@
+-- `enter_all` appends the addresses of the terminal, or refuses the first that came before.
 use Rattle.std.proofs.Common.{◌≡◌, ◌++◌, ◌∷◌, List, [], ℕ, ◌+◌, ◌<◌, ◌≤◌, length, take, drop}
 use Rattle.std.proofs.Common.{Some, sym, ◌∙◌, ap, subst, arith, append_assoc}
 use Rattle.std.proofs.lemmas.List.{map-append, length-take-le, take-append-drop}
@@ -34,7 +35,7 @@ entered_address t poll xs s x old h =
     ∙ ap (numbered_selects t 0) (sym (take_with xs s x h))) in
     append_assoc old front ((x, (t, ToTerminal s)) ∷ []) ∙ ap (λ zs. old ++ zs) entries
 
--- a clash at a selection address is one of the terminal's addresses
+-- a refusal at a selection address is one of the terminal's addresses
 refuses_select : (t : ℕ) (terminal : TerminalValue) (s : ℕ) (x : List ℕ) (old now : List Owner)
     (e : SetupError) → slice_get terminal.selects s ≡ Some x
     → now ≡ old ++ (terminal.poll, (t, FromTerminal))

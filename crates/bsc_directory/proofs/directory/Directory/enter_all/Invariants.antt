@@ -1,4 +1,4 @@
--- This many selection addresses were entered after the polling address.
+-- This many selection addresses have been entered after the polling address.
 use Rattle.std.proofs.Common.{◌≡◌, ◌++◌, ◌∷◌, take}
 use Rattle.bsc_directory.specs.declared.way.Way.TheVariants.{FromTerminal}
 use Rattle.bsc_directory.specs.Addresses.{numbered_selects}

@@ -1,3 +1,4 @@
+-- `find` returns the terminal and way of the address.
 use Rattle.std.proofs.Common.{List, sym, ◌∙◌, subst}
 use Rattle.std.specs.List.{Contains}
 use Rattle.std.proofs.lemmas.Cmp.{nat_list_eq_equiv}

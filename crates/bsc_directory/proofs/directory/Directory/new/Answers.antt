@@ -1,3 +1,4 @@
+-- `Directory::new` returns the numbered addresses, or the first refusal.
 use Rattle.std.proofs.Common.{refl}
 use Rattle.std.proofs.lemmas.Result.{err_from_is_err_and}
 use Rattle.bsc_directory.proofs.Refusing.{none_there, some_there, refused_addresses}

@@ -1,3 +1,4 @@
+-- `of_terminals` enters the addresses of all terminals, or refuses the first that came before.
 use Rattle.std.proofs.Common.{◌≡◌, ◌≢◌, ◌++◌, ◌∷◌, List, [], ℕ, ◌+◌, ◌<◌, ◌≤◌, length, take, drop}
 use Rattle.std.proofs.Common.{get_or, refl, sym, ◌∙◌, ap, subst, arith, append_assoc}
 use Rattle.std.proofs.Common.{take_all}
@@ -32,7 +33,7 @@ addresses_append [] ys = refl
 addresses_append (x ∷ xs) ys = ap (λ zs. own_addresses x ++ zs) (addresses_append xs ys)
     ∙ sym (append_assoc (own_addresses x) (addresses xs) (addresses ys))
 
--- a clash at a terminal is one of the addresses
+-- a refusal at a terminal is one of all addresses
 refuses_terminal : (ts : List TerminalValue) (n : ℕ) (x : TerminalValue) (e : SetupError) → n
     < length ts → x ≡ get_or ts n x
     → RefusesAddresses (keys_of (numbered 0 (take n ts))) (own_addresses x) e

@@ -1,4 +1,4 @@
--- The addresses of this many terminals were entered.
+-- The addresses of this many terminals have been entered.
 use Rattle.std.proofs.Common.{◌≡◌, take}
 use Rattle.bsc_directory.specs.Addresses.{numbered}
 use Rattle.bsc_directory.proofs.directory.Directory.of_terminals.Given as goal

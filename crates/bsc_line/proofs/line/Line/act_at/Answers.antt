@@ -1,3 +1,4 @@
+-- `act_at` lets only this terminal act, and keeps the line's invariant.
 use Rattle.std.proofs.Common.{◌<◌, ◌≡◌, ℕ, Option, Some, length, slice_set, sym, subst, ◌∙◌, ap}
 use Rattle.bsc_line_model.specs.Line.{LineValue, line_of, terminal_count}
 use Rattle.bsc_line_model.specs.Terminals.{line_owner}

@@ -1,3 +1,4 @@
+-- `act_at_control` lets only the control station act, and keeps the line's invariant.
 use Rattle.std.proofs.Common.{◌≡◌, ℕ, Option, None, sym, subst, ◌∙◌, ap}
 use Rattle.bsc_line_model.specs.declared.transmission.Transmission.{Transmission}
 use Rattle.bsc_line_model.specs.Line.{LineValue, line_of}

@@ -1,3 +1,4 @@
+-- `carry` does the event `Carry`.
 use Rattle.std.proofs.Common.{◌∙◌, ap}
 use Rattle.bsc_frame.specs.declared.message.Heard.TheVariants.{Whole}
 use Rattle.bsc_line_model.specs.declared.transmission.Transmission.{Transmission}

@@ -1,3 +1,4 @@
+-- `carry_as` carries the pending transmission as it is heard, and keeps the line's invariant.
 use Rattle.std.proofs.Common.{Some, sym, ◌∙◌, ap}
 use Rattle.bsc_line_model.specs.declared.transmission.Speaker.{Speaker}
 use Rattle.bsc_line_model.specs.declared.transmission.Transmission.{Transmission}

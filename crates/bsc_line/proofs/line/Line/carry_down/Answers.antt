@@ -1,3 +1,4 @@
+-- `carry_down` carries a transmission to the terminals, and keeps the line's invariant.
 use Rattle.std.proofs.Common.{◌≡◌, ◌<◌, ◌↔◌, IsTrue, ℕ, length, Some, ◌∙◌, refl, ap, subst, arith}
 use Rattle.bsc_control.specs.Control.{terminals as addresses_of}
 use Rattle.bsc_line_model.specs.declared.transmission.Transmission.{Transmission}
@@ -23,7 +24,7 @@ addressed_after-self-inside-requires g c =
     c.self.invariant.0.stations in
     omega arith
 
--- the count is that of the terminals
+-- the count is the number of terminals
 counted : (g : given.Over) (c : goal.After-show g) → c.len-count.result
     ≡ length c.self.inside.terminals.items
 counted g c = omega arith

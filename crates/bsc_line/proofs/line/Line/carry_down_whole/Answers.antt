@@ -1,3 +1,4 @@
+-- `carry_down_whole` carries an unspoiled transmission to the terminals.
 use Rattle.std.proofs.Common.{◌≡◌, ◌<◌, ℕ, length, Some, ◌∙◌, refl, ap, subst, arith}
 use Rattle.bsc_frame.specs.declared.message.Heard.TheVariants.{Whole}
 use Rattle.bsc_control.specs.Control.{terminals as addresses_of}

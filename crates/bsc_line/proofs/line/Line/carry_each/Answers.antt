@@ -1,3 +1,4 @@
+-- `carry_each` does the event `CarryEach`.
 use Rattle.std.proofs.Common.{◌≡◌, Some, length, refl, ap, sym, ◌∙◌, arith}
 use Rattle.bsc_line_model.specs.declared.transmission.Speaker.{Speaker}
 use Rattle.bsc_line_model.specs.Transmission.{speaker_of}

@@ -1,3 +1,4 @@
+-- `carry_sent` does the event `CarrySent`.
 use Rattle.std.proofs.Common.{Some, sym, ◌∙◌, ap}
 use Rattle.bsc_line_model.specs.declared.transmission.Speaker.{Speaker}
 use Rattle.bsc_line_model.specs.declared.transmission.Transmission.{Transmission}

@@ -1,3 +1,4 @@
+-- `carry_up` carries a transmission to the control station, and keeps the line's invariant.
 use Rattle.std.proofs.Common.{◌≡◌, ◌↔◌, IsTrue, Some, refl, ◌∙◌, ap}
 use Rattle.bsc_bid.specs.Fair.{IsFairlyHeard}
 use Rattle.bsc_line_model.specs.declared.transmission.Transmission.{Transmission}

@@ -1,3 +1,4 @@
+-- `carry_up_whole` carries an unspoiled transmission to the control station.
 use Rattle.std.proofs.Common.{◌≡◌, Some, refl, ◌∙◌, ap}
 use Rattle.bsc_frame.specs.declared.message.Heard.TheVariants.{Whole}
 use Rattle.bsc_line_model.specs.declared.transmission.Transmission.{Transmission}

@@ -1,3 +1,4 @@
+-- `Line::new` returns a new line, or the first refusal.
 use Rattle.std.proofs.Common.{None, true, refl}
 use Rattle.bsc_line_model.specs.Line.{line_of}
 use Rattle.bsc_control.specs.Peer.{no_peer}

@@ -1,3 +1,4 @@
+-- `offer_at` does the event `OfferAt`.
 use Rattle.std.proofs.Common.{◌≡◌, ◌<◌, ◌≤◌, ℕ, length, refl, ap, sym, ◌∙◌, subst, arith}
 use Rattle.bsc_tributary.specs.Tributary.{TributaryValue}
 use Rattle.bsc_bid.specs.Setup.{SetupValue}

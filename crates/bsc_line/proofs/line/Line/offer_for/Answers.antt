@@ -1,3 +1,4 @@
+-- `offer_for` does the event `OfferFor`.
 use Rattle.std.proofs.Common.{◌≡◌, ◌<◌, ◌≤◌, ℕ, length, sym, ◌∙◌, subst, arith}
 use Rattle.bsc_bid.specs.Setup.{SetupValue}
 use Rattle.bsc_control.specs.Control.{peer_at}

@@ -1,3 +1,4 @@
+-- `pending` returns the pending transmission, which keeps the limits of a message.
 use Rattle.bsc_line.proofs.Carrying.{on_wire_within}
 use Rattle.bsc_line.proofs.line.Line.pending.Goals as goal
 

@@ -1,3 +1,4 @@
+-- `release_from` releases a terminal's doubt, and keeps the line's invariant.
 use Rattle.std.proofs.Common.{◌≡◌, ◌<◌, ℕ, List, length, sym, ◌∙◌, ap, subst}
 use Rattle.bsc_spool.specs.Spool.{SpoolValue}
 use Rattle.bsc_tributary.specs.Tributary.{TributaryValue, after_release}

@@ -1,3 +1,4 @@
+-- `release_to` releases the control station's doubt, and keeps the line's invariant.
 use Rattle.std.proofs.Common.{◌≡◌, ◌<◌, ℕ, List, length, sym, ◌∙◌, ap, subst}
 use Rattle.bsc_spool.specs.Spool.{SpoolValue}
 use Rattle.bsc_tributary.specs.Tributary.{TributaryValue, spool_at}

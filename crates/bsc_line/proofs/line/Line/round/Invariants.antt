@@ -1,3 +1,4 @@
+-- The entries so far have been counted.
 use Rattle.std.proofs.Common.{◌≡◌, ◌<◌, ◌+◌, ◌^◌, ℕ, drop, false, length, get_or}
 use Rattle.bsc_directory.specs.declared.limits.TheConstants.{MAX_TERMINALS}
 use Rattle.bsc_line_model.specs.Rounds.{entries_length, round_length, is_seen}
@@ -5,8 +6,8 @@ use Rattle.bsc_line.specs.Counts.{in_u64}
 use Rattle.bsc_line.proofs.Lengths.{seen_before}
 use Rattle.bsc_line.proofs.line.Line.round.Given as goal
 
--- the terminals that were visited are marked, and the number so far, with what is left, makes the
--- whole
+-- the terminals that were visited are marked, and the total so far and the remaining entries make
+-- the whole
 abbrev pub invariant-loop-entry : goal.invariant-loop-entry
 invariant-loop-entry g l = record {
   fits : l.total < 2 ^ 64;

@@ -1,3 +1,4 @@
+-- `run` keeps the records of a trusted line, and delivers those of a visit and of a round.
 use Rattle.bsc_line.proofs.line.Line.run.Goals as goal
 
 pub returns-clause-visit : goal.returns-clause-visit

@@ -1,3 +1,4 @@
+-- `set_ready` does the event `Ready`.
 use Rattle.std.proofs.Common.{◌≡◌, ◌<◌, length, ap, arith, sym, ◌∙◌}
 use Rattle.bsc_tributary.specs.Tributary.{TributaryValue}
 use Rattle.bsc_line_model.specs.Line.{LineValue, line_of, terminal_at}

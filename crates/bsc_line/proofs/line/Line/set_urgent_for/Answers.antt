@@ -1,3 +1,4 @@
+-- `set_urgent_for` does the event `UrgentFor`.
 use Rattle.std.proofs.Common.{◌<◌, length, subst, arith, ℕ}
 use Rattle.bsc_line_model.specs.Line.{LineValue, line_of}
 use Rattle.bsc_line.proofs.line.Line.set_urgent_for.Goals as goal

@@ -1,3 +1,4 @@
+-- `silence` does the event `Silence`.
 use Rattle.std.proofs.Common.{Option, is_some, ℕ, ◌<◌, List, length, sym, ◌∙◌, ap, subst}
 use Rattle.bsc_tributary.specs.Tributary.{TributaryValue}
 use Rattle.bsc_line_model.specs.Line.{LineValue}

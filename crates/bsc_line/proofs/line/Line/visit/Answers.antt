@@ -1,3 +1,4 @@
+-- `visit` returns the length of a visit.
 use Rattle.std.proofs.Common.{◌≡◌, ◌≤◌, ◌+◌, ℕ, length, drop, sum_by, List, sym, ◌∙◌, ap, arith}
 use Rattle.std.proofs.lemmas.List.{drop_all}
 use Rattle.bsc_control.specs.Peer.{OutboundValue}

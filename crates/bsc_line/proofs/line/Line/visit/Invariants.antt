@@ -1,10 +1,11 @@
+-- The selection addresses so far have been counted.
 use Rattle.std.proofs.Common.{◌≡◌, ◌<◌, ◌+◌, ◌^◌, sum_by, drop}
 use Rattle.bsc_control.specs.Control.{peer_at}
 use Rattle.bsc_line_model.specs.Rounds.{visit_length, outbound_length}
 use Rattle.bsc_line.specs.Counts.{in_u64}
 use Rattle.bsc_line.proofs.line.Line.visit.Given as goal
 
--- the number so far, with what is left, makes the whole
+-- the total so far and the remaining addresses make the whole
 abbrev pub invariant-loop-select : goal.invariant-loop-select
 invariant-loop-select g l = record {
   fits : l.total < 2 ^ 64;

@@ -1,3 +1,4 @@
+-- `answer_poll` is the row of a call of the polling address.
 use Rattle.std.proofs.Common.{◌∙◌, sym, false}
 use Rattle.bsc_bid.proofs.Telling.{told_step}
 use Rattle.bsc_tributary.proofs.Acts.{mode_told, sent_told}

@@ -1,3 +1,4 @@
+-- `answer_selection` is the row of a call of a selection address.
 use Rattle.std.proofs.Common.{◌∙◌}
 use Rattle.bsc_tributary.proofs.Calls.{selection_step_ready, selection_step_room}
 use Rattle.bsc_tributary.proofs.Calls.{stays_selection_step, within_spools}

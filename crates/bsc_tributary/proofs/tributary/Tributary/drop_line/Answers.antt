@@ -1,3 +1,4 @@
+-- `drop_line` is the row of EOT.
 use Rattle.bsc_tributary.proofs.Hearing.{hears_eot}
 use Rattle.bsc_tributary.proofs.Stays.{stays_without_line}
 use Rattle.bsc_tributary.proofs.tributary.Tributary.drop_line.Goals as goal

@@ -1,3 +1,4 @@
+-- `hear_call` is the row of a call.
 use Rattle.std.proofs.Common.{subst, None}
 use Rattle.bsc_frame.specs.declared.message.Message.TheVariants.{Call}
 use Rattle.bsc_frame.specs.declared.message.Heard.TheVariants.{Whole}

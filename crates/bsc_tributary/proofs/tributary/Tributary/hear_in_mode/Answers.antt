@@ -1,3 +1,4 @@
+-- `hear_in_mode` is the row of the mode.
 use Rattle.std.proofs.Common.{subst, None}
 use Rattle.bsc_tributary.specs.Tributary.{Hears}
 use Rattle.bsc_tributary.specs.Kept.{IsTributary}

@@ -1,3 +1,4 @@
+-- `Tributary::new` returns a new terminal.
 use Rattle.std.proofs.Common.{◌≡◌, ◌∙◌, [], ap, refl}
 use Rattle.bsc_block.specs.Format.{FormatValue}
 use Rattle.bsc_spool.specs.Queue.{queue_of}
@@ -5,7 +6,7 @@ use Rattle.bsc_tributary.proofs.Stays.{new_is}
 use Rattle.bsc_tributary.proofs.tributary.Tributary.new.Given as given
 use Rattle.bsc_tributary.proofs.tributary.Tributary.new.Goals as goal
 
--- its queue is empty, in the format of its settings
+-- the queue is empty, in the format of the settings
 empty : (g : given.Over) (c : goal.After-new-4 g) → c.new-3.result
     ≡ queue_of c.args.setup.format [] 0
 empty g c = c.new-3.ensures ∙ ap (λ (f : FormatValue). queue_of f [] 0) c.format.ensures.value

@@ -1,3 +1,4 @@
+-- `offer` adds the record to the queue, or gives it back.
 use Rattle.bsc_tributary.proofs.Offering.{offered_either, stays_offer, offer_ok, offer_err}
 use Rattle.bsc_tributary.proofs.Offering.{same_offer}
 use Rattle.bsc_tributary.proofs.tributary.Tributary.offer.Goals as goal

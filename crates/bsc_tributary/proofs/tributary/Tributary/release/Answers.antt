@@ -1,3 +1,4 @@
+-- `release` makes the sender's release step and returns its answer.
 use Rattle.bsc_tributary.proofs.Offering.{stays_release, release_state, release_answer}
 use Rattle.bsc_tributary.proofs.Offering.{same_release}
 use Rattle.bsc_tributary.proofs.tributary.Tributary.release.Goals as goal

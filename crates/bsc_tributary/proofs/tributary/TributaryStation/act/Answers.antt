@@ -1,3 +1,4 @@
+-- `act` does what the table says of a silence.
 use Rattle.bsc_bid.proofs.Telling.{told_step}
 use Rattle.bsc_tributary.proofs.Acts.{mode_told, sent_told}
 use Rattle.bsc_tributary.proofs.Hearing.{after_silence, after_stillness}
