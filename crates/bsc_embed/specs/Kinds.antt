@@ -4,7 +4,7 @@ use Rattle.bsc_embed.specs.declared.kind.Kind.{Kind}
 use Rattle.bsc_embed.specs.declared.kind.Kind.TheVariants.{Noise, Failed, Eot, Call, Enq, Ack0}
 use Rattle.bsc_embed.specs.declared.kind.Kind.TheVariants.{Ack1, Nak, Wack, Rvi, Text}
 
--- The kind that a number of C's names (own).
+-- The kind with this number in C.
 abbrev pub kind_at : ℕ → Option Kind
 kind_at number =
     if number == 0 then Some Noise
