@@ -26,8 +26,8 @@ pub enum Taken {
     Whole,
 
     /// The connection is closed: this read closed it, or this is the first read since a failed
-    /// write did. `why` is the error, or None if the peer ended the connection between
-    /// transmissions. A closed connection never opens again.
+    /// write did. `why` is the error, or None if the peer ended the connection and cut no
+    /// transmission short. A closed connection never opens again.
     Closed { why: Option<CarrierError> },
 }
 

@@ -28,7 +28,7 @@ pub enum Note<'a> {
     },
 
     /// The connection at this place is closed. `why` is the error, or None if the peer ended the
-    /// connection between transmissions.
+    /// connection and cut no transmission short.
     Closed {
         connection: usize,
         why: Option<CarrierError>,

@@ -24,10 +24,10 @@ pub struct Begun<'a, N: Net + Clock, A: Allocator> {
 }
 
 /// Connects to a peer that listens at this address; of a host with several addresses, to the first
-/// that answers. Fails with `Address` if the text is not an address, with `NobodyThere` if at every
-/// address the peer refuses, cannot be reached, or does not answer within `patience`, with
-/// `Sockets` if the system refuses what the connection needs, and with `Memory` if memory cannot be
-/// allocated.
+/// that answers. Fails with `Address` if the text is not an address, with `NobodyThere` if no
+/// address gives a connection, for example because the peer refuses, cannot be reached, or does not
+/// answer within `patience`, with `Sockets` if the system refuses what else the connection needs,
+/// and with `Memory` if memory cannot be allocated.
 pub fn connect<'a, N: Net + Clock, A: Allocator + Copy>(
     runtime: &'a N,
     alloc: A,

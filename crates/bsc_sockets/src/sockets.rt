@@ -179,8 +179,8 @@ impl<'a, N: Net + Clock, A: Allocator + Copy> Sockets<'a, N, A> {
         }
     }
 
-    /// Returns what is to be served now. It looks at each place at most once, including that of the
-    /// listener.
+    /// Returns what is to be served now. It takes the ready places in turn, including that of the
+    /// listener, and no more of them than there are places.
     fn next_ready(&mut self) -> Option<Awaited>
         ensures { IfSome result (IsAnswer self.new.places self.new.newcomer) }
     {
