@@ -1,4 +1,4 @@
--- How waiting records are cut into blocks.
+-- How waiting records are divided into blocks.
 use Rattle.std.proofs.Common.{◌≡◌, ◌≢◌, ℕ, zero, suc, ◌≤◌, arith, refl, ap, List, [], ◌∷◌, length}
 use Rattle.std.proofs.Common.{take, drop}
 use Rattle.std.proofs.Common.{length-drop}
@@ -7,7 +7,7 @@ use Rattle.bsc_block.specs.Blocks.{taken, cut, blocks, AreShort}
 use Rattle.bsc_octet.proofs.Elements.{all_drop}
 use Rattle.bsc_block.proofs.Taking.{taken_is_taken, taken_some}
 
--- the records after the next block
+-- The records after the next block.
 rest : FormatValue → List (List ℕ) → List (List ℕ)
 rest f rs = drop (taken f rs) rs
 
@@ -27,7 +27,7 @@ short_rest : (f : FormatValue) (rs : List (List ℕ)) → AreShort f.full rs
 unfolding rest
 short_rest f rs s = all_drop (λ r. length r ≤ f.full) (taken f rs) rs s
 
--- more blocks than there are records are not cut
+-- There are no more blocks than records, so a higher limit changes nothing.
 cut_length : (n m : ℕ) (f : FormatValue) (rs : List (List ℕ)) → IsFormat f → AreShort f.full rs
     → length rs ≤ n → length rs ≤ m → cut n f rs ≡ cut m f rs
 unfolding rest

@@ -16,7 +16,7 @@ pub records_in_append : (us vs : List TextUnit) → records_in (us ++ vs) ≡ re
     ++ records_in vs
 records_in_append us vs = rw (filter-append holds_record us vs, map-append) refl
 
--- a unit that is built for a record holds it
+-- A unit that is built for a record holds it.
 held : (full : ℕ) (r : List ℕ) → 1 ≤ full → holds_record (unit_of full r) ≡ true
 held full [] l = grind (arith, nat_tests)
 held full (c ∷ r) l = grind (arith, nat_tests)
@@ -27,7 +27,7 @@ records_in_units full [] l = refl
 records_in_units full (r ∷ rs) l =
     rw (held full r l) (ap (λ rest. r ∷ rest) (records_in_units full rs l))
 
--- one unit more
+-- The records of the first units, with one more unit.
 more : (us : List TextUnit) (i : ℕ) (u : TextUnit) → slice_get us i ≡ Some u
     → records_in (take (i + 1) us) ≡ records_in (take i us) ++ records_in (u ∷ [])
 more us i u e =
@@ -44,7 +44,7 @@ pub records_in_empty : (us : List TextUnit) (i : ℕ) (u : TextUnit) → slice_g
     → holds_record u ≡ false → records_in (take (i + 1) us) ≡ records_in (take i us)
 records_in_empty us i u e h = rw (more us i u e, h) (append-nil (records_in (take i us)))
 
--- the characters of a unit of a text are those of a record
+-- The characters of a unit of a text are those of a record.
 pub unit_is_record : (us : List TextUnit) (i : ℕ) (u : TextUnit) → AllByRecursion IsUnit us
     → slice_get us i ≡ Some u → IsRecord u.chars
 unit_is_record us i u h e =

@@ -40,7 +40,7 @@ greatest_above p (suc n) j l e = split (p (suc n)) refl (λ below. greatest_abov
 fits_none : (f : FormatValue) (rs : List (List ℕ)) → front_cost f 0 rs ≤ f.block_chars
 fits_none f rs = omega arith
 
--- the definition gives the number that the relation describes
+-- The definition gives a number that the relation describes.
 pub taken_is_taken : (f : FormatValue) (rs : List (List ℕ)) → IsTaken f rs (taken f rs)
 taken_is_taken f rs =
     let p : ℕ → Bool = λ k. nat_le (front_cost f k rs) f.block_chars in
@@ -57,14 +57,14 @@ taken_is_taken f rs =
           (le-leb (front_cost f j rs) f.block_chars fits);
     }
 
--- and no other
+-- The relation describes no other number.
 pub is_taken_taken : (f : FormatValue) (rs : List (List ℕ)) (k : ℕ) → IsTaken f rs k → k ≡ taken f rs
 is_taken_taken f rs k t =
     let u : IsTaken f rs (taken f rs) = taken_is_taken f rs in
     omega (arith, t.greatest (taken f rs) u.few u.there u.fits, u.greatest k t.few t.there t.fits)
 
--- a front that fits is the block where it is all, or has seven records, or one record more does not
--- fit
+-- A front that fits is the block if it is the whole list, or has seven records, or does not fit
+-- with one more record.
 pub stops_there : (f : FormatValue) (rs : List (List ℕ)) (k : ℕ) → k ≤ MAX_UNITS → k ≤ length rs
     → front_cost f k rs ≤ f.block_chars
     → (MAX_UNITS ≤ k) ⊎ (length rs ≤ k) ⊎ (f.block_chars < front_cost f (k + 1) rs) → IsTaken f rs k
@@ -81,7 +81,7 @@ stops_there f rs k few there fits stop =
         within (inr below) = below
         within (inl above) = absurd (omega (arith, front_cost_le f (k + 1) j rs (omega arith)))
 
--- a short record fits by itself
+-- A record that is no longer than the full length fits a block.
 pub taken_some : (f : FormatValue) (rs : List (List ℕ)) (k : ℕ) → IsFormat f → AreShort f.full rs
     → IsTaken f rs k → rs ≢ [] → 1 ≤ k
 taken_some f [] k i s t n = absurd (n refl)

@@ -1,5 +1,5 @@
--- Records: what is handed in at one end of a line and given out at the other (own; in the manner of
--- the IBM 2780, whose records are lines of print and cards).
+-- Records: what is offered at one end of a line and arrives at the other, in the manner of the IBM
+-- 2780, whose records are cards and lines of print.
 use Rattle.std.specs.Prelude.{ℕ, ◌≤◌, nat_lt, not, if◌then◌else◌, List, length, position, IsTrue}
 use Rattle.std.specs.Prelude.{Option, Some, None, Result, Ok, Err}
 use Rattle.std.specs.List.{AllByRecursion}
@@ -18,7 +18,8 @@ abbrev pub unless_wrong : Option ℕ → List ℕ → Result (List ℕ) RecordEr
 unless_wrong None codes = Ok codes
 unless_wrong (Some place) codes = Err (NotText place)
 
--- The record that codes are, or why they are none: more than the full length, a wrong one.
+-- The record of these codes, or the error: more codes than the full length, else the first wrong
+-- one.
 abbrev pub record_of : ℕ → List ℕ → Result (List ℕ) RecordError
 record_of full codes =
     if nat_lt full (length codes) then Err TooLong

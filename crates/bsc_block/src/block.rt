@@ -1,5 +1,5 @@
-//! The records that a text carries. They are lent from the text, so that nothing is copied until
-//! they are stored.
+//! The records that a text carries. They are borrowed from the text, so that nothing is copied
+//! until they are stored.
 ghost use Rattle.std.specs.Prelude.{◌≡◌, ◌<◌, ◌≤◌, Some, length, slice_get};
 ghost use Rattle.bsc_block.specs.Records.{IsRecord};
 ghost use Rattle.bsc_frame.specs.Units.{text_unit};
@@ -11,7 +11,7 @@ use bsc_frame::limits::MAX_UNITS;
 use bsc_frame::{Text, Unit};
 use std::marker::Model;
 
-/// The records of a text, in order: 0 to 7 slices that live as long as the text.
+/// The records of a text, in order: 0 to 7 slices borrowed from the text.
 #[derive(Drop)]
 pub struct Block<'a> {
     records: ArrayVec<&'a [u8], MAX_UNITS>,
@@ -29,8 +29,8 @@ impl<'a> Model for Block<'a> {
     ghost invariant = { λ b. AllByRecursion (λ r. IsRecord r.now) b.records.items };
 }
 
-/// The records of a text: the characters of each unit that has characters or is marked by EM (own;
-/// in the manner of the IBM 2780).
+/// Returns the records of a text: the characters of each unit that has characters or is marked by
+/// EM.
 pub fn unpack(text: &Text) -> Block<'_>
     ensures { result ≡ records_in text.entry.now.units }
 {
@@ -44,7 +44,7 @@ pub fn unpack(text: &Text) -> Block<'_>
     Block { records }
 }
 
-/// Whether the unit holds a record.
+/// Returns whether the unit holds a record.
 fn is_record(unit: Unit<'_>) -> bool
     ensures { result ≡ holds_record (text_unit unit.entry) }
 {
@@ -52,7 +52,7 @@ fn is_record(unit: Unit<'_>) -> bool
 }
 
 impl<'a> Block<'a> {
-    /// How many records there are, 0 to 7.
+    /// Returns the number of records, 0 to 7.
     pub fn count(&self) -> usize
         ensures count { result ≡ length self.now }
         ensures few { result ≤ MAX_UNITS }
@@ -60,7 +60,7 @@ impl<'a> Block<'a> {
         self.records.len()
     }
 
-    /// The characters of the record at a place below the count, lent from the text.
+    /// Returns the characters of the record at a place below the count, borrowed from the text.
     pub fn chars(&self, place: usize) -> &'a [u8]
         requires { place < length self.now }
         ensures chars { slice_get self.now place ≡ Some result.now }
@@ -69,7 +69,7 @@ impl<'a> Block<'a> {
         self.records[place]
     }
 
-    /// A copy of the record at a place below the count. It takes no memory.
+    /// Returns a copy of the record at a place below the count. It does not allocate memory.
     pub fn record(&self, place: usize) -> Record
         requires { place < length self.now }
         ensures { slice_get self.now place ≡ Some result }

@@ -1,24 +1,24 @@
-//! The limits of what is sent. They are settings of a line, so that a block fits the buffers of the
-//! terminals on it. What is received is not held to them.
+//! The limits of what is sent. They are settings of a line, so that a block fits the buffers of its
+//! terminals. What is received need not keep to them.
 ghost use Rattle.std.specs.Prelude.{◌≡◌, IfOk};
 
 use crate::limits::{MAX_BLOCK_CHARS, MAX_FULL, MIN_BLOCK_CHARS};
 use std::marker::Model;
 use thiserror::Error;
 
-/// Why two numbers are no format.
+/// Why two numbers are not a format.
 #[derive(Clone, Copy, Debug, Error, PartialEq, Eq)]
 pub enum FormatError {
     /// The full length is not 1 to 144.
     #[error("the full length of a record is not 1 to 144")]
     Full,
 
-    /// The characters of a block are not 146 to 400.
+    /// The limit of a block is not 146 to 400 characters.
     #[error("the characters of a block are not 146 to 400")]
     BlockChars,
 }
 
-/// How long a full record is, in characters, and how many characters a block may count (own).
+/// The length of a full record and the limit of a block, both in characters.
 #[derive(Clone, Copy, Debug, PartialEq, Eq)]
 pub struct Format {
     full: u8,
@@ -40,8 +40,9 @@ impl Model for Format {
 impl Format {
     ghost use Rattle.bsc_block.specs.Format.{IsFormat, format_of};
 
-    /// The format of a full length and a limit of a block, both in characters. `Full` where the
-    /// full length is not 1 to 144, else `BlockChars` where the limit is not 146 to 400.
+    /// Creates the format with this full length and this limit of a block, both in characters.
+    /// Fails with `Full` if the full length is not 1 to 144, else with `BlockChars` if the limit is
+    /// not 146 to 400.
     pub fn new(full: u8, block_chars: u16) -> Result<Format, FormatError>
         ensures value { result ≡ format_of full block_chars }
         ensures format { IfOk result (λ f. IsFormat f) }
@@ -55,7 +56,7 @@ impl Format {
         Ok(Format { full, block_chars })
     }
 
-    /// The full length of a record, 1 to 144 characters.
+    /// Returns the full length of a record, 1 to 144 characters.
     pub fn full(&self) -> u8
         ensures value { result ≡ self.now.full }
         ensures format { IsFormat self.now }
@@ -63,7 +64,7 @@ impl Format {
         self.full
     }
 
-    /// How many characters a block may count, 146 to 400.
+    /// Returns the number of characters that a block may count, 146 to 400.
     pub(crate) fn block_chars(&self) -> u16
         ensures value { result ≡ self.now.block_chars }
         ensures format { IsFormat self.now }

@@ -1,5 +1,5 @@
-//! Laws over the definitions, each the contract of a function that does no work, for the layers
-//! above: what is sent is read back, and how what waits is cut into blocks.
+//! Laws over the definitions, each the contract of a function that does nothing, for the layers
+//! above: what is sent is read back, and how the waiting records are divided into blocks.
 ghost use Rattle.std.specs.Prelude.{◌≡◌, ◌≢◌, ◌≤◌, ℕ, List, [], ◌∷◌, map, take, drop};
 ghost use Rattle.bsc_block.specs.Format.{FormatValue, IsFormat};
 ghost use Rattle.bsc_block.specs.Blocks.{unit_of, records_in, taken, blocks, AreShort, IsTaken};
@@ -9,8 +9,9 @@ pub fn records_back()
     ensures { (full : ℕ) (rs : List (List ℕ)) → 1 ≤ full → records_in (map (unit_of full) rs) ≡ rs }
 {}
 
-/// How waiting records are cut: the next block takes the most that fit, which is at least one of
-/// them, and the other blocks are those of the rest, in which no record is longer either.
+/// How waiting records are divided into blocks. The next block takes as many as fit, which is at
+/// least one if any waits. The other blocks are those of the remaining records, none of which is
+/// longer than the full length either.
 pub fn cut_into_blocks()
     ensures taken { (f : FormatValue) (rs : List (List ℕ)) → IsTaken f rs (taken f rs) }
     ensures some { (f : FormatValue) (rs : List (List ℕ)) → IsFormat f → AreShort f.full rs

@@ -1,13 +1,13 @@
-//! The limits of what is sent (own). They are checked where a `Format` is made.
+//! The limits of what is sent. `Format::new` checks them.
 
 use bsc_frame::limits::MAX_CHARS;
 
-/// The greatest full length of a record, in characters: a record goes into one unit.
+/// The greatest full length of a record, in characters. A record fits into one unit.
 pub const MAX_FULL: u8 = MAX_CHARS as u8;
 
-/// The least that a block may count, so that each record fits one: its characters, EM and the
+/// The least number of characters that a block may count: enough for any one record, its EM and its
 /// ending character.
 pub const MIN_BLOCK_CHARS: u16 = MAX_CHARS as u16 + 2;
 
-/// The most that a block may count: the buffer of a terminal.
+/// The greatest number of characters that a block may count: the buffer of a terminal.
 pub const MAX_BLOCK_CHARS: u16 = 400;

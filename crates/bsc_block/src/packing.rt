@@ -1,4 +1,4 @@
-//! How waiting records are cut into blocks, and the text of a block.
+//! Divides waiting records into blocks, and builds the text of a block.
 ghost use Rattle.std.specs.Prelude.{◌≡◌, ◌≤◌, ◌<◌, ◌≢◌, [], length, Some};
 ghost use Rattle.bsc_frame.specs.Texts.{IsUnit};
 ghost use Rattle.bsc_frame.specs.Units.{text_unit};
@@ -10,9 +10,9 @@ use crate::{Format, Record};
 use bsc_frame::limits::MAX_UNITS;
 use bsc_frame::{End, Message, Text, Unit};
 
-/// How many of these records, which wait, go into the next block: as many from the front as fit its
-/// limit, and at most seven. 0 where no record waits. Condition: no record is longer than the full
-/// length. (Own.)
+/// Returns how many of these waiting records go into the next block: as many from the front as fit
+/// its limit, and at most seven; 0 if no record waits. No record may be longer than the full
+/// length.
 pub fn pack(records: &[Record], format: Format) -> usize
     requires { AreShort format.full records.now }
     ensures value { result ≡ taken format records.now }
@@ -30,7 +30,7 @@ pub fn pack(records: &[Record], format: Format) -> usize
     records.len()
 }
 
-/// What the record counts in a block: its characters, the ending character, and EM where it is
+/// Returns what a record counts in a block: its characters, the ending character, and EM if it is
 /// marked.
 fn cost(record: &Record, format: Format) -> usize
     ensures value { result ≡ cost_of format «record».now }
@@ -40,7 +40,7 @@ fn cost(record: &Record, format: Format) -> usize
     unit.chars.len() + 1 + usize::from(unit.em)
 }
 
-/// The unit of a record: marked by EM where the record is shorter than the full length.
+/// Returns the unit of a record. It is marked by EM if the record is shorter than the full length.
 fn unit(record: &Record, format: Format) -> Unit<'_>
     ensures value { text_unit result ≡ unit_of format.full «record».now }
     ensures unit { IsUnit (text_unit result) }
@@ -52,9 +52,8 @@ fn unit(record: &Record, format: Format) -> Unit<'_>
     }
 }
 
-/// Leaves the text of 1 to 7 records, with this end, in `message`, whatever that had. Condition: no
-/// record is longer than the full length. (GA27-3004: text and intermediate text blocks; how
-/// records are marked is own.)
+/// Puts the text of these 1 to 7 records, with this end, into `message`, whatever was there
+/// (GA27-3004: text and intermediate text blocks). No record may be longer than the full length.
 pub fn build(records: &[Record], format: Format, end: End, message: &mut Option<Message>)
     requires some { 1 ≤ length records.now }
     requires few { length records.now ≤ MAX_UNITS }

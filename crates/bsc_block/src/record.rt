@@ -1,4 +1,4 @@
-//! The record, which is what a line carries from one end to the other.
+//! The record: what a line carries from one end to the other.
 ghost use Rattle.std.specs.Prelude.{◌≡◌, ◌≤◌, IfOk, length, not, position};
 ghost use Rattle.bsc_octet.specs.Octet.{is_record_char as is_record_code};
 
@@ -8,19 +8,19 @@ use bsc_octet::is_record_char;
 use std::marker::Model;
 use thiserror::Error;
 
-/// Why codes are no record.
+/// Why codes are not a record.
 #[derive(Clone, Copy, Debug, Error, PartialEq, Eq)]
 pub enum RecordError {
     /// There are more codes than the full length.
     #[error("record too long")]
     TooLong,
 
-    /// The place, from 0, of the first code that is no record character.
+    /// The first code that is not a record character, by its place counted from 0.
     #[error("wrong character at {0}")]
     NotText(usize),
 }
 
-/// A record: at most 144 record characters (own; in the manner of the IBM 2780).
+/// A record: at most 144 record characters.
 #[derive(Debug, Drop)]
 pub struct Record {
     chars: ArrayVec<u8, MAX_CHARS>,
@@ -37,7 +37,7 @@ impl Model for Record {
     ghost invariant = { λ r. IsRecord r.chars.items };
 }
 
-/// The place of the first code that is no record character.
+/// Returns the place of the first code that is not a record character.
 fn wrong_place(codes: &[u8]) -> Option<usize>
     ensures { result ≡ position (λ c. not (is_record_code c)) codes.now }
 {
@@ -47,9 +47,10 @@ fn wrong_place(codes: &[u8]) -> Option<usize>
 impl Record {
     ghost use Rattle.bsc_block.specs.Records.{IsRecord, record_of};
 
-    /// The record of these codes. `TooLong` where they are more than `full`, which is 1 to 144,
-    /// else `NotText` with the first place whose code is no record character: the eleven control
-    /// characters of the line procedure, and 0x80 and above.
+    /// Creates the record of these codes. `full` must be 1 to 144. Fails with `TooLong` if there
+    /// are more than `full` codes, else with `NotText` and the place of the first code that is not
+    /// a record character, that is, one of the eleven control characters of the line procedure or
+    /// 0x80 and above.
     pub fn read(codes: &[u8], full: u8) -> Result<Record, RecordError>
         requires low { 1 ≤ full }
         requires high { full ≤ MAX_CHARS }
@@ -67,7 +68,7 @@ impl Record {
         Ok(Record::of(codes))
     }
 
-    /// The record of these characters.
+    /// Creates the record of these characters.
     pub(crate) fn of(chars: &[u8]) -> Record
         requires { IsRecord chars.now }
         ensures { result ≡ chars.now }
@@ -77,7 +78,7 @@ impl Record {
         Record { chars: own }
     }
 
-    /// The characters, as codes of seven bits.
+    /// Returns the characters, as codes of seven bits.
     pub fn chars(&self) -> &[u8]
         ensures value { result.now ≡ self.now }
         ensures record { IsRecord self.now }

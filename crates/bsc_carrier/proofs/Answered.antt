@@ -1,4 +1,4 @@
--- What a read of one record answers comes exactly where it is due.
+-- Each result of a read of one record is returned exactly when it is due.
 use Rattle.std.proofs.Common.{◌≡◌, ◌≤◌, Bool, true, false, List, [], ℕ, length, Option, Some, None}
 use Rattle.std.proofs.Common.{Result, Ok, Err, refl, sym, ap, ◌∙◌, subst, append-nil, arith, ◌++◌}
 use Rattle.bsc_carrier.specs.Front.{BeginsRecord, EndsWithin, HasWrongLength}
@@ -10,7 +10,7 @@ use Rattle.bsc_carrier.specs.declared.error.CarrierError.TheVariants.{Unequal}
 use Rattle.bsc_carrier.proofs.Fronts.{whole_length, not_wrong_and_right, not_whole_and_partial}
 use Rattle.bsc_carrier.proofs.Fronts.{not_whole_and_wrong, has_wrong_length_append}
 
--- the four answers of a read that did not fail
+-- The four results of a read that did not fail.
 pub record IsAnswered (result : Result Bool CarrierError) (stream : Option (List ℕ)) : Type 0 where
   pub whole : IsExactly result (result ≡ Ok true) BeginsRecord stream
   pub ended : IsExactly result (result ≡ Ok false) (λ all. all ≡ []) stream
@@ -96,7 +96,7 @@ answered (Some stream) (Some rest) (Err Short) octets ((front, short, given), en
     short_answered stream
     (subst EndsWithin (sym (given ∙ ap (λ l. front ++ l) end ∙ append-nil front)) short)
 
--- where no record came, it does not matter which octets were there
+-- After an error the octets of the record do not matter.
 pub failed_read : (old new : Option (List ℕ)) (e : CarrierError) (octets others : List ℕ)
     → ReadsRecord old (Err e) octets new → ReadsRecord old (Err e) others new
 failed_read old new Length octets others read = read
@@ -104,7 +104,7 @@ failed_read old new Short octets others read = read
 failed_read old new Device octets others read = read
 failed_read old new Unequal octets others read = read
 
--- a call that failed answers nothing of the stream
+-- A result of `Device` says nothing of the stream.
 pub device_answers : {T : Type 0} (result : Result T CarrierError) (stream : Option (List ℕ))
     → result ≡ Err Device → AnswersFor result stream
 device_answers result None failed =

@@ -1,4 +1,4 @@
--- Why a call that reads at every end answers an error.
+-- The cause of an error of a call that reads at every end.
 use Rattle.std.proofs.Common.{◌≡◌, ℕ, ◌≤◌, List, length, get_or, drop, Option, Some, None, Err, refl}
 use Rattle.std.specs.Prelude.{Result, IfSome, IsErrOf}
 use Rattle.std.specs.List.{Any}
@@ -12,14 +12,14 @@ use Rattle.bsc_carrier.specs.declared.error.CarrierError.TheVariants.{Length, Sh
 use Rattle.bsc_carrier.specs.declared.error.CarrierError.TheVariants.{Unequal}
 use Rattle.bsc_carrier.proofs.Places.{Any-later, Any-first}
 
--- what gave a record began with it
+-- A stream that gave a record began with it.
 pub begins_with_given : (octets : List ℕ) (old new : Option (List ℕ)) → IsCarried octets
     → Consumes old new (socket_record octets) → BeginsWith octets old
 begins_with_given octets None new carried given = (carried, tt)
 begins_with_given octets (Some all) None carried given = absurd given
 begins_with_given octets (Some all) (Some rest) carried given = (carried, (rest, given))
 
--- the first end gave a record, and an end after it did not give the same
+-- The first end gave a record, and an end after it did not give the same one.
 pub explains_later : {S : Type 0} (remaining : S → Option (List ℕ)) (ends : List S)
     (octets : List ℕ) (d : S) (e : CarrierError)
     → 1 ≤ length ends → BeginsWith octets (remaining (get_or ends 0 d))
@@ -41,14 +41,14 @@ explains_later remaining ends octets d Unequal some first wrong short unequal =
       (other, differs, Any-later (λ end. BeginsWith other (remaining end)) ends found),
     )
 
--- what the first end's answer says of the octets that it had left
+-- What the error of the first end says of the stream that it had left.
 told_first : (result : Result (Unit {0}) CarrierError) (e : CarrierError) (P : List ℕ → Type 0)
     (stream : Option (List ℕ)) → result ≡ Err e → (result ≡ Err Device → ⊥)
     → IsExactly result (result ≡ Err e) P stream → IfSome stream P
 told_first result e P None is heard exact = tt
 told_first result e P (Some all) is heard exact = (exact heard).0 is
 
--- the first end gave no record
+-- The first end gave no record.
 pub explains_first : {S : Type 0} (remaining : S → Option (List ℕ)) (ends : List S) (d : S)
     (e : CarrierError) → 1 ≤ length ends
     → AnswersFor {T = Unit {0}} (Err e) (remaining (get_or ends 0 d)) → Explains remaining e ends

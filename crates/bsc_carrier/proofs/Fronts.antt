@@ -1,5 +1,4 @@
--- What stands at the front of a stream is one thing: a whole record, part of one, or a wrong
--- length.
+-- A stream begins with at most one of these: a whole record, a part of one, or a wrong length.
 use Rattle.std.proofs.Common.{◌≡◌, ℕ, ◌+◌, ◌≤◌, List, [], ◌++◌, length, take, inl, inr, sym, ap}
 use Rattle.std.proofs.Common.{◌∙◌, subst, append_assoc, arith, length-append}
 use Rattle.std.proofs.lemmas.Nat.{from_be_bytes-to_be_bytes_2}

@@ -1,4 +1,4 @@
--- An assembler takes octets twice of a piece: up to the end of the length, and then up to the end
+-- An assembler takes octets of a piece twice: up to the end of the length, and then up to the end
 -- of the record.
 use Rattle.std.proofs.Common.{◌≡◌, ℕ, ◌+◌, ◌-◌, ◌<◌, ◌≤◌, min, List, ◌++◌, length, take, drop, inl}
 use Rattle.std.proofs.Common.{inr, sym, ap, ◌∙◌, subst, append_assoc, arith, length-append}
@@ -12,8 +12,8 @@ use Rattle.bsc_carrier.proofs.Fronts.{not_wrong_and_right}
 use Rattle.bsc_carrier.proofs.Wanted.{stated_length_append, wanted_after_short, wanted_after_right}
 use Rattle.bsc_carrier.proofs.Wanted.{wanted_after_wrong}
 
--- of the piece `head` octets and then `body` octets were taken, each time as many as were wanted
--- and there
+-- First `head` and then `body` octets of the piece were taken, each time as many as were wanted and
+-- available.
 pub record TakesTwice (begun piece rest mid new : List ℕ) (head body : ℕ) : Type 0 where
   pub head_is : head ≡ min (wanted_after begun) (length piece)
   pub mid_is : mid ≡ begun ++ take head piece
@@ -23,7 +23,7 @@ pub record TakesTwice (begun piece rest mid new : List ℕ) (head body : ℕ) : 
 
 module _ {begun piece rest mid new : List ℕ} {head body : ℕ}
     (took : TakesTwice begun piece rest mid new head body) where
-  -- both together are one front of the piece
+  -- Both together are a front of the piece.
   pub joined : new ≡ begun ++ take (head + body) piece
   joined = took.new_is ∙ ap (λ l. mid ++ take body l) took.rest_is
       ∙ ap (λ l. l ++ take body (drop head piece)) took.mid_is
@@ -52,7 +52,7 @@ module _ {begun piece rest mid new : List ℕ} {head body : ℕ}
   alone_at two = joined ∙ sym (take-append-add begun piece (head + body))
       ∙ ap (λ n. take n (begun ++ piece)) two
 
-  -- what is begun states a length that a record may have, and the same one after
+  -- If a length that a record may have was stated before, the same length is stated after.
   right_goes_on : 2 ≤ length begun → IsPartial begun → (IsLength (stated_length new))
       × (length new ≤ 2 + stated_length new)
       × (length new < 2 + stated_length new → head + body ≡ length piece)
@@ -94,7 +94,7 @@ module _ {begun piece rest mid new : List ℕ} {head body : ℕ}
         ),
       )
 
-  -- what is begun has no whole length, and the new octets complete it
+  -- If the length was incomplete before and is complete after, the first take completes it.
   length_ends : length begun < 2 → 2 ≤ length new → (length mid ≡ 2)
       × (stated_length new ≡ stated_length mid)
   length_ends short two =
@@ -102,7 +102,7 @@ module _ {begun piece rest mid new : List ℕ} {head body : ℕ}
       let two_mid : length mid ≡ 2 = omega (arith, wanted, mid_length, new_length, rest_length) in
       (two_mid, stated_new (omega (arith, two_mid)))
 
-  -- what is begun has a wrong length, and nothing is taken
+  -- If a wrong length was stated before, nothing is taken.
   stopped_stays : HasWrongLength begun × (length begun ≡ 2) → (head + body ≡ 0)
       × (stated_length new ≡ stated_length begun)
   stopped_stays stopped =
@@ -116,7 +116,7 @@ module _ {begun piece rest mid new : List ℕ} {head body : ℕ}
       ) in
       (omega (arith, none, none_mid), stated_new two_mid ∙ stated_mid two)
 
-  -- a wrong length ends what is taken
+  -- Nothing is taken after a wrong length.
   pub wrong_alone : IsBegun begun → HasWrongLength new → new ≡ take 2 (begun ++ piece)
   wrong_alone (inr stopped) wrong = alone_at (omega (arith, (stopped_stays stopped).0, stopped.1))
   wrong_alone (inl partial) wrong =
@@ -130,7 +130,7 @@ module _ {begun piece rest mid new : List ℕ} {head body : ℕ}
             (right_goes_on two partial).0)
       ]
 
-  -- no more is taken than the record has
+  -- No more is taken than the record has.
   pub bounded : IsBegun begun → 2 ≤ length new → IsLength (stated_length new) → length new ≤ 2
       + stated_length new
   bounded (inr stopped) two right = omega (arith, (stopped_stays stopped).0, stopped.1, new_length)
@@ -144,7 +144,7 @@ module _ {begun piece rest mid new : List ℕ} {head body : ℕ}
         | inr whole ↦ (right_goes_on whole partial).1
       ]
 
-  -- where the record lacks an octet, none is left in the piece
+  -- If the record is still incomplete, the whole piece is taken.
   pub exhausted : IsBegun begun → 2 ≤ length new → IsLength (stated_length new) → length new < 2
       + stated_length new → head + body ≡ length piece
   exhausted (inr stopped) two right less =

@@ -1,4 +1,4 @@
--- One place of a list of ends, or every place of it.
+-- Lists of ends: one place or every place, and lists that were lent as slices.
 use Rattle.std.proofs.Common.{◌≡◌, ℕ, zero, suc, ◌-◌, ◌<◌, ◌≤◌, List, [], ◌∷◌, ◌++◌, length, get_or}
 use Rattle.std.proofs.Common.{take, drop, set, refl, sym, ap, ◌∙◌, subst, append-nil, arith}
 use Rattle.std.proofs.lemmas.List.{take_rest, drop_all}
@@ -11,7 +11,7 @@ use Rattle.bsc_carrier.specs.Cable.{ChangesAt}
 use Rattle.bsc_carrier.specs.declared.limits.TheConstants.{MAX_CONNECTIONS}
 
 module _ {S : Type 0} where
-  -- an end that stays as it is
+  -- An end that is unchanged.
   pub stays_at : (P : S → S → Type 0) → ((end : S) → P end end) → (ends : List S) (t : ℕ) → t
       < length ends → ChangesAt t P ends ends
   stays_at P same [] t there = absurd (omega (arith, there))
@@ -20,7 +20,7 @@ module _ {S : Type 0} where
       let (before, after, here, set_is, holds) = stays_at P same ends t (omega (arith, there)) in
       (before, after, here, ap (λ l. end ∷ l) set_is, holds)
 
-  -- what holds at each place holds all along
+  -- What holds at each place holds of the whole list.
   pub AllZip-from_places : (R : S → S → Type 0) (old new : List S) → length new ≡ length old
       → ((i : ℕ) (d : S) → i < length old → R (get_or old i d) (get_or new i d)) → AllZip R old new
   AllZip-from_places R [] [] long each = tt
@@ -32,13 +32,13 @@ module _ {S : Type 0} where
         (λ i d below. each (suc i) d (omega (arith, below))),
   )
 
-  -- the ends after the first, when the first has changed
+  -- The ends after the first do not depend on a change of the first.
   pub ends_after : (ends : List S) (first : S)
       → take (length (set ends 0 first) - 1) (drop 1 (set ends 0 first)) ≡ drop 1 ends
   ends_after [] first = refl
   ends_after (end ∷ ends) first = take_rest (first ∷ ends) 1
 
-  -- what holds of an end after the first holds of one of all
+  -- What holds of an end after the first holds of one of the whole list.
   pub Any-later : (P : S → Type 0) (ends : List S) → Any P (drop 1 ends) → Any P ends
   Any-later P [] any = any
   Any-later P (end ∷ ends) (place, found, below, is, holds) =
@@ -49,7 +49,7 @@ module _ {S : Type 0} where
   Any-first P [] d some holds = absurd (omega (arith, some))
   Any-first P (end ∷ ends) d some holds = (0, end, omega arith, refl, holds)
 
-  -- the first end, and those after it
+  -- What holds of the first end and of those after it holds of the whole list.
   pub AllZip-first_and_later : (R : S → S → Type 0) (old later : List S) (first d : S) → 1
       ≤ length old → R (get_or old 0 d) first → AllZip R (drop 1 old) later
       → AllZip R old (put_mid 1 (length (set old 0 first) - 1) (set old 0 first) later)
@@ -59,7 +59,7 @@ module _ {S : Type 0} where
       drop_all (length (first ∷ old) - 1) old (omega arith) in
       (one, subst (AllZip R old) (sym (append-nil later) ∙ ap (λ l. later ++ l) (sym none)) more)
 
-  -- ends that were all written back are those that were written
+  -- To write back a whole list gives that list.
   pub written_back : (n : ℕ) (new rest : List S) → length new ≡ n → take n (new ++ rest) ≡ new
   written_back n new rest long = ap (λ k. take k (new ++ rest)) (sym long)
       ∙ take-append_seam new rest
@@ -68,7 +68,7 @@ module _ {S : Type 0} where
       → length (take n (new ++ rest)) ≡ n
   written_back_length n new rest long = ap length (written_back n new rest long) ∙ long
 
-  -- both sides of a cable have as many ends as before they were written back
+  -- Both sides of a cable have as many ends after they are written back as before.
   pub counts_written_back : (n m : ℕ) (left right left_new right_new left_rest right_rest : List S)
       → length left ≡ n → length right ≡ m → length left_new ≡ n → length right_new ≡ m
       → (length left ≡ length right) × (1 ≤ length left) × (length left ≤ MAX_CONNECTIONS)
@@ -83,14 +83,14 @@ module _ {S : Type 0} where
         omega (arith, l_back, l, counts.2),
       )
 
-  -- what changed at a place of ends that were lent, and written back
+  -- A change at one place of ends that were lent and written back.
   pub changes_back : (P : S → S → Type 0) (t n : ℕ) (old lent new rest : List S) → lent ≡ old
       → length new ≡ n → ChangesAt t P lent new → ChangesAt t P old (take n (new ++ rest))
   changes_back P t n old lent new rest same long changes =
       subst (ChangesAt t P old) (sym (written_back n new rest long))
       (subst (λ l. ChangesAt t P l new) same changes)
 
-  -- what holds of all ends that were lent, and written back
+  -- What holds of all ends that were lent and written back.
   pub all_written_back : {T E : Type 0} (result : Result T E) (R : S → S → Type 0) (n : ℕ)
       (old lent new rest : List S) → lent ≡ old → length new ≡ n → OnOk result (AllZip R lent new)
       → OnOk result (AllZip R old (take n (new ++ rest)))
@@ -98,7 +98,7 @@ module _ {S : Type 0} where
       subst (λ l. OnOk result (AllZip R old l)) (sym (written_back n new rest long))
       (subst (λ l. OnOk result (AllZip R l new)) same all)
 
-  -- where a call failed, the end stays as it is
+  -- After an error the ends are unchanged.
   pub stays_after_error : {T E : Type 0} (result : Result T E) (P : S → S → Type 0) (ends : List S)
       (t : ℕ) → t < length ends → IsErr result
       → ChangesAt t (λ before after. OnOk result (P before after)) ends ends

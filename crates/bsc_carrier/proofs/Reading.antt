@@ -1,4 +1,4 @@
--- A read into as much room as octets are wanted, of which all that came is fed to the assembler.
+-- Reads that ask for no more octets than are wanted, and feed the assembler all that they get.
 use Rattle.std.proofs.Common.{◌≡◌, ℕ, ◌+◌, ◌-◌, ◌<◌, ◌≤◌, Bool, true, false, List, []}
 use Rattle.std.proofs.Common.{◌∷◌, ◌++◌, length, take, drop, Ok}
 use Rattle.std.proofs.Common.{inl, inr, Option, Some, None, Err, refl, sym, ap, ◌∙◌, subst, take-append-drop}
@@ -20,7 +20,7 @@ use Rattle.bsc_carrier.specs.declared.error.CarrierError.TheVariants.{Unequal}
 use Rattle.bsc_carrier.proofs.Fronts.{not_wrong_and_right, has_wrong_length_append}
 use Rattle.bsc_carrier.proofs.Wanted.{stated_length_append, wanted_after_short, wanted_after_right}
 
--- some octets are wanted until the record is whole
+-- At least one octet is wanted until the record is complete.
 pub wanted_some : (begun : List ℕ) → IsPartial begun → 1 ≤ wanted_after begun
 wanted_some begun partial =
     elim (cases_lt (length begun) 2) [
@@ -30,7 +30,7 @@ wanted_some begun partial =
           omega (arith, wanted_after_right begun two right.0, right.1)
     ]
 
--- less than a record fits where a record fits
+-- Less than a record is shorter than the longest record.
 partial_fits : (begun : List ℕ) → IsPartial begun → length begun < MAX_RECORD_OCTETS
 partial_fits begun partial =
     elim (cases_lt (length begun) 2) [
@@ -38,17 +38,17 @@ partial_fits begun partial =
       | inr two ↦ let right = partial two in omega (arith, right.0.1, right.1)
     ]
 
--- something is begun where the assembler is not between records
+-- If the assembler is not between records, it holds at least one octet.
 pub begun_some : (begun : List ℕ) → (begun ≡ [] → IsTrue false) → 1 ≤ length begun
 begun_some [] none = absurd (false≢true (none refl))
 begun_some (octet ∷ begun) none = omega arith
 
--- a read that gave no octet
+-- A read of no octets.
 pub none_read : (mid b : Option (List ℕ)) (buffer : List ℕ) (count : ℕ) → count ≡ 0
     → Consumes mid b (take count buffer) → Consumes mid b []
 none_read mid b buffer count none read = subst (λ n. Consumes mid b (take n buffer)) none read
 
--- a reader that had given nothing, and ends without giving more, was at its end
+-- A reader that has given nothing, and ends without giving more, was at its end.
 pub ended_at_once : (a mid b : Option (List ℕ)) → Consumes a mid [] → Consumes mid b [] → IsAtEnd b
     → IsAtEnd a × Keeps a b
 ended_at_once None mid b before read end = (tt, tt)
@@ -57,14 +57,14 @@ ended_at_once (Some x) (Some y) None before read end = absurd read
 ended_at_once (Some x) (Some y) (Some z) before read end =
     (before ∙ read ∙ end, sym (before ∙ read))
 
--- the reader gave what is begun, and then a piece of octets that are all wanted
+-- The reader gave what has begun, and then a piece of no more octets than are wanted.
 pub record ReadsWanted (a mid b : Option (List ℕ)) (begun piece : List ℕ) : Type 0 where
   pub partial : IsPartial begun
   pub before : Consumes a mid begun
   pub read : Consumes mid b piece
   pub fits : length piece ≤ wanted_after begun
 
--- the read gave the front of a buffer that is as long as octets are wanted
+-- A read into a buffer that is no longer than what is wanted.
 pub reads_front : (a mid b : Option (List ℕ)) (begun buffer rest : List ℕ) (count : ℕ)
     → IsPartial begun → Consumes a mid begun → Consumes mid b (take count buffer)
     → count ≤ length buffer → length buffer ≤ wanted_after begun
@@ -86,7 +86,7 @@ module _ {a mid b : Option (List ℕ)} {begun piece : List ℕ}
   all_read : (new : List ℕ) → new ≡ begun ++ piece → Consumes a b new
   all_read new is = subst (Consumes a b) (sym is) both
 
-  -- a wrong length comes with the second octet
+  -- A wrong length is complete with the second octet.
   wrong_at_second : HasWrongLength (begun ++ piece) → length (begun ++ piece) ≡ 2
   wrong_at_second wrong =
       elim (cases_lt (length begun) 2) [
@@ -101,7 +101,7 @@ module _ {a mid b : Option (List ℕ)} {begun piece : List ℕ}
             (stated_length_append begun piece two) wrong.1) (reads.partial two).0)
       ]
 
--- a wrong length ends the read, with just that length read
+-- After a wrong length exactly that length was read.
 pub wrong_read : (a mid b : Option (List ℕ)) (old new : AssemblerValue) (piece : List ℕ)
     (e : CarrierError) → ReadsWanted a mid b old.begun piece → Fed old piece (Err e) new
     → ReadsRecord a (Err e) new.complete b
@@ -116,7 +116,7 @@ wrong_read a mid b old new piece Short reads fed = absurd fed
 wrong_read a mid b old new piece Device reads fed = absurd fed
 wrong_read a mid b old new piece Unequal reads fed = absurd fed
 
--- the octets that complete a record are its octets, and just those were read
+-- When a record is complete, exactly its octets were read.
 pub whole_read : (a mid b : Option (List ℕ)) (old new : AssemblerValue) (piece : List ℕ) (taken : ℕ)
     (is_whole : Bool) → ReadsWanted a mid b old.begun piece → is_whole ≡ true
     → Fed old piece (Ok (taken, is_whole)) new → taken ≡ length piece
@@ -128,7 +128,7 @@ whole_read a mid b old new piece taken is_whole reads whole fed all =
       subst (Consumes a b) (ap (λ l. old.begun ++ l) (sym same) ∙ is) (both reads),
     )
 
--- octets that complete no record are all begun
+-- While no record is complete, what was read is what has begun.
 pub more_read : (a mid b : Option (List ℕ)) (old new : AssemblerValue) (piece : List ℕ) (taken : ℕ)
     (is_whole : Bool) → ReadsWanted a mid b old.begun piece → is_whole ≡ false
     → Fed old piece (Ok (taken, is_whole)) new
@@ -137,7 +137,7 @@ more_read a mid b old new piece taken is_whole reads more fed =
     let (all, partial, is, same) = subst (λ w. Fed old piece (Ok (taken, w)) new) more fed in
     (partial, all_read reads new.begun is)
 
--- what is begun grows towards a record
+-- Each read that completes no record brings it closer to the longest record.
 pub less_to_read : (old new : AssemblerValue) (piece : List ℕ) (taken : ℕ) (is_whole : Bool)
     → IsPartial old.begun → 1 ≤ length piece → is_whole ≡ false
     → Fed old piece (Ok (taken, is_whole)) new

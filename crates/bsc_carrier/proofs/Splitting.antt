@@ -11,7 +11,7 @@ use Rattle.bsc_carrier.specs.Front.{BeginsRecord}
 use Rattle.bsc_carrier.specs.Stream.{Splits}
 use Rattle.bsc_carrier.proofs.Fronts.{whole_length, not_whole_and_partial, not_whole_and_wrong}
 
--- the two octets of length are octets
+-- The two octets of the length are below 256.
 octets_of_length : (high low : ℕ) (octets : List ℕ) → BeginsRecord (high ∷ low ∷ octets)
     → (high < 256) × (low < 256)
 octets_of_length high low octets (carried, rest, right, is) =
@@ -35,7 +35,7 @@ begins_here high low octets high_fits low_fits some many there =
           (sym (take-append-drop n octets)),
     )
 
--- a stream begins with a whole record, or it does not
+-- A stream begins with a whole record or does not.
 front_cases : (stream : List ℕ) → BeginsRecord stream ⊎ (BeginsRecord stream → ⊥)
 front_cases [] = inr (λ whole. not_whole_and_partial [] whole (λ two. absurd (omega (arith, two))))
 front_cases (high ∷ []) =

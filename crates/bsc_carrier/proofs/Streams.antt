@@ -1,5 +1,4 @@
--- A stream has one splitting into records, and the assembler finds it in whatever pieces the stream
--- comes.
+-- A stream splits into records in only one way, and the assembler finds it whatever the pieces are.
 use Rattle.std.proofs.Common.{◌≡◌, ℕ, List, [], ◌∷◌, ◌++◌, length, take, drop, Err, refl, sym, ap}
 use Rattle.std.proofs.Common.{ap₂, ◌∙◌, subst, append_assoc, append-nil, take-append-drop}
 use Rattle.std.proofs.Math.Seq.{take-append_seam, drop-append_seam}
@@ -12,7 +11,7 @@ use Rattle.bsc_carrier.specs.declared.error.CarrierError.TheVariants.{Length}
 use Rattle.bsc_carrier.proofs.Fronts.{stated_length_record, not_whole_and_partial}
 use Rattle.bsc_carrier.proofs.Fronts.{not_whole_and_wrong, is_partial_nil, has_wrong_length_append}
 
--- a record at the front of a stream, and what follows it, are determined
+-- The record that a stream begins with, and what follows it, are unique.
 one_record : (a b x y : List ℕ) → IsCarried a → IsCarried b → socket_record a ++ x ≡ socket_record b
     ++ y → (a ≡ b) × (x ≡ y)
 one_record a b x y carried_a carried_b same =
@@ -96,7 +95,7 @@ splits_when_fed {old = old} {new = new} partial
       left,
     )
 
--- where `Length` is answered, the stream has a wrong length after its records
+-- If `feed` returns `Length`, the stream has a wrong length after its records.
 pub splits_when_wrong : (old mid new : AssemblerValue) (pieces records : List (List ℕ))
     (piece : List ℕ) → old.begun ≡ [] → Assembles old pieces records mid
     → Fed mid piece (Err Length) new → Splits (concat pieces ++ piece) records (mid.begun ++ piece)

@@ -1,4 +1,4 @@
--- How many octets are wanted, and what is begun after they were taken.
+-- How many octets are wanted, by what has begun.
 use Rattle.std.proofs.Common.{◌≡◌, ℕ, ◌+◌, ◌-◌, ◌<◌, ◌≤◌, List, ◌++◌, length, ap, arith}
 use Rattle.std.proofs.lemmas.List.{take-append-le}
 use Rattle.std.proofs.lemmas.Grind.{common_steps}
@@ -7,7 +7,7 @@ use Rattle.bsc_carrier.specs.Record.{IsLength}
 use Rattle.bsc_carrier.specs.Front.{stated_length, HasWrongLength}
 use Rattle.bsc_carrier.specs.Assembler.{wanted_after}
 
--- what follows two octets does not change the length that they state
+-- Octets after the first two do not change the length that these state.
 pub stated_length_append : (begun more : List ℕ) → 2 ≤ length begun → stated_length (begun ++ more)
     ≡ stated_length begun
 stated_length_append begun more two = ap (from_be_bytes w16) (take-append-le 2 begun more two)

@@ -1,4 +1,4 @@
--- What an assembler holds, and what one piece of the stream does to it (own).
+-- What an assembler holds, and what one piece of the stream does to it.
 use Rattle.std.specs.Prelude.{◌≡◌, ℕ, ◌+◌, ◌-◌, ◌≤◌, ◌⊎◌, Bool, true, false, ◌&&◌, nat_lt, nat_le}
 use Rattle.std.specs.Prelude.{if◌then◌else◌, List, [], ◌++◌, length, take, drop, Result, Ok, Err}
 use Rattle.bsc_carrier.specs.Record.{IsCarried, socket_record}
@@ -8,17 +8,17 @@ use Rattle.bsc_carrier.specs.declared.error.CarrierError.{CarrierError}
 use Rattle.bsc_carrier.specs.declared.error.CarrierError.TheVariants.{Length, Short, Device}
 use Rattle.bsc_carrier.specs.declared.error.CarrierError.TheVariants.{Unequal}
 
--- the octets that came since the last record was complete, and what that record carried
+-- The octets that have arrived since the last complete record, and those that this record carried.
 pub record AssemblerValue : Type 0 where
   pub begun : List ℕ
   pub complete : List ℕ
 
--- what may have come since the last record was complete: part of a record, or only a wrong length
+-- What may have arrived since the last complete record: part of a record, or only a wrong length.
 abbrev pub IsBegun : List ℕ → Type 0
 IsBegun begun = IsPartial begun ⊎ (HasWrongLength begun × (length begun ≡ 2))
 
--- how many octets may come next that all belong to this record: the rest of its length, and then
--- the rest of its octets
+-- The number of octets missing to the end of the length, or once that is there to the end of the
+-- record; 0 after a wrong length.
 abbrev pub wanted_after : List ℕ → ℕ
 wanted_after begun =
     if nat_lt (length begun) 2 then 2 - length begun
@@ -26,8 +26,8 @@ wanted_after begun =
     then 2 + stated_length begun - length begun
     else 0)
 
--- what came grows by the octets that were taken of the piece: they end the record, or are all of
--- the piece and end nothing, or a wrong length came
+-- What has begun grows by the octets that were taken of the piece. They complete the record, or
+-- they are the whole piece and complete nothing, or there is a wrong length.
 abbrev pub Gathers : List ℕ → List ℕ → Result (ℕ × Bool) CarrierError → List ℕ → Type 0
 Gathers old piece (Ok (taken, true)) new =
     (taken ≤ length piece) × (new ≡ old ++ take taken piece) × IsCarried (drop 2 new)
@@ -39,17 +39,17 @@ Gathers old piece (Err Short) new = ⊥
 Gathers old piece (Err Device) new = ⊥
 Gathers old piece (Err Unequal) new = ⊥
 
--- what a feed of this piece answers, and what the assembler holds after it
+-- What feeding a piece returns, and what the assembler holds after it.
 abbrev pub Fed : AssemblerValue → List ℕ → Result (ℕ × Bool) CarrierError → AssemblerValue → Type 0
--- the octets taken end a record
+-- The octets taken complete a record.
 Fed old piece (Ok (taken, true)) new =
     (taken ≤ length piece) × IsCarried new.complete
     × (old.begun ++ take taken piece ≡ socket_record new.complete) × (new.begun ≡ [])
--- the whole piece is taken, and still no record is whole
+-- The whole piece is taken, and no record is complete.
 Fed old piece (Ok (taken, false)) new =
     (taken ≡ length piece) × IsPartial new.begun × (new.begun ≡ old.begun ++ piece)
     × (new.complete ≡ old.complete)
--- a wrong length came, now or earlier
+-- There is a wrong length, in this piece or before it.
 Fed old piece (Err Length) new =
     HasWrongLength new.begun × (new.begun ≡ take 2 (old.begun ++ piece))
     × (new.complete ≡ old.complete)

@@ -1,4 +1,4 @@
--- What calls do to a reader or a writer that tells its octets (own).
+-- What calls do to a reader or a writer whose octets are known.
 use Rattle.std.specs.Prelude.{◌≡◌, ◌≢◌, ℕ, ◌<◌, ◌↔◌, ⊤, Bool, true, false, List, length, take}
 use Rattle.std.specs.Prelude.{Option, Some, None, Result, Ok, Err}
 use Rattle.std.specs.Io.KnownBytes.{Appends, Consumes, Keeps, IsAtEnd}
@@ -8,32 +8,32 @@ use Rattle.bsc_carrier.specs.declared.error.CarrierError.{CarrierError}
 use Rattle.bsc_carrier.specs.declared.error.CarrierError.TheVariants.{Length, Short, Device}
 use Rattle.bsc_carrier.specs.declared.error.CarrierError.TheVariants.{Unequal}
 
--- the writer holds some octets more: the beginning of these, and not all of them
+-- A front part of these octets was written, but not all of them.
 abbrev pub AppendsPart : Option (List ℕ) → Option (List ℕ) → List ℕ → Type 0
 AppendsPart old new octets = (n : ℕ) × (n < length octets) × Appends old new (take n octets)
 
--- the reader lost octets of this kind
+-- Octets of which P holds were read.
 abbrev pub LosesSome : (List ℕ → Type 0) → Option (List ℕ) → Option (List ℕ) → Type 0
 LosesSome P old new = (front : List ℕ) × P front × Consumes old new front
 
--- what a read of one record answers, and what it takes from the reader
+-- What a read of one record returns, and what it takes from the reader.
 abbrev pub ReadsRecord : Option (List ℕ) → Result Bool CarrierError → List ℕ → Option (List ℕ)
     → Type 0
--- the record of these octets, and just that
+-- It takes exactly the record of these octets.
 ReadsRecord old (Ok true) octets new = IsCarried octets × Consumes old new (socket_record octets)
--- nothing: the input has ended
+-- It takes nothing, because the input has ended.
 ReadsRecord old (Ok false) octets new = IsAtEnd old × Keeps old new
--- a wrong length
+-- It takes a wrong length.
 ReadsRecord old (Err Length) octets new =
     LosesSome (λ front. HasWrongLength front × (length front ≡ 2)) old new
--- all that was left, which is less than a record
+-- It takes all that was left, which is less than a record.
 ReadsRecord old (Err Short) octets new = LosesSome EndsWithin old new × IsAtEnd new
--- less than a record, and then a read failed
+-- It takes less than a record, and then a read failed.
 ReadsRecord old (Err Device) octets new = LosesSome IsPartial old new
 ReadsRecord old (Err Unequal) octets new = ⊥
 
--- unless a read or a write failed, a call gives this answer exactly where P holds of what the
--- reader had left
+-- Unless a read or a write failed, the call returns this result exactly if P holds of what the
+-- reader had left.
 abbrev pub IsExactly : {T : Type 0} → Result T CarrierError → Type 0 → (List ℕ → Type 0)
     → Option (List ℕ) → Type 0
 IsExactly result answer P None = ⊤

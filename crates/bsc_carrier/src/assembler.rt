@@ -1,5 +1,4 @@
-//! Records out of pieces: a stream gives octets in pieces of its own choosing, and whoever reads it
-//! wants records.
+//! Assembles records from the pieces in which a stream gives its octets.
 
 ghost use Rattle.std.specs.Prelude.{◌≡◌, ◌+◌, ◌<◌, ◌≤◌, ◌↔◌, [], ◌++◌, min, length, take, IsTrue};
 ghost use Rattle.std.specs.Prelude.{MatchBool, IfOk, IsErrOf};
@@ -13,13 +12,13 @@ use crate::limits::{MAX_RECORD, MAX_RECORD_OCTETS};
 use arrayvec::ArrayVec;
 use std::marker::Model;
 
-/// The octets of a record, its two octets of length included.
+/// The octets of a record, including the two octets of its length.
 pub(crate) type RecordOctets = ArrayVec<u8, MAX_RECORD_OCTETS>;
 
-/// Puts records together from the pieces of a stream (own).
+/// Assembles records from the pieces of a stream.
 #[derive(Drop)]
 pub struct Assembler {
-    // The octets that came since the last record was complete.
+    // The octets that have arrived since the last complete record.
     begun: RecordOctets,
     // The octets that the last complete record carried.
     complete: Octets,
@@ -37,14 +36,14 @@ impl Model for Assembler {
     ghost invariant = { λ a. IsBegun a.begun.items };
 }
 
-/// Whether a record may have this length.
+/// Returns whether a record may have this length.
 fn is_length(length: usize) -> bool
     ensures { MatchBool result (IsLength length) (IsWrongLength length) }
 {
     1 <= length && length <= MAX_RECORD
 }
 
-/// The length that the first two octets state.
+/// Returns the length that the first two octets state.
 fn length_at_front(begun: &[u8]) -> usize
     requires { 2 ≤ length begun.now }
     ensures value { result ≡ stated_length begun.now }
@@ -55,8 +54,8 @@ fn length_at_front(begun: &[u8]) -> usize
     usize::from(u16::from_be_bytes([high, low]))
 }
 
-/// How many octets are missing, to the end of the length or else of the record. None are after a
-/// wrong length.
+/// Returns the number of octets missing to the end of the length, or once that is there to the end
+/// of the record; 0 after a wrong length.
 fn missing(begun: &[u8]) -> usize
     ensures { result ≡ wanted_after begun.now }
 {
@@ -71,8 +70,8 @@ fn missing(begun: &[u8]) -> usize
     }
 }
 
-/// Moves the octets that are missing from the piece to what is begun, as far as they are there, and
-/// gives their count.
+/// Appends as many octets of the piece as are missing, or all of the piece if it has fewer. Returns
+/// their number.
 fn gather(begun: &mut RecordOctets, piece: &[u8]) -> usize
     ensures count { result ≡ min (wanted_after begun.old.items) (length piece.now) }
     ensures items { begun.new.items ≡ begun.old.items ++ take result piece.now }
@@ -82,8 +81,8 @@ fn gather(begun: &mut RecordOctets, piece: &[u8]) -> usize
     count
 }
 
-/// Takes octets of the piece up to the end of the record that is begun, and says how many and
-/// whether they end it.
+/// Takes octets of the piece up to the end of the record that has begun. Returns their number, and
+/// whether they complete the record.
 fn advance(begun: &mut RecordOctets, piece: &[u8]) -> Result<(usize, bool), CarrierError>
     requires { IsBegun begun.old.items }
     ensures { Gathers begun.old.items piece.now result begun.new.items }
@@ -105,7 +104,7 @@ fn advance(begun: &mut RecordOctets, piece: &[u8]) -> Result<(usize, bool), Carr
 }
 
 impl Assembler {
-    /// An assembler at the beginning of a stream.
+    /// Creates an assembler for the beginning of a stream.
     pub fn new() -> Assembler
         ensures begun { result.begun ≡ [] }
         ensures complete { result.complete ≡ [] }
@@ -116,13 +115,14 @@ impl Assembler {
         }
     }
 
-    /// Takes octets of the piece up to the end of a record, and none of the next record. Gives how
-    /// many it took, and whether the last of them completed a record. `Length` comes at the second
-    /// octet of a wrong length, and is the answer to every later feed.
+    /// Takes octets of the piece up to the end of a record, and none of the next record. Returns
+    /// how many it took, and whether the last of them completed a record. Fails with `Length` at
+    /// the second octet of a wrong length, and at every later call.
     pub fn feed(&mut self, piece: &[u8]) -> Result<(usize, bool), CarrierError>
         ensures fed { Fed self.old piece.now result self.new }
 
-        // Exactly where the stream states a wrong length in a record's place.
+        // `Length` is returned exactly if the stream states a wrong length in the place of a
+        // record.
         ensures wrong { IsErrOf result CarrierError.Length
             ↔ HasWrongLength (self.old.begun ++ piece.now) }
 
@@ -141,22 +141,23 @@ impl Assembler {
         Ok((taken, is_complete))
     }
 
-    /// The octets that the last complete record carried. None at first.
+    /// Returns the octets that the last complete record carried; none at first.
     pub fn octets(&self) -> &[u8]
         ensures { result.now ≡ self.now.complete }
     {
         self.complete.as_slice()
     }
 
-    /// Whether no record is begun, and no wrong length came.
+    /// Returns whether no record has begun; false after a wrong length.
     pub fn between(&self) -> bool
         ensures { IsTrue result ↔ (self.now.begun ≡ []) }
     {
         self.begun.is_empty()
     }
 
-    /// How many octets may be fed that are taken whole: 2 between records, 1 after one octet of
-    /// length, then as many as the record is short of, and 0 after a wrong length.
+    /// Returns the length up to which a piece is taken whole: 2 between records, 1 after the first
+    /// octet of a length, then the number of octets that the record lacks, and 0 after a wrong
+    /// length.
     pub fn wanted(&self) -> usize
         ensures { result ≡ wanted_after self.now.begun }
     {

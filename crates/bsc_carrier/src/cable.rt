@@ -1,4 +1,4 @@
-//! A cable: one process holds both ends of each connection, and carries a transmission down to the
+//! A cable: both ends of each connection in one process, over which transmissions go down to the
 //! terminals or up from one of them.
 
 ghost use Rattle.std.specs.Prelude.{◌≡◌, ◌<◌, ◌≤◌, ℕ, length, None, Some, Err, OnOk, OnErr, IfErr};
@@ -17,13 +17,13 @@ use std::alloc::{Allocator, Global};
 use std::io::{Read, Write};
 use std::marker::Model;
 
-/// The two ends of 1 to 64 connections, one for each terminal (own). After an error every later
-/// call answers that error and touches no stream.
+/// Both ends of 1 to 64 connections, one connection for each terminal. After an error every later
+/// call returns that error and uses no stream.
 #[derive(Drop)]
 pub struct Cable<S, A: Allocator = Global> {
     control_ends: Vec<S, A>,
     terminal_ends: Vec<S, A>,
-    // The error that came first.
+    // The first error.
     fault: Option<CarrierError>,
 }
 
@@ -45,7 +45,7 @@ impl<S, A: Allocator> Model for Cable<S, A> {
         × (1 ≤ length c.control_ends.items) × (length c.control_ends.items ≤ MAX_CONNECTIONS) };
 }
 
-/// Answers the error that came first, where there was one.
+/// Returns the first error, if there was one.
 fn pass_error(fault: Option<CarrierError>) -> Result<(), CarrierError>
     ensures { result_err result ≡ fault }
 {
@@ -55,7 +55,7 @@ fn pass_error(fault: Option<CarrierError>) -> Result<(), CarrierError>
     }
 }
 
-/// Reads a record where one has to come: an input that ends before it is `Short`.
+/// Reads one record. Fails with `Short` also if the input ends before the record begins.
 fn expect_record<S: Read>(end: &mut S, octets: &mut Octets) -> Result<(), CarrierError>
     ensures read { OnOk result (Gives S.remaining octets.new.items end.old end.new) }
     ensures carried { OnOk result (IsCarried octets.new.items) }
@@ -69,7 +69,7 @@ fn expect_record<S: Read>(end: &mut S, octets: &mut Octets) -> Result<(), Carrie
     }
 }
 
-/// The near end at this place writes the record, and the far end there reads it.
+/// Writes a record at the near end at this place, and reads one at the far end there.
 fn carry_at<S: Read + Write>(
     near: &mut [S],
     far: &mut [S],
@@ -93,7 +93,7 @@ fn carry_at<S: Read + Write>(
     expect_record(&mut far[place], heard)
 }
 
-/// Writes the record at every end.
+/// Writes a record at every end.
 fn write_each<S: Write>(ends: &mut [S], octets: &[u8]) -> Result<(), CarrierError>
     requires { IsCarried octets.now }
     ensures wrote { OnOk result (AllZip (Takes S.contents octets.now) ends.old ends.new) }
@@ -105,7 +105,7 @@ fn write_each<S: Write>(ends: &mut [S], octets: &[u8]) -> Result<(), CarrierErro
     Ok(())
 }
 
-/// Reads a record at every end. Each has to be the record of these octets.
+/// Reads a record at every end. Fails with `Unequal` unless each carries these octets.
 fn expect_same<S: Read>(ends: &mut [S], octets: &[u8]) -> Result<(), CarrierError>
     ensures read { OnOk result (AllZip (Gives S.remaining octets.now) ends.old ends.new) }
     ensures wrong { IsErrOf result CarrierError.Length
@@ -125,7 +125,7 @@ fn expect_same<S: Read>(ends: &mut [S], octets: &[u8]) -> Result<(), CarrierErro
     Ok(())
 }
 
-/// Reads a record at every end. All have to be the same.
+/// Reads a record at every end. Fails with `Unequal` unless all carry the same octets.
 fn read_same<S: Read>(ends: &mut [S], heard: &mut Octets) -> Result<(), CarrierError>
     requires { 1 ≤ length ends.old }
     ensures read { OnOk result (AllZip (Gives S.remaining heard.new.items) ends.old ends.new) }
@@ -140,7 +140,7 @@ fn read_same<S: Read>(ends: &mut [S], heard: &mut Octets) -> Result<(), CarrierE
     Ok(())
 }
 
-/// Every near end writes the record, and every far end reads it.
+/// Writes a record at every near end, and reads one at every far end.
 fn carry_down<S: Read + Write>(
     near: &mut [S],
     far: &mut [S],
@@ -160,8 +160,8 @@ fn carry_down<S: Read + Write>(
 }
 
 impl<S: Read + Write + Drop, A: Allocator> Cable<S, A> {
-    /// The two ends of each connection, in the order of the terminals. There are as many of one
-    /// side as of the other, 1 to 64.
+    /// Creates a cable from the two ends of each connection, in the order of the terminals. Both
+    /// lists must have the same length, 1 to 64.
     pub fn new(control_ends: Vec<S, A>, terminal_ends: Vec<S, A>) -> Cable<S, A>
         requires paired { length control_ends.items ≡ length terminal_ends.items }
         requires least { 1 ≤ length control_ends.items }
@@ -177,18 +177,18 @@ impl<S: Read + Write + Drop, A: Allocator> Cable<S, A> {
         }
     }
 
-    /// How many terminals have a connection: 1 to 64.
+    /// Returns the number of terminals that have a connection, 1 to 64.
     pub fn terminals(&self) -> usize
         ensures { result ≡ length self.now.terminal_ends }
     {
         self.terminal_ends.len()
     }
 
-    /// This terminal's end writes the record, and the control station's end of its connection reads
-    /// it. The other ends are not used. `Device` comes where a read or a write failed, `Length`
-    /// and `Short` as at `read_record`, and `Short` also where the input ended before the record.
-    /// `heard` has the octets that came, and after an error it is as before. Condition: there is
-    /// such a terminal, and there are 1 to 2,048 octets. (Own.)
+    /// Writes a record of 1 to 2,048 octets at the end of this terminal, and reads one at the
+    /// control station's end of the same connection; no other end is used. There must be such a
+    /// terminal. On success `heard` has the octets that arrived; after an error it is unchanged.
+    /// Fails with `Device` if a read or a write fails, with `Length` at a wrong length, and with
+    /// `Short` if the input ends before the record does.
     pub fn up(
         &mut self,
         terminal: usize,
@@ -207,7 +207,8 @@ impl<S: Read + Write + Drop, A: Allocator> Cable<S, A> {
         ensures kept { OnErr result (heard.new.items ≡ heard.old.items) }
         ensures count { length self.new.terminal_ends ≡ length self.old.terminal_ends }
 
-        // Each answer comes where it is due, and after an error that error comes.
+        // Without an earlier error each result is returned exactly when it is due; after an error
+        // that error is returned.
         ensures exact { (end : S) → slice_get self.old.control_ends terminal ≡ Some end
             → self.old.fault ≡ None → AnswersFor result (S.remaining end) }
         ensures first_error { (e : CarrierError) → self.old.fault ≡ Some e
@@ -222,8 +223,8 @@ impl<S: Read + Write + Drop, A: Allocator> Cable<S, A> {
         result
     }
 
-    /// The control station's end of this terminal's connection writes the record, and the
-    /// terminal's end reads it. Answers, errors and conditions are those of `up`. (Own.)
+    /// Writes a record at the control station's end of this terminal's connection, and reads one at
+    /// the terminal's end. The conditions and errors are those of `up`.
     pub fn down_to(
         &mut self,
         terminal: usize,
@@ -242,7 +243,8 @@ impl<S: Read + Write + Drop, A: Allocator> Cable<S, A> {
         ensures kept { OnErr result (heard.new.items ≡ heard.old.items) }
         ensures count { length self.new.terminal_ends ≡ length self.old.terminal_ends }
 
-        // Each answer comes where it is due, and after an error that error comes.
+        // Without an earlier error each result is returned exactly when it is due; after an error
+        // that error is returned.
         ensures exact { (end : S) → slice_get self.old.terminal_ends terminal ≡ Some end
             → self.old.fault ≡ None → AnswersFor result (S.remaining end) }
         ensures first_error { (e : CarrierError) → self.old.fault ≡ Some e
@@ -257,10 +259,10 @@ impl<S: Read + Write + Drop, A: Allocator> Cable<S, A> {
         result
     }
 
-    /// The control station writes the record to every connection, and every terminal's end reads
-    /// it. `heard` has the octets that came, and after an error it is as before. `Device`, `Length`
-    /// and `Short` are those of `up` at one of the ends, and `Unequal` comes where two ends gave
-    /// different octets. Condition: there are 1 to 2,048 octets. (Own.)
+    /// Writes a record of 1 to 2,048 octets at the control station's end of every connection, and
+    /// reads one at the end of every terminal. On success `heard` has the octets that arrived;
+    /// after an error it is unchanged. Fails with `Device`, `Length` and `Short` as `up` does, and
+    /// with `Unequal` if two ends give different octets.
     pub fn down(&mut self, octets: &[u8], heard: &mut Octets) -> Result<(), CarrierError>
         requires { IsCarried octets.now }
         ensures wrote { OnOk result (AllZip (Takes S.contents octets.now)
@@ -272,7 +274,7 @@ impl<S: Read + Write + Drop, A: Allocator> Cable<S, A> {
         ensures control_count { length self.new.control_ends ≡ length self.old.control_ends }
         ensures terminal_count { length self.new.terminal_ends ≡ length self.old.terminal_ends }
 
-        // Each error has its cause, and after an error that error comes.
+        // Without an earlier error each error has its cause; after an error that error is returned.
         ensures why { self.old.fault ≡ None
             → IfErr result (λ e. Explains S.remaining e self.old.terminal_ends) }
         ensures first_error { (e : CarrierError) → self.old.fault ≡ Some e

@@ -1,5 +1,4 @@
-//! One record at a time over a reader or a writer: each end of a connection writes records and
-//! reads them.
+//! Writes and reads single records, at one end of a connection.
 
 ghost use Rattle.std.specs.Prelude.{◌≡◌, ◌≢◌, [], Ok, Err, true, false, OnOk, IfErr, OnErr};
 ghost use Rattle.std.specs.Io.KnownBytes.{Appends};
@@ -12,7 +11,7 @@ use crate::error::{CarrierError, Octets};
 use crate::limits::MAX_RECORD;
 use std::io::{Read, Write};
 
-/// Writes all of the octets. A write that fails, or takes nothing, ends it.
+/// Writes all of the octets. Fails with `Device` at the first write that fails or takes no octets.
 fn write_whole<W: Write>(writer: &mut W, octets: &[u8]) -> Result<(), CarrierError>
     ensures ok { OnOk result (Appends (W.contents writer.old) (W.contents writer.new) octets.now) }
     ensures part { OnErr result
@@ -29,9 +28,9 @@ fn write_whole<W: Write>(writer: &mut W, octets: &[u8]) -> Result<(), CarrierErr
     Ok(())
 }
 
-/// Writes the record of 1 to 2,048 octets, in at most 2,050 writes. `Device` comes where a write
-/// failed or took nothing, an interrupted one included; then a part of the record was written, from
-/// its beginning on. (Own.)
+/// Writes a record of 1 to 2,048 octets, in at most 2,050 writes. Fails with `Device` if a write
+/// fails, is interrupted, or takes no octets; only a front part of the record has then been
+/// written.
 pub fn write_record<W: Write>(writer: &mut W, octets: &[u8]) -> Result<(), CarrierError>
     requires { IsCarried octets.now }
     ensures ok { OnOk result
@@ -48,7 +47,8 @@ pub fn write_record<W: Write>(writer: &mut W, octets: &[u8]) -> Result<(), Carri
     write_whole(writer, &record)
 }
 
-/// Reads into the assembler until a record is whole, at most as many octets a read as are wanted.
+/// Reads into the assembler until a record is complete. A read asks for at most as many octets as
+/// the assembler wants.
 fn assemble<R: Read>(reader: &mut R, assembler: &mut Assembler) -> Result<bool, CarrierError>
     requires { assembler.old.begun ≡ [] }
     ensures { ReadsRecord (R.remaining reader.old) result assembler.new.complete
@@ -74,16 +74,17 @@ fn assemble<R: Read>(reader: &mut R, assembler: &mut Assembler) -> Result<bool, 
     }
 }
 
-/// Reads one record in at most 2,050 reads, and puts its octets in place of what was there. False
-/// where the input ended before the record's first octet; `Short` where it ended later; `Length` at
-/// a wrong length; `Device` where a read failed, an interrupted one included. Unless it answers
-/// true, `octets` is as before, and what was read is gone. (Own.)
+/// Reads one record, in at most 2,050 reads. Returns true and puts the octets of the record in
+/// `octets`, or returns false if the input ends before the first octet of the record. Fails with
+/// `Short` if the input ends within the record, with `Length` at a wrong length, and with `Device`
+/// if a read fails or is interrupted. Unless it returns true `octets` is unchanged, and what was
+/// read is lost.
 pub fn read_record<R: Read>(reader: &mut R, octets: &mut Octets) -> Result<bool, CarrierError>
     ensures read { ReadsRecord (R.remaining reader.old) result octets.new.items
         (R.remaining reader.new) }
     ensures kept { result ≢ Ok true → octets.new.items ≡ octets.old.items }
 
-    // Unless a read failed, each answer comes exactly where it is due.
+    // Unless a read failed, each result is returned exactly when it is due.
     ensures whole { IsExactly result (result ≡ Ok true) BeginsRecord
         (R.remaining reader.old) }
     ensures ended { IsExactly result (result ≡ Ok false) (λ stream. stream ≡ [])

@@ -1,4 +1,4 @@
--- One step after another.
+-- Sequences of steps: one step as a sequence, and a step in front of a sequence.
 use Rattle.std.proofs.Common.{◌≡◌, ℕ, Bool, List, [], ◌++◌, Option, Result, Ok, Err, inl, inr, refl}
 use Rattle.bsc_frame.specs.declared.message.Message.{Message}
 use Rattle.bsc_frame.specs.declared.message.Heard.{Heard}
@@ -17,7 +17,7 @@ module _ {S R W F T : Type 0}
     (starts : F → Type 0) (feeds : F → List ℕ → Result (ℕ × Bool) CarrierError → F → Type 0)
     (ends : F → Bool → F → Type 0) (awaits : F → Bool) (last : F → List ℕ)
     (framed : List ℕ → List ℕ) (waits : T → Wait → Result Awaited LiveError → T → Type 0) where
-  -- a step that was done, whatever is answered
+  -- The sequence of one step, whatever it returned.
   pub one_step : (old : Attended S (ConnectionValue R W F) T) (r : Result Bool LiveError)
       (new : Attended S (ConnectionValue R W F) T)
       → StepsOrFails hears acts remaining contents starts feeds ends awaits last framed waits old r
@@ -28,7 +28,7 @@ module _ {S R W F T : Type 0}
   one_step old (Err e) new (inl (happened, step)) = (happened ++ [], goes_on step (ended refl refl))
   one_step old (Err e) new (inr (station, connections)) = ([], ended station connections)
 
-  -- a step that was done, and what goes on after it
+  -- A step that succeeded, followed by a sequence of steps.
   pub step_first : (old : Attended S (ConnectionValue R W F) T) (r : Result Bool LiveError)
       (b : Bool) (new last_one : Attended S (ConnectionValue R W F) T)
       (history : List Happening) → r ≡ Ok b

@@ -1,4 +1,4 @@
--- What is gathered of the pieces that arrive without a gap.
+-- What is kept of pieces that arrive without a gap, and how they are counted.
 use Rattle.std.proofs.Common.{◌≡◌, ℕ, ◌+◌, ◌<◌, ◌≤◌, Bool, true, false, List, [], ◌∷◌, ◌++◌, length}
 use Rattle.std.proofs.Common.{take, inl, inr, refl, sym, ◌∙◌, ap, append_assoc, append-nil}
 use Rattle.std.proofs.Common.{length-append, arith}
@@ -10,7 +10,8 @@ use Rattle.bsc_frame.specs.Spells.{IsNoise}
 use Rattle.bsc_connections.specs.declared.limits.TheConstants.{KEPT, MOST_WITHOUT_GAP}
 use Rattle.bsc_connections.specs.Framings.{GapsValue, GathersAll, ArriveBetweenGaps, IsHeardOf, EndsAll}
 
--- the first octets of a front and more are those of its own first octets and more
+-- To take the first n elements of a list before appending to it does not change the first n
+-- elements of the whole.
 pub take_of_front : (n : ℕ) (xs ys : List ℕ) → take n (take n xs ++ ys) ≡ take n (xs ++ ys)
 take_of_front n xs ys =
     elim (cases_lt n (length xs)) [

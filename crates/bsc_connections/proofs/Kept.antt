@@ -1,4 +1,4 @@
--- The octets that are kept of a transmission, as a piece is added.
+-- The octets that are kept of a transmission when a piece is added.
 use Rattle.std.proofs.Common.{◌≡◌, ℕ, ◌+◌, ◌-◌, ◌≤◌, min, List, ◌++◌, length, take, sym, ◌∙◌, ap}
 use Rattle.std.proofs.Common.{arith}
 use Rattle.std.proofs.lemmas.List.{take_min}

@@ -13,7 +13,7 @@ use Rattle.bsc_connections.specs.Histories.{WasHeard, heard_in}
 
 -- ---- places of a list
 
--- what is at a place after a change at another place was there before
+-- A change at another place leaves this place as it was.
 pub kept_at : {C : Type 0} (xs : List C) (at place : ℕ) (y c : C) → (at ≢ place)
     → slice_get (slice_set xs at y) place ≡ Some c → slice_get xs place ≡ Some c
 kept_at xs at place y c other is =
@@ -25,7 +25,7 @@ kept_at xs at place y c other is =
     ∙ ap Some (sym (get_or-set_other xs at place y c apart)
     ∙ get_or_from_slice_get (slice_set xs at y) place c c is)
 
--- what is at the place of a change is what was put there
+-- The place of a change has what was put there.
 pub put_at : {C : Type 0} (xs : List C) (at place : ℕ) (y c : C) → at ≡ place
     → slice_get (slice_set xs at y) place ≡ Some c → y ≡ c
 put_at xs at place y c same is =

@@ -1,10 +1,10 @@
--- A walk over a list: what holds of the places that it has passed, and of all once it has ended.
+-- A loop over a list: what holds of the places that it has passed, and of all places at its end.
 use Rattle.std.proofs.Common.{◌≡◌, ◌≢◌, ℕ, ◌+◌, ◌<◌, ◌≤◌, List, length, get_or}
 use Rattle.std.proofs.Common.{slice_set, refl, sym, ◌∙◌, subst, arith, get_or-set_other}
 use Rattle.std.proofs.Common.{get_or-set_same, below_more}
 use Rattle.std.proofs.lemmas.List.{get_or_default}
 
--- below this place each element went from one state to another so, and the others are as they were
+-- Below place k each element is related to what it was, and the others are unchanged.
 abbrev pub IsPassed : {S : Type 0} → (S → S → Type 0) → List S → List S → ℕ → Type 0
 IsPassed {S} R old new k =
     ((i : ℕ) (d : S) → i < k → R (get_or old i d) (get_or new i d))
@@ -14,7 +14,7 @@ module _ {S : Type 0} (R : S → S → Type 0) where
   pub none_passed : (old : List S) → IsPassed R old old 0
   none_passed old = (λ i d below. absurd (omega (arith, below)), λ i d beyond. refl)
 
-  -- the element at the next place goes on so
+  -- The relation extends by the element at place k.
   pub one_passed : (old new : List S) (k : ℕ) (e y : S) → length new ≡ length old → k < length old
       → R (get_or new k e) y → IsPassed R old new k → IsPassed R old (slice_set new k y) (k + 1)
   one_passed old new k e y long there step (passed, rest) =

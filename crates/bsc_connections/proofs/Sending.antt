@@ -1,4 +1,4 @@
--- What a station sends goes out, or nothing does.
+-- An answer of the station is sent on all connections, and without an answer they do not change.
 use Rattle.std.proofs.Common.{◌≡◌, ℕ, Bool, true, false, List, Option, None, Some, refl, sym, ◌∙◌}
 use Rattle.std.proofs.Common.{subst}
 use Rattle.std.specs.List.{AllZip}

@@ -1,4 +1,4 @@
--- What the streams of a connection carry, step after step.
+-- What the streams of a connection carry, step by step.
 use Rattle.std.proofs.Common.{◌≡◌, ◌≢◌, ℕ, Bool, true, false, List, [], ◌∷◌, ◌++◌, length}
 use Rattle.std.proofs.Common.{slice_get, slice_set, Option, None, Some, Result, Ok, ◌⊎◌, inl, inr}
 use Rattle.std.proofs.Common.{refl, sym, ◌∙◌, ap, subst, append_assoc, append-nil, nat_eq}
@@ -118,7 +118,7 @@ module _ {R W F : Type 0} (remaining : R → Option (List ℕ)) (contents : W �
   gives_same : (a b : F) → b ≡ a → gives a [] [] b
   gives_same a b same = subst (λ (f : F). gives a [] [] f) (sym same) (gives_nothing a)
 
-  -- a transmission that is sent
+  -- A transmission that is sent.
   carries_sent : (octets : List ℕ) (a b : C) → b.ends ≢ None → Sends contents framed octets a b
       → Conveys [] (octets ∷ []) a b
   carries_sent octets a b is_up (inl (closed, same)) =
@@ -140,7 +140,7 @@ module _ {R W F : Type 0} (remaining : R → Option (List ℕ)) (contents : W �
             (sym (append-nil (framed octets))) w.written;
       }
 
-  -- a transmission that a gap ends
+  -- A transmission that a gap ends.
   carries_gap : (a b : C) → b.ends ≢ None → b.ends ≡ a.ends → ends a.framing true b.framing
       → Conveys (last b.framing ∷ []) [] a b
   carries_gap a b is_up same ends_it =
@@ -183,7 +183,7 @@ module _ {R W F : Type 0} (remaining : R → Option (List ℕ)) (contents : W �
         written = Appends-nil (contents t.writer);
       }
 
-  -- what a read of this kind adds to what was heard
+  -- What a read with this result adds to what was heard.
   abbrev heard_by : Taken → C → List (List ℕ)
   heard_by Whole c = last c.framing ∷ []
   heard_by _ c = []
@@ -258,7 +258,7 @@ module _ {R W F : Type 0} (remaining : R → Option (List ℕ)) (contents : W �
       zipped_at (Sends contents framed (wire m)) before after place b all is in
       (a, was, carries_sent (wire m) a b is_up sends)
 
-  -- a read that ends no transmission
+  -- A read that ends no transmission.
   came_part : (taken : Taken) → ((c : C) → heard_by taken c ≡ [])
       → (at place : ℕ) (before after : List C) (b : C)
       → IsTakenAt remaining feeds at before taken after
@@ -277,7 +277,7 @@ module _ {R W F : Type 0} (remaining : R → Option (List ℕ)) (contents : W �
         | inr (other, was) ↦ (b, was, carries_nothing b is_up)
       ]
 
-  -- what ends a transmission
+  -- A change at one place that ends a transmission.
   came_heard : (at place : ℕ) (P : C → C → Type 0)
       → ((x y : C) → y.ends ≢ None → P x y → Conveys (last y.framing ∷ []) [] x y)
       → (before after : List C) (heard b : C)
@@ -307,7 +307,7 @@ module _ {R W F : Type 0} (remaining : R → Option (List ℕ)) (contents : W �
         )
       ]
 
-  -- a read that ends one
+  -- A read that ends a transmission.
   came_whole : (at place : ℕ) (before after : List C) (heard b : C)
       → IsTakenAt remaining feeds at before Whole after
       → slice_get after at ≡ Some heard → slice_get after place ≡ Some b → b.ends ≢ None
@@ -319,7 +319,7 @@ module _ {R W F : Type 0} (remaining : R → Option (List ℕ)) (contents : W �
       (λ x y y_up takes. carries_read Whole x y y_up takes) before after heard b changes there
       is is_up
 
-  -- what happened is known
+  -- What was carried for a history was carried for an equal one.
   came_so : (place : ℕ) (before : List C) (b : C) (happened told : List Happening) → happened ≡ told
       → Came place (heard_at place told) (all_sent told) before b
       → Came place (heard_at place happened) (all_sent happened) before b
@@ -332,7 +332,8 @@ module _ {R W F : Type 0} (remaining : R → Option (List ℕ)) (contents : W �
       (acts : S → S → Option Message → Type 0)
       (starts : F → Type 0) (awaits : F → Bool)
       (waits : T → Wait → Result Awaited LiveError → T → Type 0) where
-    -- what a step did at this place: nobody joined there, or one who did has the connection
+    -- What a step did at this place: nobody joined there, or the peer that joined has the
+    -- connection.
     abbrev Went : ℕ → List C → List Happening → C → Type 0
     Went place before happened b =
         (NobodyJoins place happened × Came place (heard_at place happened) (all_sent happened)
@@ -439,7 +440,7 @@ module _ {R W F : Type 0} (remaining : R → Option (List ℕ)) (contents : W �
         went_times (first_awaiting awaits before) place old new before after happened b times is
         is_up
 
-    -- a step, and what was carried after it
+    -- A step, followed by what was carried after it.
     went_first : (place : ℕ) (before between : List C) (happened history : List Happening) (now : C)
         → ((m : C) → slice_get between place ≡ Some m → m.ends ≢ None
         → Went place before happened m)

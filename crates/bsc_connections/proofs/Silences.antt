@@ -1,4 +1,4 @@
--- Each silence is told in the step that it is due in.
+-- Every step has as many silences as are due.
 use Rattle.std.proofs.Common.{◌≡◌, ℕ, ◌+◌, Bool, List, Option, None, Some, Result, inl, inr, refl}
 use Rattle.std.proofs.Common.{◌∙◌, ap}
 use Rattle.bsc_frame.specs.declared.message.Message.{Message}

@@ -1,4 +1,4 @@
--- What is heard of the octets that a connection gives, with either framing.
+-- What is heard from the octets that a connection gives, under either framing.
 use Rattle.std.proofs.Common.{◌≡◌, ◌≢◌, ℕ, Bool, true, false, List, [], ◌∷◌, ◌++◌, length, take}
 use Rattle.std.proofs.Common.{Result, Ok, refl, sym, ◌∙◌, ap, ap₂, subst, append_assoc, append-nil}
 use Rattle.std.proofs.Common.{arith}
@@ -18,7 +18,7 @@ use Rattle.bsc_connections.specs.Streams.{begun_of, GivesRecords, GivesByGaps}
 use Rattle.bsc_connections.proofs.Gathered.{take_of_front}
 use Rattle.bsc_octet.proofs.Elements.{all_append}
 
--- what a feed of socket records answers, and what else a station over them does
+-- The framing of socket records: what a feed does, what a gap does, and the last transmission.
 abbrev pub record_feeds : SocketRecords → List ℕ → Result (ℕ × Bool) CarrierError → SocketRecords
     → Type 0
 record_feeds old piece result new = Fed old.assembler piece result new.assembler

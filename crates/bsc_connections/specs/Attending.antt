@@ -1,4 +1,4 @@
--- What a station that is attended does: what happens on its connections, step by step (own).
+-- What a station that is attended does, step by step.
 use Rattle.std.specs.Prelude.{◌≡◌, ◌≢◌, ◌⊎◌, ℕ, Bool, true, List, [], ◌∷◌, ◌++◌, position, Option}
 use Rattle.std.specs.Prelude.{None, Some, is_none, Result, Ok, Err, slice_get}
 use Rattle.std.specs.List.{AllZip}
@@ -18,33 +18,33 @@ use Rattle.bsc_connections.specs.Connections.{ConnectionValue, Takes, Sends}
 use Rattle.bsc_connections.specs.Histories.{Happening, WasHeard, WasSilent, HasJoined, sent_where_some}
 use Rattle.bsc_carrier.specs.Cable.{ChangesAt}
 
--- a station, its connections, and who waits for what happens on them
+-- A station, its connections, and the waiter.
 pub record Attended (S C T : Type 0) : Type 0 where
   pub station : S
   pub connections : List C
   pub waiter : T
 
--- the place of the first connection that is closed
+-- The place of the first connection that is closed.
 abbrev pub first_closed : {R W F : Type 0} → List (ConnectionValue R W F) → Option ℕ
 first_closed connections = position (λ c. is_none c.ends) connections
 
--- the place of the first connection on which a transmission is begun that a gap would end
+-- The place of the first connection on which a transmission has begun that a gap would end.
 abbrev pub first_awaiting : {R W F : Type 0} → (F → Bool) → List (ConnectionValue R W F) → Option ℕ
 first_awaiting awaits connections = position (λ c. awaits c.framing) connections
 
--- for how long is waited: for a gap where one would end a transmission
+-- How long to wait: for a gap if a gap would end a transmission, else for a time-out.
 abbrev pub wait_for : Option ℕ → Wait
 wait_for (Some place) = wait.Gap
 wait_for None = wait.TimeOut
 
 module _ {R W F : Type 0} (contents : W → Option (List ℕ)) (framed : List ℕ → List ℕ) where
-  -- what is sent goes out on each connection that is open
+  -- What is sent is written to every open connection.
   abbrev pub SendsAll : Option Message → List (ConnectionValue R W F) → List (ConnectionValue R W F)
       → Type 0
   SendsAll None old new = new ≡ old
   SendsAll (Some m) old new = AllZip (Sends contents framed (wire m)) old new
 
-  -- a station is told of a silence, and what it sends goes out
+  -- The station is told of a silence, and its answer is sent.
   pub record IsSilent {S : Type 0} (acts : S → S → Option Message → Type 0) (old new : S)
       (before after : List (ConnectionValue R W F)) (happened : List Happening) : Type 0 where
     pub sent : Option Message
@@ -52,8 +52,8 @@ module _ {R W F : Type 0} (contents : W → Option (List ℕ)) (framed : List �
     pub sends : SendsAll sent before after
     pub happens : happened ≡ WasSilent ∷ sent_where_some sent
 
-  -- a station hears the last transmission of the connection at this place, and what it sends goes
-  -- out
+  -- The station hears the last transmission of the connection at this place, and its answer is
+  -- sent.
   pub record HearsLast {S : Type 0} (hears : S → Heard → S → Option Message → Type 0)
       (last : F → List ℕ) (place : ℕ) (old new : S) (before after : List (ConnectionValue R W F))
       (happened : List Happening) : Type 0 where
@@ -66,7 +66,7 @@ module _ {R W F : Type 0} (contents : W → Option (List ℕ)) (framed : List �
     pub sends : SendsAll sent before after
     pub happens : happened ≡ WasHeard place (last connection.framing) ∷ sent_where_some sent
 
--- what came of a read at this place; nothing where there is no such connection
+-- The result of a read at this place; `Nothing` if there is no such connection.
 abbrev pub IsTakenAt : {R W F : Type 0} → (R → Option (List ℕ))
     → (F → List ℕ → Result (ℕ × Bool) CarrierError → F → Type 0)
     → ℕ → List (ConnectionValue R W F) → Taken → List (ConnectionValue R W F) → Type 0
@@ -74,7 +74,7 @@ IsTakenAt remaining feeds place before taken after =
     ChangesAt place (λ b a. Takes remaining feeds b taken a) before after
     ⊎ ((slice_get before place ≡ None) × (taken ≡ Nothing) × (after ≡ before))
 
--- what a station does, what streams have left and hold, and how they are framed
+-- What a station does, what streams have left and hold, and how transmissions are framed.
 module _ {S R W F : Type 0}
     (hears : S → Heard → S → Option Message → Type 0)
     (acts : S → S → Option Message → Type 0)
@@ -82,8 +82,8 @@ module _ {S R W F : Type 0}
     (starts : F → Type 0) (feeds : F → List ℕ → Result (ℕ × Bool) CarrierError → F → Type 0)
     (ends : F → Bool → F → Type 0) (awaits : F → Bool) (last : F → List ℕ)
     (framed : List ℕ → List ℕ) where
-  -- a read at this place ends a transmission, and the station hears it; or it ends none, and the
-  -- station hears nothing
+  -- A read at this place completes a transmission and the station hears it, or completes none and
+  -- the station hears nothing.
   abbrev pub ReadsAt : ℕ → Taken → S → S → List (ConnectionValue R W F)
       → List (ConnectionValue R W F) → List Happening → Type 0
   ReadsAt place Whole old new before after happened =
@@ -93,7 +93,7 @@ module _ {S R W F : Type 0}
   ReadsAt place taken old new before after happened =
       IsTakenAt remaining feeds place before taken after × (new ≡ old) × (happened ≡ [])
 
-  -- a gap ends the transmission that is begun at this place, and the station hears it
+  -- A gap ends the transmission that has begun at this place, and the station hears it.
   pub record HearsAtGap (place : ℕ) (old new : S) (before after : List (ConnectionValue R W F))
       (happened : List Happening) : Type 0 where
     pub between : List (ConnectionValue R W F)
@@ -101,8 +101,8 @@ module _ {S R W F : Type 0}
         (λ b a. (a.ends ≡ b.ends) × ends b.framing true a.framing) before between
     pub heard : HearsLast contents framed hears last place old new between after happened
 
-  -- the time passed: that ends a transmission that is begun, where there is one, and is a silence
-  -- where there is none
+  -- The time passed. That ends the transmission that awaits a gap, if there is one, else it is a
+  -- silence.
   abbrev pub TimesOut : Option ℕ → S → S → List (ConnectionValue R W F)
       → List (ConnectionValue R W F) → List Happening → Type 0
   TimesOut (Some place) old new before after happened =
@@ -110,8 +110,9 @@ module _ {S R W F : Type 0}
   TimesOut None old new before after happened =
       IsSilent contents framed acts old new before after happened
 
-  -- a peer that has connected is put at the first place that is free, and nothing has arrived from
-  -- it; or it is gone
+  -- A peer that has connected gets the first place whose connection is closed, as an open
+  -- connection on which nothing has arrived; or nothing changes, because the peer has gone or no
+  -- place is free.
   abbrev pub Joins : Option ℕ → List (ConnectionValue R W F) → List (ConnectionValue R W F)
       → List Happening → Type 0
   Joins (Some place) before after happened =
@@ -120,7 +121,7 @@ module _ {S R W F : Type 0}
       × (happened ≡ HasJoined place ∷ []))
   Joins None before after happened = (after ≡ before) × (happened ≡ [])
 
-  -- what is done where this is what happened first, and what there is to tell of it
+  -- What is done for the event of a wait, and what happens in the course of it.
   abbrev pub Does : Awaited → S → S → List (ConnectionValue R W F)
       → List (ConnectionValue R W F) → List Happening → Type 0
   Does (Octets place) old new before after happened =
@@ -130,9 +131,9 @@ module _ {S R W F : Type 0}
   Does TimeOut old new before after happened =
       TimesOut (first_awaiting awaits before) old new before after happened
 
-  -- what waits answer
+  -- What a wait may return.
   module _ {T : Type 0} (waits : T → Wait → Result Awaited LiveError → T → Type 0) where
-    -- one step: something happened first, and what is due for it was done
+    -- One step: a wait returned an event, and it was handled.
     pub record Steps (old : Attended S (ConnectionValue R W F) T) (happened : List Happening)
         (new : Attended S (ConnectionValue R W F) T) : Type 0 where
       pub awaited : Awaited
@@ -141,7 +142,7 @@ module _ {S R W F : Type 0}
           (Ok awaited) waiter
       pub does : Does awaited old.station new.station old.connections new.connections happened
 
-    -- one step; or nothing was done, since the waiter failed
+    -- One step; or an error, after a step or after nothing was done.
     abbrev pub StepsOrFails : Attended S (ConnectionValue R W F) T → Result Bool LiveError
         → Attended S (ConnectionValue R W F) T → Type 0
     StepsOrFails old (Ok goes_on) new = (happened : List Happening) × Steps old happened new
@@ -149,8 +150,8 @@ module _ {S R W F : Type 0}
         ((happened : List Happening) × Steps old happened new)
         ⊎ ((new.station ≡ old.station) × (new.connections ≡ old.connections))
 
-    -- Step after step, with the history of all that was heard and sent: each step goes on from
-    -- where the step before it ended, and adds what happened in it.
+    -- A sequence of steps with the history of what happened. Each step continues from the state in
+    -- which the step before it ended, and adds what happened in it.
     pub data Attends : Attended S (ConnectionValue R W F) T → List Happening
         → Attended S (ConnectionValue R W F) T → Type 0 where
       ended : {old new : Attended S (ConnectionValue R W F) T} → new.station ≡ old.station

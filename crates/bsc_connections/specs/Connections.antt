@@ -1,4 +1,4 @@
--- What a read and a transmission do to one connection (own).
+-- What a read and a transmission do to one connection.
 use Rattle.std.specs.Prelude.{⊤, ◌≡◌, ◌⊎◌, ℕ, Bool, true, false, List, length, Option, None, Some}
 use Rattle.std.specs.Prelude.{Result, Ok}
 use Rattle.std.specs.Io.KnownBytes.{Appends, Consumes, Keeps}
@@ -7,42 +7,42 @@ use Rattle.bsc_connections.specs.declared.connection.Taken.{Taken}
 use Rattle.bsc_connections.specs.declared.connection.Taken.TheVariants.{Nothing, Interrupted, Part, Whole}
 use Rattle.bsc_connections.specs.declared.connection.Taken.TheVariants.{Closed}
 
--- the two directions of a connection while it is open, and what its framing holds
+-- The two directions of a connection while it is open, and its framing.
 pub record ConnectionValue (R W F : Type 0) : Type 0 where
   pub ends : Option (R × W)
   pub framing : F
 
--- the connection is closed by it
+-- The read reports that the connection is closed.
 abbrev pub IsClosed : Taken → Type 0
 IsClosed (Closed why) = ⊤
 IsClosed _ = ⊥
 
--- the connection is closed, or there is nothing to read
+-- The read reports that the connection is closed, or that there is nothing to read.
 abbrev pub IsClosedOrNothing : Taken → Type 0
 IsClosedOrNothing Nothing = ⊤
 IsClosedOrNothing (Closed why) = ⊤
 IsClosedOrNothing _ = ⊥
 
--- no octets came of it
+-- The read gave no octets.
 abbrev pub GivesNoOctets : Taken → Type 0
 GivesNoOctets Part = ⊥
 GivesNoOctets Whole = ⊥
 GivesNoOctets _ = ⊤
 
--- what a reader has left to give, and what a feed answers
+-- What a reader has left to give, and what feeding a piece does.
 module _ {R F : Type 0} (remaining : R → Option (List ℕ))
     (feeds : F → List ℕ → Result (ℕ × Bool) CarrierError → F → Type 0) where
-  -- nothing was read
+  -- Nothing was read.
   abbrev pub ReadsNothing : R → F → R → F → Type 0
   ReadsNothing before held after holds = Keeps (remaining before) (remaining after) × (holds ≡ held)
 
-  -- these octets were read and fed; they end a transmission, or they end none
+  -- A piece was read and fed. The flag says whether it ended a transmission.
   abbrev pub ReadsPiece : Bool → R → F → R → F → Type 0
   ReadsPiece whole before held after holds =
       (piece : List ℕ) × Consumes (remaining before) (remaining after) piece
       × feeds held piece (Ok (length piece, whole)) holds
 
-  -- what came of one read
+  -- What one read does to the reader and the framing; nothing is said of a read that closes.
   abbrev pub Reads : Taken → R → F → R → F → Type 0
   Reads Nothing before held after holds = ReadsNothing before held after holds
   Reads Interrupted before held after holds = ReadsNothing before held after holds
@@ -50,7 +50,7 @@ module _ {R F : Type 0} (remaining : R → Option (List ℕ))
   Reads Whole before held after holds = ReadsPiece true before held after holds
   Reads (Closed why) before held after holds = ⊤
 
-  -- a connection that is open after a read was open before it
+  -- A read of a connection that was open before it and is open after it.
   pub record TakesOpen {W : Type 0} (taken : Taken) (old new : ConnectionValue R W F) : Type 0 where
     pub before : R
     pub after : R
@@ -59,17 +59,17 @@ module _ {R F : Type 0} (remaining : R → Option (List ℕ))
     pub stays_open : new.ends ≡ Some (after, writer)
     pub reads : Reads taken before old.framing after new.framing
 
-  -- what came of a read of a connection: one that is closed has nothing, but may tell that it is
-  -- closed
+  -- A read of a connection. A connection that is closed gives nothing, but a read may report that
+  -- it is closed.
   abbrev pub Takes : {W : Type 0} → ConnectionValue R W F → Taken → ConnectionValue R W F → Type 0
   Takes old (Closed why) new = new.ends ≡ None
   Takes old Nothing new = ((old.ends ≡ None) × (new ≡ old)) ⊎ TakesOpen Nothing old new
   Takes old taken new = TakesOpen taken old new
 
 module _ {R W F : Type 0} where
-  -- what a writer holds, and the octets of a connection that carry a transmission
+  -- What a writer holds, and the octets that carry a transmission on a connection.
   module _ (contents : W → Option (List ℕ)) (framed : List ℕ → List ℕ) where
-    -- the octets that carry the transmission were written, or a write failed and it is closed
+    -- The octets that carry the transmission were written, and the connection stays open.
     pub record Writes (octets : List ℕ) (old new : ConnectionValue R W F) : Type 0 where
       pub reader : R
       pub before : W
@@ -79,7 +79,8 @@ module _ {R W F : Type 0} where
       pub written : Appends (contents before) (contents after) (framed octets)
       pub held : new.framing ≡ old.framing
 
-    -- a transmission is sent on a connection: nothing where it is closed
+    -- A transmission is sent on a connection. Nothing happens if it is closed; if it is open the
+    -- transmission is written, or a write fails and the connection is closed.
     abbrev pub Sends : List ℕ → ConnectionValue R W F → ConnectionValue R W F → Type 0
     Sends octets old new =
         ((old.ends ≡ None) × (new ≡ old))

@@ -1,4 +1,4 @@
--- Where a station is told of a silence (own).
+-- When a station is told of a silence.
 use Rattle.std.specs.Prelude.{◌≡◌, ℕ, ◌+◌, Bool, List, [], ◌∷◌, Option, None, Result}
 use Rattle.bsc_frame.specs.declared.message.Message.{Message}
 use Rattle.bsc_frame.specs.declared.message.Heard.{Heard}
@@ -11,19 +11,19 @@ use Rattle.bsc_connections.specs.Connections.{ConnectionValue}
 use Rattle.bsc_connections.specs.Histories.{Happening, WasSilent}
 use Rattle.bsc_connections.specs.Attending.{Attended, Steps, first_awaiting}
 
--- how many silences there were
+-- The number of silences in a history.
 abbrev pub silences : List Happening → ℕ
 silences [] = 0
 silences (WasSilent ∷ history) = 1 + silences history
 silences (happening ∷ history) = silences history
 
--- how many silences there are due where this happened first, and a transmission is begun at this
--- place that a gap would end: one where the time passed and no such transmission is begun
+-- The number of silences due after this event: one if the time passed and no transmission had begun
+-- that a gap would end, else none. The option is the place of such a transmission.
 abbrev pub silences_due : Awaited → Option ℕ → ℕ
 silences_due TimeOut None = 1
 silences_due awaited awaiting = 0
 
--- in each step there is a silence exactly where one is due
+-- Every step has as many silences as are due.
 abbrev pub TellsEachSilence : {S R W F T : Type 0} → (S → Heard → S → Option Message → Type 0)
     → (S → S → Option Message → Type 0) → (R → Option (List ℕ)) → (W → Option (List ℕ))
     → (F → Type 0) → (F → List ℕ → Result (ℕ × Bool) CarrierError → F → Type 0)

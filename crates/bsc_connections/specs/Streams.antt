@@ -1,4 +1,4 @@
--- What the streams of one connection carry in a session (own).
+-- What the streams of one connection carry in a session.
 use Rattle.std.specs.Prelude.{◌≡◌, ◌≢◌, ◌⊎◌, ℕ, Bool, List, [], ◌∷◌, ◌++◌, map, take, Option, None}
 use Rattle.std.specs.Prelude.{Some, Result, slice_get}
 use Rattle.std.specs.List.{AllByRecursion, concat, flat_map}
@@ -19,20 +19,22 @@ use Rattle.bsc_connections.specs.Framings.{GapsValue}
 use Rattle.bsc_connections.specs.Histories.{Happening, HasJoined, heard_at, all_sent, NobodyJoins}
 use Rattle.bsc_connections.specs.Attending.{Attended, Attends}
 
--- the octets that came since the last record was complete
+-- The octets that have arrived since the last complete record.
 abbrev pub begun_of : SocketRecords → List ℕ
 begun_of records = records.assembler.begun
 
--- These octets were given, after what was begun before. All of them together are the records of the
--- transmissions that were heard, each once and in order, and then what is begun now.
+-- These octets arrived after those of the record that had begun before. Together they are the
+-- records of the transmissions that were heard, each once and in order, followed by what has begun
+-- now.
 pub record GivesRecords (old : SocketRecords) (given : List ℕ) (heard : List (List ℕ))
     (new : SocketRecords) : Type 0 where
   pub records : begun_of old ++ given ≡ flat_map socket_record heard ++ begun_of new
   pub carried : AllByRecursion IsCarried heard
   pub rest : ¬ BeginsRecord (begun_of old) → ¬ BeginsRecord (begun_of new)
 
--- Gaps cut these octets: some octets are between one gap and the next, and what is heard of them is
--- the first 2,049. The rest have no gap after them, and the first 2,049 of them are begun.
+-- Gaps divide these octets. Those between one gap and the next are heard as one transmission, the
+-- first 2,049 of them. Those after the last gap have begun a transmission, of which the first 2,049
+-- are kept.
 pub record CutsAtGaps (octets : List ℕ) (heard : List (List ℕ)) (begun : List ℕ) : Type 0 where
   pub between : List (List ℕ)
   pub later : List ℕ
@@ -41,14 +43,14 @@ pub record CutsAtGaps (octets : List ℕ) (heard : List (List ℕ)) (begun : Lis
   pub first : heard ≡ map (take KEPT) between
   pub kept_of : begun ≡ take KEPT later
 
--- these octets were given, after those that came before them since the last gap
+-- These octets arrived after those that had arrived since the last gap.
 abbrev pub GivesByGaps : GapsValue → List ℕ → List (List ℕ) → GapsValue → Type 0
 GivesByGaps old given heard new =
     (sooner : List ℕ) → old.begun ≡ take KEPT sooner → CutsAtGaps (sooner ++ given) heard new.begun
 
--- A connection was open, and is open. Its reader gave some octets, of which these transmissions
--- were heard. Its writer took the octets that carry the transmissions that were sent, each once and
--- in order.
+-- A connection was open and is open. Its reader gave some octets, from which these transmissions
+-- were heard. The octets that carry the transmissions that were sent were written to its writer,
+-- each once and in order.
 pub record Carries {R W F : Type 0} (remaining : R → Option (List ℕ))
     (contents : W → Option (List ℕ)) (framed : List ℕ → List ℕ)
     (gives : F → List ℕ → List (List ℕ) → F → Type 0)
@@ -66,23 +68,23 @@ pub record Carries {R W F : Type 0} (remaining : R → Option (List ℕ))
 
 module _ {R W F : Type 0} (remaining : R → Option (List ℕ)) (contents : W → Option (List ℕ))
     (framed : List ℕ → List ℕ) (gives : F → List ℕ → List (List ℕ) → F → Type 0) where
-  -- the connection at this place was open, and carried these
+  -- The connection at this place was open, and carried these transmissions.
   abbrev pub CarriedAt : ℕ → List (List ℕ) → List (List ℕ) → List (ConnectionValue R W F)
       → ConnectionValue R W F → Type 0
   CarriedAt place heard sent before now =
       (was : ConnectionValue R W F) × (slice_get before place ≡ Some was)
       × Carries remaining contents framed gives heard sent was now
 
-  -- nobody joined at this place: the connection was open from the start, and its streams carried
-  -- all that the history has of it
+  -- Nobody joined at this place: the connection was open from the start, and its streams carried
+  -- everything the history has of it.
   abbrev pub CarriesFromStart : ℕ → List Happening → List (ConnectionValue R W F)
       → ConnectionValue R W F → Type 0
   CarriesFromStart place history before now =
       NobodyJoins place history
       × CarriedAt place (heard_at place history) (all_sent history) before now
 
-  -- A peer joined at this place, the last one that did: nothing had arrived from it, and the
-  -- streams of its connection carried all that the history has of it since then.
+  -- A peer joined at this place, and none after it. Nothing had arrived from it then, and the
+  -- streams of its connection carried everything the history has of it since.
   pub record CarriesSinceJoining (starts : F → Type 0) (place : ℕ) (history : List Happening)
       (now : ConnectionValue R W F) : Type 0 where
     pub sooner : List Happening
@@ -94,7 +96,7 @@ module _ {R W F : Type 0} (remaining : R → Option (List ℕ)) (contents : W �
     pub carries : Carries remaining contents framed gives (heard_at place later) (all_sent later)
         joined now
 
--- In every session, the streams of a connection that is open at its end carried all that the
+-- In every session, the streams of a connection that is open at its end carried everything the
 -- history has of it and nothing else: what was heard at its place, and all that was sent.
 abbrev pub CarriesHistory : {S R W F T : Type 0} → (F → List ℕ → List (List ℕ) → F → Type 0)
     → (S → Heard → S → Option Message → Type 0)
@@ -112,8 +114,8 @@ CarriesHistory {S} {R} {W} {F} {T} gives hears acts remaining contents starts fe
     → CarriesFromStart remaining contents framed gives place history old.connections now
     ⊎ CarriesSinceJoining remaining contents framed gives starts place history now
 
--- Where no whole record was begun before, the octets split into the records of what was heard and
--- what is begun now. A stream splits in one way only, so what was heard is all that they have.
+-- If no whole record had begun before, the octets split into the records of what was heard and what
+-- has begun now. A stream splits in only one way, so what was heard is all that the octets contain.
 abbrev pub SplitsAll : SocketRecords → List ℕ → List (List ℕ) → SocketRecords → Type 0
 SplitsAll old given heard new =
     GivesRecords old given heard new → ¬ BeginsRecord (begun_of old)

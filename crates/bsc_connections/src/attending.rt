@@ -1,4 +1,4 @@
-//! A station is attended: what happens on its connections is done, one thing after another.
+//! Runs a station: what happens on its connections is handled one event at a time.
 
 ghost use Rattle.std.specs.Prelude.{◌≡◌, ◌<◌, length, List, true, false, is_none, IfSome, IfOk};
 ghost use Rattle.std.specs.Prelude.{OnOk};
@@ -13,10 +13,10 @@ use bsc_bid::Station;
 use bsc_frame::Wire;
 use std::io::{Read, Write};
 
-/// Attends a station over these connections until the monitor ends it. What the station sends goes
-/// out on each connection that is open, before anything else is heard. A connection that fails or
-/// ends is closed for good, and a peer that connects later takes its place. An error of the waiter
-/// or of the monitor ends it at once; `Count` comes after 2^64 - 1 steps.
+/// Attends a station over these connections until the monitor ends it. What the station sends is
+/// written to every open connection before anything else is heard. A connection that fails or ends
+/// is closed for good, and a peer that connects later takes its place. Returns at once with any
+/// error of the waiter or of the monitor, and with `Count` after 2^64 - 1 steps.
 pub fn attend<
     S: Station,
     R: Read + Drop,
@@ -46,7 +46,7 @@ pub fn attend<
     Err(LiveError::Count)
 }
 
-/// Waits for what happens first, and does what is due for it. False where the monitor ends it.
+/// Waits for the next event and handles it. Returns false if the monitor ends the session.
 fn step<
     S: Station,
     R: Read + Drop,
@@ -80,7 +80,8 @@ fn step<
     }
 }
 
-/// The place of the first connection on which a transmission is begun that a gap would end.
+/// Returns the place of the first connection on which a transmission has begun that a gap would
+/// end.
 fn first_awaiting<R: Read + Drop, W: Write + Drop, F: Framing + Drop>(
     connections: &[Connection<R, W, F>],
 ) -> Option<usize>
@@ -94,7 +95,7 @@ fn first_awaiting<R: Read + Drop, W: Write + Drop, F: Framing + Drop>(
     )
 }
 
-/// For how long to wait.
+/// Returns how long to wait: for a gap if a gap would end a transmission, else for a time-out.
 fn wait_for<R: Read + Drop, W: Write + Drop, F: Framing + Drop>(
     connections: &[Connection<R, W, F>],
 ) -> Wait
@@ -106,7 +107,7 @@ fn wait_for<R: Read + Drop, W: Write + Drop, F: Framing + Drop>(
     }
 }
 
-/// Writes what is sent on each connection that is open.
+/// Writes a transmission to every open connection.
 fn send_all<R: Read + Drop, W: Write + Drop, F: Framing + Drop>(
     connections: &mut [Connection<R, W, F>],
     octets: &[u8],
@@ -118,8 +119,8 @@ fn send_all<R: Read + Drop, W: Write + Drop, F: Framing + Drop>(
     }
 }
 
-/// The station hears the last transmission of the connection at this place, and what it answers
-/// goes out. The wire has what was sent; false where nothing was.
+/// Lets the station hear the last transmission of the connection at this place, and sends its
+/// answer. Returns whether it answered; `wire` then holds the octets sent.
 fn hear_at<S: Station, R: Read + Drop, W: Write + Drop, F: Framing + Drop>(
     station: &mut S,
     connections: &mut [Connection<R, W, F>],
@@ -139,7 +140,7 @@ fn hear_at<S: Station, R: Read + Drop, W: Write + Drop, F: Framing + Drop>(
     is_sent
 }
 
-/// Reads once at this place. Where that ends a transmission the station hears it.
+/// Reads once at this place. If the read completes a transmission, the station hears it.
 fn read_at<
     S: Station,
     R: Read + Drop,
@@ -175,7 +176,7 @@ fn read_at<
     }
 }
 
-/// Reads once at this place; nothing where there is no such connection.
+/// Reads once at this place. Returns `Nothing` if there is no such connection.
 fn take_at<R: Read + Drop, W: Write + Drop, F: Framing + Drop>(
     connections: &mut [Connection<R, W, F>],
     place: usize,
@@ -188,8 +189,8 @@ fn take_at<R: Read + Drop, W: Write + Drop, F: Framing + Drop>(
     connections[place].take()
 }
 
-/// The station hears the last transmission of the connection at this place, what it answers goes
-/// out, and the monitor takes note of both.
+/// Lets the station hear the last transmission of the connection at this place, sends its answer,
+/// and tells the monitor of both.
 fn answer_at<S: Station, R: Read + Drop, W: Write + Drop, F: Framing + Drop, M: Monitor<S>>(
     station: &mut S,
     connections: &mut [Connection<R, W, F>],
@@ -209,7 +210,7 @@ fn answer_at<S: Station, R: Read + Drop, W: Write + Drop, F: Framing + Drop, M: 
     Ok(note_sent(station, is_sent, &wire, monitor)? && goes_on)
 }
 
-/// Notes what was sent, where something was.
+/// Tells the monitor what was sent, if anything was.
 fn note_sent<S: Station, M: Monitor<S>>(
     station: &S,
     is_sent: bool,
@@ -225,8 +226,8 @@ fn note_sent<S: Station, M: Monitor<S>>(
     Ok(true)
 }
 
-/// The time has passed and nothing arrived: that ends a transmission where one is begun that ends
-/// at a gap, and else it is a silence.
+/// Handles the end of a wait in which nothing arrived. This is the gap that ends a transmission if
+/// one has begun that a gap would end, else it is a silence.
 fn time_out<S: Station, R: Read + Drop, W: Write + Drop, F: Framing + Drop, M: Monitor<S>>(
     station: &mut S,
     connections: &mut [Connection<R, W, F>],
@@ -239,7 +240,7 @@ fn time_out<S: Station, R: Read + Drop, W: Write + Drop, F: Framing + Drop, M: M
 {
     match first_awaiting(connections) {
         Some(connection) => {
-            // It is the place of a connection that awaits a gap, so a transmission has ended.
+            // This connection awaits a gap, so the gap ends its transmission.
             let _ = connections[connection].gap();
             answer_at(station, connections, connection, monitor)
         }
@@ -247,8 +248,8 @@ fn time_out<S: Station, R: Read + Drop, W: Write + Drop, F: Framing + Drop, M: M
     }
 }
 
-/// The station is told of a silence, and what it sends goes out. The wire has what was sent; false
-/// where nothing was.
+/// Tells the station of a silence, and sends its answer. Returns whether it answered; `wire` then
+/// holds the octets sent.
 fn tell_silence<S: Station, R: Read + Drop, W: Write + Drop, F: Framing + Drop>(
     station: &mut S,
     connections: &mut [Connection<R, W, F>],
@@ -265,7 +266,7 @@ fn tell_silence<S: Station, R: Read + Drop, W: Write + Drop, F: Framing + Drop>(
     is_sent
 }
 
-/// The station is told of a silence, what it sends goes out, and the monitor takes note of both.
+/// Tells the station of a silence, sends its answer, and tells the monitor of both.
 fn silence<S: Station, R: Read + Drop, W: Write + Drop, F: Framing + Drop, M: Monitor<S>>(
     station: &mut S,
     connections: &mut [Connection<R, W, F>],
@@ -282,7 +283,7 @@ fn silence<S: Station, R: Read + Drop, W: Write + Drop, F: Framing + Drop, M: Mo
     Ok(note_sent(station, is_sent, &wire, monitor)? && goes_on)
 }
 
-/// The place of the first connection that is closed.
+/// Returns the place of the first connection that is closed.
 fn first_closed<R: Read + Drop, W: Write + Drop, F: Framing + Drop>(
     connections: &[Connection<R, W, F>],
 ) -> Option<usize>
@@ -296,8 +297,8 @@ fn first_closed<R: Read + Drop, W: Write + Drop, F: Framing + Drop>(
     )
 }
 
-/// A peer that has connected takes the first place that is free, and is turned away where there is
-/// none.
+/// Gives a peer that has connected the first place whose connection is closed, or turns it away if
+/// all are open.
 fn join<
     S: Station,
     R: Read + Drop,

@@ -1,4 +1,4 @@
-//! What a station waits for.
+//! What a station waits for, and the waiter that tells it what happened.
 
 ghost use Rattle.std.specs.Prelude.{Result};
 ghost use Rattle.bsc_connections.specs.declared.awaited.Wait.{Wait as WaitValue};
@@ -7,17 +7,18 @@ ghost use Rattle.bsc_connections.specs.declared.awaited.LiveError.{LiveError as 
 
 use thiserror::Error;
 
-/// For how long to wait (GA27-3004, time-outs).
+/// How long to wait.
 #[derive(Clone, Copy, Debug, PartialEq, Eq)]
 pub enum Wait {
-    /// For a time-out: nothing has arrived of a transmission that would be heard at a gap.
+    /// For a time-out (GA27-3004, time-outs): no transmission has begun that a gap would end.
     TimeOut,
 
-    /// For a gap: octets of a transmission arrived, and it ends where nothing follows them (own).
+    /// For a gap: octets of a transmission have arrived, and the transmission ends when no more
+    /// follow.
     Gap,
 }
 
-/// What happened first.
+/// What happened first during a wait.
 #[derive(Clone, Copy, Debug, PartialEq, Eq)]
 pub enum Awaited {
     /// The connection at this place may have octets to read, or may have ended.
@@ -26,51 +27,51 @@ pub enum Awaited {
     /// Another peer has connected.
     Newcomer,
 
-    /// The time passed, and nothing arrived.
+    /// The time passed and nothing arrived.
     TimeOut,
 }
 
-/// Why a station is no longer attended (own).
+/// Why a station is no longer attended.
 #[derive(Clone, Copy, Debug, PartialEq, Eq, Error)]
 pub enum LiveError {
     /// The system refused to wait.
     #[error("cannot wait for the sockets")]
     Wait,
 
-    /// More happened than can be counted in 64 bits.
+    /// There were too many steps to count in 64 bits.
     #[error("too much happened")]
     Count,
 
-    /// What a monitor was told was not printed.
+    /// The monitor could not print what it was told.
     #[error("output fault")]
     Output,
 
-    /// A growth was refused.
+    /// Memory could not be allocated.
     #[error("out of memory")]
     Memory,
 }
 
-/// Waits for what happens next on some connections. `R` and `W` are the two directions of a
+/// Waits for the next event on a set of connections. `R` and `W` are the two directions of a
 /// connection.
 pub trait Waiter<R, W> {
-    /// What a wait answers: the waiter before, the answer, the waiter after. A waiter over sockets
-    /// claims only that octets are told of at a place that there is, and a newcomer only while one
-    /// is kept.
+    /// What a wait may return: the waiter before, the result, the waiter after. A waiter over
+    /// sockets states only that it names an existing place in `Octets`, and reports a newcomer only
+    /// while it holds one.
     ghost waits: { Self → WaitValue → Result AwaitedValue LiveErrorValue → Self → Type 0 };
 
-    /// Waits until octets arrive, a peer connects, or the time has passed. It may answer `Octets`
-    /// for a connection that has nothing to read. Once it has answered `Octets` for a connection it
-    /// does so again, until `nothing_left` is told.
+    /// Waits until octets arrive, a peer connects, or the time passes. It may return `Octets` for a
+    /// connection that has nothing to read. Once it has returned `Octets` for a connection it keeps
+    /// doing so until `nothing_left` is called.
     fn wait(&mut self, wait: Wait) -> Result<Awaited, LiveError>
         ensures { waits self.old wait result self.new };
 
-    /// The connection at this place has nothing to read at this time, or is closed.
+    /// Records that the connection at this place has nothing to read at present, or is closed.
     fn nothing_left(&mut self, connection: usize);
 
-    /// The two directions of the connection of a peer that has connected, which is to be the one at
-    /// this place; None where it has gone.
+    /// Returns the two directions of the connection of the peer that has connected, which will be
+    /// the connection at this place; None if the peer has gone.
     fn join(&mut self, connection: usize) -> Option<(R, W)>;
 
-    /// A peer that has connected where no place is free is turned away.
+    /// Turns away the peer that has connected, because no place is free.
     fn turn_away(&mut self);
 }

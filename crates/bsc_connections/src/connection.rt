@@ -10,37 +10,38 @@ use bsc_carrier::CarrierError;
 use std::io::{ErrorKind, Read, Write};
 use std::marker::Model;
 
-/// What came of one read.
+/// The result of one read.
 #[derive(Clone, Copy, Debug, PartialEq, Eq)]
 pub enum Taken {
-    /// Nothing is there to read at this time, or the connection is closed.
+    /// There is nothing to read at present, or the connection is closed.
     Nothing,
 
     /// The read was interrupted.
     Interrupted,
 
-    /// Octets arrived that end no transmission.
+    /// Octets arrived, but they end no transmission.
     Part,
 
-    /// The transmission is complete whose octets the connection has.
+    /// A transmission is complete; the connection holds its octets.
     Whole,
 
-    /// The connection was closed by this read: the peer ended it between transmissions, or else for
-    /// this reason, which is final.
+    /// The connection is closed: this read closed it, or this is the first read since a failed
+    /// write did. `why` is the error, or None if the peer ended the connection and cut no
+    /// transmission short. A closed connection never opens again.
     Closed { why: Option<CarrierError> },
 }
 
-/// One connection of a station: the two directions that it has while it is open, and what is held
-/// of the transmissions that arrive.
+/// One connection of a station: its two directions while it is open, and what its framing holds of
+/// the transmissions that arrive.
 #[derive(Drop)]
 pub struct Connection<R, W, F> {
-    /// The two directions, while it is open.
+    /// The two directions, while the connection is open.
     ends: Option<(R, W)>,
 
-    /// What is held of the transmissions that arrive.
+    /// The framing of the transmissions that arrive.
     framing: F,
 
-    /// Whether a write failed and no read has told that yet.
+    /// Whether a write failed that no read has reported yet.
     is_untold: bool,
 }
 
@@ -53,7 +54,7 @@ impl<R, W, F> Model for Connection<R, W, F> {
 }
 
 impl<R: Read + Drop, W: Write + Drop, F: Framing + Drop> Connection<R, W, F> {
-    /// A connection over these two directions, on which nothing arrived yet.
+    /// Creates an open connection over these two directions, on which nothing has arrived yet.
     pub fn new(reader: R, writer: W) -> Connection<R, W, F>
         ensures is_open { result.ends ≡ Some (reader, writer) }
         ensures starts { F.starts result.framing }
@@ -65,28 +66,28 @@ impl<R: Read + Drop, W: Write + Drop, F: Framing + Drop> Connection<R, W, F> {
         }
     }
 
-    /// Whether it is open.
+    /// Returns whether the connection is open.
     pub fn is_open(&self) -> bool
         ensures { result ≡ not (is_none self.now.ends) }
     {
         self.ends.is_some()
     }
 
-    /// The octets of the last transmission that is complete.
+    /// Returns the octets of the last complete transmission.
     pub(crate) fn octets(&self) -> &[u8]
         ensures { result.now ≡ F.last self.now.framing }
     {
         self.framing.octets()
     }
 
-    /// Whether a transmission is begun that a gap would end.
+    /// Returns whether a transmission has begun that a gap would end.
     pub(crate) fn awaits_gap(&self) -> bool
         ensures { result ≡ F.awaits self.now.framing }
     {
         self.framing.awaits_gap()
     }
 
-    /// Nothing arrived for a gap. True where that ended a transmission.
+    /// Records that a gap has passed. Returns whether that ended a transmission.
     pub(crate) fn gap(&mut self) -> bool
         ensures ends { F.ends self.old.framing result self.new.framing }
         ensures ended { result ≡ F.awaits self.old.framing }
@@ -95,7 +96,7 @@ impl<R: Read + Drop, W: Write + Drop, F: Framing + Drop> Connection<R, W, F> {
         self.framing.gap()
     }
 
-    /// Reads once, at most as many octets as end the transmission that is begun.
+    /// Reads once, at most as many octets as the framing wants.
     pub(crate) fn take(&mut self) -> Taken
         ensures { Takes R.remaining F.feeds self.old result self.new }
     {
@@ -111,8 +112,8 @@ impl<R: Read + Drop, W: Write + Drop, F: Framing + Drop> Connection<R, W, F> {
         taken
     }
 
-    /// What a read of a closed connection says: that a write failed, where no read has told that
-    /// yet.
+    /// Returns what a read of a closed connection reports: a failed write if no read has reported
+    /// it yet, else nothing.
     fn take_closed(&mut self) -> Taken
         requires { self.old.ends ≡ None }
         ensures taken { IsClosedOrNothing result }
@@ -127,8 +128,8 @@ impl<R: Read + Drop, W: Write + Drop, F: Framing + Drop> Connection<R, W, F> {
         Taken::Nothing
     }
 
-    /// Sends a transmission, where it is open. A write that fails closes it, which the next read
-    /// tells.
+    /// Sends a transmission if the connection is open. A write that fails closes the connection;
+    /// the next read reports it.
     pub(crate) fn send(&mut self, octets: &[u8])
         ensures { Sends W.contents F.framed octets.now self.old self.new }
     {
@@ -142,7 +143,7 @@ impl<R: Read + Drop, W: Write + Drop, F: Framing + Drop> Connection<R, W, F> {
     }
 }
 
-/// Reads once, at most as many octets as there is room for, and feeds them.
+/// Reads once, at most as many octets as there is room for, and feeds them to the framing.
 fn read_into<R: Read, F: Framing>(reader: &mut R, framing: &mut F, room: &mut [u8]) -> Taken
     requires { length room.old ≤ F.room framing.old }
     ensures { Reads R.remaining F.feeds result reader.old framing.old reader.new framing.new }
@@ -158,7 +159,8 @@ fn read_into<R: Read, F: Framing>(reader: &mut R, framing: &mut F, room: &mut [u
     }
 }
 
-/// What the end of the input says.
+/// Returns what the end of the input means: the error `Short` if it cuts a transmission short, else
+/// a close without an error.
 fn ended<F: Framing>(framing: &F) -> Taken
     ensures { IsClosed result }
 {
@@ -170,7 +172,8 @@ fn ended<F: Framing>(framing: &F) -> Taken
     Taken::Closed { why }
 }
 
-/// What a failed read says: it is no failure where nothing was there to read in time.
+/// Returns what a failed read means. It is not an error if nothing arrived in time or the read was
+/// interrupted.
 fn failed(kind: ErrorKind) -> Taken
     ensures { GivesNoOctets result }
 {

@@ -1,4 +1,4 @@
-//! Where transmissions begin and end in the octets of a connection.
+//! How the octets of a connection are divided into transmissions.
 
 ghost use Rattle.std.specs.Prelude.{◌≡◌, ℕ, ◌≤◌, Bool, List, length, OnOk, IfOk, Result};
 ghost use Rattle.std.specs.Io.KnownBytes.{Appends};
@@ -7,58 +7,57 @@ ghost use Rattle.bsc_carrier.specs.declared.error.CarrierError.{CarrierError as 
 use bsc_carrier::CarrierError;
 use std::io::Write;
 
-/// How the octets of a connection are cut into transmissions (own).
+/// Divides the octets of a connection into transmissions.
 pub trait Framing {
-    /// What may be held of a connection on which nothing arrived.
+    /// Whether this is a framing on which nothing has arrived.
     ghost starts: { Self → Type 0 };
 
-    /// What a feed of a piece answers: what is held before, the piece, the answer, what is held
-    /// after.
+    /// What feeding a piece does: the framing before, the piece, the result, the framing after.
     ghost feeds: { Self → List ℕ → Result (ℕ × Bool) Error → Self → Type 0 };
 
-    /// What a gap does: what is held before, whether it ended a transmission, what is held after.
+    /// What a gap does: the framing before, whether a transmission ended, the framing after.
     ghost ends: { Self → Bool → Self → Type 0 };
 
-    /// Whether a transmission is begun that a gap would end.
+    /// Whether a transmission has begun that a gap would end.
     ghost awaits: { Self → Bool };
 
-    /// The octets of the last transmission that is complete.
+    /// The octets of the last complete transmission.
     ghost last: { Self → List ℕ };
 
-    /// How many octets may be fed that are all taken.
+    /// The length up to which a piece is taken whole.
     ghost room: { Self → ℕ };
 
-    /// The octets of a connection that carry a transmission.
+    /// The octets that carry a transmission on a connection.
     ghost framed: { List ℕ → List ℕ };
 
-    /// What is held of a connection on which nothing arrived.
+    /// Creates a framing on which nothing has arrived.
     fn new() -> Self
         ensures { starts result };
 
-    /// How many octets may be fed that are all taken.
+    /// Returns the length up to which a piece is taken whole.
     fn wanted(&self) -> usize
         ensures { result ≡ room self.now };
 
-    /// Takes octets of the piece up to the end of a transmission, and none of the next one. Gives
-    /// how many it took, and whether they ended a transmission.
+    /// Takes the octets of a piece up to the end of a transmission, and none of the next one.
+    /// Returns how many octets it took, and whether they ended a transmission.
     fn feed(&mut self, piece: &[u8]) -> Result<(usize, bool), CarrierError>
         ensures feeds { feeds self.old piece.now result self.new }
         ensures whole { length piece.now ≤ room self.old
             → IfOk result (λ r. r.0 ≡ length piece.now) };
 
-    /// Nothing arrived for a gap. True where that ended a transmission.
+    /// Records that a gap has passed. Returns whether that ended a transmission.
     fn gap(&mut self) -> bool
         ensures ends { ends self.old result self.new }
         ensures ended { result ≡ awaits self.old };
 
-    /// Whether a transmission is begun that a gap would end.
+    /// Returns whether a transmission has begun that a gap would end.
     fn awaits_gap(&self) -> bool
         ensures { result ≡ awaits self.now };
 
-    /// Whether the input ends too early where it ends now.
+    /// Returns whether a transmission would be cut short if the input ended now.
     fn is_short(&self) -> bool;
 
-    /// The octets of the last transmission that is complete; none at first.
+    /// Returns the octets of the last complete transmission; none at first.
     fn octets(&self) -> &[u8]
         ensures { result.now ≡ last self.now };
 

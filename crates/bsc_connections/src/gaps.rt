@@ -7,16 +7,17 @@ use bsc_carrier::CarrierError;
 use std::io::Write;
 use std::marker::Model;
 
-/// A transmission is the octets that arrive without a gap between them, as they stand on the line
-/// (own). Of more than 2,048 octets the first 2,049 are kept, which are heard as noise. More than
-/// 1,048,576 octets without a gap are refused by `Length`.
+/// A framing in which a transmission is the octets, as they stand on the line, that arrive without
+/// a gap between them. Of a transmission longer than 2,048 octets the first 2,049 are kept, so that
+/// it is heard as noise. `feed` fails with `Length` if more than 1,048,576 octets arrive without a
+/// gap.
 #[derive(Drop)]
 pub struct Gaps {
-    /// The first octets that arrived since the last gap.
+    /// The octets that arrived since the last gap, at most the first 2,049.
     begun: ArrayVec<u8, KEPT>,
-    /// How many arrived since then.
+    /// The number of octets that arrived since the last gap.
     arrived: usize,
-    /// The octets of the last transmission that a gap ended.
+    /// The octets of the last transmission that a gap ended, at most the first 2,049.
     complete: ArrayVec<u8, KEPT>,
 }
 
@@ -93,7 +94,7 @@ impl Framing for Gaps {
         !self.begun.is_empty()
     }
 
-    /// A transmission that is begun ends where the input ends.
+    /// Returns false: a transmission that has begun ends when the input ends.
     fn is_short(&self) -> bool {
         false
     }

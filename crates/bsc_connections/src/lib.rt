@@ -1,9 +1,12 @@
-//! One station of a line over connections whose other ends are elsewhere.
+//! One station of a line, over connections whose other ends are elsewhere.
 //!
-//! A station hears what arrives on its connections, sends what it answers on all of them, and is
-//! told of a silence when a time-out passes. This library has no socket and no clock: a `Waiter`
-//! tells what happens next, connections are any reader and writer, and a `Monitor` sees all of it
-//! and says when to end.
+//! A station hears what arrives on its connections, sends its answers on all of them, and is told
+//! of a silence when a time-out passes. This library has no socket and no clock: a `Waiter` reports
+//! the next event, connections are any reader and writer, and a `Monitor` sees everything and
+//! decides when to end.
+//!
+//! GA27-3004 defines the time-outs and what a station answers. The connections, both framings, the
+//! order in which events are handled and the limits are this project's own.
 #![tactic(auto)]
 
 mod attending;

@@ -1,11 +1,11 @@
-//! Who watches a station.
+//! The monitor that watches a station.
 
 ghost use Rattle.std.specs.Prelude.{◌≡◌, Bool, true, not, IfOk};
 
 use crate::LiveError;
 use bsc_carrier::CarrierError;
 
-/// What happened, after the station has done what it does.
+/// What happened; a monitor is told after the station has acted.
 #[derive(Clone, Copy, Debug)]
 pub enum Note<'a> {
     /// These octets were heard on the connection at this place.
@@ -17,7 +17,7 @@ pub enum Note<'a> {
     /// A time-out has passed.
     Silence,
 
-    /// These octets were sent on every connection.
+    /// These octets were sent on every open connection.
     Sent {
         octets: &'a [u8],
     },
@@ -27,21 +27,21 @@ pub enum Note<'a> {
         connection: usize,
     },
 
-    /// The connection at this place is closed: its peer closed it between transmissions, or else
-    /// for this reason.
+    /// The connection at this place is closed. `why` is the error, or None if the peer ended the
+    /// connection and cut no transmission short.
     Closed {
         connection: usize,
         why: Option<CarrierError>,
     },
 }
 
-/// Sees what happens to a station of this kind, and says when to end.
+/// Sees what happens to a station of type `S`, and decides when to end.
 pub trait Monitor<S> {
-    /// Whether the station is to be attended no longer.
+    /// Whether the station is no longer to be attended.
     ghost has_ended: { Self → Bool };
 
-    /// Takes note. False where the station is to be attended no longer, and then also at every
-    /// later note.
+    /// Takes note of an event. Returns false if the station is no longer to be attended; every
+    /// later note then returns false as well.
     fn note(&mut self, station: &S, note: Note<'_>) -> Result<bool, LiveError>
         ensures answer { IfOk result (λ goes_on. goes_on ≡ not (has_ended self.new)) }
         ensures kept { has_ended self.old ≡ true → has_ended self.new ≡ true };

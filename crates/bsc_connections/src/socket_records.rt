@@ -5,8 +5,8 @@ use bsc_carrier::limits::MAX_RECORD;
 use bsc_carrier::{Assembler, CarrierError, write_record};
 use std::io::Write;
 
-/// A transmission is one socket record: two octets of length, and then its octets (own). A record
-/// that is begun when a time-out passes is kept.
+/// A framing in which a transmission is one socket record: a length of two octets, then the octets
+/// of the transmission. A record that has begun when a time-out passes is kept.
 #[derive(Drop)]
 pub struct SocketRecords {
     assembler: Assembler,

@@ -1,4 +1,4 @@
--- An address in the storage of the caller's.
+-- An address in the storage of the caller.
 use Rattle.std.proofs.Common.{◌≡◌, ℕ, ◌≤◌, true, refl, arith, List, ◌++◌, length, drop, Some}
 use Rattle.std.proofs.Common.{nat_le}
 use Rattle.std.proofs.Math.Seq.{take-append_seam}
@@ -12,7 +12,7 @@ use Rattle.bsc_frame.specs.declared.limits.TheConstants.{MAX_ADDRESS}
 fits : (n : ℕ) → n ≤ MAX_ADDRESS → nat_le n MAX_ADDRESS ≡ true
 fits n h = grind (arith, nat_tests)
 
--- the codes at the front and their count hold the address
+-- The codes at the front and their number hold the address.
 pub address_put : (c : Content) (a : List ℕ) → IsAddress a
     → address_in (record c { address = a ++ drop (length a) c.address; address_len = length a })
     ≡ Some a

@@ -1,4 +1,4 @@
--- The kind and the content that what is heard leaves.
+-- The kind and the content after something is heard.
 use Rattle.std.proofs.Common.{◌≡◌, inl, inr, ◌↔◌, ℕ, ◌∙◌, refl, sym, ap, subst, List, Some, arith}
 use Rattle.std.proofs.lemmas.Bool.Decides.{nat_tests}
 use Rattle.bsc_frame.specs.declared.message.Message.{Message}
@@ -21,7 +21,7 @@ not_failed k c x s e = let r : message_as kind.Failed c ≡ Some x = rw e at s i
 not_noise : (k : Kind) (c : Content) (x : Message) → message_as k c ≡ Some x → k ≡ kind.Noise → ⊥
 not_noise k c x s e = let r : message_as kind.Noise c ≡ Some x = rw e at s in cc
 
--- what is heard is told by what it leaves
+-- The kind and the content tell what was heard.
 pub tells : (octets : List ℕ) (h : Heard) (k : Kind) (old new : Content) → IsHeard octets h
     → StandsFor h k new → KeepsRestOfHeard h old new → Tells octets k old new
 tells octets (Whole x) k old new w s n = record {
@@ -62,7 +62,7 @@ tells octets Noise k old new w s n = record {
   unspelled = λ e. n;
 }
 
--- a number stands for its kind
+-- A number stands for its kind.
 pub by_kind : (number : ℕ) (k : Kind) (c : Content) → kind_at number ≡ Some k
     → message_in number c ≡ message_as k c
 unfolding message_in
@@ -84,7 +84,7 @@ noise_number number k e = (
       ≡ Some kind.Noise = rw f at e in grind (arith, nat_tests),
 )
 
--- what begins as a text and spells a message spells a text
+-- Octets that begin as a text and spell a message spell a text.
 pub only_text : (octets : List ℕ) (m : Message) → BeginsText octets → IsHeard octets (Whole m)
     → ((t : TextValue) → m ≡ Text t → ⊥) → ⊥
 only_text octets m (inl (t, s)) w n =
@@ -94,7 +94,7 @@ only_text octets m (inr f) w n =
     let r : Whole m ≡ Failed = w.failed.1 f in
     cc
 
--- what a call of the decoder says of its answer is said of what the answer is
+-- What the decoder's contract says of its result holds of anything equal to it.
 pub heard_is : (octets : List ℕ) (r h : Heard) → r ≡ h
     → ((m : Message) → (r ≡ Whole m) ↔ Spells octets m)
     → (r ≡ Failed) ↔ IsFailed octets → (r ≡ Noise) ↔ IsNoise octets

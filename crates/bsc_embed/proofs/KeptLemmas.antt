@@ -1,4 +1,4 @@
--- What of a content is as it was.
+-- What is unchanged in a content.
 use Rattle.std.proofs.Common.{◌≡◌, ℕ, zero, suc, ◌+◌, ◌<◌, ◌∙◌, refl, sym, ap, arith, List, [], ◌∷◌}
 use Rattle.std.proofs.Common.{length}
 use Rattle.std.proofs.Common.{drop, get_or, set}
@@ -10,7 +10,7 @@ pub keep_same : (ss : List StoredUnit) → KeepCharsAfter ss ss
 keep_same [] = tt
 keep_same (s ∷ ss) = (refl, keep_same ss)
 
--- a unit is put that keeps the characters after its own
+-- To store a unit that keeps the characters after its length keeps those of all units.
 keep_set : (os ns : List StoredUnit) (i : ℕ) (s d : StoredUnit) → i < length ns
     → KeepCharsAfter os ns
     → drop s.len s.chars ≡ drop s.len (get_or os i d).chars → KeepCharsAfter os (set ns i s)
@@ -20,7 +20,7 @@ keep_set (o ∷ os) [] i s d l k e = absurd k
 keep_set (o ∷ os) (n ∷ ns) zero s d l k e = (e, k.1)
 keep_set (o ∷ os) (n ∷ ns) (suc i) s d l k e = (k.0, keep_set os ns i s d (omega arith) k.1 e)
 
--- lists with the same rest have the same element where it begins
+-- Lists that are equal from a place on have the same element at that place.
 same_first : (ss ts : List StoredUnit) (i : ℕ) (d : StoredUnit) → drop i ss ≡ drop i ts
     → get_or ss i d ≡ get_or ts i d
 same_first ss ts i d e =
@@ -29,15 +29,15 @@ same_first ss ts i d e =
     let b : get_or (drop i ts) 0 d ≡ get_or ts i d = rw z at (get_or-drop i ts 0 d) in
     sym a ∙ ap (λ l. get_or l 0 d) e ∙ b
 
--- after a unit is put, the units after it are those that were there
+-- To store a unit does not change the units after it.
 pub rest_set : (ss ts : List StoredUnit) (i : ℕ) (s : StoredUnit) → drop i ss ≡ drop i ts
     → drop (i + 1) (set ss i s) ≡ drop (i + 1) ts
 rest_set ss ts i s e =
     drop-set-lt (i + 1) ss i s (omega arith) ∙ sym (drop-drop 1 i ss) ∙ ap (drop 1) e
     ∙ drop-drop 1 i ts
 
--- the characters after each unit stay, where the unit that is put keeps those that were there: the
--- units from its place on are still the first ones
+-- The same for a unit that keeps the characters of the current units, which from its place on are
+-- still the first ones.
 pub keep_put : (os ns : List StoredUnit) (i : ℕ) (s d : StoredUnit) → i < length ns
     → KeepCharsAfter os ns
     → drop i ns ≡ drop i os

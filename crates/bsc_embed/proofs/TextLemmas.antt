@@ -1,4 +1,4 @@
--- Units in the storage of the caller's.
+-- The units of a text in the storage of the caller.
 use Rattle.std.proofs.Common.{◌≡◌, ◌⊎◌, inl, inr, ℕ, ◌≤◌, ◌<◌, ◌+◌, zero, suc, ◌&&◌, nat_le, Bool}
 use Rattle.std.proofs.Common.{true}
 use Rattle.std.proofs.Common.{false, refl, arith, List, [], ◌∷◌, ◌++◌, length, take, get_or, set}
@@ -58,7 +58,7 @@ units_step s (Some u) (Some vs) us e h f =
     let k : us ≡ u ∷ vs = cc in
     rw k (unit_is s u e, f vs refl)
 
--- what is there is units
+-- What is stored are units.
 pub units_are : (ss : List StoredUnit) (us : List TextUnit) → units_in ss ≡ Some us
     → AllByRecursion IsUnit us
 units_are [] us e =
@@ -78,7 +78,7 @@ outside n (inr l) = let t : nat_le n MAX_UNITS ≡ false = grind (arith, nat_tes
     and_false true = refl
     and_false false = refl
 
--- the units and the end are the text
+-- The units and the end are the text.
 pub text_here : (c : Content) (t : TextValue) → 0 < c.count → c.count ≤ MAX_UNITS → end_at c.end
     ≡ Some t.end
     → units_in (take c.count c.units) ≡ Some t.units
@@ -86,18 +86,18 @@ pub text_here : (c : Content) (t : TextValue) → 0 < c.count → c.count ≤ MA
 unfolding text_in
 text_here c t l m h k = rw (within c.count l m, h, k) refl
 
--- a count that is no count of a text's
+-- No text: the count is 0 or too large.
 pub text_not_counted : (c : Content) → (c.count ≡ 0) ⊎ (MAX_UNITS < c.count) → text_in c ≡ None
 unfolding text_in
 text_not_counted c h = rw (outside c.count h) refl
 
--- an end that ends no text
+-- No text: the end is wrong.
 pub text_not_ended : (c : Content) → 0 < c.count → c.count ≤ MAX_UNITS → end_at c.end ≡ None
     → text_in c ≡ None
 unfolding text_in
 text_not_ended c l m h = rw (within c.count l m, h) refl
 
--- a unit that is none
+-- No text: one of the units is wrong.
 pub text_not_unit : (c : Content) (e : End) (i : ℕ) (d : StoredUnit) → 0 < c.count → c.count
     ≤ MAX_UNITS
     → end_at c.end ≡ Some e → i < c.count → c.count ≤ length c.units
@@ -113,7 +113,7 @@ text_not_unit c e i d l m h j n k =
           (omega (arith, length-take c.count c.units)) at,
     ) refl
 
--- one unit more is put at the end
+-- One more unit is stored at the end.
 pub units_put : (ss : List StoredUnit) (us : List TextUnit) (i : ℕ) (s : StoredUnit) (u : TextUnit)
     → i < length ss
     → units_in (take i ss) ≡ Some (take i us) → unit_in s ≡ Some u → slice_get us i ≡ Some u
@@ -123,7 +123,7 @@ units_put ss us i s u l h k e =
     rw (take_more_set ss i s l, take_more us i u m, get_or_from_slice_get us i u u e)
     (units_push (take i ss) (take i us) s u h k)
 
--- one unit more is read
+-- One more unit is read.
 pub units_taken : (ss : List StoredUnit) (ls : List Lent) (i : ℕ) (d : StoredUnit) (u : Lent) → i
     < length ss
     → i < length ls
@@ -134,14 +134,14 @@ units_taken ss ls i d u l m h k =
     rw (take_more ss i d l, take_more_set ls i u m, map-append text_unit (take i ls) (u ∷ []))
     (units_push (take i ss) (map text_unit (take i ls)) (get_or ss i d) (text_unit u) h k)
 
--- at the end every unit is put
+-- At the end every unit is stored.
 pub units_all : (ss : List StoredUnit) (us : List TextUnit) (i n : ℕ) → i ≡ n → n ≡ length us
     → units_in (take i ss) ≡ Some (take i us) → units_in (take n ss) ≡ Some us
 units_all ss us i n e l h =
     let whole : take n us ≡ us = take_all n us (omega arith) in
     rw (← whole) (rw e at h)
 
--- at the end every unit is read
+-- At the end every unit is read.
 pub units_read : (ss : List StoredUnit) (ls : List Lent) (i n : ℕ) → i ≤ n → n ≤ i
     → units_in (take i ss) ≡ Some (map text_unit (take i ls))
     → units_in (take n ss) ≡ Some (map text_unit (take n ls))

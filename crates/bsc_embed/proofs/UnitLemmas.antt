@@ -1,4 +1,4 @@
--- A unit in the storage of the caller's.
+-- A unit in the storage of the caller.
 use Rattle.std.proofs.Common.{◌≡◌, ℕ, ◌≤◌, ◌&&◌, nat_le, Bool, true, false, cond, refl, arith, List}
 use Rattle.std.proofs.Common.{[], ◌∷◌}
 use Rattle.std.proofs.Common.{◌++◌, length, take, drop, Some, None, IsTrue, nat_lt, length-take}
@@ -39,7 +39,7 @@ em_put : (b : Bool) → nat_lt 0 (bool_byte b) ≡ b
 em_put true = refl
 em_put false = refl
 
--- the characters at the front and their count hold the unit
+-- The characters at the front and their number hold the unit.
 pub unit_put : (u : TextUnit) (before : List ℕ) → IsUnit u
     → unit_in (record {
       chars = u.chars ++ drop (length u.chars) before;
@@ -68,7 +68,7 @@ unit_of_front : (cs : List ℕ) (n : ℕ) (em : Bool) → n ≤ MAX_CHARS
 unit_of_front cs n em l p =
     record { most = omega (arith, length-take n cs); each = passed_all (take n cs) p }
 
--- what is there is a unit
+-- What is stored is a unit.
 pub unit_is : (s : StoredUnit) (u : TextUnit) → unit_in s ≡ Some u → IsUnit u
 unfolding unit_in
 unit_is s u e =

@@ -5,7 +5,7 @@ use Rattle.bsc_embed.specs.declared.kind.Kind.TheVariants.{Noise, Failed, Eot, C
 use Rattle.bsc_embed.specs.declared.kind.Kind.TheVariants.{Text}
 use Rattle.bsc_frame.specs.declared.reply.Reply.TheVariants.{Ack0, Ack1, Nak, Wack, Rvi}
 
--- The kind that a number of C's names (own).
+-- The kind with this number in C.
 abbrev pub kind_at : ℕ → Option Kind
 kind_at number =
     if number == 0 then Some Noise

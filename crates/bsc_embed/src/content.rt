@@ -1,4 +1,4 @@
-//! What a call or a text holds, in storage of fixed size that C declares.
+//! The content of a call or a text, in storage of fixed size that C declares.
 ghost use Rattle.std.specs.Prelude.{◌≡◌, Some, option_map, drop};
 ghost use Rattle.std.specs.List.{list_all};
 ghost use Rattle.bsc_octet.specs.Octet.{is_record_char as is_record_code};
@@ -16,39 +16,39 @@ use bsc_octet::is_record_char;
 #[repr(C)]
 #[derive(Clone, Copy)]
 pub struct StoredUnit {
-    /// The codes, of which the first `len` count.
+    /// The codes, of which only the first `len` count.
     pub chars: [u8; MAX_CHARS],
 
-    /// How many characters there are: 0 to 144.
+    /// The number of characters, 0 to 144.
     pub len: u8,
 
-    /// Whether EM follows the characters: not 0 where it does.
+    /// Whether EM follows the characters: 0 if it does not, else any other number.
     pub em: u8,
 }
 
-/// What a call or a text holds: `struct bsc_content` of `bsc.h`. C may put any octet into any
+/// The content of a call or a text: `struct bsc_content` of `bsc.h`. C may put any octet into any
 /// field.
 #[repr(C)]
 #[derive(Clone, Copy)]
 pub struct Content {
-    /// The units of a text, of which the first `count` count.
+    /// The units of a text, of which only the first `count` count.
     pub units: [StoredUnit; MAX_UNITS],
 
-    /// How many units the text has: 1 to 7.
+    /// The number of units of the text, 1 to 7.
     pub count: u8,
 
     /// The code of the character that ends the text: 0x17 for ETB, 0x03 for ETX.
     pub end: u8,
 
-    /// The codes of the address of a call, of which the first `address_len` count.
+    /// The codes of the address of a call, of which only the first `address_len` count.
     pub address: [u8; MAX_ADDRESS],
 
-    /// How many codes the address has: 1 to 7.
+    /// The number of codes of the address, 1 to 7.
     pub address_len: u8,
 }
 
 impl StoredUnit {
-    /// Puts the unit here.
+    /// Stores the unit here.
     fn put(&mut self, unit: Unit<'_>)
         requires { IsUnit (text_unit unit) }
         ensures unit { unit_in self.new ≡ Some (text_unit unit.entry) }
@@ -60,7 +60,7 @@ impl StoredUnit {
         self.em = unit.em as u8;
     }
 
-    /// The unit here, if it is one.
+    /// Returns the unit stored here, if it is one.
     #[tactic(auto, unfolding(crate::specs::Contents::unit_in))]
     fn unit(&self) -> Option<Unit<'_>>
         ensures { option_map text_unit result ≡ unit_in self.now }
@@ -80,7 +80,8 @@ impl StoredUnit {
     }
 }
 
-/// Whether each code is a record character. It looks at all of them, so that it is done by lanes.
+/// Returns whether each code is a record character. It does not stop at the first that is not, so
+/// that the compiler can use lanes.
 fn are_record_chars(codes: &[u8]) -> bool
     ensures { result ≡ list_all is_record_code codes.now }
 {
@@ -91,7 +92,7 @@ fn are_record_chars(codes: &[u8]) -> bool
     all
 }
 
-/// The character that ends a text, by its code.
+/// Returns the end of a text, by the code of its character.
 fn end_of(code: u8) -> Option<End>
     ensures { result ≡ end_at code }
 {
@@ -102,7 +103,7 @@ fn end_of(code: u8) -> Option<End>
     }
 }
 
-/// The code of the character that ends a text.
+/// Returns the code of the character that ends a text.
 fn end_code(end: End) -> u8
     ensures { end_at result ≡ Some end }
 {
@@ -113,7 +114,7 @@ fn end_code(end: End) -> u8
 }
 
 impl Content {
-    /// Puts the address here.
+    /// Stores the address here.
     pub(crate) fn put_address(&mut self, address: &Address)
         ensures address { address_in self.new ≡ Some address.now }
         ensures kept { KeepsRestOfCall self.old self.new }
@@ -123,7 +124,7 @@ impl Content {
         self.address_len = codes.len() as u8;
     }
 
-    /// The address here, if it is one.
+    /// Returns the address stored here, if it is one.
     #[tactic(auto, unfolding(crate::specs::Contents::address_in))]
     pub(crate) fn address(&self) -> Option<Address>
         ensures { result ≡ address_in self.now }
@@ -135,7 +136,7 @@ impl Content {
         Address::read(&self.address[..len]).ok()
     }
 
-    /// Puts the text here.
+    /// Stores the text here.
     pub(crate) fn put_text(&mut self, text: &Text)
         ensures text { text_in self.new ≡ Some text.now }
         ensures kept { KeepsRestOfText self.old self.new }
@@ -147,7 +148,8 @@ impl Content {
         self.end = end_code(text.end());
     }
 
-    /// The text here, if it is one. Its own function, since only here there must be room for units.
+    /// Returns the text stored here, if it is one. It is a separate function so that only this call
+    /// needs room for the units.
     #[inline(never)]
     pub(crate) fn text(&self) -> Option<Text>
         ensures { result ≡ text_in self.now }

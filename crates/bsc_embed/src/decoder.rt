@@ -9,7 +9,7 @@ ghost use Rattle.bsc_embed.specs.Decoded.{StandsFor, KeepsRest, KeepsRestOfHeard
 use crate::{Content, Kind};
 use bsc_frame::{Heard, Message, Short, decode, decode_short};
 
-/// Puts what the short message holds into the content, and gives its kind.
+/// Stores in the content what the short message holds, and returns its kind.
 fn put_short(short: &Short, content: &mut Content) -> Kind
     ensures left { StandsFor (heard_as short.now) result content.new }
     ensures kept { KeepsRestOfHeard (heard_as short.now) content.old content.new }
@@ -26,7 +26,8 @@ fn put_short(short: &Short, content: &mut Content) -> Kind
     }
 }
 
-/// Decodes what begins as a text. Its own function, since only here there must be room for a text.
+/// Decodes octets that begin as a text. It is a separate function so that only this call needs room
+/// for a text.
 #[inline(never)]
 fn decode_text(octets: &[u8], content: &mut Content) -> Kind
     requires { BeginsText octets.now }
@@ -45,7 +46,7 @@ fn decode_text(octets: &[u8], content: &mut Content) -> Kind
     }
 }
 
-/// Puts what the octets are heard as into the content, and gives its kind.
+/// Stores in the content what the octets are heard as, and returns its kind.
 #[inline(always)]
 fn decode_kind(octets: &[u8], content: &mut Content) -> Kind
     ensures { Tells octets.now result content.old content.new }
@@ -56,11 +57,11 @@ fn decode_kind(octets: &[u8], content: &mut Content) -> Kind
     }
 }
 
-/// What the octets are heard as, by the number of its kind: 0 where they are noise, 1 where they
-/// begin as a text and spell no message, else the number of the message that they spell. The
-/// address of a call and the units and the end of a text are put into the content; all else of it
-/// stays as it was (GA27-3004: control sequences, polling and selection, ITB blocks, VRC and LRC
-/// checking). For C `octets` is two arguments, a pointer and a length, as `bsc.h` declares them.
+/// Returns the number of the kind that the octets are heard as: 0 if they are noise, 1 if they
+/// begin as a text and spell no message, else the number of the message that they spell (GA27-3004:
+/// control sequences, polling and selection, ITB blocks, VRC and LRC checking). The address of a
+/// call, or the units and the end of a text, are stored in the content, and the rest of it is
+/// unchanged. In C `octets` is two arguments, a pointer and a length, as `bsc.h` declares them.
 #[unsafe(no_mangle)]
 pub extern "C" fn bsc_decode(octets: &[u8], content: &mut Content) -> u32
     ensures whole { (m : Message) → (message_in result content.new ≡ Some m) ↔ Spells octets.now m }

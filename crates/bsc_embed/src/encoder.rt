@@ -6,7 +6,7 @@ ghost use Rattle.bsc_embed.specs.Sent.{octets_within};
 use crate::{Content, Kind};
 use bsc_frame::{Message, Wire, encode};
 
-/// The message of this kind with this content, if it is one.
+/// Returns the message of this kind with this content, if it is one.
 #[tactic(auto, unfolding(crate::specs::Contents::message_in))]
 fn message_of(number: u32, content: &Content) -> Option<Message>
     ensures { result ≡ message_in number content.now }
@@ -21,10 +21,10 @@ fn message_of(number: u32, content: &Content) -> Option<Message>
     }
 }
 
-/// Puts the octets of the message of this kind with this content at the front of the buffer, and
-/// gives how many they are: at most 1,033. It gives 0, and the buffer stays as it was, where this
-/// is no message or the buffer is shorter (GA27-3004: control sequences, polling and selection, ITB
-/// blocks). For C `octets` is two arguments, a pointer and a length, as `bsc.h` declares them.
+/// Stores the octets of the message of this kind with this content at the front of the buffer, and
+/// returns their number, at most 1,033 (GA27-3004: control sequences, polling and selection, ITB
+/// blocks). Returns 0, and leaves the buffer unchanged, if this is no message or if the buffer is
+/// too short. In C `octets` is two arguments, a pointer and a length, as `bsc.h` declares them.
 #[unsafe(no_mangle)]
 pub extern "C" fn bsc_encode(kind: u32, content: &Content, octets: &mut [u8]) -> usize
     ensures count { result

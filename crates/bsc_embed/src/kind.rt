@@ -1,13 +1,14 @@
-//! What is sent or heard, by the numbers that C has for it.
+//! The kinds of what is sent or heard, by their numbers in C.
 ghost use Rattle.std.specs.Prelude.{◌≡◌, Some};
 
 use bsc_frame::Reply;
 
-/// What is heard, and from `Eot` on what is sent too: `enum bsc_kind` of `bsc.h`, whose numbers are
-/// the places in this list from 0 on, with each reply in the place of `Reply` (own).
+/// The kind of what is heard and, from `Eot` on, also of what is sent: `enum bsc_kind` of `bsc.h`.
+/// Its numbers are the places in this list, counted from 0, with the five replies in the place of
+/// `Reply`.
 #[derive(Clone, Copy, Debug, PartialEq, Eq)]
 pub enum Kind {
-    /// The octets are noise: they spell no message, and have not failed as a text.
+    /// The octets are noise: they spell no message, and did not fail as a text.
     Noise,
 
     /// The octets begin as a text and spell no message.
@@ -23,7 +24,7 @@ pub enum Kind {
 impl Kind {
     ghost use Rattle.bsc_embed.specs.Kinds.{kind_at};
 
-    /// The kind with this number, 0 to 10.
+    /// Returns the kind with this number, 0 to 10.
     pub(crate) fn numbered(number: u32) -> Option<Kind>
         ensures { result ≡ kind_at number }
     {
@@ -43,7 +44,7 @@ impl Kind {
         }
     }
 
-    /// Its number.
+    /// Returns the number of this kind.
     pub(crate) fn number(self) -> u32
         ensures { kind_at result ≡ Some self }
     {

@@ -1,8 +1,12 @@
-//! The decoder and the encoder for programs in C, with storage of the caller's: the functions of
-//! `embed/bsc.h`.
+//! The decoder and the encoder for programs in C, with storage that the caller provides: the
+//! functions of `embed/bsc.h`.
 //!
-//! C is held to no premise: a number, a length or a character out of its range is a case of the
-//! contract.
+//! The functions require nothing of their arguments except good pointers: a number, a length or a
+//! character out of its range is a case of the contract.
+//!
+//! The messages and their octets are those of GA27-3004, as `bsc_frame` has them. The numbers of
+//! the kinds, the layout of the storage, and what happens with wrong numbers or too little room are
+//! this project's own.
 #![tactic(auto)]
 
 mod content;

@@ -12,13 +12,13 @@ const ACK0: u32 = 5;
 
 const TEXT: u32 = 10;
 
-// The text of the units HELLO and WORLD, the last of its bid.
+// The text, ended by ETX, of the units HELLO and WORLD.
 const HELLO_WORLD: [u8; 19] = [
     0x16, 0x16, 0x02, 0xc8, 0x45, 0x4c, 0x4c, 0x4f, 0x19, 0x1f, 0xc4, 0x57, 0x4f, 0x52, 0x4c, 0xc4,
     0x19, 0x83, 0x58,
 ];
 
-// Storage that no one has set.
+// Storage that has not been set.
 fn no_content() -> Content {
     let unit = StoredUnit {
         chars: [0xee; 144],

@@ -1,5 +1,7 @@
-//! A cable whose connections are TCP connections of the loopback address, both ends in this
-//! process. It is a crate of its own since all else of the line does without sockets.
+//! A cable whose connections are TCP connections over the loopback address, with both ends in this
+//! process. It is a separate crate because everything else of the line works without sockets.
+//!
+//! GA27-3004 does not deal with sockets: all of this is this project's own.
 #![tactic(auto)]
 
 ghost use Rattle.std.specs.Prelude.{◌≡◌, ◌≤◌, length, IfOk, None};
@@ -12,19 +14,20 @@ use std::net::{Net, OpenListener, OpenStream, SocketAddr, TcpListener};
 use std::time::Duration;
 use thiserror::Error;
 
-/// How many seconds an end waits for octets, and for room for octets, before its read or write
-/// fails. What one end has written the other can read at once, so an end that waits this long waits
-/// for nothing. (Own.)
+/// How many seconds an end waits for octets, or for room for octets, before its read or write
+/// fails. What one end has written can be read at once at the other, so an end that waits this long
+/// waits for nothing.
 pub const TIME_OUT_SECONDS: u64 = 5;
 
-/// Why there are no connections.
+/// Why connections could not be made.
 #[derive(Clone, Copy, Debug, PartialEq, Eq, Error)]
 pub enum LoopbackError {
-    /// The system refused a socket or a setting of it, or another process connected in our place.
+    /// The system refused a socket or a setting of it, or another process connected in place of the
+    /// near end.
     #[error("cannot make the sockets")]
     Sockets,
 
-    /// A growth was refused.
+    /// Memory could not be allocated.
     #[error("out of memory")]
     Memory,
 }
@@ -51,10 +54,10 @@ impl<T: Drop> From<AllocFailed<T>> for LoopbackError {
     }
 }
 
-/// A cable of this many new connections, 1 to 64, over the loopback address. Each end sends its
-/// octets at once, and waits for `TIME_OUT_SECONDS` at most. `Sockets` comes where the system
-/// refuses a socket, as where too many files are open, or where the peer of an accepted connection
-/// is not our own end; `Memory` where a growth is refused. (Own.)
+/// Creates a cable of this many new connections, 1 to 64, over the loopback address. Each end sends
+/// its octets at once, and waits at most `TIME_OUT_SECONDS`. Fails with `Sockets` if the system
+/// refuses a socket, for example because too many files are open, or if the peer of an accepted
+/// connection is not the near end; fails with `Memory` if memory cannot be allocated.
 pub fn connect<R: Net, A: Allocator + Copy>(
     rt: &R,
     alloc: A,
@@ -77,7 +80,7 @@ pub fn connect<R: Net, A: Allocator + Copy>(
     Ok(Cable::new(control_ends, terminal_ends))
 }
 
-/// The two ends of a new connection.
+/// Returns the two ends of a new connection.
 fn connect_one<R: Net>(
     rt: &R,
     listener: &R::Listener,
@@ -93,7 +96,7 @@ fn connect_one<R: Net>(
     Ok((near, far))
 }
 
-/// Octets leave at once, and nothing waits without end.
+/// Makes an end send its octets at once, and limits how long its reads and writes wait.
 fn set_up<S: OpenStream>(end: &S) -> io::Result<()> {
     let time_out = Some(Duration::from_secs(TIME_OUT_SECONDS));
     end.set_nodelay(true)?;

@@ -1,4 +1,4 @@
--- Sums and parities over lanes.
+-- Exclusive or and parity of octets in lanes and chunks.
 use Rattle.std.proofs.Common.{◌≡◌, ℕ, zero, suc, ◌+◌, ◌*◌, ◌%◌, ◌/◌, ◌<◌, ◌≤◌, ◌==◌, cond, refl}
 use Rattle.std.proofs.Common.{sym, ap, ◌∙◌}
 use Rattle.std.proofs.Common.{arith, List, [], ◌∷◌, ◌++◌, bit_and, bit_xor, min, length, take}
@@ -28,7 +28,7 @@ pub with_bit_append : (i : ℕ) (xs ys : List ℕ) → with_bit i (xs ++ ys) ≡
     + with_bit i ys
 with_bit_append i xs ys = sum_by-append (λ x. cond (bit_at x i == 1) 1 0) xs ys
 
--- a bit is counted where it is 1
+-- What a bit counts is the bit itself.
 pub test_bit : (x i : ℕ) → cond (bit_at x i == 1) 1 0 ≡ bit_at x i
 test_bit x i = by_bit (bit_at x i) (bit_at-lt x i)
   where
@@ -37,7 +37,7 @@ test_bit x i = by_bit (bit_at x i) (bit_at-lt x i)
     by_bit (suc zero) l = refl
     by_bit (suc (suc b)) l = absurd (omega arith)
 
--- the exclusive or of all lanes
+-- The exclusive or of all lanes.
 pub fold_xor : (i a : ℕ) (xs : List ℕ) → bit_at (fold_l bit_xor a xs) i
     ≡ (bit_at a i + with_bit i xs) % 2
 fold_xor i a [] = omega (arith, bit_at-lt a i)
@@ -45,7 +45,7 @@ fold_xor i a (x ∷ xs) =
     fold_xor i (bit_xor a x) xs ∙ rw (bit_at_xor a x i, with_bit_cons i x xs, test_bit x i)
     (omega arith)
 
--- lane by lane
+-- The exclusive or of two lists, lane by lane.
 pub zip_xor : (i : ℕ) (xs ys : List ℕ) → length xs ≡ length ys
     → with_bit i (zip2 bit_xor xs ys) % 2 ≡ (with_bit i xs + with_bit i ys) % 2
 zip_xor i [] [] h = refl
@@ -102,7 +102,7 @@ and_fold a [] h p = h
 and_fold a (x ∷ xs) h p =
     and_fold (bit_and a x) xs (bit_at_and a x 0 ∙ rw (h, bit_at_lowest x, p.0) refl) p.1
 
--- from the test on the lanes, each of which is a count of ones
+-- From the test of the lanes, each of which is a count of ones, to the parity of the octets.
 pub odd_of : (f : ℕ → ℕ) → ((x : ℕ) → f x ≡ count_ones x) → (xs : List ℕ)
     → AllByRecursion (λ x. x % 2 ≡ 1) (map f xs) → AllByRecursion IsOdd xs
 odd_of f e [] h = tt
@@ -161,7 +161,7 @@ pub all_concat : (P : ℕ → Type 0) (cs : List (List ℕ)) → AllByRecursion 
 all_concat P [] h = tt
 all_concat P (c ∷ cs) h = all_append P c (concat cs) h.0 (all_concat P cs h.1)
 
--- both parts are odd_octet where the whole is
+-- A list has odd parity if its chunks and the rest have.
 pub odd_parts : (n k : ℕ) (xs : List ℕ) → k * n ≤ length xs
     → AllByRecursion (AllByRecursion IsOdd) (first_chunks n k xs)
     → AllByRecursion IsOdd (drop (k * n) xs)
@@ -170,7 +170,7 @@ odd_parts n k xs h c d =
     rw chunks_whole at (all_append IsOdd (concat (first_chunks n k xs)) (drop (k * n) xs)
     (all_concat IsOdd (first_chunks n k xs) c) d)
 
--- the two exclusive ors together
+-- The exclusive or of the chunks and that of the rest give the sum of the whole list.
 pub parts_xor : (n k t u : ℕ) (xs : List ℕ) → k * n ≤ length xs
     → ((i : ℕ) → bit_at t i ≡ with_bit i (concat (first_chunks n k xs)) % 2)
     → ((i : ℕ) → bit_at u i ≡ with_bit i (drop (k * n) xs) % 2)
@@ -182,7 +182,7 @@ parts_xor n k t u xs h c d = longitudinal_sum_from_xor (bit_xor t u) xs (λ i.
     ∙ with_bit_append i (concat (first_chunks n k xs)) (drop (k * n) xs) in
     bit_at_xor t u i ∙ rw (c i, d i, whole) (omega arith))
 
--- the parts that `as_chunks` gives
+-- The same for the parts that `as_chunks` returns.
 pub both_odd : (xs : List ℕ) (chunks : List (List ℕ)) (rest : List ℕ)
     → chunks ≡ first_chunks 32 (length xs / 32) xs → rest ≡ drop (length xs / 32 * 32) xs
     → AllByRecursion (AllByRecursion IsOdd) chunks → All IsOdd rest → All IsOdd xs

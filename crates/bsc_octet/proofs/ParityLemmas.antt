@@ -1,4 +1,4 @@
--- What `odd_octet` makes of a code, and which octets come from a code.
+-- What `odd_octet` makes of a code, and which octets carry a code.
 use Rattle.std.proofs.Common.{◌≡◌, ◌⊎◌, inl, inr, ℕ, zero, suc, ◌+◌, ◌-◌, ◌*◌, ◌^◌, ◌%◌, ◌<◌, ◌≤◌}
 use Rattle.std.proofs.Common.{◌==◌, cond}
 use Rattle.std.proofs.Common.{refl, sym, ap, ◌∙◌, arith, count_ones, Bool, true, false, Some, None}
@@ -8,7 +8,7 @@ use Rattle.std.proofs.lemmas.Bool.Decides.{nat_tests}
 use Rattle.std.specs.Int.Count.{ones-ones}
 use Rattle.bsc_octet.specs.Octet.{odd_octet, code_of, IsOdd}
 
--- the eighth bit is one more
+-- The eighth bit adds one to the number of ones.
 pub ones_high : (c : ℕ) → c < 128 → count_ones (c + 128) ≡ 1 + count_ones c
 ones_high c h =
     let e : c + 128 ≡ 1 * 2 ^ 7 + c = omega arith in
@@ -21,14 +21,14 @@ one_or_none c zero h = inr (refl, refl)
 one_or_none c (suc zero) h = inl (refl, refl)
 one_or_none c (suc (suc r)) h = absurd (omega arith)
 
--- a code is carried as it is, or with the eighth bit set
+-- A code is carried unchanged, or with the eighth bit set.
 pub odd_cases : (c : ℕ)
     → ((odd_octet c ≡ c) × (count_ones c % 2 ≡ 1))
     ⊎ ((odd_octet c ≡ c + 128) × (count_ones c % 2 ≡ 0))
 unfolding odd_octet
 odd_cases c = one_or_none c (count_ones c % 2) (omega arith)
 
--- the code is the low seven bits of its octet
+-- The code is the low seven bits of its octet.
 pub odd_octet_low : (c : ℕ) → c < 128 → odd_octet c % 128 ≡ c
 odd_octet_low c h = elim (odd_cases c) [ inl e ↦ omega arith | inr e ↦ omega arith ]
 
@@ -39,7 +39,7 @@ is_odd_odd_octet c h =
       | inr e ↦ rw (e.0, ones_high c h) (omega arith)
     ]
 
--- an octet with odd parity carries its low seven bits
+-- An octet with odd parity carries its low seven bits.
 pub odd_of_low : (o : ℕ) → o < 256 → IsOdd o → odd_octet (o % 128) ≡ o
 odd_of_low o h p = by_size (cases_lt o 128)
   where
@@ -54,7 +54,7 @@ odd_of_low o h p = by_size (cases_lt o 128)
         ap count_ones (sym back) ∙ ones_high (o - 128) (omega arith) in
         elim (odd_cases (o - 128)) [ inl k ↦ absurd (omega arith) | inr k ↦ rw e (k.0 ∙ back) ]
 
--- from_line finds the code of an octet
+-- The code of an octet with odd parity.
 pub code_of_odd : (o : ℕ) → o < 256 → IsOdd o → code_of o ≡ Some (o % 128)
 code_of_odd o h p = rw (eq-eqb (odd_octet (o % 128)) o (odd_of_low o h p)) refl
 
@@ -65,7 +65,7 @@ code_of_even o n =
     let fails : (odd_octet (o % 128) == o) ≡ false = grind (arith, nat_tests, differs) in
     rw fails refl
 
--- an octet that has a code is the one that carries it
+-- An octet that has a code is the octet that carries it.
 pub code_of_some : (o c : ℕ) → code_of o ≡ Some c → (c < 128) × (odd_octet c ≡ o)
 code_of_some o c e = by_test (odd_octet (o % 128) == o) refl e
   where

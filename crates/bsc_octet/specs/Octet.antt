@@ -8,21 +8,21 @@ use Rattle.std.specs.Int.{bit_at}
 abbrev pub IsOdd : ℕ → Type 0
 IsOdd octet = count_ones octet % 2 ≡ 1
 
--- The octet that carries a code below 128: the one of the code and the code plus 128 that has an
--- odd number of ones (GA27-3004: vertical redundancy checking).
+-- The octet that carries a code below 128: the code or the code plus 128, whichever has an odd
+-- number of ones (GA27-3004: vertical redundancy checking).
 unfoldable pub odd_octet : ℕ → ℕ
 odd_octet c = if count_ones c % 2 == 1 then c else c + 128
 
--- The code that an octet carries: the one whose odd octet it is, and none at even parity.
+-- The code that an octet carries, or none if its parity is even.
 abbrev pub code_of : ℕ → Option ℕ
 code_of octet = if odd_octet (octet % 128) == octet then Some (octet % 128) else None
 
--- How many members of a list have bit i.
+-- The number of members of a list that have bit i.
 abbrev pub with_bit : ℕ → List ℕ → ℕ
 with_bit i s = count_by (λ x. bit_at x i == 1) s
 
--- The longitudinal sum of a list: the number whose bit i, 0 to 6, is 1 exactly where an odd number
--- of the members have bit i (GA27-3004: longitudinal redundancy checking).
+-- The longitudinal sum of a list: the number whose bit i, 0 to 6, is 1 exactly if an odd number of
+-- the members have bit i (GA27-3004: longitudinal redundancy checking).
 unfoldable pub longitudinal_sum : List ℕ → ℕ
 longitudinal_sum s =
     with_bit 0 s % 2
@@ -37,6 +37,6 @@ longitudinal_sum s =
 abbrev pub controls : List ℕ
 controls = 1 ∷ 2 ∷ 3 ∷ 4 ∷ 5 ∷ 16 ∷ 21 ∷ 22 ∷ 23 ∷ 25 ∷ 31 ∷ []
 
--- A character that may stand in a record: any code but these eleven (own).
+-- A character that a record may hold: any code but these eleven.
 unfoldable pub is_record_char : ℕ → Bool
 is_record_char c = nat_lt c 128 && not (list_any (λ k. c == k) controls)

@@ -1,8 +1,12 @@
 //! Characters of seven bits on a line of octets: odd parity (VRC), the longitudinal sum (LRC), and
 //! the characters that a record may hold.
 //!
-//! Every other crate stands on this one: a transmission is a list of octets, and what it carries is
-//! a list of codes from 0x00 to 0x7f.
+//! All other crates of the line are built on this one: a transmission is a list of octets, and it
+//! carries a list of codes from 0x00 to 0x7f.
+//!
+//! Odd parity, the longitudinal sum and the control characters are those of GA27-3004. That a
+//! record may hold every other character, and that a check character is sent with odd parity, is
+//! this project's own.
 #![tactic(auto)]
 
 mod lanes;

@@ -6,8 +6,8 @@ ghost use Rattle.bsc_octet.specs.Octet.{IsOdd, code_of, odd_octet};
 
 use crate::lanes::are_odd;
 
-/// The octet that carries the code: the one of `code` and `code + 0x80` with an odd number of ones.
-/// `None` from 0x80 up (GA27-3004: USASCII with odd parity).
+/// Returns the octet that carries the code: `code` or `code + 0x80`, whichever has an odd number of
+/// ones. Returns `None` if `code` is 0x80 or above (GA27-3004: USASCII with odd parity).
 #[tactic(auto, unfolding(crate::specs::Octet::odd_octet))]
 pub fn to_line(code: u8) -> Option<u8>
     ensures value { result ≡ (if nat_lt code 128 then Some (odd_octet code) else None) }
@@ -25,7 +25,8 @@ pub fn to_line(code: u8) -> Option<u8>
     }
 }
 
-/// The code that the octet carries, 0x00 to 0x7f. `None` at even parity (GA27-3004: a VRC error).
+/// Returns the code that the octet carries, 0x00 to 0x7f, or `None` if its parity is even
+/// (GA27-3004: a VRC error).
 #[tactic(auto, using(crate::proofs::ParityLemmas::code_of_even))]
 pub fn from_line(octet: u8) -> Option<u8>
     ensures value { result ≡ code_of octet }
@@ -39,7 +40,7 @@ pub fn from_line(octet: u8) -> Option<u8>
     }
 }
 
-/// Whether every octet has odd parity; so it is of no octets.
+/// Returns whether every octet has odd parity; true if there are none.
 pub fn all_odd(octets: &[u8]) -> bool
     ensures { IsTrue result ↔ All IsOdd octets.now }
 {
@@ -50,7 +51,7 @@ pub fn all_odd(octets: &[u8]) -> bool
     rest_is_odd(rest)
 }
 
-/// Whether every octet after the last whole chunk has odd parity.
+/// Returns whether every octet after the last whole chunk has odd parity.
 fn rest_is_odd(octets: &[u8]) -> bool
     ensures { IsTrue result ↔ All IsOdd octets.now }
 {

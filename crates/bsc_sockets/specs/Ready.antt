@@ -1,18 +1,18 @@
--- The order in which places are served (own).
+-- The order in which places are served.
 use Rattle.std.specs.Prelude.{◌≡◌, ◌∷◌, ◌++◌, ◌==◌, [], List, ℕ, Option, None, Some, if◌then◌else◌}
 use Rattle.std.specs.Prelude.{not, filter}
 use Rattle.std.specs.List.{list_any}
 
--- these places, and this one as the last unless it is one of them
+-- These places, followed by this one unless it is one of them.
 abbrev pub with_place : List ℕ → ℕ → List ℕ
 with_place places place =
     if list_any (λ other. other == place) places then places else (places ++ place ∷ [])
 
--- these places but this one
+-- These places without this one.
 abbrev pub without_place : List ℕ → ℕ → List ℕ
 without_place places place = filter (λ other. not (other == place)) places
 
--- the first place is served and goes to the end; with no place none is served
+-- The first place is served and becomes the last; if there are no places none is served.
 abbrev pub IsServed : List ℕ → Option ℕ → List ℕ → Type 0
 IsServed [] served after = (served ≡ None) × (after ≡ [])
 IsServed (place ∷ rest) served after = (served ≡ Some place) × (after ≡ rest ++ place ∷ [])

@@ -1,4 +1,4 @@
-//! How connections begin.
+//! Makes the first connections of a station.
 
 ghost use Rattle.std.specs.Prelude.{◌≡◌, ◌<◌, ◌^◌, ◌+◌, [], false, length, IfOk, IsNone, OnOk};
 
@@ -16,17 +16,18 @@ use std::time::{Clock, Duration};
 /// Sockets with a connection at each of their places.
 #[derive(Drop)]
 pub struct Begun<'a, N: Net + Clock, A: Allocator> {
-    /// What waits for them.
+    /// The sockets, which wait for the connections.
     pub sockets: Sockets<'a, N, A>,
 
-    /// The two directions of each, by place.
+    /// The two directions of each connection, by place.
     pub connections: Vec<(Reading, Writing<'a, N, A>), A>,
 }
 
-/// One connection, to a peer that listens at this address; of a host with several addresses at the
-/// first one that answers. `Address` comes where the text is no address, `NobodyThere` where the
-/// peer refuses, cannot be reached, or has not answered in this time, `Sockets` where the system
-/// refuses what the connection needs, and `Memory` where a growth is refused. (Own.)
+/// Connects to a peer that listens at this address; of a host with several addresses, to the first
+/// that answers. Fails with `Address` if the text is not an address, with `NobodyThere` if no
+/// address gives a connection, for example because the peer refuses, cannot be reached, or does not
+/// answer within `patience`, with `Sockets` if the system refuses what else the connection needs,
+/// and with `Memory` if memory cannot be allocated.
 pub fn connect<'a, N: Net + Clock, A: Allocator + Copy>(
     runtime: &'a N,
     alloc: A,
@@ -42,7 +43,7 @@ pub fn connect<'a, N: Net + Clock, A: Allocator + Copy>(
     Ok(begun)
 }
 
-/// A stream to the first of the addresses that answers.
+/// Returns a stream to the first of the addresses that answers.
 fn first_answer<N: Net + Clock, A: Allocator + Copy>(
     runtime: &N,
     alloc: A,
@@ -58,7 +59,7 @@ fn first_answer<N: Net + Clock, A: Allocator + Copy>(
     Err(SocketsError::NobodyThere)
 }
 
-/// A stream to the peer at this address.
+/// Returns a stream to the peer at this address.
 fn connect_to<N: Net + Clock, A: Allocator>(
     runtime: &N,
     writable: &mut Writable<A>,
@@ -73,11 +74,11 @@ fn connect_to<N: Net + Clock, A: Allocator>(
     }
 }
 
-/// A connection for each of this many peers, in the order in which they connect. `NobodyConnected`
-/// comes where one has not done so in this time, counted from the one before it, `Sockets` where
-/// the system refuses what a connection needs, and `Memory` where a growth is refused. Where it
-/// keeps listening, a further peer is a newcomer; else the system refuses it. Condition: there are
-/// fewer than 65,536 peers. (Own.)
+/// Takes a connection from each of this many peers, fewer than 65,536, in the order in which they
+/// connect. Fails with `NobodyConnected` if a peer does not connect within `patience`, which begins
+/// anew for each, with `Sockets` if the system refuses what a connection needs, and with `Memory`
+/// if memory cannot be allocated. If it keeps listening, a further peer is a newcomer; else the
+/// system refuses that peer.
 pub fn listen<'a, N: Net + Clock, A: Allocator + Copy>(
     runtime: &'a N,
     alloc: A,
@@ -98,7 +99,7 @@ pub fn listen<'a, N: Net + Clock, A: Allocator + Copy>(
 }
 
 impl<'a, N: Net + Clock, A: Allocator + Copy> Begun<'a, N, A> {
-    /// This many places, at none of which there is a connection yet.
+    /// Creates this many places, none of which has a connection yet.
     fn new(
         runtime: &'a N,
         alloc: A,
@@ -115,7 +116,7 @@ impl<'a, N: Net + Clock, A: Allocator + Copy> Begun<'a, N, A> {
         })
     }
 
-    /// Makes this stream the connection at this place, which is the next one.
+    /// Makes this stream the connection at this place, which must be the next one.
     fn add(&mut self, place: usize, stream: TcpStream) -> Result<(), SocketsError>
         ensures { OnOk result
             (length self.new.connections.items ≡ length self.old.connections.items + 1) }
@@ -125,7 +126,7 @@ impl<'a, N: Net + Clock, A: Allocator + Copy> Begun<'a, N, A> {
         Ok(())
     }
 
-    /// Makes each of this many peers a connection, and keeps listening or not.
+    /// Takes a connection from each of this many peers, and then keeps listening or stops.
     fn take_peers(
         &mut self,
         listening: Listening,
@@ -146,7 +147,7 @@ impl<'a, N: Net + Clock, A: Allocator + Copy> Begun<'a, N, A> {
         Ok(())
     }
 
-    /// Makes each of the next peers that connect, up to this many, a connection.
+    /// Takes a connection from each of the next peers that connect, up to this many.
     fn add_peers(&mut self, peers: usize, patience: Duration) -> Result<(), SocketsError>
         requires { self.old.connections.items ≡ [] }
         ensures { OnOk result (length self.new.connections.items ≡ peers) }

@@ -12,8 +12,8 @@ use std::net::Net;
 use std::time::{Clock, Duration};
 use std::{io, net};
 
-/// What arrives on a connection. A read waits for nothing: it answers `WouldBlock` where nothing is
-/// there, and 0 where the peer has ended the connection.
+/// What arrives on a connection. A read does not wait: it fails with `WouldBlock` if there is
+/// nothing to read, and returns 0 if the peer has ended the connection.
 #[derive(Drop)]
 pub struct Reading {
     pub(crate) stream: TcpStream,
@@ -25,8 +25,8 @@ impl Read for Reading {
     }
 }
 
-/// What is sent on a connection. Where the system has no room for octets, a write waits until it
-/// has, and answers `TimedOut` where the time-out has passed.
+/// What is sent on a connection. If the system has no room for octets, a write waits until it has,
+/// and fails with `TimedOut` when the time-out has passed.
 #[derive(Drop)]
 pub struct Writing<'a, C: Clock, A: Allocator> {
     pub(crate) stream: TcpStream,
@@ -67,7 +67,7 @@ impl<'a, C: Clock, A: Allocator> Writing<'a, C, A> {
     }
 }
 
-/// The two directions of the connection that this stream is.
+/// Returns the two directions of the connection of this stream.
 pub(crate) fn directions<'a, N: Net + Clock, A: Allocator + Copy>(
     runtime: &'a N,
     alloc: A,
@@ -85,7 +85,7 @@ pub(crate) fn directions<'a, N: Net + Clock, A: Allocator + Copy>(
     Ok((Reading { stream: arriving }, writing))
 }
 
-/// The stream twice, so that each direction has one.
+/// Returns two handles of the stream, one for each direction.
 fn twice(stream: TcpStream) -> io::Result<(TcpStream, TcpStream)> {
     stream.set_nodelay(true)?;
     let stream = net::TcpStream::from(stream);

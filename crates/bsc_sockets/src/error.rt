@@ -1,14 +1,14 @@
-//! Why there are no connections.
+//! Why connections could not be made.
 
 use std::alloc::{AllocError, AllocFailed};
 use std::error::Error;
 use std::fmt::{Display, Formatter, Write};
 use std::{fmt, io};
 
-/// Why there are no connections (own).
+/// Why connections could not be made.
 #[derive(Clone, Copy, Debug, PartialEq, Eq)]
 pub enum SocketsError {
-    /// The text is no address of a host and a port, or the host's name is not known.
+    /// The text is not an address of a host and a port, or the name of the host is not known.
     Address,
 
     /// Another process listens at this address.
@@ -20,13 +20,13 @@ pub enum SocketsError {
     /// No peer listens at this address: it refused, cannot be reached, or did not answer in time.
     NobodyThere,
 
-    /// Fewer peers than are wanted have connected in time.
+    /// A peer did not connect in time.
     NobodyConnected,
 
-    /// The system refused a socket or a setting of it.
+    /// The system refused a socket, a setting of it, or to wait for it.
     Sockets,
 
-    /// A growth was refused.
+    /// Memory could not be allocated.
     Memory,
 }
 

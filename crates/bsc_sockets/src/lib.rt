@@ -1,11 +1,15 @@
-//! TCP connections of a station, and the waiting for them. It stands at the edge: it is the
-//! `bsc_connections::Waiter` over sockets of this machine, in one thread, by the system's readiness
-//! reports, and knows nothing of transmissions.
+//! The TCP connections of a station, and how it waits for them: the `bsc_connections::Waiter` over
+//! the sockets of this machine, in one thread, by the readiness reports of the system. It knows
+//! nothing of transmissions.
 //!
 //! - `Listening` is an address that is bound; `listen` waits there for a number of peers.
 //! - `connect` makes one connection to a peer that listens.
 //! - `Sockets` waits for octets, for a further peer, or until a time has passed.
-//! - `Reading` and `Writing` are the two directions of a connection. Neither waits without end.
+//! - `Reading` and `Writing` are the two directions of a connection. A read does not wait, and a
+//!   write waits no longer than the time-out.
+//!
+//! The time-outs are those of GA27-3004. Everything about sockets, the gap between transmissions
+//! and the order in which connections are served is this project's own.
 #![tactic(auto)]
 
 mod begin;

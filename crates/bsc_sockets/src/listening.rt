@@ -5,17 +5,17 @@ use mio::net::TcpListener;
 use std::io::ErrorKind;
 use std::net::{Net, SocketAddr, ToSocketAddrs};
 
-/// An address that is bound, and at which the system takes peers.
+/// An address that is bound, at which the system accepts peers.
 #[derive(Drop)]
 pub struct Listening {
     pub(crate) listener: TcpListener,
 }
 
 impl Listening {
-    /// Listens at this address, a host and a port as `127.0.0.1:2780`; of a host with several
-    /// addresses at the first one that can be bound. With the port 0 the system picks one.
-    /// `Address` comes where the text is no address, `AddressInUse` where another process listens
-    /// there, and `CannotListen` for all else that the system has against it.
+    /// Listens at this address, a host and a port such as `127.0.0.1:2780`; of a host with several
+    /// addresses, at the first that can be bound. With port 0 the system chooses a port. Fails with
+    /// `Address` if the text is not an address. If no address can be bound, fails with
+    /// `AddressInUse` if another process listens at the last of them, else with `CannotListen`.
     pub fn bind<N: Net>(runtime: &N, address: &str) -> Result<Listening, SocketsError> {
         let mut why = SocketsError::Address;
         for address in addresses(runtime, address)? {
@@ -30,13 +30,14 @@ impl Listening {
         Err(why)
     }
 
-    /// The address and port at which it listens. `Sockets` comes where the system does not tell.
+    /// Returns the address and port at which it listens. Fails with `Sockets` if the system does
+    /// not tell them.
     pub fn address(&self) -> Result<SocketAddr, SocketsError> {
         Ok(self.listener.local_addr()?)
     }
 }
 
-/// The addresses that the text names.
+/// Returns the addresses that the text names.
 pub(crate) fn addresses<N: Net>(
     runtime: &N,
     address: &str,

@@ -8,8 +8,8 @@ use std::alloc::{AllocError, Allocator};
 use std::collections::VecDeque;
 use std::marker::Model;
 
-/// The places that something has arrived at, in the order in which they are served: a place that
-/// was served goes to the end, so that none has to wait while another is served twice. (Own.)
+/// The places at which something has arrived, in the order in which they are served. A place that
+/// is served goes to the end, so that none waits while another is served twice.
 #[derive(Drop)]
 pub(crate) struct Ready<A: Allocator> {
     places: VecDeque<usize, A>,
@@ -22,7 +22,7 @@ impl<A: Allocator> Model for Ready<A> {
 }
 
 impl<A: Allocator> Ready<A> {
-    /// No place is ready. There is room for this many places without a further growth.
+    /// Creates a list of no places, with room for this many without further allocation.
     pub fn new(alloc: A, room: usize) -> Result<Ready<A>, AllocError>
         ensures { IfOk result (λ ready. ready ≡ []) }
     {
@@ -30,7 +30,8 @@ impl<A: Allocator> Ready<A> {
         Ok(Ready { places })
     }
 
-    /// Something has arrived at this place. It is served last, unless it is to be served already.
+    /// Records that something has arrived at this place. It is served last, unless it is in the
+    /// list already.
     pub fn set(&mut self, place: usize) -> Result<(), AllocError>
         ensures ok { OnOk result (self.new ≡ with_place self.old place) }
         ensures err { OnErr result (self.new ≡ self.old) }
@@ -41,14 +42,14 @@ impl<A: Allocator> Ready<A> {
         Ok(())
     }
 
-    /// Nothing is left at this place, which is served no more until it is set again.
+    /// Records that nothing is left at this place. It is not served until it is set again.
     pub fn clear(&mut self, place: usize)
         ensures { self.new ≡ without_place self.old place }
     {
         self.places.retain(|ready| *ready != place);
     }
 
-    /// The place to be served now, which is then the last; None where no place is ready.
+    /// Returns the place to be served now, which then becomes the last; None if no place is ready.
     pub fn next_place(&mut self) -> Option<usize>
         ensures { IsServed self.old result self.new }
     {

@@ -1,4 +1,4 @@
-//! The waiting for all connections of a station.
+//! Waits for all connections of a station.
 
 ghost use Rattle.std.specs.Prelude.{◌≡◌, ◌<◌, ◌^◌, ◌↔◌, IfOk, IfSome, IsNone, IsSome, IsTrue};
 ghost use Rattle.bsc_sockets.specs.Answers.{IsAnswer};
@@ -16,26 +16,28 @@ use std::io::ErrorKind;
 use std::net::Net;
 use std::time::{Clock, Duration};
 
-/// How many answers are given in turn before the system is asked what else has arrived, so that a
-/// peer that never stops does not hide another one. (Own.)
+/// The most places served in turn before the system is asked what else has arrived, so that a peer
+/// that never stops sending does not hide another one.
 const MAX_ANSWERS_UNASKED: usize = 16;
 
-/// For how long is waited (GA27-3004, time-outs).
+/// How long a station waits.
 #[derive(Clone, Copy, Debug, PartialEq, Eq)]
 pub struct Settings {
-    /// After this time with nothing a station is told of a silence. A write waits no longer either.
+    /// The time-out (GA27-3004, time-outs): a station is told of a silence when nothing arrives for
+    /// this time. A write also waits no longer.
     pub time_out: Duration,
 
-    /// A transmission without a length ends where nothing follows it for this time (own).
+    /// The gap: a transmission that does not state its length ends when nothing follows for this
+    /// time.
     pub gap: Duration,
 
-    /// Whether the first wait with nothing there answers at once that the time has passed, so that
-    /// a control station makes its first call without delay.
+    /// Whether the first wait, if nothing has arrived, returns at once that the time has passed, so
+    /// that a control station makes its first call without delay.
     pub begins: bool,
 }
 
-/// The sockets of a station that has a number of places for connections, and perhaps listens for
-/// peers. The listener's place in the order of what is ready is the one after the connections'.
+/// The sockets of a station: a number of places for connections, and a listener if there is one. In
+/// the order of what is ready the listener has the place after those of the connections.
 #[derive(Drop)]
 pub struct Sockets<'a, N: Net + Clock, A: Allocator> {
     runtime: &'a N,
@@ -43,17 +45,17 @@ pub struct Sockets<'a, N: Net + Clock, A: Allocator> {
     poll: Poll,
     events: Events<A>,
     ready: Ready<A>,
-    /// How many places for connections there are.
+    /// The number of places for connections.
     places: usize,
     listener: Option<TcpListener>,
     /// A peer that has connected and has no place yet.
     newcomer: Option<TcpStream>,
     settings: Settings,
-    /// How many answers were given since the system was asked.
+    /// The number of places served since the system was last asked.
     unasked: usize,
 }
 
-/// What is looked for among what is ready.
+/// What is sought among what is ready.
 #[derive(Clone, Copy)]
 pub(crate) enum Sought {
     /// A peer, or octets.
@@ -64,7 +66,7 @@ pub(crate) enum Sought {
 }
 
 impl<'a, N: Net + Clock, A: Allocator + Copy> Sockets<'a, N, A> {
-    /// This many places, with no connection and no listener.
+    /// Creates this many places, with no connection and no listener.
     pub(crate) fn new(
         runtime: &'a N,
         alloc: A,
@@ -87,7 +89,7 @@ impl<'a, N: Net + Clock, A: Allocator + Copy> Sockets<'a, N, A> {
         })
     }
 
-    /// From now on takes peers that connect there.
+    /// Accepts peers that connect at this address from now on.
     pub(crate) fn take_peers_of(&mut self, listening: Listening) -> Result<(), SocketsError> {
         let mut listener = listening.listener;
         self.poll
@@ -97,7 +99,7 @@ impl<'a, N: Net + Clock, A: Allocator + Copy> Sockets<'a, N, A> {
         Ok(())
     }
 
-    /// Takes no further peer: the system refuses it.
+    /// Accepts no further peer; the system refuses it.
     pub(crate) fn stop_listening(&mut self)
         ensures listener { IsNone self.new.listener }
         ensures newcomer { IsNone self.new.newcomer }
@@ -124,7 +126,7 @@ impl<'a, N: Net + Clock, A: Allocator + Copy> Sockets<'a, N, A> {
         Ok((reading, writing))
     }
 
-    /// What is sought and happens first, within this time.
+    /// Returns the first event that is sought, or `TimeOut` if none happens within this time.
     pub(crate) fn within(&mut self, time: Duration, sought: Sought) -> Result<Awaited, LiveError>
         ensures { IfOk result (IsAnswer self.new.places self.new.newcomer) }
     {
@@ -137,7 +139,7 @@ impl<'a, N: Net + Clock, A: Allocator + Copy> Sockets<'a, N, A> {
         }
     }
 
-    /// What is sought and happens first, within this time, once the system was asked again.
+    /// As `within`, but asks the system first.
     fn asked_within(&mut self, time: Duration, sought: Sought) -> Result<Awaited, LiveError>
         ensures { IfOk result (IsAnswer self.new.places self.new.newcomer) }
     {
@@ -158,7 +160,7 @@ impl<'a, N: Net + Clock, A: Allocator + Copy> Sockets<'a, N, A> {
         Ok(Awaited::TimeOut)
     }
 
-    /// What is left of a time.
+    /// Returns what is left of a time.
     fn left(&self, limit: TimeLimit) -> Result<Duration, LiveError> {
         match limit.left(self.runtime) {
             Ok(left) => Ok(left),
@@ -166,7 +168,7 @@ impl<'a, N: Net + Clock, A: Allocator + Copy> Sockets<'a, N, A> {
         }
     }
 
-    /// What is sought among what is ready.
+    /// Returns what is sought if it is ready.
     fn found(&mut self, sought: Sought) -> Option<Awaited>
         ensures { IfSome result (IsAnswer self.new.places self.new.newcomer) }
     {
@@ -177,7 +179,8 @@ impl<'a, N: Net + Clock, A: Allocator + Copy> Sockets<'a, N, A> {
         }
     }
 
-    /// What is served now. Each place is looked at once, the listener's too.
+    /// Returns what is to be served now. It takes the ready places in turn, including that of the
+    /// listener, and no more of them than there are places.
     fn next_ready(&mut self) -> Option<Awaited>
         ensures { IfSome result (IsAnswer self.new.places self.new.newcomer) }
     {
@@ -194,7 +197,8 @@ impl<'a, N: Net + Clock, A: Allocator + Copy> Sockets<'a, N, A> {
         None
     }
 
-    /// Whether a peer has connected that has no place yet. It is kept.
+    /// Returns whether there is a peer that has connected and has no place yet, and keeps that
+    /// peer.
     fn has_newcomer(&mut self) -> bool
         ensures { IsTrue result ↔ IsSome self.new.newcomer }
     {
@@ -210,7 +214,7 @@ impl<'a, N: Net + Clock, A: Allocator + Copy> Sockets<'a, N, A> {
                 self.newcomer = Some(stream);
                 true
             }
-            // The peer has gone before it was taken, and another may wait.
+            // The peer left before it was accepted; another one may be waiting.
             Err(error) if error.kind() == ErrorKind::ConnectionAborted => false,
             Err(_) => {
                 self.ready.clear(self.places);
@@ -219,7 +223,7 @@ impl<'a, N: Net + Clock, A: Allocator + Copy> Sockets<'a, N, A> {
         }
     }
 
-    /// Asks the system what has arrived, and waits until something has, or the time has passed.
+    /// Asks the system what has arrived, and waits until something has or the time has passed.
     fn ask(&mut self, time: Duration) -> Result<(), LiveError> {
         self.unasked = 0;
         if self.poll.poll(&mut self.events, Some(time)).is_err() {
@@ -231,7 +235,7 @@ impl<'a, N: Net + Clock, A: Allocator + Copy> Sockets<'a, N, A> {
         }
     }
 
-    /// The next peer that connects, within this time.
+    /// Returns the next peer that connects within this time.
     pub(crate) fn next_peer(&mut self, patience: Duration) -> Result<TcpStream, SocketsError> {
         match self.within(patience, Sought::Newcomer) {
             Ok(_) => match self.newcomer.take() {
@@ -243,7 +247,8 @@ impl<'a, N: Net + Clock, A: Allocator + Copy> Sockets<'a, N, A> {
         }
     }
 
-    /// The peer that has connected, at this place.
+    /// Makes the peer that has connected the connection at this place, and returns its two
+    /// directions.
     pub(crate) fn open_newcomer(
         &mut self,
         place: usize,
@@ -258,7 +263,7 @@ impl<'a, N: Net + Clock, A: Allocator + Copy> Sockets<'a, N, A> {
     }
 }
 
-/// Something has arrived at the place of each event.
+/// Records that something has arrived at the place of each event.
 fn set_all<A: Allocator, B: Allocator>(
     ready: &mut Ready<A>,
     events: &Events<B>,

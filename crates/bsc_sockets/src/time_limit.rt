@@ -1,9 +1,9 @@
-//! A time that is waited at most.
+//! A limit on the time of a wait.
 
 use std::io;
 use std::time::{Clock, Duration, Instant};
 
-/// A time that is waited at most, from its begin on.
+/// A limit on the time of a wait, counted from its beginning.
 #[derive(Clone, Copy)]
 pub(crate) struct TimeLimit {
     begun: Instant,
@@ -11,13 +11,13 @@ pub(crate) struct TimeLimit {
 }
 
 impl TimeLimit {
-    /// This time, from now on.
+    /// Starts a limit of this time.
     pub(crate) fn begin<C: Clock>(clock: &C, time: Duration) -> io::Result<TimeLimit> {
         let begun = Instant::now(clock)?;
         Ok(TimeLimit { begun, time })
     }
 
-    /// What is left of it; zero where it has passed.
+    /// Returns what is left of the time; zero if it has passed.
     pub(crate) fn left<C: Clock>(&self, clock: &C) -> io::Result<Duration> {
         Ok(self.time.saturating_sub(self.begun.elapsed(clock)?))
     }

@@ -1,4 +1,4 @@
-//! The wait for one socket that octets can be written to.
+//! Waits until octets can be written to one socket.
 
 use crate::SocketsError;
 use crate::time_limit::TimeLimit;
@@ -10,8 +10,8 @@ use std::io::ErrorKind;
 use std::net::Net;
 use std::time::{Clock, Duration};
 
-/// Waits until a socket is connected, or has room for octets. Its set of sockets is a set of its
-/// own, so that no report of what arrives is taken from the waiting for all connections.
+/// Waits until a socket is connected, or has room for octets. It has its own set of sockets, so
+/// that it takes no report from the wait for all connections.
 #[derive(Drop)]
 pub(crate) struct Writable<A: Allocator> {
     poll: Poll,
@@ -27,8 +27,8 @@ impl<A: Allocator + Copy> Writable<A> {
 }
 
 impl<A: Allocator> Writable<A> {
-    /// Waits until the system reports this socket, which it also does where the connection has
-    /// failed. `TimedOut` comes where it has not done so in this time.
+    /// Waits until the system reports this socket, which it also does if the connection has failed.
+    /// Fails with `TimedOut` if that does not happen within this time.
     pub(crate) fn wait<C: Clock>(
         &mut self,
         clock: &C,
@@ -43,7 +43,7 @@ impl<A: Allocator> Writable<A> {
         waited
     }
 
-    /// Waits for the socket that is registered. A wait that a signal has ended goes on.
+    /// Waits for the socket that is registered. A wait that a signal interrupts is continued.
     fn wait_registered<C: Clock>(&mut self, clock: &C, time: Duration) -> io::Result<()> {
         let limit = TimeLimit::begin(clock, time)?;
         let mut left = time;

@@ -5,8 +5,7 @@ use Rattle.std.proofs.lemmas.List.{drop-drop, length-drop}
 use Rattle.bsc_block.specs.Format.{FormatValue, IsFormat}
 use Rattle.bsc_block.specs.Blocks.{blocks, taken, AreShort, IsTaken}
 
--- what one more block leaves: it takes some of the records from this place on, and there is one
--- block less
+-- One more block takes some of the records from this place on, and leaves one block less.
 pub record TakesOne (f : FormatValue) (rs : List (List ℕ)) (at k : ℕ) : Type 0 where
   pub inside : at + k ≤ length rs
   pub some : 1 ≤ k

@@ -8,7 +8,7 @@ use Rattle.bsc_block.specs.Blocks.{taken, IsTaken}
 use Rattle.bsc_spool.specs.declared.queue.Next.{Next}
 use Rattle.bsc_spool.specs.Queue.{QueueValue, waiting, next_after, next_block, IsNext}
 
--- the next block of these waiting records
+-- The next block of these waiting records.
 record IsAfter (f : FormatValue) (rs : List (List ℕ)) (n : Next) : Type 0 where
   pub count : n.count ≡ taken f rs
   pub last : n.end ≡ Etx → n.count ≡ length rs

@@ -1,4 +1,4 @@
--- An offer keeps a queue.
+-- A queue stays a queue after an offer.
 use Rattle.std.proofs.Common.{◌≡◌, ℕ, ◌+◌, ◌≤◌, List, [], ◌∷◌, ◌++◌, length, arith}
 use Rattle.std.proofs.lemmas.List.{length-append}
 use Rattle.bsc_block.specs.Blocks.{AreShort}

@@ -1,4 +1,4 @@
--- What contracts see of a queue, and which block of it is sent next (own).
+-- What contracts see of a queue, and which block of it is sent next.
 use Rattle.std.specs.Prelude.{◌≡◌, ℕ, ◌+◌, ◌<◌, ◌≤◌, nat_eq, if◌then◌else◌, List, [], ◌∷◌, ◌++◌}
 use Rattle.std.specs.Prelude.{length, drop, Option, None, Some}
 use Rattle.bsc_frame.specs.declared.limits.TheConstants.{MAX_UNITS}
@@ -7,8 +7,8 @@ use Rattle.bsc_block.specs.Format.{FormatValue, IsFormat}
 use Rattle.bsc_block.specs.Blocks.{AreShort, taken}
 use Rattle.bsc_spool.specs.declared.queue.Next.{Next}
 
--- The format that blocks are made in, the records that were offered in order, and how many of them
--- are known to have been delivered.
+-- The format of the blocks, the records that were offered, in order, and how many of them are known
+-- to have been delivered.
 pub record QueueValue : Type 0 where
   pub format : FormatValue
   pub offered : List (List ℕ)
@@ -17,27 +17,26 @@ pub record QueueValue : Type 0 where
 abbrev pub queue_of : FormatValue → List (List ℕ) → ℕ → QueueValue
 queue_of f rs k = record { format = f; offered = rs; known = k }
 
--- No more records are known than were offered, and none of these is longer than the full length.
+-- No more records are known than were offered, and none is longer than the full length.
 pub record IsQueue (q : QueueValue) : Type 0 where
   pub format : IsFormat q.format
   pub known : q.known ≤ length q.offered
   pub short : AreShort q.format.full q.offered
 
--- The queue with one record more at its end.
+-- The queue with one more record at its end.
 abbrev pub with_offered : QueueValue → List ℕ → QueueValue
 with_offered q r = queue_of q.format (q.offered ++ r ∷ []) q.known
 
--- The queue with k records more known.
+-- The queue with k more known records.
 abbrev pub with_known : QueueValue → ℕ → QueueValue
 with_known q k = queue_of q.format q.offered (q.known + k)
 
--- The waiting records: those past the known ones.
+-- The waiting records: those after the known ones.
 abbrev pub waiting : QueueValue → List (List ℕ)
 waiting q = drop q.known q.offered
 
--- The next block of waiting records: how many it takes, and Etx where these are all, else Etb
--- (GA27-3004: ETB ends a block that others follow, ETX the last one; how blocks are cut is own).
--- None where none waits.
+-- The next block of waiting records: how many it takes, and Etx if these are all that wait, else
+-- Etb (GA27-3004: ETB ends a block that others follow, ETX the last one). None if no record waits.
 abbrev pub next_after : FormatValue → List (List ℕ) → Option Next
 next_after f [] = None
 next_after f (r ∷ rs) =
@@ -50,8 +49,8 @@ next_after f (r ∷ rs) =
 abbrev pub next_block : QueueValue → Option Next
 next_block q = next_after q.format (waiting q)
 
--- What a next block is: as many of the waiting records as fit, 1 to 7 of them, and Etx exactly
--- where these are all.
+-- What a next block is: as many of the waiting records as fit, 1 to 7 of them. If it ends with Etx
+-- these are all that wait, and if it ends with Etb there are more.
 pub record IsNext (q : QueueValue) (n : Next) : Type 0 where
   pub count : n.count ≡ taken q.format (waiting q)
   pub some : 1 ≤ n.count

@@ -1,5 +1,5 @@
-//! Laws over the definitions, each the contract of a function that does no work, for the layers
-//! above: what the next block of a queue is, and what keeps a queue.
+//! Laws over the definitions, each the contract of a function that does nothing, for the layers
+//! above: what the next block of a queue is, and what preserves a queue.
 ghost use Rattle.std.specs.Prelude.{◌≡◌, ◌≤◌, ◌↔◌, ℕ, List, [], Some, None, length};
 ghost use Rattle.bsc_spool.specs.Queue.{QueueValue, waiting, next_block, with_offered, with_known};
 ghost use Rattle.bsc_spool.specs.Queue.{IsQueue, IsNext};
@@ -7,10 +7,9 @@ ghost use Rattle.bsc_spool.specs.declared.queue.Next.{Next};
 
 use bsc_block::laws::cut_into_blocks;
 
-/// The next block of a queue is none exactly where no record waits, else it takes 1 to 7 waiting
-/// records and ends with `Etx` exactly where these are all. What holds of a queue holds of it after
-/// an offer of a record that is not longer than the full length, and after waiting records are
-/// known.
+/// A queue has no next block exactly if no record waits. Otherwise the next block takes 1 to 7
+/// waiting records, and ends with `Etx` exactly if these are all that wait. A queue stays a queue
+/// when a record no longer than the full length is offered, and when waiting records become known.
 pub fn next_blocks()
     ensures none { (q : QueueValue) → (next_block q ≡ None) ↔ (waiting q ≡ []) }
     ensures some { (q : QueueValue) (n : Next) → IsQueue q → next_block q ≡ Some n → IsNext q n }

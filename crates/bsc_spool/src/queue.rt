@@ -1,4 +1,4 @@
-//! The sending end of a channel. A record stays in its queue after it was delivered, so that what
+//! The sending end of a channel. A record stays in its queue after it is delivered, so that what
 //! was offered can be compared with what was spooled.
 ghost use Rattle.std.specs.Prelude.{◌≡◌, ◌≤◌, [], length, take, nat_eq, not, IsTrue, ◌↔◌, Some};
 ghost use Rattle.std.specs.Prelude.{IfSome, IfErr, OnOk, OnErr};
@@ -13,20 +13,20 @@ use bsc_frame::{End, Message};
 use std::alloc::Allocator;
 use std::marker::Model;
 
-/// What the next block is: how many records it takes, and the character that ends it.
+/// The next block: how many records it takes, and the character that ends it.
 #[derive(Clone, Copy, Debug, PartialEq, Eq)]
 pub struct Next {
-    /// How many of the waiting records it takes: 1 to 7.
+    /// The number of waiting records that it takes, 1 to 7.
     pub count: usize,
 
-    /// ETX where these are all, else ETB.
+    /// ETX if these are all that wait, else ETB.
     pub end: End,
 }
 
-/// The records that were offered, and how many of them are known to have been delivered (own).
+/// The records that were offered, and how many of them are known to have been delivered.
 #[derive(Drop)]
 pub struct Queue<A: Allocator> {
-    /// How the records become blocks.
+    /// The format of the blocks.
     format: Format,
 
     /// The records that were offered, the delivered ones first.
@@ -47,7 +47,7 @@ impl<A: Allocator> Model for Queue<A> {
 }
 
 impl<A: Allocator> Queue<A> {
-    /// An empty queue. It takes no memory.
+    /// Creates an empty queue. It does not allocate memory.
     pub fn new(alloc: A, format: Format) -> Self
         ensures { result ≡ queue_of format [] 0 }
     {
@@ -58,8 +58,8 @@ impl<A: Allocator> Queue<A> {
         }
     }
 
-    /// Adds the record, which is not longer than the full length, at the end. It comes back where
-    /// there is no memory for it, and then nothing changed.
+    /// Adds a record, no longer than the full length, at the end. Returns the record if there is no
+    /// memory for it; the queue is then unchanged.
     pub fn offer(&mut self, record: Record) -> Result<(), Record>
         requires { length «record» ≤ self.old.format.full }
         ensures ok { OnOk result (self.new ≡ with_offered self.old «record») }
@@ -72,7 +72,7 @@ impl<A: Allocator> Queue<A> {
         }
     }
 
-    /// The records that were offered, the delivered ones first.
+    /// Returns the records that were offered, the delivered ones first.
     pub fn offered(&self) -> &[Record]
         ensures value { result.now ≡ self.now.offered }
         ensures queue { IsQueue self.now }
@@ -80,7 +80,7 @@ impl<A: Allocator> Queue<A> {
         self.records.as_slice()
     }
 
-    /// How many of the offered records are known to have been delivered.
+    /// Returns how many of the offered records are known to have been delivered.
     pub fn known(&self) -> usize
         ensures value { result ≡ self.now.known }
         ensures queue { IsQueue self.now }
@@ -88,7 +88,8 @@ impl<A: Allocator> Queue<A> {
         self.known
     }
 
-    /// Whether records wait: more were offered than are known to have been delivered. (Own.)
+    /// Returns whether records wait: whether more were offered than are known to have been
+    /// delivered.
     pub fn has_waiting(&self) -> bool
         ensures value { result ≡ not (nat_eq (length (waiting self.now)) 0) }
         ensures some { IsTrue result ↔ (1 ≤ length (waiting self.now)) }
@@ -96,9 +97,9 @@ impl<A: Allocator> Queue<A> {
         self.records.len() > self.known
     }
 
-    /// The next block of the waiting records, which are those past the known ones: `Etx` where it
-    /// takes all of them, else `Etb`. `None` where no record waits. (GA27-3004: ETB and ETX; how
-    /// blocks are cut is own.)
+    /// Returns the next block of the waiting records, that is, of those after the known ones: `Etx`
+    /// if it takes all of them, else `Etb` (GA27-3004: ETB and ETX). Returns `None` if no record
+    /// waits.
     pub fn next(&self) -> Option<Next>
         ensures value { result ≡ next_block self.now }
         ensures next { IfSome result (λ n. IsNext self.now n) }
@@ -116,7 +117,7 @@ impl<A: Allocator> Queue<A> {
         Some(Next { count, end })
     }
 
-    /// How many blocks the waiting records make: 0 where no record waits.
+    /// Returns the number of blocks that the waiting records make; 0 if no record waits.
     pub fn blocks(&self) -> usize
         ensures value { result ≡ length (blocks self.now.format (waiting self.now)) }
         ensures few { result ≤ length (waiting self.now) }
@@ -131,8 +132,8 @@ impl<A: Allocator> Queue<A> {
         count
     }
 
-    /// Leaves the text of the first `count` waiting records, with this end, in `message`, whatever
-    /// that had: 1 to 7 records, not more than wait.
+    /// Puts the text of the first `count` waiting records, with this end, into `message`, whatever
+    /// was there. `count` is 1 to 7, and at most the number of waiting records.
     pub fn text(&self, count: usize, end: End, message: &mut Option<Message>)
         requires some { 1 ≤ count }
         requires few { count ≤ MAX_UNITS }
@@ -149,7 +150,8 @@ impl<A: Allocator> Queue<A> {
         );
     }
 
-    /// Counts the first `count` waiting records as delivered. They are not more than wait.
+    /// Records that the first `count` waiting records were delivered. `count` is at most the number
+    /// of waiting records.
     pub fn mark(&mut self, count: usize)
         requires { count ≤ length (waiting self.old) }
         ensures { self.new ≡ with_known self.old count }

@@ -1,5 +1,5 @@
-//! The receiving end of a channel. Room is made before a text is accepted, so that a text which was
-//! accepted is stored whole.
+//! The receiving end of a channel. Room is made before a text is accepted, so that every accepted
+//! text is stored whole.
 ghost use Rattle.std.specs.Prelude.{◌≡◌, [], ◌++◌, true, false};
 ghost use Rattle.bsc_spool.specs.Spool.{room_asked};
 
@@ -8,13 +8,13 @@ use bsc_frame::limits::MAX_UNITS;
 use std::alloc::Allocator;
 use std::marker::Model;
 
-/// The records that arrived, and the room that was made for more (own).
+/// The records that arrived, and the room for more.
 #[derive(Drop)]
 pub struct Spool<A: Allocator> {
     /// The records that arrived, in order.
     records: Vec<Record, A>,
 
-    /// How often room was refused, up to the greatest number. No call reads it: only contracts do.
+    /// How often room was refused, at most 2^64 - 1. Only contracts read it.
     delays: u64,
 }
 
@@ -33,7 +33,7 @@ impl<A: Allocator> Model for Spool<A> {
 }
 
 impl<A: Allocator> Spool<A> {
-    /// An empty spool. It takes no memory, so it has no room yet.
+    /// Creates an empty spool. It does not allocate memory, so it has no room yet.
     pub fn new(alloc: A) -> Self
         ensures records { result.records ≡ [] }
         ensures room { result.room ≡ false }
@@ -45,8 +45,8 @@ impl<A: Allocator> Spool<A> {
         }
     }
 
-    /// Makes room for seven more records. Where it is there nothing is asked for; false where the
-    /// growth was refused, and then only the count of delays changed.
+    /// Makes room for seven more records, without allocating if there is room already. Returns
+    /// false if there is no memory; then only the count of refusals changes.
     pub fn make_room(&mut self) -> bool
         ensures answer { self.new ≡ room_asked self.old result }
         ensures there { self.old.room ≡ true → result ≡ true }
@@ -60,14 +60,14 @@ impl<A: Allocator> Spool<A> {
         }
     }
 
-    /// Whether there is room for seven more records.
+    /// Returns whether there is room for seven more records.
     pub fn has_room(&self) -> bool
         ensures { result ≡ self.now.room }
     {
         self.records.len() + MAX_UNITS <= self.records.capacity()
     }
 
-    /// Appends the records of a text. There is room for seven; it takes no memory.
+    /// Appends the records of a text. There must be room for seven records; no memory is allocated.
     pub fn store(&mut self, block: &Block)
         requires { self.old.room ≡ true }
         ensures records { self.new.records ≡ self.old.records ++ block.now }
@@ -81,7 +81,7 @@ impl<A: Allocator> Spool<A> {
         }
     }
 
-    /// The records that arrived, in order.
+    /// Returns the records that arrived, in order.
     pub fn records(&self) -> &[Record]
         ensures { result.now ≡ self.now.records }
     {

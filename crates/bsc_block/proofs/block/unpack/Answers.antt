@@ -1,3 +1,4 @@
+-- The loop of `unpack` keeps the characters of each unit that holds a record.
 use Rattle.std.proofs.Common.{arith, sym, ◌∙◌}
 use Rattle.std.proofs.lemmas.List.{map_push, length_push}
 use Rattle.bsc_frame.specs.Units.{text_unit}

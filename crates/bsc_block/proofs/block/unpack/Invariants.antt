@@ -1,3 +1,4 @@
+-- The loop invariant of `unpack`.
 use Rattle.std.proofs.Common.{◌≡◌, ◌≤◌, length, map, take}
 use Rattle.std.specs.List.{AllByRecursion}
 use Rattle.bsc_block.specs.Records.{IsRecord}

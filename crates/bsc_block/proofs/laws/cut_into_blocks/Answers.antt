@@ -1,3 +1,4 @@
+-- How waiting records are divided into blocks, from the lemmas about the next block.
 use Rattle.std.proofs.Common.{length, ◌≤◌}
 use Rattle.bsc_block.specs.Blocks.{taken}
 use Rattle.bsc_octet.proofs.Elements.{all_drop}

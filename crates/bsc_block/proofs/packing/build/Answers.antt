@@ -1,3 +1,4 @@
+-- The loop of `build` writes the unit of each record.
 use Rattle.std.proofs.Common.{◌≡◌, ◌+◌, ◌++◌, [], ◌∷◌, arith, map, take, set, refl}
 use Rattle.std.proofs.lemmas.List.{take_more, take_more_set, map_push, length-set}
 use Rattle.bsc_frame.specs.Texts.{IsUnit}
@@ -6,7 +7,7 @@ use Rattle.bsc_block.specs.Blocks.{unit_of}
 use Rattle.bsc_octet.proofs.Elements.{all_append}
 use Rattle.bsc_block.proofs.packing.build.Goals as goal
 
--- the units after one more was written
+-- The units after one more is written.
 built : (c : goal.After-unit)
     → map text_unit (take (c.loop-place.place + 1)
     (set c.loop-place.units c.loop-place.place c.unit.result))

@@ -1,3 +1,4 @@
+-- `pack` stops at the greatest number of records that a block takes.
 use Rattle.std.proofs.Common.{◌≡◌, inl, inr, ◌+◌, arith, ◌∙◌, refl}
 use Rattle.bsc_block.specs.Blocks.{front_cost, IsTaken}
 use Rattle.bsc_block.proofs.Fronts.{front_cost_more}

@@ -1,3 +1,4 @@
+-- The loop invariant of `pack`.
 use Rattle.std.proofs.Common.{◌≡◌, ◌≤◌}
 use Rattle.bsc_block.specs.Blocks.{front_cost}
 use Rattle.bsc_block.proofs.packing.pack.Given as goal

@@ -1,3 +1,4 @@
+-- `advance` takes octets up to the end of a record, and stops at a wrong length.
 use Rattle.std.proofs.Common.{◌≡◌, ◌+◌, ◌≤◌, ◌<◌, ℕ, List, ◌++◌, length, take, drop, sym}
 use Rattle.std.proofs.Common.{take-append-drop, ap, ◌∙◌, subst, arith}
 use Rattle.std.proofs.lemmas.List.{take_rest, length-drop}
@@ -9,7 +10,7 @@ use Rattle.bsc_carrier.proofs.Gathering.{TakesTwice, joined, within, wrong_alone
 use Rattle.bsc_carrier.proofs.Gathering.{exhausted}
 use Rattle.bsc_carrier.proofs.assembler.advance.Goals as goal
 
--- octets whose first two spell how many follow are a record
+-- Octets of which the first two state the number of the others are a record.
 whole_record : (new : List ℕ) → to_be_bytes w16 (length (drop 2 new)) ≡ take 2 new → new
     ≡ socket_record (drop 2 new)
 whole_record new spelled = sym (take-append-drop 2 new) ∙ ap (λ l. l ++ drop 2 new) (sym spelled)

@@ -1,3 +1,4 @@
+-- `carry_at` changes the two ends at its place, and returns each result when it is due.
 use Rattle.std.proofs.Common.{ℕ, List, refl, ap, ◌∙◌, subst, Option, Result, Ok, Err}
 use Rattle.std.specs.Result.{OnOk}
 use Rattle.std.specs.Io.KnownBytes.{Appends}

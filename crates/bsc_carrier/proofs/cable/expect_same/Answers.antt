@@ -1,3 +1,4 @@
+-- The loop of `expect_same` reads at every end.
 use Rattle.std.proofs.Common.{arith}
 use Rattle.bsc_carrier.proofs.Places.{AllZip-from_places}
 use Rattle.bsc_carrier.proofs.cable.expect_same.Goals as goal

@@ -1,9 +1,10 @@
+-- The loop invariant of `expect_same`.
 use Rattle.std.proofs.Common.{◌≡◌, ℕ, ◌<◌, ◌≤◌, get_or}
 use Rattle.std.specs.Io.KnownBytes.{Consumes}
 use Rattle.bsc_carrier.specs.Record.{socket_record}
 use Rattle.bsc_carrier.proofs.cable.expect_same.Given as goal
 
--- the ends so far gave the record, and the others are as they were
+-- The record is read at the ends below the index, and the others are unchanged.
 abbrev pub invariant-ends : goal.invariant-ends
 invariant-ends g l =
     let remaining = g.S.Read.remaining in

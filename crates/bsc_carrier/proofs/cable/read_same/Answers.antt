@@ -1,3 +1,4 @@
+-- `read_same` reads the same record at every end; each error has its cause.
 use Rattle.std.proofs.Common.{subst, drop}
 use Rattle.std.proofs.lemmas.Result.{err_from_is_err_and}
 use Rattle.std.specs.List.{AllZip, Any}

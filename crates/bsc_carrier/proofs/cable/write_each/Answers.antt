@@ -1,3 +1,4 @@
+-- The loop of `write_each` writes at every end.
 use Rattle.std.proofs.Common.{arith}
 use Rattle.bsc_carrier.proofs.Places.{AllZip-from_places}
 use Rattle.bsc_carrier.proofs.cable.write_each.Goals as goal

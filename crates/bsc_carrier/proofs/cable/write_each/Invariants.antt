@@ -1,9 +1,10 @@
+-- The loop invariant of `write_each`.
 use Rattle.std.proofs.Common.{◌≡◌, ℕ, ◌<◌, ◌≤◌, get_or}
 use Rattle.std.specs.Io.KnownBytes.{Appends}
 use Rattle.bsc_carrier.specs.Record.{socket_record}
 use Rattle.bsc_carrier.proofs.cable.write_each.Given as goal
 
--- the ends so far have the record, and the others are as they were
+-- The record is written at the ends below the index, and the others are unchanged.
 abbrev pub invariant-ends : goal.invariant-ends
 invariant-ends g l =
     let contents = g.S.Write.contents in

@@ -1,3 +1,4 @@
+-- The pieces of a stream do not matter, from the lemmas about splitting it.
 use Rattle.std.proofs.Common.{◌++◌, sym, ap, subst}
 use Rattle.std.specs.List.{concat}
 use Rattle.bsc_carrier.specs.Front.{IsPartial}

@@ -1,3 +1,4 @@
+-- The loop of `assemble` reads exactly one record, or less if it fails.
 use Rattle.std.proofs.Common.{◌≡◌, ◌<◌, ◌≤◌, ◌++◌, [], length, take, drop, sym, ap, subst}
 use Rattle.std.proofs.Common.{arith, append-nil}
 use Rattle.std.proofs.lemmas.List.{length-take, length-take-le, take-append-le}

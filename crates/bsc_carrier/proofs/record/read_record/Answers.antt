@@ -1,3 +1,4 @@
+-- Each result of `read_record` is returned exactly when it is due.
 use Rattle.std.proofs.lemmas.Result.{err_from_is_err_and}
 use Rattle.bsc_carrier.proofs.Answered.{answered, failed_read}
 use Rattle.bsc_carrier.proofs.record.read_record.Goals as goal

@@ -1,3 +1,4 @@
+-- The loop of `attend` extends the history by one step at a time.
 use Rattle.std.proofs.Common.{[], refl}
 use Rattle.bsc_connections.specs.Attending.{ended}
 use Rattle.bsc_connections.proofs.Attendance.{one_step, step_first}

@@ -1,10 +1,11 @@
+-- The loop invariant of `attend`.
 use Rattle.std.specs.Prelude.{List}
 use Rattle.bsc_connections.specs.Histories.{Happening}
 use Rattle.bsc_connections.specs.Connections.{ConnectionValue}
 use Rattle.bsc_connections.specs.Attending.{Attended, Attends}
 use Rattle.bsc_connections.proofs.attending.attend.Given as goal
 
--- however it is attended from here on, it is attended so from the start
+-- Any sequence of steps from the current state extends to one from the state at the call.
 abbrev pub invariant-steps : goal.invariant-steps
 invariant-steps g l =
     (history : List Happening) (last : Attended g.row.S.Denot

@@ -1,3 +1,4 @@
+-- `hear_at` sends what the station answers to the transmission it heard, or nothing.
 use Rattle.std.proofs.Common.{ℕ, List, ◌∷◌, get_or, refl, subst}
 use Rattle.std.proofs.lemmas.Option.{slice_get-get_or}
 use Rattle.std.specs.List.{AllZip}

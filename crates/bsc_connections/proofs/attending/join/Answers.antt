@@ -1,3 +1,4 @@
+-- `join` puts a new connection in the first place that is free.
 use Rattle.std.proofs.Common.{◌≡◌, ◌≢◌, ℕ, Option, None, Some, [], ◌∷◌, slice_set, inr, refl, sym}
 use Rattle.std.proofs.Common.{◌∙◌, subst}
 use Rattle.std.proofs.lemmas.Option.{slice_get-get_or}

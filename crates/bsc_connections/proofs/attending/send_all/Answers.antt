@@ -1,3 +1,4 @@
+-- The loop of `send_all` sends on every connection.
 use Rattle.std.proofs.Common.{arith}
 use Rattle.bsc_connections.specs.Connections.{Sends}
 use Rattle.bsc_connections.proofs.Places.{none_passed, one_passed}

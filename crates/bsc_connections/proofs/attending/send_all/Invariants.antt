@@ -1,8 +1,9 @@
+-- The loop invariant of `send_all`.
 use Rattle.bsc_connections.specs.Connections.{Sends}
 use Rattle.bsc_connections.proofs.Places.{IsPassed}
 use Rattle.bsc_connections.proofs.attending.send_all.Given as goal
 
--- the connections so far have sent it, and the others are as they were
+-- The connections below the index have sent the transmission, and the others are unchanged.
 abbrev pub invariant-connections : goal.invariant-connections
 invariant-connections g l =
     IsPassed (Sends g.W.Write.contents g.F.Framing.framed l.octets) l.fn.connections l.connections

@@ -1,3 +1,4 @@
+-- `take_at` reads from the connection at its place.
 use Rattle.std.proofs.Common.{refl, inl, arith, ◌<◌, length}
 use Rattle.std.proofs.lemmas.Option.{slice_get-get_or}
 use Rattle.bsc_connections.proofs.attending.take_at.Goals as goal

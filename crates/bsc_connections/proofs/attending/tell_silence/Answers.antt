@@ -1,3 +1,4 @@
+-- `tell_silence` sends what the station answers to a silence, or nothing.
 use Rattle.std.proofs.Common.{ℕ, List, ◌∷◌, refl, subst}
 use Rattle.std.specs.List.{AllZip}
 use Rattle.bsc_connections.specs.Connections.{Sends}

@@ -1,3 +1,4 @@
+-- If a connection awaits a gap, `time_out` ends its transmission and the station hears it.
 use Rattle.std.proofs.Common.{◌≡◌, ℕ, Bool, true, Option, Some, get_or, refl, sym, ◌∙◌, subst}
 use Rattle.std.proofs.lemmas.Option.{slice_get-get_or}
 use Rattle.std.proofs.lemmas.List.Quantifiers.{position-Some}

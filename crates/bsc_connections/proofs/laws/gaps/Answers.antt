@@ -1,3 +1,4 @@
+-- What a gap ends, from the lemmas about pieces that arrive without a gap.
 use Rattle.std.proofs.Common.{ap}
 use Rattle.bsc_connections.specs.Framings.{GapsValue}
 use Rattle.bsc_connections.proofs.Gathered.{ends_all, counted_all, bounded_all}

@@ -1,3 +1,4 @@
+-- Over socket records, the connections of every session carry what its history has.
 use Rattle.bsc_carrier.specs.Record.{socket_record}
 use Rattle.bsc_connections.specs.Streams.{GivesRecords}
 use Rattle.bsc_connections.proofs.Sessions.{carries_history}

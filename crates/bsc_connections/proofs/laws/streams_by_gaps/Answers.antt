@@ -1,3 +1,4 @@
+-- Over gaps, the connections of every session carry what its history has.
 use Rattle.bsc_connections.specs.Framings.{GapsValue, Gathers, EndsAtGap}
 use Rattle.bsc_connections.specs.Streams.{GivesByGaps}
 use Rattle.bsc_connections.proofs.Sessions.{carries_history}

@@ -1,3 +1,4 @@
+-- The loop invariant of `are_record_chars`.
 use Rattle.std.proofs.Common.{◌≡◌, take}
 use Rattle.std.specs.List.{list_all}
 use Rattle.bsc_octet.specs.Octet.{is_record_char}

@@ -1,3 +1,4 @@
+-- What holds of the kind holds of its number.
 use Rattle.std.proofs.Common.{◌∙◌, sym}
 use Rattle.bsc_embed.proofs.HeardLemmas.{by_kind, failed_number, noise_number}
 use Rattle.bsc_embed.proofs.decoder.bsc_decode.Goals as goal

@@ -1,3 +1,4 @@
+-- `decode_text` tells a text or a failure, since nothing else begins as a text.
 use Rattle.std.proofs.Common.{◌∙◌, ap, refl}
 use Rattle.bsc_frame.specs.declared.message.Message.TheVariants.{Text}
 use Rattle.bsc_frame.specs.declared.message.Heard.TheVariants.{Whole, Failed}

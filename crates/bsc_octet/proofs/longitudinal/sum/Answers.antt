@@ -1,3 +1,4 @@
+-- The exclusive or of the chunks and that of the rest give the longitudinal sum.
 use Rattle.std.proofs.Common.{arith, length, ◌/◌}
 use Rattle.bsc_octet.proofs.LaneLemmas.{parts_xor}
 use Rattle.bsc_octet.proofs.longitudinal.sum.Goals as goal

@@ -1,3 +1,4 @@
+-- The loop of `xor_of_rest` adds one octet at a time.
 use Rattle.std.proofs.Common.{arith, take, ◌≡◌}
 use Rattle.std.proofs.lemmas.List.{take_all}
 use Rattle.bsc_octet.proofs.SumLemmas.{xor_more}

@@ -1,3 +1,4 @@
+-- The loop invariant of `xor_of_rest`.
 use Rattle.std.proofs.Common.{◌≡◌, ℕ, ◌%◌, take}
 use Rattle.std.specs.Int.{bit_at}
 use Rattle.bsc_octet.specs.Octet.{with_bit}

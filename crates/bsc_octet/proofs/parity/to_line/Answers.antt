@@ -1,3 +1,4 @@
+-- The octet that `to_line` returns with the eighth bit set has odd parity.
 use Rattle.std.proofs.Common.{arith}
 use Rattle.bsc_octet.proofs.ParityLemmas.{ones_high}
 use Rattle.bsc_octet.proofs.parity.to_line.Goals as goal

@@ -1,3 +1,4 @@
+-- The next block of a queue takes 1 to 7 waiting records, and has the right end.
 use Rattle.bsc_spool.specs.Queue.{waiting}
 use Rattle.bsc_spool.proofs.NextBlock.{next_block_is_next}
 use Rattle.bsc_spool.proofs.laws.next_blocks.Goals as goal

@@ -1,3 +1,4 @@
+-- The codes that `read` accepts are a record.
 use Rattle.std.proofs.Common.{◌∙◌, sym, arith}
 use Rattle.bsc_octet.specs.Octet.{is_record_char}
 use Rattle.bsc_octet.proofs.Elements.{none_fails}

@@ -1,3 +1,5 @@
+-- `down` writes at all ends of one side and reads at all ends of the other; each error has its
+-- cause.
 use Rattle.std.proofs.Common.{length, refl, sym, ap, ◌∙◌, subst}
 use Rattle.std.proofs.lemmas.Result.{err_from_is_err_and}
 use Rattle.std.specs.Prelude.{IfErr}

@@ -1,3 +1,4 @@
+-- `down_to` changes one end on each side, and returns each result when it is due.
 use Rattle.std.proofs.Common.{◌<◌, length, refl, sym, ap, ◌∙◌, arith}
 use Rattle.std.proofs.lemmas.Result.{err_from_is_err_and}
 use Rattle.std.specs.Prelude.{OnOk, slice_get}

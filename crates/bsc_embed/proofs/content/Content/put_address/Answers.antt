@@ -1,3 +1,4 @@
+-- `put_address` stores the address and keeps the rest.
 use Rattle.std.proofs.Common.{refl, length, drop}
 use Rattle.std.proofs.Math.Seq.{drop-append_seam}
 use Rattle.bsc_embed.proofs.AddressLemmas.{address_put}

@@ -1,3 +1,4 @@
+-- `put_text` stores the text and keeps the rest.
 use Rattle.std.proofs.Common.{◌≡◌, ◌∙◌, ap, rules, arith, refl, Some}
 use Rattle.bsc_frame.specs.Units.{text_unit}
 use Rattle.bsc_embed.proofs.TextLemmas.{units_put, text_here, units_all}

@@ -1,3 +1,4 @@
+-- The loop invariant of `put_text`: the units stored so far, and what is unchanged.
 use Rattle.std.proofs.Common.{◌≡◌, take, drop, Some}
 use Rattle.bsc_embed.specs.Contents.{units_in}
 use Rattle.bsc_embed.specs.Decoded.{KeepCharsAfter}

@@ -1,3 +1,4 @@
+-- `text` returns the text that is stored, or none at a wrong count, end or unit.
 use Rattle.std.proofs.Common.{◌∙◌, sym, ap, inl, inr, arith, rules, take, length-set}
 use Rattle.std.specs.Option.{option_map}
 use Rattle.bsc_frame.specs.Units.{text_unit}

@@ -1,3 +1,4 @@
+-- The loop invariant of `text`: the units read so far.
 use Rattle.std.proofs.Common.{◌≡◌, take, map, length, Some}
 use Rattle.bsc_frame.specs.Units.{text_unit}
 use Rattle.bsc_embed.specs.Contents.{units_in}

@@ -1,3 +1,4 @@
+-- `put` stores the unit and keeps the characters after its length.
 use Rattle.std.proofs.Common.{length, drop}
 use Rattle.std.proofs.Math.Seq.{drop-append_seam}
 use Rattle.bsc_frame.specs.Units.{text_unit}

@@ -1,6 +1,7 @@
+-- The loop invariant of `add_peers`.
 use Rattle.std.proofs.Common.{◌≡◌, length}
 use Rattle.bsc_sockets.proofs.begin.Begun.add_peers.Given as goal
 
--- as many connections as peers were waited for
+-- There are as many connections as peers that were waited for.
 abbrev pub invariant-peers : goal.invariant-peers
 invariant-peers g l = length l.self.connections.items ≡ l.place

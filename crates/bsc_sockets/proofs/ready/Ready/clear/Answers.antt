@@ -1,3 +1,4 @@
+-- `clear` removes exactly the one place.
 use Rattle.std.proofs.Common.{rules, ◌==◌, not}
 use Rattle.std.proofs.lemmas.Fn.{filter_same}
 use Rattle.bsc_sockets.proofs.ready.Ready.clear.Goals as goal

@@ -1,3 +1,4 @@
+-- Each step of the loop of `blocks` passes one block.
 use Rattle.std.proofs.Common.{◌≡◌, ◌<◌, ◌-◌, ℕ, List, length, take, drop, ◌∙◌, ap, subst, arith}
 use Rattle.std.proofs.lemmas.List.{take_all, length-drop}
 use Rattle.bsc_block.specs.Blocks.{taken}

@@ -1,3 +1,4 @@
+-- The loop invariant of `blocks`, and why the loop ends.
 use Rattle.std.proofs.Common.{◌≡◌, ◌≤◌, ◌+◌, ◌-◌, length, drop}
 use Rattle.bsc_block.specs.Blocks.{blocks}
 use Rattle.bsc_spool.proofs.queue.Queue.blocks.Given as goal

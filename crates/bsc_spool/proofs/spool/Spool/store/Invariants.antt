@@ -1,3 +1,4 @@
+-- The loop invariant of `store`: the records stored so far, and room for the others.
 use Rattle.std.proofs.Common.{◌≡◌, ◌+◌, ◌≤◌, ◌++◌, take, vec_len, vec_capacity}
 use Rattle.bsc_frame.specs.declared.limits.TheConstants.{MAX_UNITS}
 use Rattle.bsc_spool.proofs.spool.Spool.store.Given as goal
