@@ -11,12 +11,12 @@
 //! | `carry` | the pending transmission is heard as it was sent |
 //! | `lose` | the pending transmission is lost |
 //! | `heard HEX` | the pending transmission is heard as these octets |
-//! | `heard-each ITEM ITEM ..` | each terminal hears its item in place of the pending transmission |
+//! | `heard-each ITEM ITEM ..` | each terminal hears its item in place of it |
 //! | `silence` | a time-out passes in which nothing is heard |
 //! | `ready T`, `unready T` | terminal T starts or stops accepting selections |
 //! | `urgent-at T`, `urgent-for T` | terminal T, or the control station for it, asks for the line |
 //! | `release T from` | the doubt about the records sent by terminal T is released |
-//! | `release T to`, `release T to S` | the doubt about those sent to its address 0 or S is released |
+//! | `release T to`, `release T to S` | the same for those sent to its address 0 or S |
 //!
 //! T has one to three decimal digits, S has one. HEX is hexadecimal text; an ITEM is hexadecimal
 //! text without spaces, or `-` if the terminal hears nothing. Words are separated by one space.
