@@ -22,8 +22,8 @@ use std::io::{Read, Write};
 
 /// Runs the station that the words ask for. The configuration and all records are read and checked
 /// before a connection is made. Records are printed when they arrive, and the report when the
-/// station ends. `InDoubt` and `Undelivered` come after the report, as does `Closed` where the
-/// connection of a terminal ended by a fault. (Own.)
+/// station ends. `InDoubt` and `Undelivered` are returned after the report is printed, and so is
+/// `Closed`, when a fault closed the connection of a terminal.
 pub fn station<R: Read, H: Files + Network, W: Write>(
     alloc: Global,
     words: &StationWords,

@@ -76,7 +76,7 @@ fn deed_text(deed: Deed) -> &'static [u8]
     }
 }
 
-/// Writes the name of a transmission that was heard.
+/// Writes the name of what is heard.
 fn write_heard<W: Write>(heard: &Heard, out: &mut W) -> Result<(), PrintError>
     ensures { OnOk result
         (Appends (W.contents out.old) (W.contents out.new) (name_of heard.now)) }
@@ -88,8 +88,8 @@ fn write_heard<W: Write>(heard: &Heard, out: &mut W) -> Result<(), PrintError>
     }
 }
 
-/// Writes the line for a transmission: the time in milliseconds, the sender, whether it was sent or
-/// heard, its name, and its octets in hexadecimal text.
+/// Writes the line of a transmission: the time in milliseconds, who sent it, what the station did
+/// with it, its name, and its octets in hexadecimal text.
 fn write_transmission<A: Allocator, W: Write>(
     alloc: A,
     time: u64,
