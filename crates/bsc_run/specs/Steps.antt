@@ -97,7 +97,7 @@ module _ {S : Type 0} (contents remaining : S → Option (List ℕ)) where
     pub refused : (why : LineError) → result ≡ Err (Refused why)
         → Refuses asked why old new × (after ≡ before)
 
--- Whether the event is an event of hearing: something is heard, or is lost.
+-- Whether the event is an event of hearing: `carry`, `lose`, `heard`, `heard-each` or `silence`.
 abbrev pub is_heard : Asked → Bool
 is_heard carry = true
 is_heard lose = true

@@ -124,7 +124,7 @@ fn write_trace<B: Allocator, C: Allocator, E: Allocator + Copy, W: Write>(
     Ok(())
 }
 
-/// Whether the action is an event of hearing: something is heard, or is lost.
+/// Whether the action is an event of hearing: `carry`, `lose`, `heard`, `heard-each` or `silence`.
 fn is_heard<C: Allocator>(action: &Action<'_, C>) -> bool
     ensures { result ≡ is_heard_event (event_in action.now) }
 {

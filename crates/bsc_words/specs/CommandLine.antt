@@ -63,6 +63,6 @@ asked_sub (Some p) = asked_by p.0 p.1
 unfoldable pub asked_of : List Text → AskedValue
 asked_of words = asked_sub (subcommand_of bscline_app words)
 
--- The kind of an error by which `clap` asks for the help or the version.
+-- The kinds of error by which `clap` reports that the help or the version was asked for.
 abbrev pub IsHelp : ErrorKind → Type 0
 IsHelp kind = (kind ≡ DisplayHelp) ⊎ (kind ≡ DisplayVersion)
