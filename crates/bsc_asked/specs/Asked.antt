@@ -1,10 +1,10 @@
--- What is asked of the command, by texts. All of it is own.
+-- The work that is asked of the command, with its arguments as texts.
 use Rattle.std.specs.Prelude.{ℕ, List, Bool, string_bytes}
 use Rattle.bsc_asked.specs.declared.asked.Asked.{Asked}
 use Rattle.bsc_asked.specs.declared.asked.Asked.TheVariants.{Names, Name, Show, Run, Station}
 use Rattle.bsc_asked.specs.StationWords.{AskedWords, asked_words}
 
--- The work that was asked for, by texts.
+-- The work that is asked for.
 pub data AskedValue : Type 0 where
   names : AskedValue
   name : List ℕ → AskedValue
@@ -12,7 +12,7 @@ pub data AskedValue : Type 0 where
   run : List ℕ → List ℕ → Bool → AskedValue
   station : AskedWords → AskedValue
 
--- The work as texts.
+-- The value of the work in the code.
 abbrev pub asked : Asked → AskedValue
 asked Names = names
 asked (Name hex) = name (string_bytes hex)

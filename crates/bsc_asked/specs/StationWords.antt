@@ -1,8 +1,8 @@
--- The words of `station` by their texts. All of it is own.
+-- The arguments of `station` as texts.
 use Rattle.std.specs.Prelude.{ℕ, List, Bool, Option, map, option_map, string_bytes}
 use Rattle.bsc_asked.specs.declared.station_words.StationWords.{StationWords}
 
--- the words by their texts
+-- The arguments as texts.
 pub record AskedWords : Type 0 where
   pub config : List ℕ
   pub control : Bool
@@ -19,7 +19,7 @@ pub record AskedWords : Type 0 where
   pub text : Bool
   pub trace : Bool
 
--- the words of the code, by their texts
+-- The value of the arguments in the code.
 abbrev pub asked_words : StationWords → AskedWords
 asked_words w = record {
   config = string_bytes w.config;

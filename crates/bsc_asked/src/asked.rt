@@ -1,27 +1,28 @@
-//! What the words of the command line ask for.
+//! The work that the command line asks for.
 
 use crate::StationWords;
 
-/// What the command line asks for.
+/// The work that the command line asks for.
 #[derive(Debug, Drop)]
 pub enum Asked {
-    /// The names of the lines of standard input.
+    /// Print the names of the transmissions on the lines of standard input.
     Names,
 
-    /// The name of one transmission, by its hexadecimal text.
+    /// Print the name of one transmission, given in hexadecimal text.
     Name(String),
 
-    /// The names of the lines of standard input, with the units of texts.
+    /// Print the names of the transmissions on the lines of standard input, with the units of
+    /// texts.
     Show,
 
-    /// A line of this configuration and the events of this script, by their paths; `-` is standard
-    /// input. With `check` both are only read.
+    /// Run a line with this configuration and the events of this script. Both are paths; `-` is
+    /// standard input. With `check` both are only read and checked.
     Run {
         config: String,
         script: String,
         check: bool,
     },
 
-    /// One station of a line over TCP.
+    /// Run one station of a line over TCP.
     Station(StationWords),
 }

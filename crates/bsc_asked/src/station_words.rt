@@ -1,28 +1,28 @@
-//! What the words of `station` are.
+//! The arguments of `station`.
 
-/// What the words of `station` are: the path of the configuration, and the values of the options as
-/// they were given.
+/// The arguments of `station`: the path of the configuration, and the values of the options as they
+/// were given.
 #[derive(Debug, Drop)]
 pub struct StationWords {
     /// The path of the configuration; `-` is standard input.
     pub config: String,
 
-    /// The station is the control station.
+    /// Whether the station is the control station.
     pub control: bool,
 
-    /// The station is the terminal of this number.
+    /// The number of the terminal that the station is.
     pub terminal: Option<String>,
 
-    /// Peers connect at this address.
+    /// The address at which peers connect.
     pub listen: Option<String>,
 
-    /// A peer listens at this address.
+    /// The address at which a peer listens.
     pub connect: Option<String>,
 
-    /// All terminals are reached by one connection.
+    /// Whether all terminals are reached over one connection.
     pub shared: bool,
 
-    /// Transmissions end at gaps.
+    /// Whether transmissions are raw octets and end at gaps.
     pub raw: bool,
 
     /// The gap in milliseconds.
@@ -31,18 +31,18 @@ pub struct StationWords {
     /// The time-out in milliseconds.
     pub time_out: Option<String>,
 
-    /// The rounds after which the control station ends.
+    /// The number of rounds after which the control station ends.
     pub rounds: Option<String>,
 
-    /// The idle rounds in a row after which it ends.
+    /// The number of idle rounds in a row after which it ends.
     pub idle_rounds: Option<String>,
 
-    /// What is offered: paths, with their channels at the control station.
+    /// The records that are offered, as paths; at the control station each with its channel.
     pub offers: Vec<String>,
 
-    /// Records that arrive are printed as text.
+    /// Whether records that arrive are printed as text.
     pub text: bool,
 
-    /// What is sent and heard is printed.
+    /// Whether a trace of the transmissions is printed.
     pub trace: bool,
 }

@@ -1,5 +1,4 @@
--- The error of a station for each of those that end it, and which errors end which part of its
--- work. All of it is own.
+-- The errors of a station for those of its parts, and the errors of each part of its work.
 use Rattle.std.specs.Prelude.{Result, Ok, Err, if◌then◌else◌}
 use Rattle.bsc_config.specs.declared.error.ConfigError.{ConfigError}
 use Rattle.bsc_config.specs.declared.error.ConfigError.TheVariants as config
@@ -15,53 +14,53 @@ use Rattle.bsc_monitor.specs.declared.standing.Standing.{Standing}
 use Rattle.bsc_attending.specs.declared.error.AttendingError.{AttendingError}
 use Rattle.bsc_attending.specs.declared.error.AttendingError.TheVariants as attending
 
--- The error of a text that was not read.
+-- The error for a text that could not be read.
 abbrev pub text_error : TextError → AttendingError
 text_error text.Memory = attending.Memory
 text_error error = attending.Text error
 
--- The error of a configuration that is refused.
+-- The error for a configuration that is refused.
 abbrev pub config_error : ConfigError → AttendingError
 config_error config.Memory = attending.Memory
 config_error error = attending.Config error
 
--- The error of what was not written.
+-- The error for a failure to print.
 abbrev pub print_error : PrintError → AttendingError
 print_error print.Output = attending.Output
 print_error print.Memory = attending.Memory
 
--- The error of connections that were not made.
+-- The error for connections that could not be made.
 abbrev pub sockets_error : SocketsError → AttendingError
 sockets_error sockets.Memory = attending.Memory
 sockets_error error = attending.Connections error
 
--- The error of a station that is attended no longer.
+-- The error for the end of attending.
 abbrev pub live_error : LiveError → AttendingError
 live_error live.Wait = attending.Connections sockets.Sockets
 live_error live.Count = attending.Connections sockets.Sockets
 live_error live.Output = attending.Output
 live_error live.Memory = attending.Memory
 
--- The errors of words.
+-- The errors of options.
 abbrev pub IsWordsError : AttendingError → Type 0
 IsWordsError (attending.WrongValue why) = Unit {0}
 IsWordsError (attending.WrongTogether why) = Unit {0}
 IsWordsError _ = ⊥
 
--- The errors of the records that a station is to send: their words, their text, or that a line of
--- it is no record.
+-- The errors of the records that a station has to send: a wrong option, a text that could not be
+-- read, or a line that is not a record.
 abbrev pub IsOfferError : AttendingError → Type 0
 IsOfferError (attending.Offer path error) = Unit {0}
 IsOfferError (attending.Text error) = Unit {0}
 IsOfferError attending.Memory = Unit {0}
 IsOfferError error = IsWordsError error
 
--- The errors of the configuration and of the records of a station.
+-- The errors of preparing a station: those of its configuration and of its records.
 abbrev pub IsPreparingError : AttendingError → Type 0
 IsPreparingError (attending.Config error) = Unit {0}
 IsPreparingError error = IsOfferError error
 
--- The errors that come before connections are asked for: nothing is printed by then.
+-- The errors that come before connections are made, when nothing has been printed.
 abbrev pub IsEarly : AttendingError → Type 0
 IsEarly (attending.WrongValue why) = Unit {0}
 IsEarly (attending.WrongTogether why) = Unit {0}
@@ -70,8 +69,8 @@ IsEarly (attending.Config error) = Unit {0}
 IsEarly (attending.Offer path error) = Unit {0}
 IsEarly _ = ⊥
 
--- The errors of a station whose connections are asked for: those of attending it and of printing,
--- and how it ended.
+-- The errors that come from making connections on: those of connecting, attending and printing, and
+-- those of records not delivered.
 abbrev pub IsLate : AttendingError → Type 0
 IsLate (attending.Connections error) = Unit {0}
 IsLate (attending.Closed error) = Unit {0}
@@ -81,7 +80,7 @@ IsLate attending.Output = Unit {0}
 IsLate attending.Memory = Unit {0}
 IsLate _ = ⊥
 
--- How a station that ended stands is the answer of its run: doubt comes before what waits.
+-- The result of a station that ended in this state. Doubt comes before undelivered records.
 abbrev pub outcome_of : Standing → Result (Unit {0}) AttendingError
 outcome_of standing =
     if standing.doubt then Err attending.InDoubt

@@ -1,4 +1,4 @@
-//! The connections of a station, and its attending over them.
+//! The connections of a station, and attending the station over them.
 
 ghost use Rattle.std.specs.Prelude.{IfErr};
 ghost use Rattle.bsc_attending.specs.Errors.{IsLate};
@@ -11,28 +11,28 @@ use bsc_connections::{
 use std::alloc::Global;
 use std::io::{Read, Write};
 
-/// The connections of a station, by place, in the framing that its words ask for.
+/// The connections of a station, in order, with the framing that its options select.
 #[derive(Drop)]
 pub(crate) enum Framed<R: Drop, W: Drop> {
-    /// A transmission is a socket record.
+    /// Each transmission is a socket record.
     Records {
         connections: Vec<Connection<R, W, SocketRecords>>,
     },
 
-    /// A transmission ends at a gap.
+    /// Each transmission ends at a gap.
     Raw {
         connections: Vec<Connection<R, W, Gaps>>,
     },
 }
 
-/// The connections of a station, and what waits for them.
+/// The connections of a station, and the waiter for them.
 #[derive(Drop)]
 pub(crate) struct Connections<R: Drop, W: Drop, Q: Drop> {
     waiter: Q,
     framed: Framed<R, W>,
 }
 
-/// The connections that are asked for.
+/// Makes these connections.
 pub(crate) fn connect<H: Network>(
     alloc: Global,
     raw: bool,
@@ -49,7 +49,7 @@ pub(crate) fn connect<H: Network>(
     Ok(Connections { waiter, framed })
 }
 
-/// The connections over their two directions.
+/// Returns the connections over these pairs of a reader and a writer.
 fn in_framing<R: Read + Drop, W: Write + Drop>(
     alloc: Global,
     raw: bool,
@@ -65,7 +65,7 @@ fn in_framing<R: Read + Drop, W: Write + Drop>(
     Ok(Framed::Records { connections })
 }
 
-/// The connections over their two directions, in one framing.
+/// Returns the connections over these pairs of a reader and a writer, with one framing.
 fn connections_of<R: Read + Drop, W: Write + Drop, F: Framing + Drop>(
     alloc: Global,
     directions: Vec<(R, W)>,
@@ -80,7 +80,7 @@ fn connections_of<R: Read + Drop, W: Write + Drop, F: Framing + Drop>(
 }
 
 impl<R: Read + Drop, W: Write + Drop, Q: Waiter<R, W> + Drop> Connections<R, W, Q> {
-    /// Attends a station over them until the monitor ends it.
+    /// Attends a station over the connections until the monitor ends it.
     pub(crate) fn attend<S: Station, M: Monitor<S>>(
         &mut self,
         station: &mut S,

@@ -1,4 +1,4 @@
-//! Why a station did not do its work.
+//! The reasons why a station fails.
 ghost use Rattle.std.specs.Prelude.{◌≡◌};
 
 use bsc_carrier::CarrierError;
@@ -11,18 +11,18 @@ use bsc_sockets::SocketsError;
 use std::alloc::{AllocError, AllocFailed};
 use thiserror::Error;
 
-/// Why a station did not do its work, or not all of it. Out of memory is `Memory`, whatever met it.
+/// The reason why a station failed or did not complete its work. Out of memory is always `Memory`.
 #[derive(Debug, Drop, Error)]
 pub enum AttendingError {
-    /// A value of the words is wrong, for this reason.
+    /// The value of an option is wrong, for this reason.
     #[error("{why}")]
     WrongValue { why: &'static str },
 
-    /// The words do not go together, for this reason.
+    /// The options conflict, or one is missing, for this reason.
     #[error("{why}")]
     WrongTogether { why: &'static str },
 
-    /// The text of the configuration or of records was not read.
+    /// The text of the configuration or of records could not be read.
     #[error("{error}")]
     Text { error: TextError },
 
@@ -30,19 +30,19 @@ pub enum AttendingError {
     #[error("{error}")]
     Config { error: ConfigError },
 
-    /// The line of the records at this path is no record.
+    /// A line of the text at this path is not a record.
     #[error("{path} {error}")]
     Offer { path: String, error: OfferError },
 
-    /// The connections of the station could not be made, or could not be waited for.
+    /// The connections of the station could not be made, or waiting for them failed.
     #[error("{error}")]
     Connections { error: SocketsError },
 
-    /// The connection of a terminal was closed for this reason.
+    /// The connection of a terminal was closed by this fault.
     #[error("connection closed: {error}")]
     Closed { error: CarrierError },
 
-    /// The station ended, and of some records it does not know if they arrived.
+    /// The station ended, and it is in doubt whether some records arrived.
     #[error("records in doubt")]
     InDoubt,
 
@@ -50,11 +50,11 @@ pub enum AttendingError {
     #[error("records not delivered")]
     Undelivered,
 
-    /// Standard output did not take the text.
+    /// Standard output did not accept the text.
     #[error("output fault")]
     Output,
 
-    /// A growth was refused.
+    /// An allocation failed.
     #[error("out of memory")]
     Memory,
 }

@@ -1,5 +1,8 @@
-//! The work of `bscline station`: the configuration and the records are read and checked, and then
-//! one station of the line is attended over connections that the machine makes, until it ends.
+//! The work of `bscline station`: reads and checks the configuration and the records, and then
+//! attends one station of the line over connections that the machine makes, until it ends.
+//!
+//! The station is that of GA27-3004. The options, the connections and the output are this project's
+//! own.
 #![tactic(auto)]
 
 mod connections;

@@ -1,11 +1,11 @@
-//! What a station asks of the machine, beside its texts.
+//! The connections, the clock and the trace that a station needs from the machine.
 
 use bsc_connections::Waiter;
 use bsc_monitor::Timer;
 use bsc_sockets::SocketsError;
 use std::io::{Read, Write};
 
-/// Where the connections of a station are.
+/// The place of the connections of a station.
 #[derive(Clone, Copy)]
 pub enum Place<'a> {
     /// Peers connect at this address.
@@ -18,16 +18,16 @@ pub enum Place<'a> {
 /// The connections that a station asks for.
 #[derive(Clone, Copy)]
 pub struct Wanted<'a> {
-    /// Where they are.
+    /// Their place.
     pub place: Place<'a>,
 
-    /// How many there are: 1 to 64, and one where a peer listens.
+    /// The number of connections: 1 to 64, or 1 if a peer listens.
     pub connections: usize,
 
-    /// Whether other peers may connect later, in place of those that have gone.
+    /// Whether other peers may connect later in place of those that have gone.
     pub stays: bool,
 
-    /// Whether the first wait is over at once, so that the station makes the first call.
+    /// Whether the first wait ends at once, so that the station makes the first call.
     pub begins: bool,
 
     /// The time-out in milliseconds.
@@ -37,39 +37,39 @@ pub struct Wanted<'a> {
     pub gap: u64,
 }
 
-/// Connections of a station, by place, and what waits for them.
+/// The connections of a station, in order, and the waiter for them.
 #[derive(Drop)]
 pub struct Opened<R: Drop, W: Drop, Q: Drop> {
     pub waiter: Q,
     pub connections: Vec<(R, W)>,
 }
 
-/// Connections to other processes, the time, and a place for the trace.
+/// Connections to other processes, a clock, and a writer for the trace.
 pub trait Network {
-    /// What arrives on a connection to another process.
+    /// The receiving side of a connection to another process.
     type Reader: Read + Drop;
 
-    /// What is sent on a connection to another process.
+    /// The sending side of a connection to another process.
     type Writer: Write + Drop;
 
-    /// What waits for connections to other processes.
+    /// The waiter for connections to other processes.
     type Waiter: Waiter<Self::Reader, Self::Writer> + Drop;
 
-    /// What tells the time.
+    /// The clock.
     type Timer: Timer + Drop;
 
-    /// What takes the trace.
+    /// The writer for the trace.
     type Trace: Write + Drop;
 
-    /// The connections that a station asks for.
+    /// Makes the connections that a station asks for.
     fn open(
         &mut self,
         wanted: &Wanted<'_>,
     ) -> Result<Opened<Self::Reader, Self::Writer, Self::Waiter>, SocketsError>;
 
-    /// The time from now on.
+    /// Returns a clock that starts now.
     fn timer(&mut self) -> Self::Timer;
 
-    /// What takes the trace: standard error.
+    /// Returns the writer for the trace, which is standard error.
     fn trace(&mut self) -> Self::Trace;
 }

@@ -1,4 +1,4 @@
-//! The records that a station is to send.
+//! The records that a station has to send.
 
 ghost use Rattle.std.specs.Prelude.{◌≡◌, IfErr, IfOk};
 ghost use Rattle.bsc_attending.specs.Errors.{IsOfferError};
@@ -16,14 +16,14 @@ use bsc_monitor::{LineTerminal, OfferError, offer_at_terminal, offer_for_termina
 use std::alloc::Global;
 use std::io::Read;
 
-/// Where the records of an option come from, and at the control station where they go.
+/// The path of the records of an option and, at the control station, the channel to which they go.
 struct Offer<'a> {
     terminal: usize,
     select: usize,
     path: &'a str,
 }
 
-/// The number of a text.
+/// Returns the number that a text spells, 0 to 255.
 fn number_of(text: &str) -> Option<usize> {
     match text.parse::<u8>() {
         Ok(number) => Some(usize::from(number)),
@@ -31,7 +31,7 @@ fn number_of(text: &str) -> Option<usize> {
     }
 }
 
-/// The terminal and its selection address: `T.S`, or `T` for address 0.
+/// Returns the terminal and its selection address in `T.S`, or address 0 in `T`.
 fn channel_of(text: &str) -> Option<(usize, usize)> {
     match text.split_once('.') {
         Some((terminal, select)) => Some((number_of(terminal)?, number_of(select)?)),
@@ -50,7 +50,7 @@ fn offer_of(text: &str) -> Option<Offer<'_>> {
     })
 }
 
-/// The path of an option of this station.
+/// Returns the path in an option of this station.
 fn path_of(text: &str, role: Role) -> &str {
     match role {
         Role::Terminal { .. } => text,
@@ -75,7 +75,7 @@ pub(crate) fn repeats_standard_input(words: &StationWords, role: Role) -> bool {
     false
 }
 
-/// The error of a text whose lines are no records.
+/// Returns the error for a text with a line that is not a record.
 fn offer_error(alloc: Global, path: &str, error: OfferError) -> AttendingError
     ensures { IsOfferError result }
 {
@@ -88,7 +88,7 @@ fn offer_error(alloc: Global, path: &str, error: OfferError) -> AttendingError
     }
 }
 
-/// The records of the lines of the text at this path.
+/// Returns the records on the lines of the text at this path.
 fn records_at<R: Read, F: Files>(
     alloc: Global,
     path: &str,

@@ -1,5 +1,5 @@
-//! The station of a configuration, with the records that it is to send: all that is read before a
-//! connection is made.
+//! Prepares the station of a configuration with the records that it has to send: everything that is
+//! read before a connection is made.
 
 ghost use Rattle.std.specs.Prelude.{IfErr};
 ghost use Rattle.bsc_attending.specs.Errors.{IsPreparingError};
@@ -16,7 +16,7 @@ use bsc_monitor::{LineTerminal, new_control, new_terminal};
 use std::alloc::Global;
 use std::io::Read;
 
-/// A station that has its records.
+/// A station with its records.
 #[derive(Drop)]
 pub(crate) enum Prepared {
     /// The control station.
@@ -26,7 +26,7 @@ pub(crate) enum Prepared {
     Terminal { terminal: LineTerminal<Global> },
 }
 
-/// Reads and checks the configuration and all records of the station that the words ask for.
+/// Reads and checks the configuration and all records of the station that the options select.
 pub(crate) fn prepare<R: Read, F: Files>(
     alloc: Global,
     words: &StationWords,
@@ -48,7 +48,7 @@ pub(crate) fn prepare<R: Read, F: Files>(
     }
 }
 
-/// The control station with its records.
+/// Returns the control station with its records.
 fn control_station<R: Read, F: Files>(
     alloc: Global,
     words: &StationWords,
@@ -63,7 +63,7 @@ fn control_station<R: Read, F: Files>(
     Ok(Prepared::Control { control })
 }
 
-/// The terminal of this number with its records.
+/// Returns the terminal with this number, with its records.
 fn terminal<R: Read, F: Files>(
     alloc: Global,
     words: &StationWords,

@@ -1,4 +1,4 @@
-//! What the words of `station` say.
+//! The settings in the options of `station`.
 
 ghost use Rattle.std.specs.Prelude.{IfErr};
 ghost use Rattle.bsc_attending.specs.Errors.{IsWordsError};
@@ -8,29 +8,29 @@ use crate::{AttendingError, Place};
 use bsc_asked::StationWords;
 use bsc_monitor::{Form, Limits, Printing};
 
-/// The gap unless one is given, in milliseconds.
+/// The default gap, in milliseconds.
 const GAP: u64 = 50;
 
-/// The time-out unless one is given, in milliseconds.
+/// The default time-out, in milliseconds.
 const TIME_OUT: u64 = 3_000;
 
-/// The idle rounds in a row after which a control station ends, unless a number is given.
+/// The default number of idle rounds in a row after which a control station ends.
 const IDLE_ROUNDS: u64 = 2;
 
-/// The longest gap and time-out: one hour, in milliseconds.
+/// The maximum gap and time-out, in milliseconds: one hour.
 const MAX_TIME: u64 = 3_600_000;
 
-/// Which station of the line it is.
+/// The station of the line that is run.
 #[derive(Clone, Copy)]
 pub(crate) enum Role {
     /// The control station.
     Control,
 
-    /// The terminal of this number.
+    /// The terminal with this number.
     Terminal { number: usize },
 }
 
-/// What the words of `station` say.
+/// The settings in the options of `station`.
 #[derive(Clone, Copy)]
 pub(crate) struct StationSettings<'a> {
     pub(crate) role: Role,
@@ -45,7 +45,7 @@ pub(crate) struct StationSettings<'a> {
     pub(crate) printing: Printing,
 }
 
-/// The text of an option.
+/// Returns the text of an option.
 fn given_text(text: &Option<String>) -> Option<&str> {
     match text {
         Some(text) => Some(text.as_str()),
@@ -53,7 +53,7 @@ fn given_text(text: &Option<String>) -> Option<&str> {
     }
 }
 
-/// The number from 1 up to the greatest that the text gives.
+/// Returns the number from 1 to `most` that a text spells.
 fn number_of(text: &str, most: u64) -> Option<u64> {
     match text.parse::<u64>() {
         Ok(number) if 1 <= number && number <= most => Some(number),
@@ -61,7 +61,7 @@ fn number_of(text: &str, most: u64) -> Option<u64> {
     }
 }
 
-/// A number, or what stands for it where it is not given.
+/// Returns the number of an option from 1 to `most`, or `unless_given` if the option is not given.
 fn number(
     given: &Option<String>,
     unless_given: u64,
@@ -79,7 +79,7 @@ fn number(
     }
 }
 
-/// Which station it is.
+/// Returns the station that is run.
 fn read_role(words: &StationWords) -> Result<Role, AttendingError>
     ensures { IfErr result IsWordsError }
 {
@@ -99,7 +99,7 @@ fn read_role(words: &StationWords) -> Result<Role, AttendingError>
     }
 }
 
-/// Where its connections are.
+/// Returns the place of its connections.
 fn read_place(words: &StationWords) -> Result<Place<'_>, AttendingError>
     ensures { IfErr result IsWordsError }
 {
@@ -112,7 +112,7 @@ fn read_place(words: &StationWords) -> Result<Place<'_>, AttendingError>
     }
 }
 
-/// When a control station ends.
+/// Returns the limits at which a control station ends.
 fn read_limits(words: &StationWords) -> Result<Limits, AttendingError>
     ensures { IfErr result IsWordsError }
 {
@@ -133,7 +133,7 @@ fn read_limits(words: &StationWords) -> Result<Limits, AttendingError>
     })
 }
 
-/// Options that do not belong to the station.
+/// Checks that the options fit the station and one another.
 fn check_together(words: &StationWords, role: Role) -> Result<(), AttendingError>
     ensures { IfErr result IsWordsError }
 {
@@ -157,7 +157,7 @@ fn check_together(words: &StationWords, role: Role) -> Result<(), AttendingError
     Ok(())
 }
 
-/// How the station prints.
+/// Returns the options for the output of the station.
 fn printing_of(words: &StationWords) -> Printing {
     Printing {
         form: if words.text {
@@ -169,8 +169,8 @@ fn printing_of(words: &StationWords) -> Printing {
     }
 }
 
-/// What the words say. What they say wrong is a usage fault: a number that is none or out of range,
-/// and options that do not go together or of which one is missing. (Own.)
+/// Reads the settings. Returns `WrongValue` for a value that is not a number or is out of range,
+/// and `WrongTogether` for options that conflict and for an option that is missing.
 pub(crate) fn read_settings(words: &StationWords) -> Result<StationSettings<'_>, AttendingError>
     ensures { IfErr result IsWordsError }
 {

@@ -1,5 +1,4 @@
-//! One station of a line: it is prepared, then its connections are made, and then it is attended
-//! until it ends.
+//! One station of a line: prepares it, makes its connections, and attends it until it ends.
 
 ghost use Rattle.std.specs.Prelude.{◌≡◌, IfErr};
 ghost use Rattle.bsc_attending.specs.Errors.{IsEarly, IsLate, outcome_of};
@@ -22,8 +21,8 @@ use std::io::{Read, Write};
 
 /// Runs the station that the words ask for. The configuration and all records are read and checked
 /// before a connection is made. Records are printed when they arrive, and the report when the
-/// station ends. `InDoubt` and `Undelivered` come after the report, as does `Closed` where the
-/// connection of a terminal ended by a fault. (Own.)
+/// station ends. `InDoubt` and `Undelivered` are returned after the report is printed, and so is
+/// `Closed`, when a fault closed the connection of a terminal.
 pub fn station<R: Read, H: Files + Network, W: Write>(
     alloc: Global,
     words: &StationWords,
@@ -38,7 +37,7 @@ pub fn station<R: Read, H: Files + Network, W: Write>(
     run(alloc, &settings, &mut prepared, machine, out)
 }
 
-/// Runs a station that has its records.
+/// Runs a station with its records.
 fn run<H: Network, W: Write>(
     alloc: Global,
     settings: &StationSettings<'_>,
@@ -54,8 +53,8 @@ fn run<H: Network, W: Write>(
     }
 }
 
-/// What the control station asks for: a connection for each terminal, or one for all. It waits for
-/// twice the time-out, so that a terminal that holds the line acts first.
+/// Returns the connections that the control station asks for: one for each terminal, or one for
+/// all. It waits for twice the time-out, so that a terminal that holds the line acts first.
 fn wanted_by_control<'a>(settings: &StationSettings<'a>, terminals: usize) -> Wanted<'a> {
     Wanted {
         place: settings.place,
@@ -67,7 +66,7 @@ fn wanted_by_control<'a>(settings: &StationSettings<'a>, terminals: usize) -> Wa
     }
 }
 
-/// What a terminal asks for: one connection.
+/// Returns the connection that a terminal asks for.
 fn wanted_by_terminal<'a>(settings: &StationSettings<'a>) -> Wanted<'a> {
     Wanted {
         place: settings.place,
@@ -79,7 +78,7 @@ fn wanted_by_terminal<'a>(settings: &StationSettings<'a>) -> Wanted<'a> {
     }
 }
 
-/// Whether peers connect.
+/// Whether peers connect to the station.
 fn listens(place: Place<'_>) -> bool {
     match place {
         Place::Listen { .. } => true,
@@ -189,8 +188,8 @@ fn run_terminal<H: Network, W: Write>(
     }
 }
 
-/// Makes the connection of a terminal, attends it until it is closed, and gives why, where that was
-/// a fault.
+/// Makes the connection of a terminal, attends the terminal until the connection is closed, and
+/// returns the fault that closed it, if any.
 fn open_for_terminal<H: Network, W: Write>(
     alloc: Global,
     settings: &StationSettings<'_>,
@@ -214,7 +213,7 @@ fn open_for_terminal<H: Network, W: Write>(
     )
 }
 
-/// Attends a terminal until its connection is closed, and gives why, where that was a fault.
+/// Attends a terminal until its connection is closed, and returns the fault that closed it, if any.
 fn attend_terminal<
     R: Read + Drop,
     W: Write + Drop,
@@ -239,7 +238,7 @@ fn attend_terminal<
     Ok(watch.closed())
 }
 
-/// How a station ended.
+/// Returns the result of a station that ended in this state.
 fn outcome(standing: Standing) -> Result<(), AttendingError>
     ensures { result ≡ outcome_of standing }
 {

@@ -1,4 +1,4 @@
--- What the fault of a run or of a station says of its error.
+-- The fault of a run or of a station, and its error.
 use Rattle.std.proofs.Common.{◌⊎◌, inl, inr, subst, sym}
 use Rattle.bsc_attending.specs.declared.error.AttendingError.{AttendingError}
 use Rattle.bsc_attending.specs.declared.error.AttendingError.TheVariants as attending
@@ -41,7 +41,7 @@ run_fault running.Sockets f h = subst IsRunFault (sym h) tt
 run_fault (running.Run error) f h = subst IsRunFault (sym h) tt
 run_fault running.Memory f h = subst IsRunFault (sym h) tt
 
--- a fault that comes before anything is printed is an error that does
+-- a fault that comes before anything is printed is an error that comes before it
 pub early_run : (e : RunningError) (f : Fault) → IsRunningFault e f → IsEarly f → IsEarlyRunning e
 early_run running.BothStandardInput f h early = tt
 early_run (running.Text error) f h early = subst IsEarly h early
@@ -65,7 +65,7 @@ station_fault attending.Undelivered f h = subst IsStationFault (sym h) tt
 station_fault attending.Output f h = subst IsStationFault (sym h) tt
 station_fault attending.Memory f h = subst IsStationFault (sym h) tt
 
--- a fault that comes before anything is printed is an error that does
+-- a fault that comes before anything is printed is an error that comes before it
 pub early_station : (e : AttendingError) (f : Fault) → IsAttendingFault e f → IsEarly f
     → IsEarlyAttending e
 early_station (attending.WrongValue why) f h early = tt

@@ -1,4 +1,4 @@
--- What was done stays done where a writer keeps what it holds.
+-- Work that succeeded stays so while the writer keeps its contents.
 use Rattle.std.proofs.Common.{ℕ, List, ◌++◌, Bool, true, false, Option, None, Some, inl, inr}
 use Rattle.std.proofs.Common.{IsSomeAnd}
 use Rattle.std.specs.Io.KnownBytes.{Keeps}

@@ -1,4 +1,4 @@
--- The faults of the command. All of it is own.
+-- The faults of the command.
 use Rattle.std.specs.Prelude.{◌≡◌, ◌≢◌, ◌⊎◌, ℕ}
 use Rattle.clap.specs.Words.{kind_of}
 use Rattle.clap.specs.declared.error.Error.{Error}
@@ -20,19 +20,19 @@ use Rattle.bsc_command.specs.declared.fault.Fault.{Fault}
 use Rattle.bsc_command.specs.declared.fault.Fault.TheVariants.{Text, Naming, Running, Attending}
 use Rattle.bsc_command.specs.declared.fault.Fault.TheVariants.{Output, OutOfMemory, Usage}
 
--- The exit status of a run that did not do all of the script: 3 where the line refused an event.
+-- The exit status for an error of a run: 3 if the line refused an event, otherwise 1.
 abbrev pub run_status_of : RunError → ℕ
 run_status_of (run.Refused line why) = 3
 run_status_of _ = 1
 
--- The exit status of a run that was not done to its end: 2 for wrong usage.
+-- The exit status of a failed run: 2 for wrong usage.
 abbrev pub running_status_of : RunningError → ℕ
 running_status_of running.BothStandardInput = 2
 running_status_of (running.Run error) = run_status_of error
 running_status_of _ = 1
 
--- The exit status of a station: 2 for wrong usage, 3 for records in doubt, 4 for records that are
--- not delivered.
+-- The exit status of a failed station: 2 for wrong usage, 3 for records in doubt, 4 for undelivered
+-- records.
 abbrev pub attending_status_of : AttendingError → ℕ
 attending_status_of (attending.WrongValue why) = 2
 attending_status_of (attending.WrongTogether why) = 2
@@ -40,46 +40,47 @@ attending_status_of attending.InDoubt = 3
 attending_status_of attending.Undelivered = 4
 attending_status_of _ = 1
 
--- The exit status: 2 for wrong usage, that of a run and of a station, 1 for every other fault.
+-- The exit status of a fault: 2 for wrong usage, that of a run or a station, otherwise 1.
 abbrev pub status_of : Fault → ℕ
 status_of (Usage text) = 2
 status_of (Running error) = running_status_of error
 status_of (Attending error) = attending_status_of error
 status_of _ = 1
 
--- The fault of an input that was not read.
+-- The fault for an input that could not be read.
 abbrev pub input_fault : InputError → Fault
 input_fault error = Text (input_error error)
 
--- The faults of printing the help or the version, of the words, and of what is left in a buffer.
+-- The faults of printing the help or the version, of reading the arguments, and of flushing the
+-- output.
 abbrev pub IsPrintFault : Fault → Type 0
 IsPrintFault Output = Unit {0}
 IsPrintFault OutOfMemory = Unit {0}
 IsPrintFault _ = ⊥
 
--- The fault of words that `clap` refuses: out of memory is told apart from wrong usage.
+-- The fault for arguments that `clap` refuses. Out of memory and wrong usage are separate faults.
 pub record IsWordsFault (error : Error) (fault : Fault) : Type 0 where
   pub memory : kind_of error ≡ kind.OutOfMemory → fault ≡ OutOfMemory
   pub usage : kind_of error ≢ kind.OutOfMemory → fault ≡ Usage error
 
--- The fault of wrong usage, unless memory ran out.
+-- The fault is wrong usage, unless memory ran out.
 abbrev pub IsUsage : Fault → Type 0
 IsUsage (Usage text) = Unit {0}
 IsUsage OutOfMemory = Unit {0}
 IsUsage _ = ⊥
 
--- The fault of wrong usage of this kind, unless memory ran out.
+-- The fault is wrong usage of this kind, unless memory ran out.
 abbrev pub IsUsageOf : ErrorKind → Fault → Type 0
 IsUsageOf kind (Usage error) = kind_of error ≡ kind
 IsUsageOf kind OutOfMemory = Unit {0}
 IsUsageOf kind _ = ⊥
 
--- The fault of a run for each error: what its words say wrong is wrong usage.
+-- The fault for an error of a run. Wrong arguments are wrong usage.
 abbrev pub IsRunningFault : RunningError → Fault → Type 0
 IsRunningFault running.BothStandardInput fault = IsUsageOf kind.ArgumentConflict fault
 IsRunningFault error fault = fault ≡ Running error
 
--- The fault of a station for each error: what its words say wrong is wrong usage.
+-- The fault for an error of a station. Wrong arguments are wrong usage.
 abbrev pub IsAttendingFault : AttendingError → Fault → Type 0
 IsAttendingFault (attending.WrongValue why) fault = IsUsageOf kind.InvalidValue fault
 IsAttendingFault (attending.WrongTogether why) fault = IsUsageOf kind.ArgumentConflict fault

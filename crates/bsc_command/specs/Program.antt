@@ -1,4 +1,4 @@
--- What the program prints for its work. All of it is own.
+-- The output of the program for its work.
 use Rattle.std.specs.Prelude.{◌≡◌, ◌⊎◌, ℕ, List, [], Option, IfSome, IsSomeAnd}
 use Rattle.clap.specs.Words.{HasKind, Text, kind_of}
 use Rattle.clap.specs.declared.error.Error.{Error}
@@ -12,9 +12,10 @@ use Rattle.bsc_command.specs.declared.fault.Fault.{Fault}
 use Rattle.bsc_command.specs.Faults.{IsNameFault, IsNamesFault, IsPrintFault, IsRunFault}
 use Rattle.bsc_command.specs.Faults.{IsStationFault, IsUsage}
 
--- Of the streams of a run's cable: what was written to one, and what one has left to give.
+-- For the streams of a run's cable, `contents` is what was written to a stream, and `remaining` is
+-- what is left to read from it.
 module _ {S : Type 0} (contents remaining : S → Option (List ℕ)) where
-  -- The work was done with this input: a writer that held old holds new.
+  -- The work succeeded with this input, and the contents of the writer went from `old` to `new`.
   abbrev pub IsDone : AskedValue → Option (List ℕ) → Option (List ℕ) → Option (List ℕ) → Type 0
   IsDone names input old new = IfSome input (λ octets. PrintsInput name_line octets old new)
   IsDone (name text) input old new =
@@ -35,7 +36,7 @@ StopsAtLine show number input old new =
 StopsAtLine (run config script check) number input old new = ⊥
 StopsAtLine (station words) number input old new = ⊥
 
--- A fault that this work may end with.
+-- The faults of this work.
 abbrev pub IsFaultOf : AskedValue → Fault → Type 0
 IsFaultOf names fault = IsNamesFault fault
 IsFaultOf (name text) fault = IsNameFault fault
@@ -43,18 +44,18 @@ IsFaultOf show fault = IsNamesFault fault
 IsFaultOf (run config script check) fault = IsRunFault fault
 IsFaultOf (station words) fault = IsStationFault fault
 
--- The words ask for the help or the version.
+-- The arguments ask for the help or the version.
 abbrev pub AskForHelp : List Text → Type 0
 AskForHelp words = (error : Error) × HasKind (faults_at words) error × IsHelp (kind_of error)
 
--- The words were obeyed with this input: the help or the version was printed, or they are a command
--- and its work was done.
+-- The arguments were obeyed with this input: the help or the version was printed, or they are a
+-- command and its work succeeded.
 abbrev pub IsObeyed : {S : Type 0} (contents remaining : S → Option (List ℕ)) → List Text
     → Option (List ℕ) → Option (List ℕ) → Option (List ℕ) → Type 0
 IsObeyed contents remaining words input old new =
     AskForHelp words
     ⊎ ((faults_at words ≡ []) × IsDone contents remaining (asked_of words) input old new)
 
--- A fault of the words, of printing, or of the work that the words ask for.
+-- A fault of the arguments, of printing, or of the work that the arguments ask for.
 abbrev pub IsFaultAt : List Text → Fault → Type 0
 IsFaultAt words fault = IsUsage fault ⊎ (IsPrintFault fault ⊎ IsFaultOf (asked_of words) fault)

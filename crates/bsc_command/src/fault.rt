@@ -1,4 +1,4 @@
-//! The faults that end the command, each with its text and its exit status.
+//! The faults that end the command, with the text and the exit status of each.
 ghost use Rattle.std.specs.Prelude.{◌≡◌, ◌≢◌};
 ghost use Rattle.bsc_command.specs.Faults.{IsAttendingFault, IsRunningFault, IsUsageOf, status_of};
 ghost use Rattle.bsc_command.specs.Faults.{attending_status_of, running_status_of};
@@ -13,36 +13,36 @@ use clap::error::ErrorKind;
 use std::alloc::{AllocError, Global};
 use thiserror::Error;
 
-/// Why the command ends without having done its work. The text is one line of standard error, after
-/// the program's name.
+/// The reason why the command failed. The text is one line on standard error, after the name of the
+/// program.
 #[derive(Debug, Drop, Error)]
 pub enum Fault {
-    /// Standard input was not read.
+    /// Standard input could not be read.
     #[error("{error}")]
     Text { error: TextError },
 
-    /// Names were not printed, or not all of them.
+    /// Not all names were printed.
     #[error("{error}")]
     Naming { error: NamingError },
 
-    /// A run was not done to its end.
+    /// A run failed.
     #[error("{error}")]
     Running { error: RunningError },
 
-    /// A station did not do its work, or not all of it.
+    /// A station failed, or ended with records not delivered or in doubt.
     #[error("{error}")]
     Attending { error: AttendingError },
 
-    /// Standard output did not take the text.
+    /// Standard output did not accept the text.
     #[error("output fault")]
     Output,
 
-    /// A growth was refused while the words were read.
+    /// An allocation failed while the arguments were read.
     #[error("out of memory")]
     OutOfMemory,
 
-    /// The words of the command line are no command. The text is that of `clap`, which is printed
-    /// as it stands.
+    /// The arguments are not a valid command line. The text is that of `clap`, and is printed
+    /// unchanged.
     #[error("{0}")]
     Usage(clap::Error),
 }
@@ -84,7 +84,7 @@ impl From<clap::Error> for Fault {
 
     ghost from_gives = { IsWordsFault };
 
-    /// Out of memory is told apart from wrong usage, since `clap` has one type for both.
+    /// `clap` has one error type for out of memory and wrong usage; this separates the two.
     fn from(error: clap::Error) -> Fault {
         match error.kind() {
             ErrorKind::OutOfMemory => Fault::OutOfMemory,
@@ -93,7 +93,7 @@ impl From<clap::Error> for Fault {
     }
 }
 
-/// The fault of words that are wrong, for this reason.
+/// Returns the fault for wrong arguments, with this reason.
 fn words_fault(alloc: Global, kind: ErrorKind, why: &str) -> Fault
     requires { kind ≢ ErrorKind.OutOfMemory }
     ensures { IsUsageOf kind result }
@@ -101,7 +101,7 @@ fn words_fault(alloc: Global, kind: ErrorKind, why: &str) -> Fault
     Fault::from(wrong_words(alloc, kind, why))
 }
 
-/// The fault of a run that was not done to its end. What its words say wrong is wrong usage.
+/// Returns the fault for a failed run. Wrong arguments are wrong usage.
 pub(crate) fn running_fault(alloc: Global, error: RunningError) -> Fault
     ensures { IsRunningFault error result }
 {
@@ -114,7 +114,7 @@ pub(crate) fn running_fault(alloc: Global, error: RunningError) -> Fault
     }
 }
 
-/// The fault of a station that did not do its work. What its words say wrong is wrong usage.
+/// Returns the fault for a failed station. Wrong arguments are wrong usage.
 pub(crate) fn attending_fault(alloc: Global, error: AttendingError) -> Fault
     ensures { IsAttendingFault error result }
 {
@@ -127,16 +127,17 @@ pub(crate) fn attending_fault(alloc: Global, error: AttendingError) -> Fault
     }
 }
 
-/// The fault where a word is no text, as `clap` has it for any other wrong value.
+/// Returns the fault for an argument that is not UTF-8, with the error kind of any other wrong
+/// value in `clap`.
 pub fn not_text(alloc: Global) -> Fault
     ensures { IsUsageOf ErrorKind.InvalidValue result }
 {
     words_fault(alloc, ErrorKind::InvalidValue, "a word is not UTF-8")
 }
 
-/// The exit status of the program: 2 for wrong usage, 3 where the line refused an event of a script
-/// or a station ended in doubt, 4 where one ended with records that are not delivered, and 1 for
-/// every other fault.
+/// Returns the exit status of the program: 2 for wrong usage; 3 if the line refused an event of a
+/// script, or a station ended in doubt; 4 if a station ended with undelivered records; 1 for every
+/// other fault.
 pub fn status(fault: &Fault) -> u8
     ensures { result ≡ status_of fault.now }
 {
@@ -148,7 +149,7 @@ pub fn status(fault: &Fault) -> u8
     }
 }
 
-/// The exit status of a run that was not done to its end.
+/// Returns the exit status of a failed run.
 fn running_status(error: &RunningError) -> u8
     ensures { result ≡ running_status_of error.now }
 {
@@ -161,7 +162,7 @@ fn running_status(error: &RunningError) -> u8
     }
 }
 
-/// The exit status of a station that did not do its work.
+/// Returns the exit status of a failed station.
 fn attending_status(error: &AttendingError) -> u8
     ensures { result ≡ attending_status_of error.now }
 {

@@ -9,7 +9,7 @@ use clap::Error;
 use clap::error::ErrorKind;
 use std::io::Write;
 
-/// Prints the help or the version, where the words asked for one. Every other answer of `clap` is a
+/// Prints the help or the version, if the arguments asked for it. Every other error of `clap` is a
 /// fault, and nothing is printed.
 pub(crate) fn help_or_fault<W: Write>(error: Error, out: &mut W) -> Result<(), Fault>
     ensures help { IsHelp (kind_of error) → (result ≡ Ok tt) ⊎ (result ≡ Err Fault.Output) }

@@ -1,4 +1,4 @@
-//! The work of the program, over any reader, any writer and any machine.
+//! The work of the program, over any reader, writer and machine.
 ghost use Rattle.std.specs.Prelude.{◌≡◌, ℕ, OnOk, IfErr, List, true};
 ghost use Rattle.bsc_asked.specs.Asked.{asked as asked_now, name as name_asked, run as run_asked};
 ghost use Rattle.bsc_command.specs.Faults.{IsEarly};
@@ -15,10 +15,10 @@ use bsc_running::{Cables, run};
 use std::alloc::Global;
 use std::io::{Read, Write};
 
-/// Does the work. The input is read where the work asks for it, and as a whole before anything is
-/// printed. A run reads its files and makes its connections by the machine; where it is done it has
-/// printed what `bsc_run::run_line` says of what its texts say, and nothing where it only checks. A
-/// station is attended until it ends; what it prints is told by the calls of `bsc_monitor`.
+/// Does the requested work. If the work needs the input, all of it is read before anything is
+/// printed. A run reads its files and makes its connections through the machine. When it succeeds
+/// it has printed the output of `bsc_run::run_line` for its texts, or nothing if it only checks
+/// them. A station is attended until it ends; `bsc_monitor` defines its output.
 pub fn perform<R: Read, H: Files + Cables + Network, W: Write>(
     alloc: Global,
     asked: &Asked,

@@ -1,4 +1,4 @@
-//! The whole command: from the words of the command line to the exit status.
+//! The whole command, from the command line to the exit status.
 
 ghost use Rattle.std.specs.Prelude.{◌≡◌, ◌≢◌, ◌⊎◌, [], map, string_bytes};
 ghost use Rattle.std.specs.Prelude.{Err, IfErr, IfOk, IsOkAnd, Ok, OnOk};
@@ -17,7 +17,7 @@ use bsc_words::read_words;
 use std::alloc::{AllocError, Global};
 use std::io::{BufWriter, Read, Write};
 
-/// The words as `clap` takes them.
+/// Returns the arguments as `clap` takes them.
 fn lent(alloc: Global, words: &[String]) -> Result<Vec<&str>, AllocError>
     ensures { IfOk result (λ lent. map (λ s. s.now) lent.items ≡ map string_bytes words.now) }
 {
@@ -28,7 +28,7 @@ fn lent(alloc: Global, words: &[String]) -> Result<Vec<&str>, AllocError>
     Ok(lent)
 }
 
-/// Does what the words ask for, or prints the help or the version.
+/// Does the work that the arguments ask for, or prints the help or the version.
 fn obey<R: Read, H: Files + Cables + Network, W: Write>(
     alloc: Global,
     words: &[String],
@@ -48,7 +48,7 @@ fn obey<R: Read, H: Files + Cables + Network, W: Write>(
     }
 }
 
-/// Does what the words ask for, where they could be had.
+/// Does the work that the arguments ask for, if they are available.
 fn obey_given<R: Read, H: Files + Cables + Network, W: Write>(
     alloc: Global,
     words: Result<Vec<String>, Fault>,
@@ -70,8 +70,7 @@ fn obey_given<R: Read, H: Files + Cables + Network, W: Write>(
     }
 }
 
-/// Lets what was printed leave the buffer, and gives the outcome of the work; `Output` where it
-/// cannot leave.
+/// Flushes the buffer, and returns the outcome of the work, or `Output` if the flush fails.
 fn flush_after<W: Write + Drop>(
     outcome: Result<(), Fault>,
     out: &mut BufWriter<W>,
@@ -87,12 +86,12 @@ fn flush_after<W: Write + Drop>(
     }
 }
 
-/// Tells on `errors` why the command ends, and gives the exit status of the fault. Wrong usage is
-/// told by the text of `clap` as it stands, any other fault in one line after `bscline: `. (Own.)
+/// Reports the fault on `errors`, and returns its exit status. Wrong usage is reported by the text
+/// of `clap`, unchanged; any other fault by one line that begins with `bscline: `.
 pub fn fail<E: Write>(fault: &Fault, errors: &mut E) -> u8
     ensures { result ≡ status_of fault.now }
 {
-    // Where `errors` takes no text, only the status is left to tell it.
+    // If `errors` accepts no text, only the status reports the fault.
     let _ = match fault {
         Fault::Usage(text) => write!(errors, "{text}"),
         _ => writeln!(errors, "bscline: {fault}"),
@@ -100,10 +99,10 @@ pub fn fail<E: Write>(fault: &Fault, errors: &mut E) -> u8
     status(fault)
 }
 
-/// Does what the words ask for, the program's name first, and gives the exit status: 0 when the
-/// work was done or the help or the version was printed, else that of the fault, which `fail`
-/// tells. What was printed leaves the buffer, also before a fault; where it cannot, the fault is
-/// `Output`. Words that could not be had are given as their fault. (Own.)
+/// Does the work that the arguments ask for, and returns the exit status: 0 if the work succeeded
+/// or the help or the version was printed, otherwise that of the fault, which `fail` reports. The
+/// first argument is the name of the program. The output is flushed even after a fault; if the
+/// flush fails, the fault is `Output`. If the arguments are not available, `words` is the fault.
 pub fn command<R: Read, H: Files + Cables + Network, W: Write + Drop, E: Write>(
     alloc: Global,
     words: Result<Vec<String>, Fault>,

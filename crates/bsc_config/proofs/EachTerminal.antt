@@ -1,4 +1,4 @@
--- Terminals that are read one after another.
+-- Reading the terminals of a document one after another.
 use Rattle.std.proofs.Common.{◌≡◌, ℕ, ◌+◌, ◌<◌, List, [], ◌∷◌, ◌++◌, Result, Ok, Err, length, drop}
 use Rattle.std.proofs.Common.{get_or, refl, ap, sym, ◌∙◌, append_assoc, subst}
 use Rattle.toml.specs.declared.value.Value.{Value}
@@ -11,7 +11,7 @@ use Rattle.bsc_config.specs.Faults.{Fault, Reports, ◌>>=◌}
 use Rattle.bsc_config.specs.Terminals.{terminal_of_value, terminals_of}
 use Rattle.bsc_config.proofs.ItemLemmas.{next_item}
 
--- the first fault of one reading is that of both
+-- the first fault of one reading is the fault of both
 pub first_reported : {V W : Type 0} (e : ConfigError) (reading : Result V Fault)
     (next : V → Result W Fault) → Reports e reading → Reports e (reading >>= next)
 first_reported (error.UnknownKey key) reading next is = ap (λ r. r >>= next) is
@@ -25,7 +25,7 @@ first_reported (error.SameAddresses first second) reading next is = absurd is
 first_reported error.EmptyPollList reading next is = absurd is
 first_reported (error.PollListEntry place) reading next is = absurd is
 
--- where one more terminal was read, those after it follow
+-- the readings before, extended by one more terminal
 after_one : {V : Type 0} (done : List V) (x : V) (rest : Result (List V) Fault)
     → ((rest >>= λ xs. Ok (x ∷ xs)) >>= λ xs. Ok (done ++ xs))
     ≡ (rest >>= λ xs. Ok ((done ++ x ∷ []) ++ xs))
@@ -45,7 +45,7 @@ module _ (version : Version) (values : List Value) (n : ℕ) (value : Value) whe
       ∙ ap (λ (r : Result TerminalValue Fault). (r >>= λ t. rest >>= λ ts. Ok (t ∷ ts))
       >>= λ ts. Ok (done ++ ts)) reads ∙ after_one done terminal rest
 
-  -- the fault of one terminal is that of all
+  -- the fault of one terminal is the fault of the whole list
   pub terminal_reported : (done : List TerminalValue) (e : ConfigError) → n < length values → value
       ≡ get_or values n value → Reports e (terminal_of_value version n (view value))
       → Reports e (terminals_of version n (items_view (drop n values)) >>= λ ts. Ok (done ++ ts))

@@ -1,4 +1,4 @@
--- Values one after another, and what they are read as.
+-- Reading the values of a list one after another.
 use Rattle.std.proofs.Common.{◌≡◌, ℕ, ◌+◌, ◌<◌, List, [], ◌∷◌, ◌++◌, Option, Some, None, length}
 use Rattle.std.proofs.Common.{drop, get_or, refl, ap, sym, ◌∙◌, append_assoc}
 use Rattle.std.specs.Option.{option_map, option_and_then}
@@ -8,13 +8,13 @@ use Rattle.toml.specs.View.{items_view, view}
 use Rattle.toml.proofs.Views.{items_view-drop}
 use Rattle.bsc_config.specs.Values.{read_each}
 
--- the values from a place on are the one there and those after it
+-- the values from an index on are the value at it and the values after it
 pub next_item : (vs : List Value) (i : ℕ) (v : Value) → i < length vs → v ≡ get_or vs i v
     → items_view (drop i vs) ≡ item (view v) (items_view (drop (i + 1) vs))
 next_item vs i v below is = items_view-drop vs i v below
     ∙ ap (λ x. item (view x) (items_view (drop (i + 1) vs))) (sym is)
 
--- where one more value was read, the readings of those after it follow
+-- the readings before, extended by one more reading
 after_one : {V : Type 0} (done : List V) (x : V) (o : Option (List V))
     → option_map (λ xs. done ++ xs) (option_map (λ xs. x ∷ xs) o)
     ≡ option_map (λ xs. (done ++ x ∷ []) ++ xs) o
@@ -32,7 +32,7 @@ read_each_next read vs done i v x below is reads =
     (option_and_then (λ value. option_map (λ values. value ∷ values) rest) o)) reads
     ∙ after_one done x rest
 
--- where a value can't be read, all of them can't
+-- a value that cannot be read makes the whole list unreadable
 pub read_each_stop : {V : Type 0} (read : Data → Option V) (vs : List Value) (done : List V) (i : ℕ)
     (v : Value) → i < length vs → v ≡ get_or vs i v → read (view v) ≡ None
     → option_map (λ xs. done ++ xs) (read_each read (items_view (drop i vs))) ≡ None

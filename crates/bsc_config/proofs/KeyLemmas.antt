@@ -1,4 +1,4 @@
--- The names of the keys of a table, one after another.
+-- The keys of a table as a list of names.
 use Rattle.std.proofs.Common.{◌≡◌, ℕ, List, [], ◌∷◌, Option, Some, None, String, string_bytes, cond}
 use Rattle.std.proofs.Common.{refl, ap}
 use Rattle.std.specs.declared.alloc.Global.{Global}
@@ -15,7 +15,7 @@ first_in owner [] = None
 first_in owner (k ∷ ks) =
     cond (is_known owner (string_bytes k)) (first_in owner ks) (Some (string_bytes k))
 
--- it is that of the table with these entries
+-- it is the first unknown key of the table with these entries
 pub first_in_keys : (owner : Owner) (es : List (String Global × Value))
     → first_unknown owner (members_view es) ≡ first_in owner (keys_of es)
 first_in_keys owner [] = refl

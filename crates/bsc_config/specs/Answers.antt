@@ -1,4 +1,4 @@
--- What is answered for a text (own).
+-- The result of reading a text.
 use Rattle.std.specs.Prelude.{◌≡◌, ℕ, List, Some, Result, Ok, Err, IsUtf8}
 use Rattle.toml.specs.Data.{Members}
 use Rattle.toml.specs.Parse.{parse_document}
@@ -9,24 +9,25 @@ use Rattle.bsc_config.specs.Faults.{Fault, Reports}
 use Rattle.bsc_config.specs.Settings.{ConfigValue, settings_in}
 use Rattle.bsc_config.specs.Refusals.{IsRefusal}
 
--- The text is UTF-8 and the TOML document of this table.
+-- The text is UTF-8 and is the TOML document with this table.
 pub record IsDocument (text : List ℕ) (document : Members) : Type 0 where
   pub utf8 : IsUtf8 text
   pub parsed : parse_document text ≡ Some document
 
--- A line can be made of what a document says: 1 to 64 terminals, whose addresses differ, and a poll
--- list of 1 to 255 entries that are terminals.
+-- A line can be made of the contents of a document: 1 to 64 terminals with distinct addresses, and
+-- a poll list of 1 to 255 entries, each the number of a terminal.
 abbrev pub IsConfig : ConfigValue → Type 0
 IsConfig config = IsAccepted config.terminals config.poll_list
 
--- The text is a document that says this, and a line can be made of it.
+-- The text is a document with these contents, and a line can be made of them.
 pub record Says (text : List ℕ) (config : ConfigValue) : Type 0 where
   pub document : Members
   pub read : IsDocument text document
   pub settings : settings_in document ≡ Ok config
   pub line : IsConfig config
 
--- Why what a document says is refused: its first fault; else that no line can be made of it.
+-- The reason for refusing the contents of a document: its first fault; otherwise the reason why no
+-- line can be made of it.
 abbrev pub Refuses : Result ConfigValue Fault → ConfigError → Type 0
 Refuses (Err fault) error = Reports {V = ConfigValue} error (Err fault)
 Refuses (Ok settings) error = IsRefusal settings error
@@ -37,8 +38,8 @@ pub record IsWrong (text : List ℕ) (error : ConfigError) : Type 0 where
   pub read : IsDocument text document
   pub refused : Refuses (settings_in document) error
 
--- Why a text is refused: it is no document, or what the document says is refused; out of memory may
--- come in place of any answer.
+-- The reason for refusing a text: it is not a document, or the contents of the document are
+-- refused. Out of memory may come in place of any answer.
 abbrev pub IsRefusedFor : List ℕ → ConfigError → Type 0
 IsRefusedFor text NotToml = (document : Members) → IsDocument text document → ⊥
 IsRefusedFor text Memory = Unit {0}

@@ -1,4 +1,4 @@
--- What is checked of every table of a document before any value is read (own).
+-- The checks of every table of a document before any value is read.
 use Rattle.std.specs.Prelude.{ℕ, ◌+◌, List, Option, Some, None, Result, Ok, Err, if◌then◌else◌}
 use Rattle.toml.specs.Data.{Data, table, Items, no_items, item, Members, no_members, member}
 use Rattle.bsc_config.specs.declared.key.Key.TheVariants.{Version, PollList, Terminals, Poll}
@@ -9,36 +9,36 @@ use Rattle.bsc_config.specs.Keys.{is_known}
 use Rattle.bsc_config.specs.Faults.{Fault, unknown_key, ◌>>=◌}
 use Rattle.bsc_config.specs.Tables.{required, terminal_tables}
 
--- What is checked of a table. Nothing is checked of a value that is no table.
+-- The check of a value that may be a table. A value that is not a table passes.
 abbrev pub check_table : (Members → Result (Unit {0}) Fault) → Data → Result (Unit {0}) Fault
 check_table check (table members) = check members
 check_table check _ = Ok tt
 
--- What is checked of each of these tables, with the number of its terminal, which for the first is
--- this number.
+-- The check of each of these values, each with the number of its terminal; `number` is that of the
+-- first.
 abbrev pub check_each :
     (ℕ → Members → Result (Unit {0}) Fault) → ℕ → Items → Result (Unit {0}) Fault
 check_each check number no_items = Ok tt
 check_each check number (item first rest) =
     check_table (check number) first >>= λ _. check_each check (number + 1) rest
 
--- The least name, by its bytes, of a key that such a table may not have: the members of a table are
--- in the order of the bytes of their keys.
+-- The smallest key, compared byte by byte, that a table with this owner may not have. The members
+-- of a table are sorted by the bytes of their keys.
 abbrev pub first_unknown : Owner → Members → Option (List ℕ)
 first_unknown owner no_members = None
 first_unknown owner (member name value rest) =
     if is_known owner name then first_unknown owner rest else Some name
 
--- The name of an unknown key is the fault, where one was found.
+-- The fault for an unknown key, if one was found.
 abbrev pub refuse_unknown : Owner → Option (List ℕ) → Result (Unit {0}) Fault
 refuse_unknown owner None = Ok tt
 refuse_unknown owner (Some name) = Err (unknown_key owner name)
 
--- A table has only keys that it may have.
+-- The table has no unknown key.
 abbrev pub known_keys_of : Owner → Members → Result (Unit {0}) Fault
 known_keys_of owner members = refuse_unknown owner (first_unknown owner members)
 
--- The document and then each terminal have only keys that they may have.
+-- The document, and then each terminal, has no unknown key.
 abbrev pub known_keys : Members → Result (Unit {0}) Fault
 known_keys document = do
   of_document ← known_keys_of Document document
@@ -51,7 +51,7 @@ terminal_keys_present number members = do
   select ← required (Select number) members
   Ok tt
 
--- The document and then each terminal have the keys that they must have.
+-- The document, and then each terminal, has all its required keys.
 abbrev pub keys_present : Members → Result (Unit {0}) Fault
 keys_present document = do
   version ← required Version document

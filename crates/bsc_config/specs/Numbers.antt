@@ -1,4 +1,4 @@
--- The version, the settings and the poll list of a document (own).
+-- The version, the settings and the poll list of a document.
 use Rattle.std.specs.Prelude.{ℕ, List, Option, Some, None, Result, Ok, option_map}
 use Rattle.std.specs.Prelude.{if◌then◌else◌, nat_eq}
 use Rattle.toml.specs.Data.{Data, Members}
@@ -15,12 +15,12 @@ use Rattle.bsc_config.specs.Faults.{Fault, ◌>>=◌}
 use Rattle.bsc_config.specs.Tables.{value_at, required}
 use Rattle.bsc_config.specs.Values.{whole_number, list_in, or_wrong}
 
--- The number that a value is, or, where there is no value, this one.
+-- The number from `least` to `most` in a value, or `absent` if there is no value.
 abbrev pub number_in : Key → ℕ → ℕ → ℕ → Option Data → Result ℕ Fault
 number_in key least most absent None = Ok absent
 number_in key least most absent (Some value) = or_wrong key (whole_number least most value)
 
--- The number at a key, from least to most; this one where the key is absent.
+-- The number at a key, from `least` to `most`, or `absent` if the key is absent.
 abbrev pub number_at : Key → ℕ → ℕ → ℕ → Members → Result ℕ Fault
 number_at key least most absent document = number_in key least most absent (value_at key document)
 
@@ -41,7 +41,7 @@ setup_in document = do
   waits ← number_at Waits 1 MAX_WAITS 10 document
   Ok (setup_of_numbers full block_chars tries waits)
 
--- The version with this number: 1, else 2.
+-- The version with this number: version one for 1, otherwise version two.
 abbrev pub version_of : ℕ → VersionValue
 version_of n = if nat_eq n 1 then One else Two
 

@@ -1,4 +1,4 @@
--- When a line of what a document says is refused (own).
+-- The refusal of a line with the contents of a document.
 use Rattle.std.specs.Prelude.{◌≡◌}
 use Rattle.bsc_directory.specs.declared.refusal.SetupError.{SetupError}
 use Rattle.bsc_directory.specs.declared.refusal.SetupError.TheVariants as setup
@@ -9,7 +9,7 @@ use Rattle.bsc_config.specs.declared.error.ConfigError.TheVariants.{SameAddresse
 use Rattle.bsc_config.specs.declared.error.ConfigError.TheVariants.{PollListEntry, Memory}
 use Rattle.bsc_config.specs.Settings.{ConfigValue}
 
--- A refusal of a control station in the words of a configuration.
+-- The error of a configuration for a refusal of a control station.
 abbrev pub refusal : SetupError → ConfigError
 refusal setup.NoTerminal = NoTerminal
 refusal setup.TooMany = TooManyTerminals

@@ -1,4 +1,4 @@
--- What a document says: the settings, terminals and poll list, or its first fault (own).
+-- The contents of a document: the settings, terminals and poll list, or its first fault.
 use Rattle.std.specs.Prelude.{ℕ, List, Result, Ok}
 use Rattle.toml.specs.Data.{Members}
 use Rattle.bsc_bid.specs.Setup.{SetupValue}
@@ -8,18 +8,18 @@ use Rattle.bsc_config.specs.Checks.{known_keys, keys_present}
 use Rattle.bsc_config.specs.Numbers.{version_in, setup_in, poll_list_in}
 use Rattle.bsc_config.specs.Terminals.{terminals_in}
 
--- What a line is made of.
+-- The parts of a line: the settings, terminals and poll list.
 pub record ConfigValue : Type 0 where
   pub setup : SetupValue
   pub terminals : List TerminalValue
   pub poll_list : List ℕ
 
--- What a line is made of, by its parts.
+-- The configuration with these parts.
 abbrev pub config_of : SetupValue → List TerminalValue → List ℕ → ConfigValue
 config_of setup terminals poll_list =
     record { setup = setup; terminals = terminals; poll_list = poll_list }
 
--- What the values of a document say, read in the order of the keys.
+-- The values of a document, read in the order of the keys.
 abbrev pub values_in : Members → Result ConfigValue Fault
 values_in document = do
   version ← version_in document
@@ -28,8 +28,8 @@ values_in document = do
   terminals ← terminals_in version document
   Ok (config_of setup terminals poll_list)
 
--- What a document says: first its keys are known, then those that it must have are there, and then
--- its values are read.
+-- The contents of a document: its keys are checked, first for unknown and then for missing ones,
+-- and then its values are read.
 abbrev pub settings_in : Members → Result ConfigValue Fault
 settings_in document = do
   known ← known_keys document

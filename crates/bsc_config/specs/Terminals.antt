@@ -1,4 +1,4 @@
--- The terminals of a document (own).
+-- The terminals of a document.
 use Rattle.std.specs.Prelude.{ℕ, ◌+◌, List, [], ◌∷◌, Option, Result, Ok, Err, option_map}
 use Rattle.std.specs.Result.{result_ok}
 use Rattle.toml.specs.Data.{Data, table, Items, no_items, item, Members}
@@ -24,12 +24,12 @@ terminal_in version number members = do
   selects ← or_wrong (Select number) (selects_in version select_value)
   or_wrong (Select number) (result_ok (terminal_of poll selects))
 
--- The terminal that a value is, which must be a table.
+-- The terminal with this number from its value, which must be a table.
 abbrev pub terminal_of_value : Version → ℕ → Data → Result TerminalValue Fault
 terminal_of_value version number (table members) = terminal_in version number members
 terminal_of_value version number _ = Err (wrong_value Terminals)
 
--- The terminals of these values, the first of which has this number.
+-- The terminals from these values; `number` is the number of the first.
 abbrev pub terminals_of : Version → ℕ → Items → Result (List TerminalValue) Fault
 terminals_of version number no_items = Ok []
 terminals_of version number (item first rest) = do

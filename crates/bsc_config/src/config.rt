@@ -12,8 +12,9 @@ use std::alloc::Global;
 use std::marker::Model;
 
 /// The configuration of a line: its settings, its terminals and its poll list. It has 1 to 64
-/// terminals, whose addresses differ, and 1 to 255 entries in its poll list, each the number of a
-/// terminal; so a control station or a line of it is refused only where there is no memory.
+/// terminals with distinct addresses, and 1 to 255 entries in its poll list, each the number of one
+/// of the terminals. A control station or a line with this configuration is therefore refused only
+/// when memory runs out.
 #[derive(Debug, Drop)]
 pub struct Config {
     setup: Setup,
@@ -36,7 +37,8 @@ impl Model for Config {
 impl Config {
     ghost use Rattle.bsc_config.specs.SettingsValues.{settings_value};
 
-    /// The configuration with these settings, or why a line of them is refused.
+    /// Returns the configuration with these settings, or the reason why a line with them is
+    /// refused.
     pub(crate) fn new(alloc: Global, settings: Settings) -> Result<Config, ConfigError>
         ensures value { IfOk result (λ c. c ≡ settings_value settings) }
         ensures config { IfOk result IsConfig }
@@ -56,18 +58,19 @@ impl Config {
         })
     }
 
-    /// How records become blocks, and how many failures and WACKs a station bears. (Own.)
+    /// Returns the settings: the format of records and blocks, and the number of failures and WACKs
+    /// that a station allows.
     pub fn setup(&self) -> Setup
         ensures value { result ≡ self.now.setup }
         ensures config { IsConfig self.now }
     {
-        // A field is read, so that the invariant is known here.
+        // Reading a field makes the invariant known here.
         let _ = &self.terminals;
         self.setup
     }
 
-    /// The addresses of each terminal, in the order of their numbers: 1 to 64 of them. (GA27-3004,
-    /// polling and selection; the limits are own.)
+    /// Returns the addresses of each terminal, in the order of the terminal numbers: 1 to 64 of
+    /// them.
     pub fn terminal_list(&self) -> &[Terminal]
         ensures value { result.now ≡ self.now.terminals }
         ensures config { IsConfig self.now }
@@ -75,8 +78,7 @@ impl Config {
         self.terminals.as_slice()
     }
 
-    /// The poll list: the number of a terminal for each of its 1 to 255 entries. (GA27-3004, poll
-    /// list; the limits are own.)
+    /// Returns the poll list: 1 to 255 entries, each the number of a terminal.
     pub fn poll_list(&self) -> &[u8]
         ensures value { result.now ≡ self.now.poll_list }
         ensures config { IsConfig self.now }
@@ -84,7 +86,7 @@ impl Config {
         self.poll_list.as_slice()
     }
 
-    /// How many terminals the line has: 1 to 64. (Own.)
+    /// Returns the number of terminals on the line, 1 to 64.
     pub fn terminals(&self) -> usize
         ensures value { result ≡ length self.now.terminals }
         ensures config { IsConfig self.now }

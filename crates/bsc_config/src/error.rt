@@ -1,30 +1,30 @@
-//! Why a configuration is refused.
+//! The reasons for refusing a configuration.
 
 use crate::key::{Key, UnknownKey};
 use bsc_directory::SetupError;
 use std::alloc::{AllocError, AllocFailed};
 use thiserror::Error;
 
-/// Why a configuration is refused: the first of these, in this order, that it gives cause for; but
-/// `Memory` may come in place of any other. (All own.)
+/// The reason for refusing a configuration: the first of these, in this order, that applies.
+/// `Memory` may come in place of any other.
 #[derive(Debug, Drop, Error)]
 pub enum ConfigError {
-    /// The text is not UTF-8, or no TOML document.
+    /// The text is not UTF-8, or is not a TOML document.
     #[error("config: not toml")]
     NotToml,
 
-    /// A key that no configuration has: the least by its bytes of those of the document; else of
-    /// those of the first terminal that has one.
+    /// A key that a configuration may not have: the smallest, compared byte by byte, of those in
+    /// the document; otherwise the smallest of those in the first terminal that has one.
     #[error("config: unknown key {key}")]
     UnknownKey { key: UnknownKey },
 
-    /// The first key that is needed and absent: `version`, `poll_list`, `terminals`, and then
-    /// `poll` and `select` of each terminal in order.
+    /// The first required key that is absent: `version`, `poll_list`, `terminals`, and then `poll`
+    /// and `select` of each terminal in order.
     #[error("config: missing key {key}")]
     MissingKey { key: Key },
 
-    /// The first key whose value is none that it may have, in the order of [`Key`], the terminals
-    /// one after another.
+    /// The first key with a value that is not allowed, in the order of [`Key`], one terminal after
+    /// another.
     #[error("config: wrong value of {key}")]
     WrongValue { key: Key },
 
@@ -36,9 +36,10 @@ pub enum ConfigError {
     #[error("config: too many terminals")]
     TooManyTerminals,
 
-    /// The second number is the least whose address came before; the first is where it came.
-    /// Addresses are numbered: the polling address of terminal 0, its selection addresses in order,
-    /// the polling address of terminal 1, and so on.
+    /// Two addresses are the same. `second` is the least number whose address occurred before, and
+    /// `first` is the number where it occurred. Addresses are numbered from 0: the polling address
+    /// of terminal 0, its selection addresses in order, the polling address of terminal 1, and so
+    /// on.
     #[error("config: addresses {first} and {second} are the same")]
     SameAddresses { first: usize, second: usize },
 
@@ -46,12 +47,12 @@ pub enum ConfigError {
     #[error("config: poll list is empty")]
     EmptyPollList,
 
-    /// The least place of the poll list, from 0, that is 255 or more, or whose entry is the number
-    /// of no terminal.
+    /// An entry of the poll list is wrong. `place` is the least index, counted from 0, that is 255
+    /// or more, or whose entry is not the number of a terminal.
     #[error("config: poll list entry {place} is wrong")]
     PollListEntry { place: usize },
 
-    /// A growth was refused.
+    /// An allocation failed.
     #[error("out of memory")]
     Memory,
 }

@@ -5,7 +5,7 @@ ghost use Rattle.bsc_config.specs.Keys.{name_of, owner_of};
 
 use std::fmt;
 
-/// Whose table a key stands in. (Own.)
+/// The table to which a key belongs.
 #[derive(Clone, Copy, Debug, PartialEq, Eq)]
 pub enum Owner {
     /// The document.
@@ -15,7 +15,7 @@ pub enum Owner {
     Terminal { number: usize },
 }
 
-/// A key that a configuration may have. (Own.)
+/// A key that a configuration may have.
 #[derive(Clone, Copy, Debug, PartialEq, Eq)]
 pub enum Key {
     /// `version`, 1 or 2.
@@ -24,16 +24,16 @@ pub enum Key {
     /// `full`, the full length of a record in characters.
     Full,
 
-    /// `block_chars`, the most characters that a block counts.
+    /// `block_chars`, the largest character count of a block.
     BlockChars,
 
-    /// `tries`, how many failures in a row are borne.
+    /// `tries`, the number of failures in a row that are allowed.
     Tries,
 
-    /// `waits`, how many WACKs since the last acknowledgement are borne.
+    /// `waits`, the number of WACKs since the last acknowledgement that are allowed.
     Waits,
 
-    /// `poll_list`, the numbers of the terminals that are polled in turn.
+    /// `poll_list`, the numbers of the terminals in polling order.
     PollList,
 
     /// `terminals`, a table for each terminal.
@@ -47,7 +47,7 @@ pub enum Key {
 }
 
 impl Key {
-    /// The name of the key in its table, as `poll`. (Own.)
+    /// Returns the name of the key in its table, such as `poll`.
     pub fn name(&self) -> &'static str
         ensures { result.now ≡ name_of self.now }
     {
@@ -64,7 +64,7 @@ impl Key {
         }
     }
 
-    /// Whose table the key stands in. (Own.)
+    /// Returns the table to which the key belongs.
     pub fn owner(&self) -> Owner
         ensures { result ≡ owner_of self.now }
     {
@@ -76,13 +76,13 @@ impl Key {
     }
 }
 
-/// A key that no configuration has.
+/// A key that a configuration may not have.
 #[derive(Debug, Drop)]
 pub struct UnknownKey {
-    /// Whose table it stands in.
+    /// The table that contains it.
     pub owner: Owner,
 
-    /// Its name, as it is read from the document.
+    /// Its name, as read from the document.
     pub name: String,
 }
 
@@ -92,7 +92,7 @@ impl fmt::Display for Owner {
 
     ghost output = { λ owner. Some (prefix_of owner) };
 
-    /// What stands before the name of a key: nothing for the document, `terminals[0].` for the
+    /// Writes the prefix of the name of a key: nothing for the document, `terminals[0].` for the
     /// first terminal.
     fn fmt<W: fmt::Write>(&self, f: &mut fmt::Formatter<W>) -> fmt::Result {
         match self {
@@ -108,7 +108,7 @@ impl fmt::Display for Key {
 
     ghost output = { λ key. Some (prefix_of (owner_of key) ++ name_of key) };
 
-    /// The key with its place, as `full` or `terminals[0].poll`.
+    /// Writes the key with its prefix, such as `full` or `terminals[0].poll`.
     fn fmt<W: fmt::Write>(&self, f: &mut fmt::Formatter<W>) -> fmt::Result {
         let owner = self.owner();
         let name = self.name();
@@ -122,7 +122,7 @@ impl fmt::Display for UnknownKey {
 
     ghost output = { λ key. Some (prefix_of key.owner ++ string_bytes key.name) };
 
-    /// The key with its place, as `colour` or `terminals[0].colour`.
+    /// Writes the key with its prefix, such as `colour` or `terminals[0].colour`.
     fn fmt<W: fmt::Write>(&self, f: &mut fmt::Formatter<W>) -> fmt::Result {
         let owner = self.owner;
         let name = self.name.as_str();

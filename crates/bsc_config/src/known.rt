@@ -1,4 +1,4 @@
-//! Refuses keys that no configuration has.
+//! The check for keys that a configuration may not have.
 
 ghost use Rattle.std.specs.Prelude.{◌≡◌, option_map, string_bytes};
 ghost use Rattle.toml.specs.View.{items_view, table_view, view};
@@ -14,7 +14,7 @@ use crate::lookup::terminal_tables;
 use std::alloc::Global;
 use toml::{Table, Value};
 
-/// Whether such a table may have a key of this name.
+/// Whether a table with this owner may have a key with this name.
 fn is_known_name(owner: Owner, name: &str) -> bool
     ensures { result ≡ is_known owner name.now }
 {
@@ -32,7 +32,7 @@ fn is_known_name(owner: Owner, name: &str) -> bool
     }
 }
 
-/// The least name of a key that the table may not have: a table's keys are in the order of their
+/// Returns the smallest key that the table may not have. The keys of a table are sorted by their
 /// bytes.
 fn unknown_name(table: &Table, owner: Owner) -> Option<&String>
     ensures { option_map (λ n. string_bytes n.now) result
@@ -46,7 +46,7 @@ fn unknown_name(table: &Table, owner: Owner) -> Option<&String>
     None
 }
 
-/// Refuses the least key that the table may not have.
+/// Refuses a table with a key that it may not have, and names the smallest such key.
 fn known_keys_of(alloc: Global, table: &Table, owner: Owner) -> Result<(), ConfigError>
     ensures { Gives (λ u. u) result (known_in_table owner (table_view table.now)) }
 {
@@ -61,7 +61,8 @@ fn known_keys_of(alloc: Global, table: &Table, owner: Owner) -> Result<(), Confi
     }
 }
 
-/// Refuses the least key that the terminal with this number may not have.
+/// Refuses a terminal with a key that it may not have. `number` is the number of the terminal. A
+/// value that is not a table is accepted here.
 fn terminal_keys_known(alloc: Global, value: &Value, number: usize) -> Result<(), ConfigError>
     ensures { Gives (λ u. u) result
         (check_table (known_in_table (Owner.Terminal number)) (view value.now)) }
@@ -72,7 +73,7 @@ fn terminal_keys_known(alloc: Global, value: &Value, number: usize) -> Result<()
     }
 }
 
-/// Refuses the least key that a terminal may not have, of the first terminal that has one.
+/// Refuses the first terminal with a key that it may not have, and names the smallest such key.
 fn each_terminal_known(alloc: Global, values: &[Value]) -> Result<(), ConfigError>
     ensures { Gives (λ u. u) result
         (check_each (λ n. known_in_table (Owner.Terminal n)) 0 (items_view values.now)) }
@@ -83,7 +84,7 @@ fn each_terminal_known(alloc: Global, values: &[Value]) -> Result<(), ConfigErro
     Ok(())
 }
 
-/// Refuses the least key that the document may not have, else that of the first terminal.
+/// Refuses a document with a key that it may not have; otherwise the first terminal with one.
 pub(crate) fn known_keys(alloc: Global, document: &Table) -> Result<(), ConfigError>
     ensures { Gives (λ u. u) result (known_in_document (table_view document.now)) }
 {

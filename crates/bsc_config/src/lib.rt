@@ -1,22 +1,25 @@
-//! The configuration of a line: a TOML document is read into settings, terminals and a poll list
-//! that a line can be made of.
+//! The configuration of a line: reads a TOML document into the settings, terminals and poll list of
+//! a line.
 //!
-//! The document has these keys (all own):
+//! Polling addresses, selection addresses and the poll list are those of GA27-3004. The document,
+//! its keys, its limits and its errors are this project's own.
 //!
-//! | key | value | where it is absent |
+//! The document has these keys:
+//!
+//! | key | value | default |
 //! |---|---|---|
-//! | `version` | 1 or 2 | it is missing |
-//! | `full` | the full length of a record, 1 to 144 | 80 |
-//! | `block_chars` | the most characters that a block counts, 146 to 400 | 400 |
-//! | `tries` | the failures in a row that are borne, 1 to 15 | 3 |
-//! | `waits` | the WACKs that are borne, 1 to 255 | 10 |
-//! | `poll_list` | a list of numbers of terminals, each 0 to 255 | it is missing |
-//! | `terminals` | a list of tables with the keys `poll` and `select` | it is missing |
+//! | `version` | 1 or 2 | none, required |
+//! | `full` | the full length of a record in characters, 1 to 144 | 80 |
+//! | `block_chars` | the largest character count of a block, 146 to 400 | 400 |
+//! | `tries` | the number of failures in a row that are allowed, 1 to 15 | 3 |
+//! | `waits` | the number of WACKs that are allowed, 1 to 255 | 10 |
+//! | `poll_list` | a list of terminal numbers, each 0 to 255 | none, required |
+//! | `terminals` | a list of tables with the keys `poll` and `select` | none, required |
 //!
-//! `poll` is the polling address of a terminal, a text. `select` is its selection address, a text,
-//! in version 1, and a list of one to four such texts in version 2. An address has 1 to 7
-//! characters, each from 21 to 7E hexadecimal. No other key may stand in the document or in the
-//! table of a terminal.
+//! `poll` is the polling address of a terminal, a string. `select` is its selection address, a
+//! string, in version 1, and a list of one to four such strings in version 2. An address has 1 to 7
+//! characters, each from 21 to 7E hexadecimal. Neither the document nor the table of a terminal may
+//! have any other key.
 //!
 //! ```toml
 //! version = 1

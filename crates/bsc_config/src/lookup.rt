@@ -1,4 +1,4 @@
-//! What stands at the keys of a table.
+//! The values at the keys of a table.
 
 ghost use Rattle.std.specs.Prelude.{◌≡◌, option_map};
 ghost use Rattle.toml.specs.View.{items_view, table_view, view};
@@ -12,14 +12,14 @@ use crate::error::ConfigError;
 use crate::key::Key;
 use toml::{Table, Value};
 
-/// The value at a key.
+/// Returns the value at a key, if the key is present.
 pub(crate) fn value_at(table: &Table, key: Key) -> Option<&Value>
     ensures { option_map (λ v. view v.now) result ≡ value_of_key key (table_view table.now) }
 {
     table.get(key.name())
 }
 
-/// The value at a key that the table must have.
+/// Returns the value at a required key.
 pub(crate) fn required(table: &Table, key: Key) -> Result<&Value, ConfigError>
     ensures { Gives (λ v. view v.now) result (required_value key (table_view table.now)) }
 {
@@ -29,7 +29,7 @@ pub(crate) fn required(table: &Table, key: Key) -> Result<&Value, ConfigError>
     }
 }
 
-/// Whether each of the values is a table.
+/// Whether all the values are tables.
 fn are_tables(values: &[Value]) -> bool
     ensures { result ≡ all_tables (items_view values.now) }
 {
@@ -41,7 +41,7 @@ fn are_tables(values: &[Value]) -> bool
     true
 }
 
-/// The tables that a value is a list of, if it is one.
+/// Returns the tables in a list of tables, or `None` if the value is not such a list.
 pub(crate) fn tables_in(value: &Value) -> Option<&[Value]>
     ensures { option_map (λ s. items_view s.now) result ≡ tables_of_value (view value.now) }
 {
@@ -51,8 +51,8 @@ pub(crate) fn tables_in(value: &Value) -> Option<&[Value]>
     }
 }
 
-/// The tables of the terminals of a document: none where `terminals` is absent or no list of
-/// tables.
+/// Returns the tables of the terminals in a document: none if `terminals` is absent or is not a
+/// list of tables.
 pub(crate) fn terminal_tables(document: &Table) -> &[Value]
     ensures { items_view result.now ≡ tables_of_terminals (table_view document.now) }
 {

@@ -16,7 +16,7 @@ use bsc_bid::limits::{MAX_TRIES, MAX_WAITS};
 use bsc_block::limits::{MAX_BLOCK_CHARS, MAX_FULL, MIN_BLOCK_CHARS};
 use toml::Table;
 
-/// The version: 1 or 2.
+/// Returns the version, 1 or 2.
 pub(crate) fn version_in(document: &Table) -> Result<Version, ConfigError>
     ensures { Gives (λ v. v) result (version_of_document (table_view document.now)) }
 {
@@ -28,7 +28,7 @@ pub(crate) fn version_in(document: &Table) -> Result<Version, ConfigError>
     }
 }
 
-/// The number at a key, from least to most; `absent` where there is no such key.
+/// Returns the number at a key, from `least` to `most`, or `absent` if the key is absent.
 fn number_at(
     document: &Table,
     key: Key,
@@ -52,7 +52,8 @@ fn number_at(
     }
 }
 
-/// The settings. Where the key of a block is absent, a block is as long as it may be.
+/// Returns the settings. An absent key has its default; the default of `block_chars` is the largest
+/// value.
 pub(crate) fn setup_in(document: &Table) -> Result<Setup, ConfigError>
     ensures { Gives (λ s. s) result (setup_of_document (table_view document.now)) }
 {

@@ -13,7 +13,7 @@ use crate::values::whole_number;
 use std::alloc::Global;
 use toml::{Table, Value};
 
-/// The entries that the values are.
+/// Returns the entries of the poll list from a list of values.
 fn entries(alloc: Global, values: &[Value]) -> Result<Vec<u8>, ConfigError>
     ensures { Gives (λ v. v.items) result
         (or_wrong Key.PollList (read_each (number_of_value 0 255) (items_view values.now))) }
@@ -28,7 +28,7 @@ fn entries(alloc: Global, values: &[Value]) -> Result<Vec<u8>, ConfigError>
     Ok(entries)
 }
 
-/// The poll list: whole numbers from 0 to 255.
+/// Returns the poll list: whole numbers from 0 to 255.
 pub(crate) fn poll_list_in(alloc: Global, document: &Table) -> Result<Vec<u8>, ConfigError>
     ensures { Gives (λ v. v.items) result (poll_list_of_document (table_view document.now)) }
 {

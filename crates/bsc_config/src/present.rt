@@ -1,4 +1,4 @@
-//! Refuses a document without the keys that it must have.
+//! The check for missing keys.
 
 ghost use Rattle.std.specs.Prelude.{◌≡◌};
 ghost use Rattle.toml.specs.View.{items_view, table_view, view};
@@ -12,7 +12,7 @@ use crate::key::Key;
 use crate::lookup::{required, terminal_tables};
 use toml::{Table, Value};
 
-/// Refuses the table of a terminal without one of its keys.
+/// Refuses the table of a terminal if `poll` or `select` is missing.
 fn terminal_keys_present(table: &Table, terminal: usize) -> Result<(), ConfigError>
     ensures { Gives (λ u. u) result (present_in_terminal terminal (table_view table.now)) }
 {
@@ -21,7 +21,8 @@ fn terminal_keys_present(table: &Table, terminal: usize) -> Result<(), ConfigErr
     Ok(())
 }
 
-/// Refuses a value that is the table of a terminal without one of its keys.
+/// Refuses a terminal if `poll` or `select` is missing. A value that is not a table is accepted
+/// here.
 fn value_has_keys(value: &Value, terminal: usize) -> Result<(), ConfigError>
     ensures { Gives (λ u. u) result (check_table (present_in_terminal terminal) (view value.now)) }
 {
@@ -31,7 +32,7 @@ fn value_has_keys(value: &Value, terminal: usize) -> Result<(), ConfigError>
     }
 }
 
-/// Refuses the first terminal without one of its keys.
+/// Refuses the first terminal without `poll` or `select`.
 fn each_terminal_has_keys(values: &[Value]) -> Result<(), ConfigError>
     ensures { Gives (λ u. u) result (check_each present_in_terminal 0 (items_view values.now)) }
 {
@@ -41,7 +42,7 @@ fn each_terminal_has_keys(values: &[Value]) -> Result<(), ConfigError>
     Ok(())
 }
 
-/// Refuses a document without a key that it must have; then a terminal without one of its keys.
+/// Refuses a document without a required key; otherwise the first terminal without one of its keys.
 pub(crate) fn keys_present(document: &Table) -> Result<(), ConfigError>
     ensures { Gives (λ u. u) result (present_in_document (table_view document.now)) }
 {

@@ -10,7 +10,7 @@ use crate::settings::Settings;
 use std::alloc::Global;
 use toml::Table;
 
-/// The table of a TOML document.
+/// Parses a TOML document into its table.
 fn document(alloc: Global, text: &[u8]) -> Result<Table, ConfigError>
     ensures document { IfOk result (λ t. IsDocument text.now (table_view t)) }
     ensures refused { IfErr result (IsRefusedFor text.now) }
@@ -22,9 +22,9 @@ fn document(alloc: Global, text: &[u8]) -> Result<Table, ConfigError>
     }
 }
 
-/// The configuration that a TOML document says, or the first reason to refuse it, in the order of
-/// the variants of [`ConfigError`]; `Memory` may come in place of any answer. `toml` takes the
-/// global allocator only, and so does this. (Own.)
+/// Reads the configuration in a TOML document, or returns the first reason for refusing it, in the
+/// order of the variants of [`ConfigError`]. `Memory` may come in place of any answer. `toml`
+/// accepts only the global allocator, and so does this function.
 pub fn read_config(alloc: Global, text: &[u8]) -> Result<Config, ConfigError>
     ensures says { IfOk result (Says text.now) }
     ensures config { IfOk result IsConfig }

@@ -1,4 +1,4 @@
-//! What a document says.
+//! The contents of a document.
 
 ghost use Rattle.toml.specs.View.{table_view};
 ghost use Rattle.bsc_config.specs.Faults.{Gives};
@@ -15,7 +15,7 @@ use bsc_bid::{Setup, Terminal};
 use std::alloc::Global;
 use toml::Table;
 
-/// What a document says, before it is known that a line can be made of it.
+/// The contents of a document, before the checks of a line are made.
 #[derive(Drop)]
 pub(crate) struct Settings {
     pub(crate) setup: Setup,
@@ -26,7 +26,7 @@ pub(crate) struct Settings {
 impl Settings {
     ghost use Rattle.bsc_config.specs.SettingsValues.{settings_value};
 
-    /// What the values of a document say, read in the order of the keys.
+    /// Reads the values of a document, in the order of the keys.
     fn values_in(alloc: Global, document: &Table) -> Result<Settings, ConfigError>
         ensures { Gives settings_value result (values_of_document (table_view document.now)) }
     {
@@ -41,8 +41,7 @@ impl Settings {
         })
     }
 
-    /// What a document says: first its keys are known, then those that it must have are there, and
-    /// then its values are read.
+    /// Reads a document: refuses unknown keys, then missing keys, and then reads the values.
     pub(crate) fn read(alloc: Global, document: &Table) -> Result<Settings, ConfigError>
         ensures { Gives settings_value result (settings_of_document (table_view document.now)) }
     {

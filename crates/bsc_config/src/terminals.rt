@@ -17,7 +17,7 @@ use bsc_frame::Address;
 use std::alloc::Global;
 use toml::{Table, Value};
 
-/// The addresses that the values are; the values are those of this key.
+/// Returns the addresses in a list of values. `key` is the key of the list.
 fn addresses(alloc: Global, values: &[Value], key: Key) -> Result<Vec<Address>, ConfigError>
     ensures { Gives (λ v. v.items) result
         (or_wrong key (read_each address_of_value (items_view values.now))) }
@@ -32,7 +32,7 @@ fn addresses(alloc: Global, values: &[Value], key: Key) -> Result<Vec<Address>, 
     Ok(addresses)
 }
 
-/// One address in a list of one; the value is that of this key.
+/// Returns a list of one address. `key` is the key of the value.
 fn single(alloc: Global, value: &Value, key: Key) -> Result<Vec<Address>, ConfigError>
     ensures { Gives (λ v. v.items) result
         (or_wrong key (selects_of_value Version.One (view value.now))) }
@@ -47,7 +47,7 @@ fn single(alloc: Global, value: &Value, key: Key) -> Result<Vec<Address>, Config
     }
 }
 
-/// The selection addresses that a value of this key is.
+/// Returns the selection addresses in the value at `key`.
 fn selects_in(
     alloc: Global,
     value: &Value,
@@ -66,7 +66,7 @@ fn selects_in(
     }
 }
 
-/// The terminal with this number.
+/// Returns the terminal with this number from its table.
 fn terminal_in(
     alloc: Global,
     table: &Table,
@@ -90,7 +90,7 @@ fn terminal_in(
     }
 }
 
-/// The terminal with this number that a value is.
+/// Returns the terminal with this number from its value, which must be a table.
 fn terminal_of(
     alloc: Global,
     value: &Value,
@@ -107,7 +107,7 @@ fn terminal_of(
     }
 }
 
-/// The terminals that the values are.
+/// Returns the terminals from a list of values, numbered from 0.
 fn each_terminal(
     alloc: Global,
     values: &[Value],
@@ -123,7 +123,7 @@ fn each_terminal(
     Ok(terminals)
 }
 
-/// The terminals: a list of tables.
+/// Returns the terminals of a document: a list of tables.
 pub(crate) fn terminals_in(
     alloc: Global,
     document: &Table,

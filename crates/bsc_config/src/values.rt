@@ -1,4 +1,4 @@
-//! What single values are read as.
+//! Conversions of single values.
 
 ghost use Rattle.std.specs.Prelude.{◌≡◌, ◌≤◌, IfSome};
 ghost use Rattle.toml.specs.View.{view};
@@ -8,17 +8,17 @@ ghost use Rattle.bsc_config.specs.Values.{whole_number as number_of_value};
 use bsc_frame::Address;
 use toml::Value;
 
-/// The form of a configuration.
+/// The version of a configuration.
 #[derive(Clone, Copy)]
 pub(crate) enum Version {
-    /// Each terminal has one selection address, written as a text.
+    /// Each terminal has one selection address, written as a string.
     One,
 
-    /// Each terminal has one to four selection addresses, written as a list of texts.
+    /// Each terminal has one to four selection addresses, written as a list of strings.
     Two,
 }
 
-/// A whole number from least to most.
+/// Returns a whole number from `least` to `most`.
 pub(crate) fn whole_number(value: &Value, least: u16, most: u16) -> Option<u16>
     ensures value { result ≡ number_of_value least most (view value.now) }
     ensures least { IfSome result (λ n. least ≤ n) }
@@ -33,7 +33,7 @@ pub(crate) fn whole_number(value: &Value, least: u16, most: u16) -> Option<u16>
     }
 }
 
-/// An address.
+/// Returns an address: a string of 1 to 7 characters from 21 to 7E hexadecimal.
 pub(crate) fn address_in(value: &Value) -> Option<Address>
     ensures { result ≡ address_of_value (view value.now) }
 {

@@ -1,4 +1,4 @@
--- A text is cut at the first octet that passes a test.
+-- Splitting a text at the first octet that passes a test.
 use Rattle.std.proofs.Common.{◌≡◌, ◌≤◌, ℕ, ◌+◌, List, [], ◌∷◌, Bool, true, false, cond, Some, None}
 use Rattle.std.proofs.Common.{length, take, drop, refl, ap, subst, arith}
 use Rattle.std.specs.List.{before_first, position, position_or_len, slice_split}
@@ -8,7 +8,7 @@ use Rattle.std.proofs.lemmas.Option.{same_Some}
 use Rattle.std.proofs.lemmas.List.Splits.{slice_split_first, slice_split_none}
 use Rattle.std.proofs.lemmas.List.Sums.{fails_before_first}
 
--- what a choice of `Some` or `None` says of its test
+-- the test of a choice between `Some` and `None`
 test_of_some : (b : Bool) (k i : ℕ) → cond b (Some k) None ≡ Some i → (b ≡ true) × (k ≡ i)
 test_of_some true k i e = (refl, same_Some k i e)
 test_of_some false k i e = cc
@@ -17,7 +17,7 @@ test_of_none : (b : Bool) (k : ℕ) → cond b (Some k) None ≡ None → b ≡ 
 test_of_none true k e = cc
 test_of_none false k e = refl
 
--- what stands before that octet
+-- the text before that octet
 pub before_first_some : (p : ℕ → Bool) (xs : List ℕ) (i : ℕ) → position p xs ≡ Some i
     → before_first p xs ≡ take i xs
 before_first_some p xs i e = ap (λ k. take k xs) (test_of_some _ (position_or_len p xs) i e).1

@@ -1,4 +1,4 @@
--- Whole texts, of files or of standard input. All of it is own.
+-- Whole texts, from files or standard input.
 use Rattle.std.specs.Prelude.{◌≡◌, ℕ, List, Option, IfSome, codes, string_bytes}
 use Rattle.bsc_input.specs.declared.input.InputError.{InputError}
 use Rattle.bsc_input.specs.declared.input.InputError.TheVariants as input
@@ -6,17 +6,17 @@ use Rattle.bsc_input.specs.declared.texts.TextError.{TextError}
 use Rattle.bsc_input.specs.declared.texts.TextError.TheVariants.{InputTooLong, Input, CannotRead}
 use Rattle.bsc_input.specs.declared.texts.TextError.TheVariants.{FileTooLong, Memory}
 
--- The text at a path: all of standard input where the path is -. A file may have any text.
+-- The text at a path: all of standard input if the path is `-`. A file may have any text.
 abbrev pub IsTextAt : List ℕ → Option (List ℕ) → List ℕ → Type 0
 IsTextAt path input text = path ≡ codes "-" → IfSome input (λ octets. text ≡ octets)
 
--- The error of standard input that was not read.
+-- The error for standard input that could not be read.
 abbrev pub input_error : InputError → TextError
 input_error input.TooLong = InputTooLong
 input_error input.Device = Input
 input_error input.Memory = Memory
 
--- The error of a file that was not read: it names the path, unless memory ran out.
+-- The error for a file that could not be read. It names the path, unless memory ran out.
 abbrev pub IsErrorAt : List ℕ → InputError → TextError → Type 0
 IsErrorAt path input.TooLong (FileTooLong named) = string_bytes named ≡ path
 IsErrorAt path input.Device (CannotRead named) = string_bytes named ≡ path

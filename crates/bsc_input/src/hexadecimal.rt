@@ -5,7 +5,7 @@ ghost use Rattle.bsc_input.specs.Hexadecimal.{octets_of, without_spaces as space
 use hex::FromHexError;
 use std::alloc::{AllocError, Allocator};
 
-/// The text less its spaces.
+/// Returns the text without its spaces.
 fn without_spaces<A: Allocator>(alloc: A, text: &[u8]) -> Result<Vec<u8, A>, AllocError>
     ensures { IfOk result (λ digits. digits.items ≡ spaceless text.now) }
 {
@@ -18,7 +18,8 @@ fn without_spaces<A: Allocator>(alloc: A, text: &[u8]) -> Result<Vec<u8, A>, All
     Ok(digits)
 }
 
-/// The octets of hexadecimal text, its spaces dropped; None where it is none.
+/// Returns the octets of hexadecimal text without its spaces, or `None` if the text is not
+/// hexadecimal.
 pub fn read_octets<A: Allocator + Copy>(
     alloc: A,
     text: &[u8],

@@ -1,4 +1,4 @@
-//! Reading the whole of an input of bounded length.
+//! Reads a whole input of bounded length.
 ghost use Rattle.std.specs.Prelude.{◌≡◌, ◌<◌, ◌≤◌, length, IfOk, OnOk, IfSome, IsErrOf};
 ghost use Rattle.std.specs.Io.KnownBytes.{IsAtEnd};
 
@@ -6,27 +6,27 @@ use std::alloc::Allocator;
 use std::io::Read;
 use thiserror::Error;
 
-/// The most octets that an input has.
+/// The maximum number of octets in an input.
 pub const MAX_INPUT: usize = 1_048_576;
 
-/// Why an input was not read.
+/// The reason why an input could not be read.
 #[derive(Clone, Copy, Debug, PartialEq, Eq, Error)]
 pub enum InputError {
-    /// There are more than `MAX_INPUT` octets.
+    /// The input has more than `MAX_INPUT` octets.
     #[error("input too long")]
     TooLong,
 
-    /// A read failed, an interrupted one included.
+    /// A read failed or was interrupted.
     #[error("input fault")]
     Device,
 
-    /// A growth was refused.
+    /// An allocation failed.
     #[error("out of memory")]
     Memory,
 }
 
-/// The whole input, of at most `MAX_INPUT` octets, in at most one read more than that. An error
-/// leaves the reader where its last read left it.
+/// Reads a whole input of at most `MAX_INPUT` octets, in at most `MAX_INPUT` + 1 reads. After an
+/// error the reader is where its last read left it.
 pub fn read_input<A: Allocator, R: Read>(alloc: A, reader: &mut R) -> Result<Vec<u8, A>, InputError>
     ensures whole { IfOk result (λ v.
         IfSome (R.remaining reader.old) (λ octets. v.items ≡ octets)) }

@@ -1,5 +1,7 @@
-//! What a command reads: whole texts of bounded length, of files or of an input, their lines and
-//! words, and octets in hexadecimal text.
+//! Reads input for the command: whole texts of bounded length from files or standard input, their
+//! lines and words, and octets in hexadecimal text.
+//!
+//! The standard, GA27-3004, defines none of these; all of this is this project's own.
 #![tactic(auto)]
 
 mod hexadecimal;

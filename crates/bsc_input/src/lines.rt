@@ -5,8 +5,8 @@ ghost use Rattle.bsc_input.specs.Lines.{is_blank as blank, parts_of};
 
 use crate::split_at_first;
 
-/// The first line without its line feed, and what follows that; None where the line ends with the
-/// text.
+/// Returns the first line without its line feed, and the text after the line feed; `None` if there
+/// is no line feed.
 pub fn split_line(text: &[u8]) -> (&[u8], Option<&[u8]>)
     ensures last { result.1 ≡ None → parts_of text.now ≡ result.0.now ∷ [] }
     ensures more { IfSome result.1 (λ rest. parts_of text.now ≡ result.0.now ∷ parts_of rest.now) }
@@ -17,7 +17,7 @@ pub fn split_line(text: &[u8]) -> (&[u8], Option<&[u8]>)
     split_at_first(text, b'\n')
 }
 
-/// The line less one carriage return at its end.
+/// Returns the line without one carriage return at its end.
 pub fn without_return(line: &[u8]) -> &[u8]
     ensures { result.now ≡ strip_carriage_return line.now }
 {
@@ -28,7 +28,7 @@ pub fn without_return(line: &[u8]) -> &[u8]
     }
 }
 
-/// Whether the line has no octet but spaces.
+/// Whether the line is empty or has only spaces.
 pub fn is_blank(line: &[u8]) -> bool
     ensures { result ≡ blank line.now }
 {

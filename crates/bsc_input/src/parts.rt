@@ -1,17 +1,17 @@
-//! A text that is cut at an octet.
+//! Splits a text at an octet.
 ghost use Rattle.std.specs.Prelude.{◌≡◌, ◌==◌, ◌∷◌, ◌+◌, ◌≤◌, [], length, None, IfSome, option_map};
 ghost use Rattle.std.specs.Prelude.{position};
 ghost use Rattle.bsc_input.specs.Parts.{after_octet, before_octet, parts_at};
 
-/// The place of the first octet of this value.
+/// Returns the index of the first octet with this value.
 fn place_of(text: &[u8], value: u8) -> Option<usize>
     ensures { result ≡ position (λ octet. octet == value) text.now }
 {
     text.iter().position(|&octet| octet == value)
 }
 
-/// What stands before the first octet of this value, and what follows it; all of the text and None
-/// where there is none.
+/// Returns the text before the first octet with this value, and the text after it; all of the text
+/// and `None` if there is no such octet.
 pub fn split_at_first(text: &[u8], value: u8) -> (&[u8], Option<&[u8]>)
     ensures before { result.0.now ≡ before_octet value text.now }
     ensures after { option_map (λ rest. rest.now) result.1 ≡ after_octet value text.now }

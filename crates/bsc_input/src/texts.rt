@@ -1,4 +1,4 @@
-//! Whole texts, of files or of standard input.
+//! Whole texts, from files or standard input.
 
 ghost use Rattle.std.specs.Prelude.{◌≡◌, ◌≢◌, IfOk, codes};
 ghost use Rattle.bsc_input.specs.Texts.{IsErrorAt, IsTextAt};
@@ -11,10 +11,10 @@ use thiserror::Error;
 /// The path that stands for standard input.
 pub const STANDARD_INPUT: &str = "-";
 
-/// Why a text was not read.
+/// The reason why a text could not be read.
 #[derive(Debug, Drop, Error)]
 pub enum TextError {
-    /// Standard input has more octets than are read.
+    /// Standard input has more than [`MAX_INPUT`](crate::MAX_INPUT) octets.
     #[error("input too long")]
     InputTooLong,
 
@@ -26,11 +26,11 @@ pub enum TextError {
     #[error("cannot read {path}")]
     CannotRead { path: String },
 
-    /// The file at this path has more octets than are read.
+    /// The file at this path has more than [`MAX_INPUT`](crate::MAX_INPUT) octets.
     #[error("{path} is too long")]
     FileTooLong { path: String },
 
-    /// A growth was refused.
+    /// An allocation failed.
     #[error("out of memory")]
     Memory,
 }
@@ -51,13 +51,13 @@ impl From<InputError> for TextError {
 
 /// The files of a machine.
 pub trait Files {
-    /// The whole of the file at this path. `Device` comes where it cannot be opened or read,
-    /// `TooLong` where it has more octets than [`MAX_INPUT`](crate::MAX_INPUT).
+    /// Reads the whole file at this path. Returns `Device` if it cannot be opened or read, and
+    /// `TooLong` if it has more than [`MAX_INPUT`](crate::MAX_INPUT) octets.
     fn read_file(&mut self, path: &str) -> Result<Vec<u8>, InputError>;
 }
 
-/// The whole of standard input, where the path is `-`, or of the file at this path. An error of a
-/// file names its path, unless memory ran out.
+/// Reads all of standard input if the path is `-`, otherwise the whole file at this path. An error
+/// of a file names the path, unless memory ran out.
 pub fn read_text<R: Read, F: Files>(
     alloc: Global,
     path: &str,
@@ -76,7 +76,7 @@ pub fn read_text<R: Read, F: Files>(
     }
 }
 
-/// The error of a file that was not read.
+/// Returns the error for a file that could not be read.
 fn file_error(alloc: Global, path: &str, error: InputError) -> TextError
     ensures { IsErrorAt path.now error result }
 {

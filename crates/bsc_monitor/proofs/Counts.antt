@@ -1,4 +1,4 @@
--- Counts of records that are printed, channel by channel.
+-- The numbers of records printed, channel by channel.
 use Rattle.std.proofs.Common.{◌≡◌, ℕ, ◌+◌, ◌<◌, List, length, Bool, true, false, ◌||◌, slice_index}
 use Rattle.std.proofs.Common.{◌≤◌, ◌⊎◌, inl, inr, set, get_or, ◌∙◌, refl, arith}
 use Rattle.std.proofs.lemmas.Bool.{cases_lt}
@@ -6,10 +6,10 @@ use Rattle.std.proofs.lemmas.Grind.{get_or-set_at}
 use Rattle.std.proofs.lemmas.List.{get_or-set_other}
 use Rattle.bsc_monitor.specs.Arrivals.{AsManyArePrinted, MoreArePrinted}
 
--- the count of channel k becomes x, after those of the channels below it
+-- the number of channel k becomes x, after those of the channels below it are updated
 module _ (old mid : List ℕ) (k x : ℕ) (there : k < length mid)
     (left : slice_index mid k ≡ slice_index old k) where
-  -- one of the channels below it, or it, has more
+  -- channel k, or one below it, has more records
   pub more_with_channel : (f b : Bool) → f || b ≡ true → (f ≡ true → MoreArePrinted old mid k)
       → (b ≡ true → slice_index mid k < x) → MoreArePrinted old (set mid k x) (k + 1)
   more_with_channel true b e below here =
@@ -34,7 +34,7 @@ module _ (old mid : List ℕ) (k x : ℕ) (there : k < length mid)
       }
   more_with_channel false false e below here = cc
 
-  -- no channel up to it has more
+  -- neither channel k nor any below it has more records
   pub as_many_with_channel : (f b : Bool) → f || b ≡ false
       → (f ≡ false → AsManyArePrinted old mid k) → (b ≡ false → x ≡ slice_index mid k)
       → AsManyArePrinted old (set mid k x) (k + 1)

@@ -12,7 +12,7 @@ more_parts : (x : List ℕ) (parts : List (List ℕ)) → 0 < length parts → l
 more_parts x [] l = absurd (omega arith)
 more_parts x (y ∷ more) l = refl
 
--- a line before others
+-- a line followed by others
 pub lines_more : (text line rest : List ℕ) → parts_of text ≡ line ∷ parts_of rest → lines text
     ≡ strip_carriage_return line ∷ lines rest
 lines_more text line rest e =
@@ -29,7 +29,7 @@ has_octet false x [] line some e = absurd (omega arith)
 has_octet false x (part ∷ parts) line some e = let same : line ≡ x ∷ part = cc in
     rw same (omega arith)
 
--- the only line of a text that is not empty
+-- the only line of a non-empty text
 pub lines_one : (text line : List ℕ) → 0 < length text → parts_of text ≡ line ∷ [] → lines text
     ≡ line ∷ []
 lines_one [] line some e = absurd (omega arith)

@@ -1,4 +1,4 @@
--- Records that are offered one after the other at a control station.
+-- Records that are offered one after another at a control station.
 use Rattle.std.proofs.Common.{◌≡◌, ◌<◌, ℕ, List, length, ap, ◌∙◌}
 use Rattle.std.proofs.lemmas.List.{length-set, get_or-set_same}
 use Rattle.bsc_control.specs.Control.{ControlValue, peer_at, with_peer}

@@ -1,4 +1,4 @@
--- The end of a channel as a value (own).
+-- The value of a channel end in the code.
 use Rattle.bsc_monitor.specs.Ends.{End, sending, receiving}
 use Rattle.bsc_monitor.specs.declared.channel_end.ChannelEnd.{ChannelEnd}
 use Rattle.bsc_monitor.specs.declared.channel_end.ChannelEnd.TheVariants.{Sending, Receiving}

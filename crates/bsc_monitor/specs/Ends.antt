@@ -1,4 +1,4 @@
--- What a station knows of the channels that end at it (own).
+-- The state of the channels that end at a station.
 use Rattle.std.specs.Prelude.{ℕ, ◌<◌, nat_lt, zero, suc, Bool, false, not, ◌||◌, ◌&&◌}
 use Rattle.std.specs.Prelude.{List, length}
 use Rattle.bsc_directory.specs.declared.way.Way.{Way}
@@ -10,29 +10,28 @@ use Rattle.bsc_bid.specs.Sender.{is_in_doubt}
 use Rattle.bsc_tributary.specs.Tributary.{TributaryValue, spool_at}
 use Rattle.bsc_monitor.specs.declared.standing.Standing.{Standing}
 
--- the end of a channel: that which sends knows how many records were offered and how many of them
--- are known to have arrived, and whether this is in doubt of the last block; that which receives
--- has the records that arrived
+-- The end of a channel. A sending end knows the number of records offered, the number known to have
+-- arrived, and whether the last block is in doubt. A receiving end has the records that arrived.
 pub data End : Type 0 where
   sending : ℕ → ℕ → Bool → End
   receiving : List (List ℕ) → End
 
--- the end of a queue
+-- The channel end of a queue.
 abbrev pub queue_end : QueueValue → Bool → End
 queue_end queue doubt = sending (length queue.offered) queue.known doubt
 
--- the control station receives what comes from a terminal, and sends what goes to it
+-- The control station receives on the channel from a terminal, and sends on the channels to it.
 abbrev pub control_end : ControlValue → ℕ → Way → End
 control_end c t FromTerminal = receiving (peer_at c t).spool.records
 control_end c t (ToTerminal s) =
     queue_end (outbound_of c t s).queue (is_in_doubt (outbound_of c t s).sender.phase)
 
--- a terminal sends what comes from it, and receives what goes to it
+-- A terminal sends on the channel from it, and receives on the channels to it.
 abbrev pub terminal_end : TributaryValue → Way → End
 terminal_end t FromTerminal = queue_end t.queue (is_in_doubt t.sender.phase)
 terminal_end t (ToTerminal s) = receiving (spool_at t.spools s).records
 
--- a way of a terminal that has this many selection addresses
+-- A direction of a terminal with this number of selection addresses.
 abbrev pub IsWay : Way → ℕ → Type 0
 IsWay FromTerminal count = Unit {0}
 IsWay (ToTerminal s) count = s < count
@@ -40,26 +39,26 @@ IsWay (ToTerminal s) count = s < count
 abbrev pub standing_of : Bool → Bool → Standing
 standing_of doubt waiting = record { doubt = doubt; waiting = waiting }
 
--- how a channel stands: in doubt; or with records that wait
+-- The state of a channel: whether it is in doubt, and whether records wait on it.
 abbrev pub standing_at : End → Standing
 standing_at (sending offered known doubt) = standing_of doubt (not doubt && nat_lt known offered)
 standing_at (receiving records) = standing_of false false
 
--- how two channels stand together
+-- The combined state of two groups of channels.
 abbrev pub both : Standing → Standing → Standing
 both a b = standing_of (a.doubt || b.doubt) (a.waiting || b.waiting)
 
--- how some channels and those of the numbers below n stand
+-- The combined state of `first` and the channels with numbers below n.
 abbrev pub together : Standing → (ℕ → Standing) → ℕ → Standing
 together first at zero = first
 together first at (suc n) = both (together first at n) (at n)
 
--- how the channels of a terminal stand
+-- The combined state of the channels of a terminal.
 abbrev pub terminal_standing : ℕ → (Way → End) → Standing
 terminal_standing count ends =
     together (standing_at (ends FromTerminal)) (λ s. standing_at (ends (ToTerminal s))) count
 
--- how the channels of a station stand
+-- The combined state of the channels of a station.
 abbrev pub station_standing : (ℕ → ℕ) → (ℕ → Way → End) → ℕ → Standing
 station_standing selects ends count =
     together (standing_of false false) (λ t. terminal_standing (selects t) (ends t)) count

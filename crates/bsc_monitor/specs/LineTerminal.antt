@@ -1,11 +1,11 @@
--- A terminal of a configured line (own).
+-- A terminal of a configured line.
 use Rattle.std.specs.Prelude.{◌≡◌, ℕ, Option}
 use Rattle.bsc_frame.specs.declared.message.Message.{Message}
 use Rattle.bsc_frame.specs.declared.message.Heard.{Heard}
 use Rattle.bsc_tributary.specs.Tributary.{TributaryValue}
 use Rattle.bsc_tributary.specs.Kept.{IsHearing, IsSilence}
 
--- its number on the line, and the terminal
+-- The number of a terminal on the line, and the terminal itself.
 pub record LineTerminalValue : Type 0 where
   pub number : ℕ
   pub tributary : TributaryValue
@@ -13,13 +13,13 @@ pub record LineTerminalValue : Type 0 where
 abbrev pub line_terminal_of : ℕ → TributaryValue → LineTerminalValue
 line_terminal_of number tributary = record { number = number; tributary = tributary }
 
--- the terminal hears, and keeps its number
+-- The terminal hears a transmission, and keeps its number.
 pub record Hears (old : LineTerminalValue) (heard : Heard) (new : LineTerminalValue)
     (sent : Option Message) : Type 0 where
   pub number : new.number ≡ old.number
   pub hearing : IsHearing old.tributary heard new.tributary sent
 
--- the terminal acts on a silence, and keeps its number
+-- The terminal acts on a silence, and keeps its number.
 pub record Acts (old new : LineTerminalValue) (sent : Option Message) : Type 0 where
   pub number : new.number ≡ old.number
   pub silence : IsSilence old.tributary new.tributary sent

@@ -1,4 +1,4 @@
--- The records that the lines of a text are (own).
+-- The records in the lines of a text.
 use Rattle.std.specs.Prelude.{◌≡◌, ℕ, ◌+◌, ◌<◌, List, [], ◌∷◌, ◌++◌, length, take, slice_index_or}
 use Rattle.std.specs.Prelude.{Ok, Err}
 use Rattle.bsc_control.specs.Control.{ControlValue, peer_at}
@@ -7,12 +7,12 @@ use Rattle.std.specs.List.{AllByRecursion}
 use Rattle.bsc_block.specs.Records.{record_of}
 use Rattle.bsc_block.specs.declared.record.RecordError.{RecordError}
 
--- records of at most this full length
+-- Records of at most this full length.
 abbrev pub AreRecords : ℕ → List (List ℕ) → Type 0
 AreRecords full = AllByRecursion (λ codes. record_of full codes ≡ Ok codes)
 
--- the line of this number, counted from 1, is no record for this reason, and the lines before it
--- are records
+-- The line with this number, counted from 1, is not a record, for this reason, and the lines before
+-- it are records.
 pub record IsFirstRefused (full number : ℕ) (why : RecordError)
     (lines : List (List ℕ)) : Type 0 where
   pub place : ℕ
@@ -21,7 +21,7 @@ pub record IsFirstRefused (full number : ℕ) (why : RecordError)
   pub refused : record_of full (slice_index_or lines place []) ≡ Err why
   pub before : AreRecords full (take place lines)
 
--- a record was offered for this selection address
+-- A record was offered for this selection address.
 pub record IsOffered (old : ControlValue) (t s : ℕ) (codes : List ℕ)
     (new : ControlValue) : Type 0 where
   pub setup : new.setup ≡ old.setup

@@ -1,4 +1,4 @@
-//! The records that arrive at a station are printed.
+//! Prints the records that arrive at a station.
 
 ghost use Rattle.std.specs.Prelude.{◌≡◌, ◌<◌, length, Ok, OnOk, false, true};
 ghost use Rattle.std.specs.List.{flat_map};
@@ -16,17 +16,17 @@ use bsc_report::{put, write_channel_name};
 use std::alloc::Allocator;
 use std::io::Write;
 
-/// How the characters of a record that arrives are printed (own).
+/// The form in which the characters of an arriving record are printed.
 #[derive(Clone, Copy)]
 pub enum Form {
-    /// In hexadecimal text, as the report has them.
+    /// In hexadecimal text, as in the report.
     Hexadecimal,
 
-    /// As they stand.
+    /// As they are.
     Text,
 }
 
-/// A channel by what its name is made of.
+/// The parts of the name of a channel.
 #[derive(Clone, Copy)]
 struct Channel {
     addresses: usize,
@@ -34,10 +34,10 @@ struct Channel {
     way: Way,
 }
 
-/// Prints the records that arrived at a station beyond those printed before, in their order and a
-/// line each, channel by channel: `printed` has for each channel on which the station receives how
-/// many of its records were printed. What is written is flushed. True where a record was printed.
-/// After an error a part may have been written. (Own.)
+/// Prints the records that arrived at a station after those that were printed before, in order, one
+/// line each, channel by channel. `printed` holds the number of records printed so far for each
+/// channel on which the station receives. Flushes the output after printing, and returns whether
+/// there was a new record. After an error a part of the output may have been written.
 pub(crate) fn print_arrivals<A: Allocator + Copy, P: Party, W: Write>(
     alloc: A,
     form: Form,
@@ -67,8 +67,7 @@ pub(crate) fn print_arrivals<A: Allocator + Copy, P: Party, W: Write>(
     Ok(found)
 }
 
-/// Prints the records of one channel beyond those printed before, and counts them. True where there
-/// was one.
+/// Prints the new records of one channel, updates their number, and returns whether there was one.
 fn print_channel<A: Allocator + Copy, P: Party, W: Write>(
     alloc: A,
     form: Form,
@@ -102,7 +101,7 @@ fn print_channel<A: Allocator + Copy, P: Party, W: Write>(
     Ok(true)
 }
 
-/// Prints the lines of these records.
+/// Prints a line for each of these records.
 fn print_records<A: Allocator + Copy, W: Write>(
     alloc: A,
     form: Form,
@@ -120,7 +119,7 @@ fn print_records<A: Allocator + Copy, W: Write>(
     Ok(())
 }
 
-/// Prints the line of a record of these characters.
+/// Prints the line for a record with these characters.
 fn print_record<A: Allocator, W: Write>(
     alloc: A,
     form: Form,

@@ -1,4 +1,4 @@
-//! The end of a channel that is at a station.
+//! The end of a channel at a station.
 
 ghost use Rattle.std.specs.Prelude.{◌≡◌};
 ghost use Rattle.bsc_monitor.specs.Ends.{queue_end};
@@ -8,24 +8,24 @@ use bsc_block::Record;
 use bsc_spool::Queue;
 use std::alloc::Allocator;
 
-/// What a station knows of a channel that ends at it (own).
+/// The state of a channel as known at the station where it ends.
 #[derive(Clone, Copy)]
 pub enum ChannelEnd<'a> {
-    /// It sends on the channel: how many records were offered, how many of them are known to have
-    /// arrived, and whether this is in doubt of the last block.
+    /// The station sends on the channel: the number of records offered, the number known to have
+    /// arrived, and whether the last block is in doubt.
     Sending {
         offered: usize,
         known: usize,
         doubt: bool,
     },
 
-    /// It receives on the channel: the records that arrived.
+    /// The station receives on the channel: the records that arrived.
     Receiving {
         records: &'a [Record],
     },
 }
 
-/// The end of a queue.
+/// Returns the channel end of a queue.
 pub(crate) fn queue_end<'a, A: Allocator>(queue: &Queue<A>, doubt: bool) -> ChannelEnd<'a>
     ensures { end_of result ≡ queue_end queue.now doubt }
 {

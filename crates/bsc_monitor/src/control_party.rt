@@ -1,4 +1,4 @@
-//! The control station at its ends of channels.
+//! The control station and the channels that end at it.
 
 ghost use Rattle.std.specs.Prelude.{◌≡◌, ◌<◌};
 ghost use Rattle.bsc_monitor.specs.Ends.{IsWay};

@@ -1,4 +1,4 @@
-//! Who watches a control station, and says when it ends.
+//! The monitor of a control station.
 
 use crate::ended::LastWatch;
 use crate::progress::Progress;
@@ -10,19 +10,20 @@ use bsc_control::Control;
 use std::alloc::Allocator;
 use std::io::Write;
 
-/// Prints what happens to a control station, and ends it after enough rounds of its poll list. One
-/// to which no other peer can connect ends too once a connection of it is closed. (Own.)
+/// Prints what happens to a control station, and ends the run after enough rounds of the poll list.
+/// If no other peer can connect, the run also ends when a connection is closed.
 #[derive(Drop)]
 pub struct ControlWatch<'a, A: Allocator, T: Drop, W, D> {
-    /// What prints.
+    /// Prints the records and the trace.
     watch: Watch<'a, A, T, W, D>,
 
-    /// How far it has come.
+    /// Counts visits and rounds.
     progress: Progress,
 }
 
 impl<'a, A: Allocator + Copy, T: Timer + Drop, W: Write, D: Write> ControlWatch<'a, A, T, W, D> {
-    /// The watch of a control station that sent nothing yet. `listens`: other peers may connect.
+    /// Returns the monitor of a control station that has sent nothing. `listens` tells whether
+    /// other peers may connect later.
     pub fn new<B: Allocator>(
         control: &Control<B>,
         watch: Watch<'a, A, T, W, D>,
@@ -35,12 +36,12 @@ impl<'a, A: Allocator + Copy, T: Timer + Drop, W: Write, D: Write> ControlWatch<
         }
     }
 
-    /// Whether it ended because a connection was closed, where no other peer can connect.
+    /// Whether the run ended because a connection was closed and no other peer can connect.
     pub fn is_closed(&self) -> bool {
         self.progress.is_closed()
     }
 
-    /// What watches the connections until the last call is answered.
+    /// Returns the monitor that remains until the last call is answered.
     pub fn into_last(self) -> LastWatch<'a, A, T, W, D> {
         let ControlWatch { watch, .. } = self;
         LastWatch {

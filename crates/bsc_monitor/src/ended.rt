@@ -11,9 +11,9 @@ use bsc_frame::{Heard, Message};
 use std::alloc::Allocator;
 use std::io::Write;
 
-/// A station that hears and sends nothing (own). It stands in the place of a control station that
-/// has ended, so that the answer to its last call is read before its connections are closed; else a
-/// terminal would be told of a connection that failed.
+/// A station that ignores what it hears and sends nothing. It takes the place of a control station
+/// that has ended, so that the answer to its last call is read before its connections are closed.
+/// Otherwise a terminal would be told of a failed connection.
 #[derive(Clone, Copy)]
 pub struct Ended;
 
@@ -41,13 +41,14 @@ impl Station for Ended {
     ghost ignores_noise = { λ old new sent hearing. hearing };
 }
 
-/// Prints what is heard last, and ends with it, or with a time-out or the end of a connection.
+/// Prints the last transmission that is heard, and ends with it, with a time-out or with the close
+/// of a connection.
 #[derive(Drop)]
 pub struct LastWatch<'a, A: Allocator, T: Drop, W, D> {
-    /// What prints.
+    /// Prints the records and the trace.
     pub(crate) watch: Watch<'a, A, T, W, D>,
 
-    /// Whether it has ended.
+    /// Whether the run has ended.
     pub(crate) ended: bool,
 }
 

@@ -1,9 +1,12 @@
 //! One station of a configured line, as `bscline station` runs it: the control station or one of
-//! the terminals, with the records that it is to send, what it prints of the records that arrive,
-//! the trace of what is sent and heard, and when it ends.
+//! the terminals, the records that it has to send, the output for the records that arrive, the
+//! trace of the transmissions, and the end of the run.
 //!
-//! The station itself is `bsc_control` or `bsc_tributary`, and `bsc_connections` attends it over its
-//! connections. This library stands between them and the command: it has no socket, no file and no
+//! Polling and selection are those of GA27-3004. Visits, rounds, the limits of a run, the trace and
+//! the output are this project's own.
+//!
+//! `bsc_control` and `bsc_tributary` provide the station itself, and `bsc_connections` attends it
+//! over its connections. This crate connects them to the command. It uses no sockets, files or
 //! clock of its own.
 #![tactic(auto)]
 

@@ -16,7 +16,7 @@ use bsc_tributary::Tributary;
 use std::alloc::Allocator;
 use std::marker::Model;
 
-/// A terminal, which knows its number and its addresses on the line (own).
+/// A terminal with its number and its addresses on the line.
 #[derive(Drop)]
 pub struct LineTerminal<A: Allocator> {
     /// Its number on the line, counted from 0.
@@ -25,7 +25,7 @@ pub struct LineTerminal<A: Allocator> {
     /// Its addresses.
     terminal: Terminal,
 
-    /// The terminal.
+    /// The station itself.
     tributary: Tributary<A>,
 }
 
@@ -41,7 +41,7 @@ impl<A: Allocator> Model for LineTerminal<A> {
 }
 
 impl<A: Allocator> LineTerminal<A> {
-    /// The terminal of this number with these addresses, which all differ. It has nothing to send.
+    /// Returns the terminal with this number and these distinct addresses, with nothing to send.
     pub(crate) fn new(alloc: A, setup: Setup, number: usize, terminal: Terminal) -> LineTerminal<A>
     where
         A: Copy,
@@ -56,17 +56,17 @@ impl<A: Allocator> LineTerminal<A> {
         }
     }
 
-    /// Its number on the line, counted from 0.
+    /// Returns its number on the line, counted from 0.
     pub fn line_number(&self) -> usize
         ensures { result ≡ self.now.number }
     {
-        // A field is read, so that the invariant is known here.
+        // Reading a field makes the invariant known here.
         let _ = &self.terminal;
         self.number
     }
 
-    /// Adds a record to those that it has to send. It comes back where there is no memory for it,
-    /// and then nothing changed. Condition: it is not longer than the full length.
+    /// Adds a record to those that the terminal has to send. The record must not be longer than the
+    /// full length. If memory runs out, nothing changes and the record is returned.
     pub fn offer(&mut self, record: Record) -> Result<(), Record>
         requires { length «record» ≤ self.old.tributary.queue.format.full }
         ensures number { self.new.number ≡ self.old.number }
@@ -99,7 +99,7 @@ impl<A: Allocator> Station for LineTerminal<A> {
     }
 
     fn holds_line(&self) -> bool {
-        // A field is read, so that the invariant is known here.
+        // Reading a field makes the invariant known here.
         let _ = &self.terminal;
         self.tributary.holds_line()
     }

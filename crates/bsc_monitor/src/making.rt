@@ -11,8 +11,8 @@ use bsc_control::Control;
 use bsc_directory::laws::distinct_addresses;
 use std::alloc::{AllocError, Allocator};
 
-/// The control station of the line, with nothing to send. The error comes only where a growth is
-/// refused.
+/// Returns the control station of the line, with nothing to send. Fails only if an allocation
+/// fails.
 pub fn new_control<A: Allocator + Copy>(alloc: A, config: &Config) -> Result<Control<A>, AllocError>
     ensures { let line = config.now in IfOk result (λ control.
         IsNewControl line.setup line.terminals line.poll_list control) }
@@ -20,12 +20,12 @@ pub fn new_control<A: Allocator + Copy>(alloc: A, config: &Config) -> Result<Con
     let (terminals, poll_list) = (config.terminal_list(), config.poll_list());
     match Control::new(alloc, config.setup(), terminals, poll_list) {
         Ok(control) => Ok(control),
-        // A control station can be made of every configuration, where there is memory.
+        // A control station can be made of every configuration, if there is enough memory.
         Err(_) => Err(AllocError),
     }
 }
 
-/// The terminal of this number, with nothing to send. Condition: the line has such a terminal.
+/// Returns the terminal with this number, with nothing to send. The line must have such a terminal.
 pub fn new_terminal<A: Allocator + Copy>(
     alloc: A,
     config: &Config,

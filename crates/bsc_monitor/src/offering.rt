@@ -1,4 +1,4 @@
-//! Records are offered at a station.
+//! Offers records at a station.
 
 ghost use Rattle.std.specs.Prelude.{◌≡◌, ◌≤◌, ◌<◌, ◌++◌, length, OnOk};
 ghost use Rattle.bsc_block.specs.Blocks.{AreShort};
@@ -11,9 +11,9 @@ use bsc_block::Record;
 use bsc_control::Control;
 use std::alloc::Allocator;
 
-/// Offers records at a terminal, for the control station, in their order. Condition: none is longer
-/// than the full length. `Memory` comes where there is none for a record; those before it are
-/// offered. (Own.)
+/// Offers records at a terminal, for the control station, in order. None may be longer than the
+/// full length. Returns `Memory` if memory for a record runs out; the records before it are
+/// offered.
 pub fn offer_at_terminal<A: Allocator, B: Allocator>(
     terminal: &mut LineTerminal<A>,
     records: Vec<Record, B>,
@@ -31,9 +31,9 @@ pub fn offer_at_terminal<A: Allocator, B: Allocator>(
     Ok(())
 }
 
-/// Offers records at the control station, for a selection address of a terminal, in their order.
-/// Condition: there is such an address, and no record is longer than the full length. `Memory`
-/// comes where there is none for a record; those before it are offered. (Own.)
+/// Offers records at the control station, for a selection address of a terminal, in order. The
+/// address must exist, and no record may be longer than the full length. Returns `Memory` if memory
+/// for a record runs out; the records before it are offered.
 pub fn offer_for_terminal<A: Allocator, B: Allocator>(
     control: &mut Control<A>,
     terminal: usize,

@@ -1,4 +1,4 @@
-//! The records that a station is to send, as the lines of a text.
+//! The records that a station has to send, read from the lines of a text.
 
 ghost use Rattle.std.specs.Prelude.{◌≡◌, ◌≤◌, ◌<◌, ◌∷◌, ℕ, Err, length, IfOk};
 ghost use Rattle.std.specs.Str.Lines.{lines};
@@ -12,23 +12,23 @@ use bsc_input::{split_line, without_return};
 use std::alloc::Allocator;
 use thiserror::Error;
 
-/// Why the lines of a text are no records that can be offered.
+/// The reason why the lines of a text are not records that can be offered.
 #[derive(Clone, Copy, Debug, PartialEq, Eq, Error)]
 pub enum OfferError {
-    /// The line with this number, counted from 1, is the first that is no record of the full
-    /// length.
+    /// The line with this number, counted from 1, is the first that is not a record of at most the
+    /// full length.
     #[error("line {line}: {why}")]
     Refused { line: u64, why: RecordError },
 
-    /// A growth was refused.
+    /// An allocation failed.
     #[error("out of memory")]
     Memory,
 }
 
-/// The lines of a text as records of at most `full` characters, which is 1 to 144. A line ends at a
-/// line feed, before which one carriage return is dropped; what follows the last line feed is a
-/// line too unless it is empty. An empty line is the empty record. `Refused` names the first line
-/// that is no record; `Memory` may come in its place. (Own.)
+/// Reads the lines of a text as records of at most `full` characters, where `full` is 1 to 144. A
+/// line ends with a line feed, before which one carriage return is dropped. Text after the last
+/// line feed is a line too, unless it is empty. An empty line is the empty record. Returns
+/// `Refused` for the first line that is not a record; `Memory` may come in place of it.
 pub fn read_records<A: Allocator>(
     alloc: A,
     text: &[u8],
@@ -63,7 +63,7 @@ pub fn read_records<A: Allocator>(
     }
 }
 
-/// The first line of a text that is not empty, and what follows it.
+/// Returns the first line of a non-empty text, and the text after it.
 fn next_line(text: &[u8]) -> (&[u8], &[u8])
     requires { 0 < length text.now }
     ensures first { lines text.now ≡ result.0.now ∷ lines result.1.now }

@@ -1,4 +1,4 @@
-//! A station as it stands at its ends of channels.
+//! A station and the channels that end at it.
 
 ghost use Rattle.std.specs.Prelude.{◌≡◌, ◌<◌, ℕ};
 ghost use Rattle.bsc_directory.specs.declared.way.Way.{Way as WayValue};
@@ -9,68 +9,72 @@ use crate::ChannelEnd;
 use bsc_block::Record;
 use bsc_control::Way;
 
-/// A channel that a station receives on, and the records that arrived on it.
+/// A channel on which a station receives, and the records that arrived on it.
 #[derive(Clone, Copy)]
 pub struct Received<'a> {
-    /// The terminal of the channel, counted from 0 among those whose channels the station knows.
+    /// The terminal of the channel, counted from 0 among the terminals that the station knows.
     pub terminal: usize,
 
-    /// Which channel of this terminal it is.
+    /// The direction of the channel.
     pub way: Way,
 
     /// The records that arrived.
     pub records: &'a [Record],
 }
 
-/// A station that knows the channels that end at it: the control station those of all terminals, a
-/// terminal its own. Terminals are counted from 0 among those whose channels it knows. (Own.)
+/// A station that knows the channels ending at it: the control station knows those of all
+/// terminals, a terminal knows its own. Terminals are counted from 0 among those that the station
+/// knows.
 pub trait Party {
-    /// Of how many terminals it knows the channels.
+    /// The number of terminals that the station knows.
     ghost count: { Self → ℕ };
 
     /// Their numbers on the line.
     ghost numbers: { Self → ℕ → ℕ };
 
-    /// How many selection addresses each of these has.
+    /// The number of selection addresses of each.
     ghost selects: { Self → ℕ → ℕ };
 
-    /// The end of each of their channels that is at this station.
+    /// The end of each of their channels at this station.
     ghost ends: { Self → ℕ → WayValue → End };
 
-    /// On how many channels it receives.
+    /// The number of channels on which the station receives.
     ghost receives: { Self → ℕ };
 
-    /// Those channels by number: the terminal and the way.
+    /// The terminal and the direction of each of those channels.
     ghost terminal_of: { ℕ → ℕ };
 
     ghost way_of: { ℕ → WayValue };
 
-    /// Of how many terminals it knows the channels.
+    /// Returns the number of terminals that the station knows.
     fn terminals(&self) -> usize
         ensures { result ≡ count self.now };
 
-    /// The number of a terminal on the line, counted from 0. Condition: it knows this terminal.
+    /// Returns the number of a terminal on the line, counted from 0. The station must know the
+    /// terminal.
     fn number(&self, terminal: usize) -> usize
         requires { terminal < count self.now }
         ensures { result ≡ numbers self.now terminal };
 
-    /// How many selection addresses a terminal has: 1 to 4. Condition: it knows this terminal.
+    /// Returns the number of selection addresses of a terminal, 1 to 4. The station must know the
+    /// terminal.
     fn addresses(&self, terminal: usize) -> usize
         requires { terminal < count self.now }
         ensures { result ≡ selects self.now terminal };
 
-    /// The end of a channel that is at this station. Condition: it knows this terminal, and the
-    /// terminal has such an address.
+    /// Returns the end of a channel at this station. The station must know the terminal, and the
+    /// terminal must have the address.
     fn end(&self, terminal: usize, way: Way) -> ChannelEnd<'_>
         requires known { terminal < count self.now }
         requires its_way { IsWay way (selects self.now terminal) }
         ensures { end_of result ≡ ends self.now terminal way };
 
-    /// On how many channels it receives.
+    /// Returns the number of channels on which the station receives.
     fn spools(&self) -> usize
         ensures { result ≡ receives self.now };
 
-    /// The channel of this number of those that it receives on. Condition: there is such a channel.
+    /// Returns the channel with this number among those on which the station receives. The channel
+    /// must exist.
     fn received(&self, number: usize) -> Received<'_>
         requires { number < receives self.now }
         ensures terminal { result.terminal ≡ terminal_of number }

@@ -1,4 +1,4 @@
-//! How far a control station has come, and when it ends.
+//! The progress of a control station through its poll list.
 
 ghost use Rattle.std.specs.Prelude.{◌≡◌, not, true};
 
@@ -10,22 +10,22 @@ use bsc_control::{Control, Way};
 use bsc_frame::{Heard, Message, decode};
 use std::alloc::Allocator;
 
-/// What a control station has done of its poll list, and whether it ends with that.
+/// The visits and rounds that a control station has made, and whether it has ended.
 #[derive(Clone, Copy)]
 pub(crate) struct Progress {
-    /// When it ends.
+    /// The limits at which it ends.
     limits: Limits,
 
-    /// The visits of the poll list that were made.
+    /// The visits to the entries of the poll list.
     visits: Visits,
 
-    /// The rounds of the poll list that were made.
+    /// The rounds of the poll list.
     rounds: Rounds,
 
     /// Whether other peers may connect later.
     listens: bool,
 
-    /// Whether it ends since a connection was closed.
+    /// Whether it ends because a connection was closed.
     closed: bool,
 
     /// Whether it has ended.
@@ -33,7 +33,8 @@ pub(crate) struct Progress {
 }
 
 impl Progress {
-    /// A control station that sent nothing yet. `listens`: other peers may connect.
+    /// Returns the progress of a control station that has sent nothing. `listens` tells whether
+    /// other peers may connect later.
     pub fn new<B: Allocator>(control: &Control<B>, limits: Limits, listens: bool) -> Progress {
         Progress {
             limits,
@@ -45,13 +46,13 @@ impl Progress {
         }
     }
 
-    /// Whether it ended because a connection was closed, where no other peer can connect.
+    /// Whether it ended because a connection was closed and no other peer can connect.
     pub fn is_closed(&self) -> bool {
         self.closed
     }
 
-    /// Counts what happened, and with it the records that were found. False where the control
-    /// station has ended.
+    /// Counts an event; `found` tells whether records arrived with it. Returns `false` if the
+    /// control station has ended.
     pub fn note<B: Allocator>(&mut self, control: &Control<B>, note: &Note<'_>, found: bool) -> bool
         ensures answer { result ≡ not self.new.ended }
         ensures kept { self.old.ended ≡ true → self.new.ended ≡ true }
@@ -65,7 +66,7 @@ impl Progress {
         !self.ended
     }
 
-    /// Counts what the control station sent. True where it has made enough rounds.
+    /// Counts a transmission of the control station. Returns `true` if it has made enough rounds.
     fn count_sent<B: Allocator>(&mut self, control: &Control<B>, octets: &[u8]) -> bool
         ensures { self.new.ended ≡ self.old.ended }
     {
@@ -76,7 +77,7 @@ impl Progress {
         false
     }
 
-    /// Counts what happened. True where the control station ends with it.
+    /// Counts an event. Returns `true` if the control station ends with it.
     fn count<B: Allocator>(&mut self, control: &Control<B>, note: &Note<'_>) -> bool
         ensures { self.new.ended ≡ self.old.ended }
     {
@@ -99,7 +100,7 @@ impl Progress {
     }
 }
 
-/// What a control station sends, as far as visits are told by it.
+/// Returns the kind of a transmission of the control station.
 fn sent_as<B: Allocator>(control: &Control<B>, octets: &[u8]) -> Sent {
     let heard = decode(octets);
     match &heard {

@@ -1,4 +1,4 @@
-//! The report of a station: what the channels have that end at it.
+//! The report of a station: the channels that end at it.
 
 ghost use Rattle.std.specs.Prelude.{◌≡◌, ◌++◌, ◌<◌, codes, length, OnOk};
 ghost use Rattle.std.specs.List.{flat_map};
@@ -18,10 +18,10 @@ use bsc_report::{doubt_text, put, write_channel_name, write_records};
 use std::alloc::Allocator;
 use std::io::Write;
 
-/// Writes the report of a station: for each channel on which it sends how many records were
-/// offered, how many of them are known to have arrived and whether it is in doubt; and for each on
-/// which it receives how many records arrived, and these. The channels stand in the order of the
-/// report of a run. After an error a part may have been written. (Own.)
+/// Writes the report of a station. For each channel on which it sends: the number of records
+/// offered, the number known to have arrived, and whether the channel is in doubt. For each channel
+/// on which it receives: the number of records that arrived, and the records. The channels are in
+/// the order of the report of a run. After an error a part of the report may have been written.
 pub fn write_report<A: Allocator + Copy, P: Party, W: Write>(
     alloc: A,
     station: &P,
@@ -37,7 +37,7 @@ pub fn write_report<A: Allocator + Copy, P: Party, W: Write>(
     Ok(())
 }
 
-/// Writes the lines of a terminal.
+/// Writes the lines for a terminal.
 fn write_terminal<A: Allocator + Copy, P: Party, W: Write>(
     alloc: A,
     station: &P,
@@ -56,7 +56,7 @@ fn write_terminal<A: Allocator + Copy, P: Party, W: Write>(
     Ok(())
 }
 
-/// Writes the lines of a channel.
+/// Writes the lines for a channel.
 fn write_channel<A: Allocator + Copy, P: Party, W: Write>(
     alloc: A,
     station: &P,
@@ -76,7 +76,7 @@ fn write_channel<A: Allocator + Copy, P: Party, W: Write>(
     write_end(alloc, station.end(terminal, way), out)
 }
 
-/// Writes what a channel has at its end.
+/// Writes the state of a channel at its end.
 fn write_end<A: Allocator + Copy, W: Write>(
     alloc: A,
     end: ChannelEnd<'_>,
@@ -95,7 +95,7 @@ fn write_end<A: Allocator + Copy, W: Write>(
     }
 }
 
-/// Writes what a station knows of a channel on which it sends.
+/// Writes the state of a channel on which the station sends.
 fn write_sending<W: Write>(
     offered: usize,
     known: usize,
@@ -111,7 +111,7 @@ fn write_sending<W: Write>(
     put(doubt_text(doubt), out)
 }
 
-/// Writes how many records were offered, and how many of them are known to have arrived.
+/// Writes the number of records offered and the number known to have arrived.
 fn write_counts<W: Write>(offered: usize, known: usize, out: &mut W) -> Result<(), PrintError>
     ensures { OnOk result
         (Appends (W.contents out.old) (W.contents out.new)
@@ -123,7 +123,7 @@ fn write_counts<W: Write>(offered: usize, known: usize, out: &mut W) -> Result<(
     }
 }
 
-/// Writes the records that arrived on a channel on which a station receives.
+/// Writes the records that arrived on a channel on which the station receives.
 fn write_receiving<A: Allocator + Copy, W: Write>(
     alloc: A,
     records: &[Record],
@@ -138,7 +138,7 @@ fn write_receiving<A: Allocator + Copy, W: Write>(
     write_records(alloc, records, out)
 }
 
-/// Writes how many records arrived.
+/// Writes the number of records that arrived.
 fn write_count<W: Write>(spooled: usize, out: &mut W) -> Result<(), PrintError>
     ensures { OnOk result
         (Appends (W.contents out.old) (W.contents out.new)

@@ -1,36 +1,36 @@
-//! The rounds of a poll list, and when a control station has made enough of them.
+//! The rounds of a poll list, and the limits at which a control station ends.
 
 ghost use Rattle.std.specs.Prelude.{◌≡◌, true, false};
 ghost use Rattle.bsc_monitor.specs.Rounds.{rounds_of, after_visit, are_enough};
 
-/// When a control station ends (own).
+/// The limits at which a control station ends.
 #[derive(Clone, Copy)]
 pub struct Limits {
-    /// After this many rounds; None where it ends only with nothing more to send.
+    /// The number of rounds after which it ends; `None` if there is no such limit.
     pub rounds: Option<u64>,
 
-    /// After this many idle rounds in a row.
+    /// The number of idle rounds in a row after which it ends.
     pub idle_rounds: u64,
 }
 
-/// The rounds of a poll list. A round is one visit of each of its entries. It is idle where no
-/// record arrived in it and nothing more is to be sent at its end. (Own.)
+/// The rounds of a poll list. A round is one visit to each entry. A round is idle if no record
+/// arrived in it and nothing waits to be sent at its end.
 #[derive(Clone, Copy)]
 pub(crate) struct Rounds {
-    /// The entries of the poll list.
+    /// The number of entries of the poll list.
     entries: usize,
-    /// How many of them are not visited yet in this round.
+    /// The number of entries not yet visited in this round.
     left: usize,
     /// Whether a record arrived in this round.
     found: bool,
-    /// The rounds that are over.
+    /// The number of completed rounds.
     rounds: u64,
-    /// How many of them, at the end, are idle.
+    /// The number of idle rounds in a row up to the last completed one.
     idle: u64,
 }
 
 impl Rounds {
-    /// The rounds of a poll list of this many entries of which none was visited yet.
+    /// Returns the rounds of a poll list with this many entries, none of which has been visited.
     pub fn new(entries: usize) -> Rounds
         ensures { result ≡ rounds_of entries entries false 0 0 }
     {
@@ -43,7 +43,7 @@ impl Rounds {
         }
     }
 
-    /// A record arrived.
+    /// Records that a record arrived in this round.
     pub fn found(&mut self)
         ensures { let r = self.old in
             self.new ≡ rounds_of r.entries r.left true r.rounds r.idle }
@@ -51,8 +51,8 @@ impl Rounds {
         self.found = true;
     }
 
-    /// The visit of an entry ended, with something more to send or not. With the last entry the
-    /// round is over. The counts stay at 2^64 - 1.
+    /// Counts the end of the visit to an entry; `more` tells whether something waits to be sent.
+    /// The last entry completes the round. The counts saturate at 2^64 - 1.
     pub fn visited(&mut self, more: bool)
         ensures { self.new ≡ after_visit self.old more }
     {

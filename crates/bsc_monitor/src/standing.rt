@@ -1,17 +1,17 @@
-//! How the channels stand that end at a station.
+//! The state of the channels that end at a station.
 
 ghost use Rattle.std.specs.Prelude.{◌≡◌, false};
 ghost use Rattle.bsc_monitor.specs.EndValues.{end_of};
 
 use crate::ChannelEnd;
 
-/// How the channels stand on which a station sends (own).
+/// The state of the channels on which a station sends.
 #[derive(Clone, Copy, Debug, PartialEq, Eq)]
 pub struct Standing {
-    /// Of some channel it is not known if the last block arrived.
+    /// On some channel it is in doubt whether the last block arrived.
     pub doubt: bool,
 
-    /// On some channel that is not in doubt records were offered that are not known to have
+    /// On some channel that is not in doubt, records were offered that are not known to have
     /// arrived.
     pub waiting: bool,
 }
@@ -19,7 +19,7 @@ pub struct Standing {
 impl Standing {
     ghost use Rattle.bsc_monitor.specs.Ends.{both, standing_at, standing_of};
 
-    /// How the channels stand of a station that sends on none.
+    /// Returns the state of a station that sends on no channel.
     pub(crate) fn nothing() -> Standing
         ensures { result ≡ standing_of false false }
     {
@@ -29,7 +29,7 @@ impl Standing {
         }
     }
 
-    /// How the channel with this end stands.
+    /// Returns the state of the channel with this end.
     pub(crate) fn of(end: ChannelEnd<'_>) -> Standing
         ensures { result ≡ standing_at (end_of end.entry) }
     {
@@ -46,7 +46,7 @@ impl Standing {
         }
     }
 
-    /// How these channels and others stand together.
+    /// Combines the states of two groups of channels.
     pub(crate) fn and(self, other: Standing) -> Standing
         ensures { result ≡ both self other }
     {

@@ -1,4 +1,4 @@
-//! How all channels stand that end at a station.
+//! The state of all channels that end at a station.
 
 ghost use Rattle.std.specs.Prelude.{◌≡◌, ◌<◌};
 ghost use Rattle.bsc_monitor.specs.Ends.{station_standing, terminal_standing};
@@ -6,7 +6,7 @@ ghost use Rattle.bsc_monitor.specs.Ends.{station_standing, terminal_standing};
 use crate::{Party, Standing};
 use bsc_control::Way;
 
-/// How the channels stand on which a station sends.
+/// Returns the state of the channels on which a station sends.
 pub fn station_standing<P: Party>(station: &P) -> Standing
     ensures { let s = station.now in
         result ≡ station_standing (P.selects s) (P.ends s) (P.count s) }
@@ -18,7 +18,7 @@ pub fn station_standing<P: Party>(station: &P) -> Standing
     standing
 }
 
-/// How the channels of one terminal stand.
+/// Returns the state of the channels of one terminal.
 fn terminal_standing<P: Party>(station: &P, terminal: usize) -> Standing
     requires { terminal < P.count station.now }
     ensures { let s = station.now in

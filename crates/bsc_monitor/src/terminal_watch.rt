@@ -1,4 +1,4 @@
-//! Who watches a terminal, and says when it ends.
+//! The monitor of a terminal.
 
 use crate::trace::Who;
 use crate::watch::Watch;
@@ -8,21 +8,21 @@ use bsc_connections::{LiveError, Monitor, Note};
 use std::alloc::Allocator;
 use std::io::Write;
 
-/// Prints what happens to a terminal, and ends it when its connection is closed (own).
+/// Prints what happens to a terminal, and ends the run when its connection is closed.
 #[derive(Drop)]
 pub struct TerminalWatch<'a, A: Allocator, T: Drop, W, D> {
-    /// What prints.
+    /// Prints the records and the trace.
     watch: Watch<'a, A, T, W, D>,
 
-    /// The fault by which the connection was closed, where it was one.
+    /// The fault that closed the connection, if it was a fault.
     closed: Option<CarrierError>,
 
-    /// Whether it has ended.
+    /// Whether the run has ended.
     ended: bool,
 }
 
 impl<'a, A: Allocator + Copy, T: Timer + Drop, W: Write, D: Write> TerminalWatch<'a, A, T, W, D> {
-    /// The watch of a terminal at which nothing arrived yet.
+    /// Returns the monitor of a terminal at which nothing has arrived.
     pub fn new(watch: Watch<'a, A, T, W, D>) -> TerminalWatch<'a, A, T, W, D> {
         TerminalWatch {
             watch,
@@ -31,8 +31,8 @@ impl<'a, A: Allocator + Copy, T: Timer + Drop, W: Write, D: Write> TerminalWatch
         }
     }
 
-    /// Why the connection was closed; None where its peer closed it between transmissions, or it is
-    /// open.
+    /// Returns the fault that closed the connection. Returns `None` if the connection is open, or
+    /// if its peer closed it between transmissions.
     pub fn closed(&self) -> Option<CarrierError> {
         self.closed
     }

@@ -1,7 +1,7 @@
-//! The time of a trace.
+//! The clock of a trace.
 
-/// Tells how much time has passed.
+/// A clock that counts from the start of the station.
 pub trait Timer {
-    /// The milliseconds since the start of the station.
+    /// Returns the milliseconds since the start of the station.
     fn milliseconds(&mut self) -> u64;
 }

@@ -1,4 +1,4 @@
-//! The lines that are printed of what happens to a station.
+//! The lines printed for the events of a station.
 
 ghost use Rattle.std.specs.Prelude.{◌≡◌, ◌++◌, codes, OnOk};
 ghost use Rattle.std.specs.Fmt.{decimal};
@@ -17,30 +17,30 @@ use bsc_report::put;
 use std::alloc::Allocator;
 use std::io::Write;
 
-/// Who sent a transmission, as far as the station knows.
+/// The sender of a transmission, as far as the station knows it.
 #[derive(Clone, Copy)]
 pub(crate) enum Who {
     /// The control station.
     Control,
 
-    /// The terminal of this number.
+    /// The terminal with this number.
     Terminal(usize),
 
-    /// One that is reached by the connection at this place.
+    /// A station reached by the connection with this index.
     Connection(usize),
 }
 
 /// What a station did with a transmission.
 #[derive(Clone, Copy)]
 enum Deed {
-    /// It sent it.
+    /// The station sent it.
     Sent,
 
-    /// It heard it.
+    /// The station heard it.
     Heard,
 }
 
-/// Writes the time of a line, in milliseconds.
+/// Writes the time at the start of a line, in milliseconds.
 fn write_time<W: Write>(time: u64, out: &mut W) -> Result<(), PrintError>
     ensures { OnOk result (Appends (W.contents out.old) (W.contents out.new)
         (time_shown time)) }
@@ -51,7 +51,7 @@ fn write_time<W: Write>(time: u64, out: &mut W) -> Result<(), PrintError>
     }
 }
 
-/// Writes who sent a transmission.
+/// Writes the sender of a transmission.
 fn write_who<W: Write>(who: Who, out: &mut W) -> Result<(), PrintError>
     ensures { OnOk result (Appends (W.contents out.old) (W.contents out.new) (who_shown who)) }
 {
@@ -66,7 +66,7 @@ fn write_who<W: Write>(who: Who, out: &mut W) -> Result<(), PrintError>
     }
 }
 
-/// What was done with a transmission.
+/// Returns the word for what was done with a transmission.
 fn deed_text(deed: Deed) -> &'static [u8]
     ensures { result.now ≡ deed_shown deed }
 {
@@ -89,7 +89,7 @@ fn write_heard<W: Write>(heard: &Heard, out: &mut W) -> Result<(), PrintError>
 }
 
 /// Writes the line of a transmission: the time in milliseconds, who sent it, what the station did
-/// with it, its name, and its octets in hexadecimal text. (Own.)
+/// with it, its name, and its octets in hexadecimal text.
 fn write_transmission<A: Allocator, W: Write>(
     alloc: A,
     time: u64,
@@ -107,7 +107,7 @@ fn write_transmission<A: Allocator, W: Write>(
     write_content(alloc, octets, out)
 }
 
-/// Writes the name of what is heard of a transmission, and the end of its line.
+/// Writes the name of a transmission, its octets and the end of its line.
 fn write_content<A: Allocator, W: Write>(
     alloc: A,
     octets: &[u8],
@@ -122,7 +122,7 @@ fn write_content<A: Allocator, W: Write>(
     write_octets(alloc, octets, out)
 }
 
-/// Writes the end of the line of a transmission.
+/// Writes the octets of a transmission in hexadecimal text and the end of its line.
 fn write_octets<A: Allocator, W: Write>(
     alloc: A,
     octets: &[u8],
@@ -136,8 +136,8 @@ fn write_octets<A: Allocator, W: Write>(
     put(b"\n", out)
 }
 
-/// Writes the line of what happened: the time in milliseconds, and then what the station that `me`
-/// names sent or heard, or what became of a connection. (Own.)
+/// Writes the line for an event of the station `me`: the time in milliseconds, and then the
+/// transmission that it sent or heard, the time-out, or the change of a connection.
 pub(crate) fn write_note<A: Allocator, W: Write>(
     alloc: A,
     time: u64,
@@ -160,7 +160,7 @@ pub(crate) fn write_note<A: Allocator, W: Write>(
     }
 }
 
-/// Who sent what a station heard on a connection.
+/// Returns the sender of a transmission that the station `me` heard on a connection.
 fn heard_from(me: Who, connection: usize) -> Who {
     match me {
         Who::Control => Who::Connection(connection),
@@ -168,7 +168,8 @@ fn heard_from(me: Who, connection: usize) -> Who {
     }
 }
 
-/// Writes the line of a connection that was closed by a fault, which is none of a trace.
+/// Writes the line for a connection that was closed by a fault, without a time. Writes nothing for
+/// any other event.
 pub(crate) fn write_fault<W: Write>(note: &Note<'_>, out: &mut W) -> Result<(), PrintError> {
     match note {
         Note::Closed {
@@ -179,7 +180,7 @@ pub(crate) fn write_fault<W: Write>(note: &Note<'_>, out: &mut W) -> Result<(), 
     }
 }
 
-/// Writes the line of a time-out.
+/// Writes the line for a time-out.
 fn write_silence<W: Write>(time: u64, out: &mut W) -> Result<(), PrintError>
     ensures { OnOk result (Appends (W.contents out.old) (W.contents out.new)
         (codes "+" ++ decimal time ++ codes " silence\n")) }
@@ -190,7 +191,7 @@ fn write_silence<W: Write>(time: u64, out: &mut W) -> Result<(), PrintError>
     }
 }
 
-/// Writes the line of a peer that took the connection at a place.
+/// Writes the line for a peer that took over the connection with this index.
 fn write_joined<W: Write>(time: u64, connection: usize, out: &mut W) -> Result<(), PrintError>
     ensures { OnOk result (Appends (W.contents out.old) (W.contents out.new)
         (codes "+" ++ decimal time ++ codes " connection " ++ decimal connection
@@ -202,8 +203,8 @@ fn write_joined<W: Write>(time: u64, connection: usize, out: &mut W) -> Result<(
     }
 }
 
-/// Writes that the connection at a place is closed, and why; its peer closed it between
-/// transmissions where no reason is given.
+/// Writes that the connection with this index is closed, and why. Without a reason, its peer closed
+/// it between transmissions.
 fn write_closed<W: Write>(
     connection: usize,
     why: Option<CarrierError>,

@@ -1,10 +1,9 @@
-//! Where the visit of an entry of the poll list ends, told from what a control station sends.
+//! The visits of a control station to the entries of its poll list, derived from what it sends.
 
 ghost use Rattle.std.specs.Prelude.{◌≡◌, true, false};
 ghost use Rattle.bsc_monitor.specs.Visits.{visits_of, after_sent, ends_visit};
 
-/// What a control station sends, as far as visits are told by it (GA27-3004, polling and
-/// selection).
+/// The kind of a transmission of a control station.
 #[derive(Clone, Copy)]
 pub(crate) enum Sent {
     /// The call of a polling address.
@@ -13,38 +12,40 @@ pub(crate) enum Sent {
     /// The call of a selection address.
     Selection,
 
-    /// What is no call.
+    /// A transmission that is not a call.
     Other,
 }
 
-/// What was sent of the poll that ends a visit.
+/// The state of the poll that ends a visit.
 #[derive(Clone, Copy)]
 pub(crate) enum Polled {
-    /// The entry was not polled yet.
+    /// The entry has not been polled.
     NotYet,
 
-    /// It was polled, and the poll was repeated this often; nothing else was sent after it.
+    /// The entry was polled and the poll was repeated this many times; nothing else was sent after
+    /// it.
     Called { repeats: u8 },
 
-    /// It was polled, and something was sent that is no call.
+    /// The entry was polled, and then a transmission was sent that is not a call.
     Answered,
 }
 
-/// The visit of an entry: the selections of its terminal for which records wait, and then its poll.
-/// It ends where a call is sent after the poll that does not repeat it. A poll is repeated after a
-/// silence, as often as failures in a row are borne, while nothing else is sent. (Own.)
+/// The visit to an entry: the selections of its terminal for which records wait, and then its poll.
+/// A visit ends when a call after the poll is sent that does not repeat the poll. A poll is
+/// repeated after a silence, up to `tries` times, while nothing else is sent.
 #[derive(Clone, Copy)]
 pub(crate) struct Visits {
-    /// How many failures in a row are borne.
+    /// The number of failures in a row that are allowed.
     tries: u8,
-    /// Whether a time-out is what happened last.
+    /// Whether the last event was a time-out.
     silent: bool,
-    /// What was sent of the poll.
+    /// The state of the poll.
     polled: Polled,
 }
 
 impl Visits {
-    /// The visits of a control station that sent nothing yet and bears this many failures in a row.
+    /// Returns the visits of a control station that has sent nothing and allows this many failures
+    /// in a row.
     pub fn new(tries: u8) -> Visits
         ensures { result ≡ visits_of tries false Polled.NotYet }
     {
@@ -55,21 +56,22 @@ impl Visits {
         }
     }
 
-    /// Something was heard.
+    /// Records that a transmission was heard.
     pub fn heard(&mut self)
         ensures { self.new ≡ visits_of self.old.tries false self.old.polled }
     {
         self.silent = false;
     }
 
-    /// A time-out has passed.
+    /// Records a time-out.
     pub fn silence(&mut self)
         ensures { self.new ≡ visits_of self.old.tries true self.old.polled }
     {
         self.silent = true;
     }
 
-    /// This was sent. True where the visit of an entry had ended before it.
+    /// Records a transmission of the control station. Returns `true` if the visit to an entry had
+    /// ended before it.
     pub fn sent(&mut self, sent: Sent) -> bool
         ensures state { self.new ≡ after_sent self.old sent }
         ensures ended { result ≡ ends_visit self.old sent }
@@ -84,7 +86,7 @@ impl Visits {
         }
     }
 
-    /// A polling address was called.
+    /// Records the call of a polling address.
     fn poll(&mut self) -> bool
         ensures state { self.new ≡ after_sent self.old Sent.Poll }
         ensures ended { result ≡ ends_visit self.old Sent.Poll }
@@ -107,7 +109,7 @@ impl Visits {
         }
     }
 
-    /// A selection address was called.
+    /// Records the call of a selection address.
     fn select(&mut self) -> bool
         ensures state { self.new ≡ after_sent self.old Sent.Selection }
         ensures ended { result ≡ ends_visit self.old Sent.Selection }
@@ -120,7 +122,7 @@ impl Visits {
         }
     }
 
-    /// What is no call was sent.
+    /// Records a transmission that is not a call.
     fn answer(&mut self)
         ensures { self.new ≡ after_sent self.old Sent.Other }
     {

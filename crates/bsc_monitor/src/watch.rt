@@ -1,4 +1,4 @@
-//! What is printed while a station is attended.
+//! The output while a station is attended.
 
 use crate::arrivals::print_arrivals;
 use crate::trace::{Who, write_fault, write_note};
@@ -8,41 +8,41 @@ use bsc_print::PrintError;
 use std::alloc::{AllocError, Allocator};
 use std::io::Write;
 
-/// How a station is printed (own).
+/// The options for the output of a station.
 #[derive(Clone, Copy)]
 pub struct Printing {
-    /// How the characters of records that arrive are printed.
+    /// The form in which the characters of arriving records are printed.
     pub form: Form,
 
-    /// Whether there is a line for each transmission that is sent or heard, each time-out, and each
-    /// connection that begins or ends.
+    /// Whether a line is printed for each transmission, each time-out, and each connection that
+    /// begins or ends.
     pub trace: bool,
 }
 
 /// Prints what happens to a station: the records that arrive to one writer, and the trace to
-/// another, which is also told of a connection that was closed by a fault.
+/// another. A connection that was closed by a fault is always reported to the second.
 #[derive(Drop)]
 pub struct Watch<'a, A: Allocator, T: Drop, W, D> {
     alloc: A,
 
-    /// How records and traces are printed.
+    /// The options for records and traces.
     printing: Printing,
 
-    /// Tells the time of a trace.
+    /// The clock of the trace.
     timer: T,
 
-    /// How many records of each channel were printed.
+    /// The number of records printed for each channel.
     printed: Vec<usize, A>,
 
-    /// What takes the records.
+    /// The writer for records.
     out: &'a mut W,
 
-    /// What takes the trace.
+    /// The writer for the trace.
     errors: &'a mut D,
 }
 
 impl<'a, A: Allocator + Copy, T: Timer + Drop, W: Write, D: Write> Watch<'a, A, T, W, D> {
-    /// The watch of a station at which nothing arrived yet.
+    /// Returns the output of a station at which nothing has arrived.
     pub fn new<P: Party>(
         alloc: A,
         station: &P,
@@ -65,7 +65,7 @@ impl<'a, A: Allocator + Copy, T: Timer + Drop, W: Write, D: Write> Watch<'a, A, 
         })
     }
 
-    /// Prints what is to be told of this. True where a record arrived.
+    /// Prints the output for an event. Returns whether a record arrived.
     pub(crate) fn see<P: Party>(
         &mut self,
         station: &P,
@@ -82,7 +82,7 @@ impl<'a, A: Allocator + Copy, T: Timer + Drop, W: Write, D: Write> Watch<'a, A, 
 
     /// Prints the records that arrived.
     fn print_records<P: Party>(&mut self, station: &P) -> Result<bool, PrintError> {
-        // Every channel that the station receives on is counted.
+        // There is a count for each channel on which the station receives.
         if self.printed.len() != station.spools() {
             return Ok(false);
         }
@@ -95,7 +95,7 @@ impl<'a, A: Allocator + Copy, T: Timer + Drop, W: Write, D: Write> Watch<'a, A, 
         )
     }
 
-    /// Prints the line of this, where there is one.
+    /// Prints the line for an event: a line of the trace, or without a trace only that of a fault.
     pub(crate) fn tell(&mut self, me: Who, note: &Note<'_>) -> Result<(), PrintError> {
         if self.printing.trace {
             let time = self.timer.milliseconds();
@@ -105,7 +105,7 @@ impl<'a, A: Allocator + Copy, T: Timer + Drop, W: Write, D: Write> Watch<'a, A, 
     }
 }
 
-/// Why a station is attended no longer that was not printed.
+/// Converts the result of printing to that of attending a station.
 pub(crate) fn live<V: Drop>(printed: Result<V, PrintError>) -> Result<V, LiveError> {
     match printed {
         Ok(value) => Ok(value),

@@ -1,4 +1,4 @@
--- What `decode` answers is what the octets are heard as.
+-- The result of `decode` is what the octets are heard as.
 use Rattle.std.proofs.Common.{◌≡◌, ℕ, List, refl}
 use Rattle.std.specs.Prelude.{◌↔◌}
 use Rattle.bsc_frame.specs.Spells.{Spells, IsFailed, IsNoise, IsHeardAs}

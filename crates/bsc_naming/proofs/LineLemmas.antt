@@ -1,4 +1,4 @@
--- What has been printed of the lines so far.
+-- The output for the lines so far.
 use Rattle.std.proofs.Common.{◌≡◌, ℕ, ◌+◌, map, List, [], ◌∷◌, ◌++◌, true, false, Option, Some}
 use Rattle.std.proofs.Common.{None, length, refl, sym, ap, subst, ◌∙◌, append_assoc, append-nil}
 use Rattle.std.proofs.Common.{length-append}
@@ -42,7 +42,7 @@ prints_lines_append show xs ys a b c p q = record {
   appended = Appends-trans a b c p.text q.text p.appended q.appended;
 }
 
--- a line that gives a transmission
+-- a line with a transmission
 pub prints_lines_one : (show : Heard → List ℕ) (line text octets : List ℕ) (a b : Option (List ℕ))
     → digits line ≡ text → is_blank text ≡ false
     → octets_of text ≡ Some octets → Prints show octets a b → PrintsLines show (line ∷ []) a b
@@ -56,7 +56,7 @@ prints_lines_one show line text octets a b same blank e p =
       appended = p.appended;
     }
 
--- a line that gives none
+-- a line without a transmission
 pub prints_lines_skip : (show : Heard → List ℕ) (line text : List ℕ) (a : Option (List ℕ))
     → digits line ≡ text → given text ≡ []
     → PrintsLines show (line ∷ []) a a
@@ -64,7 +64,7 @@ prints_lines_skip show line text a same e =
     let P : List (List ℕ) → Type 0 = λ ts. AreShown show (ts ++ []) [] in
     record { text = []; shown = subst P (sym (ap given same ∙ e)) refl; appended = Appends-nil a }
 
--- the hexadecimal text of a line, where it is one of a trace or is not
+-- the hexadecimal text of a line of a trace, and of any other line
 pub digits_traced : (line : List ℕ) → is_traced line ≡ true → digits line
     ≡ last_part (parts_at 32 line)
 digits_traced line e = ap (λ b. if b then last_part (parts_at 32 line) else line) e
@@ -72,7 +72,7 @@ digits_traced line e = ap (λ b. if b then last_part (parts_at 32 line) else lin
 pub digits_plain : (line : List ℕ) → is_traced line ≡ false → digits line ≡ line
 digits_plain line e = ap (λ b. if b then last_part (parts_at 32 line) else line) e
 
--- blank text gives none, and text that is not hexadecimal gives none
+-- blank text, and text that is not hexadecimal, have no transmission
 pub given_blank : (text : List ℕ) → is_blank text ≡ true → given text ≡ []
 given_blank text e = ap (λ b. if b then [] else option_to_list (octets_of text)) e
 
@@ -80,7 +80,7 @@ pub given_wrong : (text : List ℕ) → is_blank text ≡ false → octets_of te
 given_wrong text blank e =
     ap (λ b. if b then [] else option_to_list (octets_of text)) blank ∙ ap option_to_list e
 
--- what a text's first line leaves
+-- the lines that remain after the first line of a text
 pub lines_left : {B : Type 0} (now : B → List ℕ) (rest : Option B) (text line : List ℕ)
     → (rest ≡ None → parts_of text ≡ line ∷ [])
     → IfSome rest (λ r. parts_of text ≡ line ∷ parts_of (now r)) → (left : List (List ℕ))
@@ -89,7 +89,7 @@ lines_left now None text line last more = ([], ap (map strip_carriage_return) (l
 lines_left now (Some r) text line last more =
     (lines_of (now r), ap (map strip_carriage_return) more)
 
--- of all lines, the first ones are not wrong and were printed, and these are left
+-- the first lines are not wrong and their output was printed; the others are left
 pub record HasPrinted (show : Heard → List ℕ) (all left : List (List ℕ)) (before : ℕ)
     (old new : Option (List ℕ)) : Type 0 where
   pub done : List (List ℕ)

@@ -9,7 +9,7 @@ last_part_cons : (part : List ℕ) (parts : List (List ℕ)) → 0 < length part
 last_part_cons part [] h = absurd (omega arith)
 last_part_cons part (next ∷ parts) h = refl
 
--- a text has parts, so what comes before them is not the last
+-- a text has at least one part, so a part before those of the text is not the last
 pub last_part_more : (value : ℕ) (part text : List ℕ) → last_part (part ∷ parts_at value text)
     ≡ last_part (parts_at value text)
 last_part_more value part text =

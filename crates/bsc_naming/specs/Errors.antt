@@ -1,4 +1,4 @@
--- Which errors end which work. All of it is own.
+-- The errors of each kind of work.
 use Rattle.bsc_print.specs.declared.error.PrintError.{PrintError}
 use Rattle.bsc_print.specs.declared.error.PrintError.TheVariants as print
 use Rattle.bsc_naming.specs.declared.error.NamingError.{NamingError}
@@ -6,7 +6,7 @@ use Rattle.bsc_naming.specs.declared.error.NamingError.TheVariants.{NotHexadecim
 use Rattle.bsc_naming.specs.declared.error.NamingError.TheVariants.{NotHexadecimalAt, Output}
 use Rattle.bsc_naming.specs.declared.error.NamingError.TheVariants.{Memory}
 
--- The error of what was not written.
+-- The error for a failure to print.
 abbrev pub print_error : PrintError → NamingError
 print_error print.Output = Output
 print_error print.Memory = Memory

@@ -1,27 +1,27 @@
-//! Why names were not printed, or not all of them.
+//! The reasons why not all names were printed.
 ghost use Rattle.std.specs.Prelude.{◌≡◌};
 
 use bsc_print::PrintError;
 use std::alloc::AllocError;
 use thiserror::Error;
 
-/// Why names were not printed, or not all of them.
+/// The reason why not all names were printed.
 #[derive(Clone, Copy, Debug, PartialEq, Eq, Error)]
 pub enum NamingError {
-    /// The one transmission to be named is not in hexadecimal text.
+    /// The one transmission to be named is not hexadecimal text.
     #[error("not hexadecimal")]
     NotHexadecimal,
 
-    /// The line with this number, counted from 1, is the first that is neither blank, nor a line
-    /// of a trace, nor hexadecimal text.
+    /// The line with this number, counted from 1, is the first that is neither blank, nor a line of
+    /// a trace, nor hexadecimal text.
     #[error("line {line}: not hexadecimal")]
     NotHexadecimalAt { line: u64 },
 
-    /// The writer did not take the text.
+    /// The writer did not accept the text.
     #[error("output fault")]
     Output,
 
-    /// A growth was refused.
+    /// An allocation failed.
     #[error("out of memory")]
     Memory,
 }

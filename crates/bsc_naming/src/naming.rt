@@ -1,4 +1,4 @@
-//! Names of transmissions that are given in hexadecimal text, or by the lines of a trace.
+//! Prints the names of transmissions given in hexadecimal text or in the lines of a trace.
 ghost use Rattle.std.specs.Prelude.{◌≡◌, ◌+◌, ◌<◌, ◌^◌, ◌∷◌, [], length, true, false, None, OnOk};
 ghost use Rattle.std.specs.Prelude.{IfErr, IsErrOf, IsSomeAnd, ℕ};
 ghost use Rattle.bsc_input.specs.Hexadecimal.{octets_of};
@@ -15,8 +15,8 @@ use bsc_print::{Detail, write_shown};
 use std::alloc::Allocator;
 use std::io::Write;
 
-/// Prints the name of the transmission that the hexadecimal text gives, and a line feed. Where the
-/// text is not hexadecimal nothing is printed.
+/// Prints the name of the transmission in hexadecimal text, and a line feed. If the text is not
+/// hexadecimal, nothing is printed.
 pub fn name<A: Allocator + Copy, W: Write>(
     alloc: A,
     text: &str,
@@ -35,10 +35,10 @@ pub fn name<A: Allocator + Copy, W: Write>(
     }
 }
 
-/// Prints the name of each line's transmission, one a line. A line that begins with `+` is a line
-/// of a trace: its transmission is the hexadecimal text after its last space, and where that is
-/// none it is skipped. Blank lines are skipped too, and all lines are counted. At any other line
-/// that is not hexadecimal text it stops; the names of the lines before stay printed. (Own.)
+/// Prints the name of the transmission on each line, one name on each line. A line that begins with
+/// `+` is a line of a trace: its transmission is the hexadecimal text after its last space, and a
+/// line without one is skipped. Blank lines are skipped too. Skipped lines are counted. Stops at
+/// any other line that is not hexadecimal text; the names of the lines before it stay printed.
 pub fn names<A: Allocator + Copy, W: Write>(
     alloc: A,
     input: &[u8],
@@ -53,8 +53,8 @@ pub fn names<A: Allocator + Copy, W: Write>(
     write_lines(alloc, Detail::Name, input, out)
 }
 
-/// Prints the name of each line's transmission, and under the name of a text a line for each unit.
-/// Otherwise as `names`.
+/// Prints the name of the transmission on each line, and under the name of a text a line for each
+/// unit. Otherwise the same as [`names`].
 pub fn show<A: Allocator + Copy, W: Write>(
     alloc: A,
     input: &[u8],
@@ -69,7 +69,7 @@ pub fn show<A: Allocator + Copy, W: Write>(
     write_lines(alloc, Detail::Units, input, out)
 }
 
-/// Prints what the lines of the input give.
+/// Prints the output for the lines of the input.
 fn write_lines<A: Allocator + Copy, W: Write>(
     alloc: A,
     detail: Detail,
@@ -95,14 +95,14 @@ fn write_lines<A: Allocator + Copy, W: Write>(
     }
 }
 
-/// Whether the line is one of a trace.
+/// Whether the line is a line of a trace.
 fn is_traced_line(line: &[u8]) -> bool
     ensures { result ≡ is_traced line.now }
 {
     !line.is_empty() && line[0] == b'+'
 }
 
-/// What follows the last space of the line; all of it where there is none.
+/// Returns the text after the last space of the line, or all of it if there is no space.
 fn last_word(line: &[u8]) -> &[u8]
     ensures { result.now ≡ last_part (parts_at 32 line.now) }
 {
@@ -116,7 +116,7 @@ fn last_word(line: &[u8]) -> &[u8]
     }
 }
 
-/// Prints what a line of a trace gives.
+/// Prints the output for a line of a trace.
 fn write_traced<A: Allocator + Copy, W: Write>(
     alloc: A,
     detail: Detail,
@@ -138,7 +138,7 @@ fn write_traced<A: Allocator + Copy, W: Write>(
     }
 }
 
-/// Prints what a line gives that has this many lines before it.
+/// Prints the output for a line with `before` lines before it.
 fn write_line<A: Allocator + Copy, W: Write>(
     alloc: A,
     detail: Detail,
@@ -166,7 +166,7 @@ fn write_line<A: Allocator + Copy, W: Write>(
     }
 }
 
-/// Prints what the octets are heard as.
+/// Prints the output for octets that are heard.
 fn write_transmission<A: Allocator + Copy, W: Write>(
     alloc: A,
     detail: Detail,

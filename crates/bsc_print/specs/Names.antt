@@ -1,5 +1,4 @@
--- What is printed for a transmission: its name, and for a text a line for each unit. All of it is
--- own.
+-- The output for a transmission: its name, and a line for each unit of a text.
 use Rattle.std.specs.Prelude.{ℕ, Bool, ◌==◌, List, [], ◌∷◌, ◌++◌, length, Option, codes}
 use Rattle.std.specs.Prelude.{if◌then◌else◌}
 use Rattle.std.specs.List.{flat_map}
@@ -23,8 +22,8 @@ abbrev pub end_name : End → List ℕ
 end_name Etb = codes "ETB"
 end_name Etx = codes "ETX"
 
--- A control sequence by its name, a call with its address, a text with its end and the number of
--- its units.
+-- The name of a message: a control sequence by its name, a call with its address, a text with its
+-- end and its number of units.
 abbrev pub message_name : Message → List ℕ
 message_name Eot = codes "EOT"
 message_name (Call address) = codes "CALL " ++ address
@@ -43,19 +42,19 @@ name_of Noise = codes "NOISE"
 abbrev pub name_line : Heard → List ℕ
 name_line heard = name_of heard ++ 10 ∷ []
 
--- The characters' codes in lower case hexadecimal, or - where there are none.
+-- The codes of characters in lower case hexadecimal text, or a dash if there are no characters.
 abbrev pub chars_shown : List ℕ → List ℕ
 chars_shown chars = if length chars == 0 then codes "-" else encode_lower chars
 
--- What says that EM follows the characters.
+-- The text that tells whether EM follows the characters.
 abbrev pub em_shown : Bool → List ℕ
 em_shown em = if em then codes " EM" else []
 
--- The line of a unit: its characters, and whether EM follows them.
+-- The line for a unit: its characters, and whether EM follows them.
 abbrev pub unit_line : TextUnit → List ℕ
 unit_line unit = codes "unit " ++ chars_shown unit.chars ++ em_shown unit.em ++ 10 ∷ []
 
--- The units of a message: none where it is no text.
+-- The units of a message: none if it is not a text.
 abbrev pub message_units : Message → List TextUnit
 message_units (Text text) = text.units
 message_units _ = []
@@ -65,16 +64,17 @@ abbrev pub units_of : Heard → List TextUnit
 units_of (Whole message) = message_units message
 units_of _ = []
 
--- The name line, and under it the lines of the units.
+-- The line with the name, and then the lines for the units.
 abbrev pub unit_lines : Heard → List ℕ
 unit_lines heard = name_line heard ++ flat_map unit_line (units_of heard)
 
--- What is printed for the one detail or the other.
+-- The output with this detail.
 abbrev pub shown : Detail → Heard → List ℕ
 shown Name heard = name_line heard
 shown Units heard = unit_lines heard
 
--- A writer that held old holds new: what is shown of the octets, as they are heard, was appended.
+-- The output for the octets as they are heard was appended: the contents of the writer went from
+-- `old` to `new`.
 pub record Prints (show : Heard → List ℕ) (octets : List ℕ) (old new : Option (List ℕ))
     : Type 0 where
   pub heard : Heard

@@ -1,17 +1,17 @@
-//! Why a name was not printed.
+//! The reasons why printing fails.
 ghost use Rattle.std.specs.Prelude.{◌≡◌};
 
 use std::alloc::AllocError;
 use thiserror::Error;
 
-/// Why what is printed for a transmission was not written.
+/// The reason why the output for a transmission was not written.
 #[derive(Clone, Copy, Debug, PartialEq, Eq, Error)]
 pub enum PrintError {
-    /// The writer did not take the text.
+    /// The writer did not accept the text.
     #[error("output fault")]
     Output,
 
-    /// A growth was refused.
+    /// An allocation failed.
     #[error("out of memory")]
     Memory,
 }

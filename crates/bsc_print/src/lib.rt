@@ -1,4 +1,7 @@
-//! What is printed for a transmission: its name, and the units of a text.
+//! The output for a transmission: its name, and the units of a text.
+//!
+//! The transmissions are those of GA27-3004. Their names in print and the lines for the units are
+//! this project's own.
 #![tactic(auto)]
 
 mod error;

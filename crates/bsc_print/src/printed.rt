@@ -1,4 +1,4 @@
-//! The text that is printed for what is heard.
+//! Prints a transmission as it is heard.
 ghost use Rattle.std.specs.Prelude.{◌≡◌, ◌<◌, OnOk, IfErr, length};
 ghost use Rattle.std.specs.Io.KnownBytes.{Appends};
 ghost use Rattle.std.specs.List.{flat_map};
@@ -11,13 +11,13 @@ use bsc_frame::{End, Heard, Message, Text, Unit};
 use std::alloc::Allocator;
 use std::io::Write;
 
-/// How much is printed for a transmission.
+/// The amount of output for a transmission.
 #[derive(Clone, Copy, Debug, PartialEq, Eq)]
 pub enum Detail {
     /// Its name.
     Name,
 
-    /// Its name, and the units of a text.
+    /// Its name, and a line for each unit of a text.
     Units,
 }
 
@@ -32,7 +32,7 @@ fn put<W: Write>(octets: &[u8], out: &mut W) -> Result<(), PrintError>
     }
 }
 
-/// The name of the character that ends a text.
+/// Returns the name of the character that ends a text.
 fn end_name(end: End) -> &'static str
     ensures { result.now ≡ end_name end }
 {
@@ -57,8 +57,8 @@ fn write_text_name<W: Write>(text: &Text, out: &mut W) -> Result<(), PrintError>
 }
 
 /// Writes the name of a message, without a line feed: a control sequence by its name, a call with
-/// its address, a text with its end and the number of its units. After an error a part of the name
-/// may have been written.
+/// its address, a text with its end and its number of units. After an error a part of the name may
+/// have been written.
 pub fn write_name<W: Write>(message: &Message, out: &mut W) -> Result<(), PrintError>
     ensures ok { OnOk result
         (Appends (W.contents out.old) (W.contents out.new) (message_name message.now)) }
@@ -99,8 +99,8 @@ fn write_name_line<W: Write>(heard: &Heard, out: &mut W) -> Result<(), PrintErro
     put(b"\n", out)
 }
 
-/// Writes what is printed for what is heard: its name and a line feed, and with the units a line
-/// for each unit of a text. After an error a part may have been written.
+/// Writes the output for what is heard: its name and a line feed, and with `Detail::Units` a line
+/// for each unit of a text. After an error a part of the output may have been written.
 pub fn write_shown<A: Allocator + Copy, W: Write>(
     alloc: A,
     detail: Detail,
@@ -117,7 +117,7 @@ pub fn write_shown<A: Allocator + Copy, W: Write>(
     }
 }
 
-/// Writes a line for each unit of a text; nothing for what is no text.
+/// Writes a line for each unit of a text. Writes nothing for anything else.
 fn write_units<A: Allocator + Copy, W: Write>(
     alloc: A,
     heard: &Heard,
@@ -164,7 +164,7 @@ fn write_text_units<A: Allocator + Copy, W: Write>(
     Ok(())
 }
 
-/// Writes the line of a unit.
+/// Writes the line for a unit.
 fn write_unit<A: Allocator, W: Write>(
     alloc: A,
     unit: Unit<'_>,
@@ -179,8 +179,8 @@ fn write_unit<A: Allocator, W: Write>(
     put(b"\n", out)
 }
 
-/// Writes the codes of characters in lower case hexadecimal text, or a dash where there are none.
-/// After an error a part may have been written.
+/// Writes the codes of characters in lower case hexadecimal text, or a dash if there are no
+/// characters. After an error a part of the output may have been written.
 pub fn write_chars<A: Allocator, W: Write>(
     alloc: A,
     chars: &[u8],
@@ -196,7 +196,7 @@ pub fn write_chars<A: Allocator, W: Write>(
     put(digits.as_bytes(), out)
 }
 
-/// What says whether EM follows the characters of a unit.
+/// Returns the text that tells whether EM follows the characters of a unit.
 fn em_mark(em: bool) -> &'static [u8]
     ensures { result.now ≡ em_shown em }
 {

@@ -1,10 +1,10 @@
--- Texts that are written one after the other.
+-- Texts that are written one after another.
 use Rattle.std.proofs.Common.{ℕ, ◌+◌, List, Option, add-one}
 use Rattle.std.specs.Io.KnownBytes.{Appends}
 use Rattle.std.proofs.KnownBytes.{Appends-trans}
 use Rattle.bsc_report.specs.Channels.{each_below}
 
--- one more of the texts of the numbers in order
+-- the text for one more number
 pub each_below_more : (a b c : Option (List ℕ)) (text : ℕ → List ℕ) (n : ℕ)
     → Appends a b (each_below text n)
     → Appends b c (text n) → Appends a c (each_below text (n + 1))

@@ -1,28 +1,30 @@
--- What is printed of a channel, and texts that follow one another (own).
+-- The output for a channel, and texts that follow one another.
 use Rattle.std.specs.Prelude.{ℕ, zero, suc, Bool, nat_eq, if◌then◌else◌, List, [], ◌++◌, codes}
 use Rattle.std.specs.Fmt.{decimal}
 use Rattle.bsc_print.specs.Names.{chars_shown}
 use Rattle.bsc_directory.specs.declared.way.Way.{Way}
 use Rattle.bsc_directory.specs.declared.way.Way.TheVariants.{FromTerminal, ToTerminal}
 
--- a selection address is named where its terminal has more than this one
+-- The part of a channel's name for a selection address: empty if it is the only one of the
+-- terminal.
 abbrev pub address_name : ℕ → ℕ → List ℕ
 address_name count s = if nat_eq count 1 then [] else codes "." ++ decimal s
 
--- a channel is named by its way and its terminal, which has this many selection addresses
+-- The name of a channel: its direction and its terminal, which has this number of selection
+-- addresses.
 abbrev pub channel_name : ℕ → ℕ → Way → List ℕ
 channel_name count t FromTerminal = codes "from " ++ decimal t
 channel_name count t (ToTerminal s) = codes "to " ++ decimal t ++ address_name count s
 
--- the end of a channel's line: whether its sending end is in doubt
+-- The end of the line for a channel: whether its sending end is in doubt.
 abbrev pub doubt_shown : Bool → List ℕ
 doubt_shown doubt = if doubt then codes ", in doubt\n" else codes "\n"
 
--- the line of a record: its codes in hexadecimal
+-- The line for a record: its codes in hexadecimal text.
 abbrev pub record_line : List ℕ → List ℕ
 record_line r = codes "  " ++ chars_shown r ++ codes "\n"
 
--- the texts of the numbers below n, in order
+-- The texts for the numbers below n, in order.
 abbrev pub each_below : (ℕ → List ℕ) → ℕ → List ℕ
 each_below text zero = []
 each_below text (suc n) = each_below text n ++ text n

@@ -1,4 +1,4 @@
-//! The parts of the lines of a channel.
+//! The parts of the lines for a channel.
 
 ghost use Rattle.std.specs.Prelude.{◌≡◌, OnOk};
 ghost use Rattle.std.specs.List.{flat_map};
@@ -43,14 +43,14 @@ pub fn write_channel_name<W: Write>(
     }
 }
 
-/// The end of the line of a channel, by whether its sending end is in doubt.
+/// Returns the end of the line for a channel, by whether its sending end is in doubt.
 pub fn doubt_text(doubt: bool) -> &'static [u8]
     ensures { result.now ≡ doubt_shown doubt }
 {
     if doubt { b", in doubt\n" } else { b"\n" }
 }
 
-/// Writes a line for each record. After an error a part of them may have been written.
+/// Writes a line for each record. After an error a part of the output may have been written.
 pub fn write_records<A: Allocator + Copy, W: Write>(
     alloc: A,
     records: &[Record],
@@ -65,7 +65,7 @@ pub fn write_records<A: Allocator + Copy, W: Write>(
     Ok(())
 }
 
-/// Writes the line of a record of these characters.
+/// Writes the line for a record with these characters.
 fn write_record<A: Allocator, W: Write>(
     alloc: A,
     chars: &[u8],

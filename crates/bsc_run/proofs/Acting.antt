@@ -1,4 +1,4 @@
--- How an event of a script is answered.
+-- The answer to an event of a script.
 use Rattle.std.proofs.Common.{◌≡◌, ℕ, List, map, Option, Some, Result, Ok, Err, refl, sym, subst}
 use Rattle.std.specs.Borrow.{Bor}
 use Rattle.bsc_frame.specs.declared.message.Message.{Message}
@@ -21,7 +21,7 @@ use Rattle.bsc_run.specs.Steps.{MayBe, Sends, HearsOctets, Crossing, Acts}
 use Rattle.bsc_run.proofs.Speaking.{fits_after}
 
 module _ {S : Type 0} (contents remaining : S → Option (List ℕ)) where
-  -- nothing is heard, so that the event of the line is told by that of the script
+  -- nothing crosses the cable, and a refusal holds for each event of the line that it may be
   acts_plainly : (asked : Asked) (e : Event) (old new : LineValue) (c : CableValue S)
       (r : Result (Unit {0}) LineError)
       → Crossing contents remaining asked e old c c
@@ -41,7 +41,7 @@ module _ {S : Type 0} (contents remaining : S → Option (List ℕ)) where
         (λ x m. subst (λ (k : LineError). Does x old (Err k) new) same (alike x w m d), refl);
   }
 
-  -- there is one event of the line
+  -- only one event of the line corresponds to the event of the script
   pub acts_as : (asked : Asked) (e : Event) (old new : LineValue) (c : CableValue S)
       (r : Result (Unit {0}) LineError)
       → Crossing contents remaining asked e old c c → ((x : Event) → MayBe asked x → x ≡ e)
@@ -51,7 +51,7 @@ module _ {S : Type 0} (contents remaining : S → Option (List ℕ)) where
       acts_plainly asked e old new c r crossing
       (λ x w m q. subst (λ (y : Event). Does y old (Err w) new) (sym (alike x m)) q) f d line
 
-  -- an offer goes by its codes
+  -- an offer depends only on its codes
   pub offers_at : (t : ℕ) (codes : Bor (List ℕ)) (old new : LineValue) (c : CableValue S)
       (r : Result (Unit {0}) LineError)
       → Fits old c → Does (event.OfferAt t codes) old r new → IsLine new
@@ -72,7 +72,7 @@ module _ {S : Type 0} (contents remaining : S → Option (List ℕ)) where
       (λ x w m q. subst (λ (y : Event). Does y old (Err w) new) (sym m.2)
       (subst (λ (k : List ℕ). OffersFor old t s k (Err w) new) (sym m.1) q)) f d line
 
-  -- octets cross the cable, and what is pending is heard as those that were read
+  -- octets cross the cable, and the pending transmission is heard as those that were read
   pub hears_octets : (asked : Asked) (sent : Message → List ℕ) (old new : LineValue)
       (before after : CableValue S) (octets : Bor (List ℕ)) (read : List ℕ)
       → ((e : Event) → HearsOctets contents remaining sent e old before after
@@ -113,7 +113,7 @@ module _ {S : Type 0} (contents remaining : S → Option (List ℕ)) where
     refused = λ w q. cc;
   }
 
--- a fault breaks it off
+-- a fault interrupts the event
 pub acts_fault : {S : Type 0} (contents remaining : S → Option (List ℕ)) (asked : Asked)
     (old new : LineValue) (before after : CableValue S) (e : StepError)
     → IsFault e → Acts contents remaining asked old before (Err e) new after

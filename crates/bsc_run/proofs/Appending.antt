@@ -1,4 +1,4 @@
--- Texts that are written one after the other.
+-- Texts that are written one after another.
 use Rattle.std.proofs.Common.{ℕ, List, ◌++◌, Option, Result, Ok, Err}
 use Rattle.std.specs.Prelude.{OnOk}
 use Rattle.std.specs.Io.KnownBytes.{Appends}
@@ -8,13 +8,13 @@ pub on_ok : {T E P Q : Type 0} (r : Result T E) → (P → Q) → OnOk r P → O
 on_ok (Ok x) f p = f p
 on_ok (Err e) f p = p
 
--- the last of two texts, where it was written
+-- two texts, if the second was written
 pub two_on_ok : {T E : Type 0} (a b c : Option (List ℕ)) (x y : List ℕ) (r : Result T E)
     → Appends a b x
     → OnOk r (Appends b c y) → OnOk r (Appends a c (x ++ y))
 two_on_ok a b c x y r p q = on_ok r (Appends-trans a b c x y p) q
 
--- the last of four texts, where it was written
+-- four texts, if the last was written
 pub four_on_ok : {T E : Type 0} (a b c d e : Option (List ℕ)) (w x y z : List ℕ) (r : Result T E)
     → Appends a b w
     → Appends b c x → Appends c d y → OnOk r (Appends d e z)

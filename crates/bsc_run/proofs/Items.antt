@@ -1,4 +1,4 @@
--- Items that cross a cable one after the other.
+-- Items that cross a cable one after another.
 use Rattle.std.proofs.Common.{◌≡◌, ◌<◌, ℕ, ◌+◌, List, ◌∷◌, [], ◌++◌, length, take, map, Option}
 use Rattle.std.proofs.Common.{get_or, refl, sym, ◌∙◌, ap, subst, arith, length-append}
 use Rattle.std.proofs.lemmas.List.{take_more, length-take-le, map-append, length-map}
@@ -7,7 +7,7 @@ use Rattle.bsc_carrier.specs.Cable.{CableValue}
 use Rattle.bsc_line_model.specs.Hearing.{octets_in}
 use Rattle.bsc_run.specs.Crossing.{ItemCrosses, ItemsCross, none, one_more}
 
--- the next item crosses
+-- one more item crosses
 pub items_cross_more : {S W : Type 0} (contents remaining : S → Option (List ℕ))
     (octets : Option W → Option (List ℕ))
     (items : List (Option (List ℕ))) (words : List (Option W)) (t : ℕ) (item : Option (List ℕ))
@@ -26,7 +26,7 @@ items_cross_more {S} contents remaining octets items words t item word old mid n
     (subst (λ (k : ℕ). ItemCrosses contents remaining k item (octets word) mid new) (sym place)
     crossed))
 
--- as many words come as items went
+-- there are as many words as items
 length_crossed : {S : Type 0} {contents remaining : S → Option (List ℕ)}
     {items heard : List (Option (List ℕ))} {old new : CableValue S}
     → ItemsCross contents remaining items heard old new → length heard ≡ length items

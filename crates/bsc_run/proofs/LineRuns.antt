@@ -1,4 +1,4 @@
--- A run of a script is a run of the line, of the events that were done.
+-- A run of a script is a run of the line over the events that were performed.
 use Rattle.std.proofs.Common.{◌≡◌, ℕ, ◌+◌, List, [], ◌∷◌, length, map, inl, inr, Option, None, Some}
 use Rattle.std.proofs.Common.{Result, Ok, Err, refl, ◌∙◌, ap}
 use Rattle.std.proofs.lemmas.List.{length-map}
@@ -18,7 +18,7 @@ use Rattle.bsc_run.specs.LineRuns.{RunsLineFrom, RunsLine}
 use Rattle.bsc_run.specs.Plays.{Plays, Runs}
 use Rattle.bsc_run.specs.Steps.{MayBe}
 
--- a list, lent
+-- a list as a borrowed value
 lent : {X : Type 0} → List X → Bor (List X)
 lent xs = record { ref_ptr = (0, 0); now = xs }
 
@@ -26,7 +26,7 @@ lent_now : {X : Type 0} (xs : List X) → (lent xs).now ≡ xs
 unfolding lent
 lent_now xs = refl
 
--- an event of the line that an event of a script may be
+-- an event of the line for an event of a script
 may_be : (asked : Asked) → (e : Event) × MayBe asked e
 may_be (offer_at t codes) = (event.OfferAt t (lent codes), (lent codes, lent_now codes, refl))
 may_be (offer_for t s codes) = (event.OfferFor t s (lent codes), (lent codes, lent_now codes, refl))
@@ -49,7 +49,7 @@ may_be (urgent_at t) = (event.UrgentAt t, refl)
 may_be (urgent_for t) = (event.UrgentFor t, refl)
 may_be (release t way) = (event.Release t way, refl)
 
--- an accepted event before a run
+-- an accepted event, and then a run
 runs_after : (at : ℕ) (e : Event) (old mid new : LineValue) (events : List Event)
     (answer : Result (Unit {0}) Stopped) → IsLine mid
     → Does e old (Ok tt) mid → RunsFrom (at + 1) mid events answer new
@@ -87,7 +87,7 @@ module _ {S : Type 0} (contents remaining : S → Option (List ℕ)) where
         alike = more.alike;
       }
 
-  -- what a run of a script prints and leaves is of a run of the line
+  -- a run of a script gives a run of the line
   pub runs_line : (steps : List NumberedEvent) (old : LineValue) (before : CableValue S)
       (result : Result (Unit {0}) RunError)
       (new : LineValue) (after : CableValue S) (held holds : Option (List ℕ))

@@ -1,4 +1,4 @@
--- What has been played of a script so far.
+-- A run of the events of a script up to some event.
 use Rattle.std.proofs.Common.{◌≡◌, ◌<◌, ◌≤◌, ℕ, zero, suc, ◌+◌, List, [], ◌∷◌, ◌++◌, length, map}
 use Rattle.std.proofs.Common.{drop, get_or, inl, inr, Option, Result, Ok, Err, refl, sym, ap}
 use Rattle.std.proofs.Common.{arith, append_assoc, append-nil, add-one}
@@ -22,12 +22,12 @@ drop_map_suc f [] i x h e = absurd (omega arith)
 drop_map_suc f (y ∷ ys) zero x h e = ap (λ z. f z ∷ map f ys) (sym e)
 drop_map_suc f (y ∷ ys) (suc i) x h e = drop_map_suc f ys i x (omega arith) e
 
--- the first of what is left
+-- the first remaining element
 pub drop_map : {X Y : Type 0} (f : X → Y) (xs : List X) (i : ℕ) (x : X) → i < length xs → x
     ≡ get_or xs i x → drop i (map f xs) ≡ f x ∷ drop (i + 1) (map f xs)
 drop_map f xs i x h e = rw add-one (drop_map_suc f xs i x h e)
 
--- nothing is left
+-- no element remains
 pub drop_map_all : {X Y : Type 0} (f : X → Y) (xs : List X) (i : ℕ) → length xs ≤ i
     → drop i (map f xs) ≡ []
 drop_map_all f [] zero h = refl
@@ -37,7 +37,7 @@ drop_map_all f (x ∷ xs) (suc i) h = drop_map_all f xs i (omega arith)
 
 module _ {S : Type 0} (contents remaining : S → Option (List ℕ)) (all : List NumberedEvent)
     (first : LineValue) (before : CableValue S) where
-  -- what was written so far, and a run of what is left makes a run of all
+  -- the text written so far, with the fact that a run of the remaining events makes a run of all
   pub record HasPlayed (left : List NumberedEvent) (mid : LineValue) (between : CableValue S)
       (held holds : Option (List ℕ)) : Type 0 where
     pub text : List ℕ
@@ -70,7 +70,7 @@ module _ {S : Type 0} (contents remaining : S → Option (List ℕ)) (all : List
         }));
   }
 
-  -- no event is left
+  -- no event remains
   pub has_played_all : (mid : LineValue) (between : CableValue S) (a b : Option (List ℕ))
       → HasPlayed [] mid between a b
       → Played contents remaining all first before (Ok tt) mid between a b
@@ -80,7 +80,7 @@ module _ {S : Type 0} (contents remaining : S → Option (List ℕ)) (all : List
     written = rw (append-nil h.text) h.written;
   }
 
-  -- the next event is refused, or a fault breaks it off
+  -- the next event is refused, or a fault interrupts it
   pub has_played_stop : (step : NumberedEvent) (left : List NumberedEvent) (mid new : LineValue)
       (between after : CableValue S) (a b c : Option (List ℕ)) (error : RunError)
       → HasPlayed (step ∷ left) mid between a b
@@ -102,14 +102,14 @@ module _ {S : Type 0} (contents remaining : S → Option (List ℕ)) (all : List
       }
   has_played_stop step left mid new between after a b c _ h t = tt
 
--- nothing was played yet
+-- no event has been performed
 pub has_played_none : {S : Type 0} (contents remaining : S → Option (List ℕ))
     (all : List NumberedEvent) (first : LineValue) (before : CableValue S) (a : Option (List ℕ))
     → HasPlayed contents remaining all first before all first before a a
 has_played_none contents remaining all first before a =
     record { text = []; written = Appends-nil a; goes = λ result new after rest p. p }
 
--- the report is written after what was played
+-- the report is written after the run
 pub runs_reported : {S : Type 0} (contents remaining : S → Option (List ℕ))
     (steps : List NumberedEvent) (old new : LineValue) (before after : CableValue S)
     (result : Result (Unit {0}) RunError) (a b c : Option (List ℕ))
@@ -121,7 +121,7 @@ runs_reported contents remaining steps old new before after result a b c p writt
   written = Appends-trans a b c p.text (report_of new) p.written written;
 }
 
--- what holds of a run that no fault broke off
+-- a property of a run that no fault interrupted
 pub where_whole : {P Q : Type 0} (r : Result (Unit {0}) RunError) → (P → Q) → WhereWhole r P
     → WhereWhole r Q
 where_whole (Ok done) f p = f p

@@ -1,5 +1,5 @@
--- Every accepted event keeps the number of terminals, and who speaks after it is a station of the
--- line.
+-- An accepted event keeps the number of terminals, and the sender of the pending transmission after
+-- it belongs to the line.
 use Rattle.std.proofs.Common.{◌≡◌, ◌≤◌, ℕ, zero, suc, List, length, Option, None, Some, Ok, sym}
 use Rattle.std.proofs.Common.{◌∙◌, ap, subst, arith}
 use Rattle.std.proofs.lemmas.List.{length-set}
@@ -29,7 +29,7 @@ use Rattle.bsc_line_model.specs.Runs.{Does}
 use Rattle.bsc_run.specs.Crossing.{connection_count}
 use Rattle.bsc_run.specs.Speaking.{IsStation, IsSpeakerThere, Fits}
 
--- the number of terminals stays
+-- the number of terminals does not change
 carried_count : (s : Speaker) (message : Message) (h : Heard) (old new : LineValue)
     → IsCarriedBy s message h old new → terminal_count new ≡ terminal_count old
 carried_count Control message h old new c = c.terminals.count
@@ -59,7 +59,7 @@ count_kept (UrgentAt t) old new d = ap terminal_count d.1 ∙ length-set old.ter
 count_kept (UrgentFor t) old new d = ap terminal_count d.1
 count_kept (Release t way) old new d = release_count old t way new d
 
--- who speaks is a station
+-- the sender belongs to the line
 or_first_there : (l : LineValue) (a b : Option Transmission) → IsSpeakerThere l a
     → IsSpeakerThere l b → IsSpeakerThere l (or_first a b)
 or_first_there l (Some x) b p q = p
@@ -128,7 +128,7 @@ speaker_there (UrgentFor t) old new d h =
 speaker_there (Release t way) old new d h =
     there_by old new.pending old.pending (release_there old t way new d) h
 
--- a line with as many terminals has the same stations
+-- a line with the same number of terminals has the same stations
 station_moved : (old new : LineValue) (s : Speaker) → terminal_count new ≡ terminal_count old
     → IsStation old s → IsStation new s
 station_moved old new Control e h = tt
@@ -152,7 +152,7 @@ fits_after e old new before after f d line count = record {
       (speaker_there e old new d f.speaker);
 }
 
--- nobody speaks on a new line
+-- nothing is pending on a new line
 pub new_line_fits : {S : Type 0} (setup : SetupValue) (given : List TerminalValue)
     (poll_list : List ℕ) (l : LineValue) (c : CableValue S)
     → IsNewLine setup given poll_list l → IsLine l → connection_count c ≡ length given → Fits l c

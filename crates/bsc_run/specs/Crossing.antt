@@ -1,5 +1,5 @@
--- What crosses a cable while a line runs: octets go from their speaker to those who hear them, and
--- other octets may be read than were written (own).
+-- Octets cross a cable from their speaker to the stations that hear it. The octets that are read
+-- may differ from those that were written.
 use Rattle.std.specs.Prelude.{◌≡◌, ◌<◌, ℕ, List, [], ◌∷◌, ◌++◌, length, Option, None, Some}
 use Rattle.std.specs.List.{AllZip}
 use Rattle.bsc_carrier.specs.Record.{IsCarried}
@@ -7,52 +7,53 @@ use Rattle.bsc_carrier.specs.Cable.{CableValue, Takes, Gives, ChangesAt}
 use Rattle.bsc_line_model.specs.declared.transmission.Speaker.{Speaker}
 use Rattle.bsc_line_model.specs.declared.transmission.Speaker.TheVariants.{Control, Terminal}
 
--- how many connections a cable has
+-- The number of connections of a cable.
 abbrev pub connection_count : {S : Type 0} → CableValue S → ℕ
 connection_count c = length c.terminal_ends
 
--- there is a connection for who speaks
+-- The cable has a connection for the speaker.
 abbrev pub HasConnection : {S : Type 0} → Speaker → CableValue S → Type 0
 HasConnection Control c = Unit {0}
 HasConnection (Terminal t) c = t < connection_count c
 
--- of the streams of a cable: what was written to one, and what one has left to give
+-- For the streams of a cable, `contents` is what was written to a stream, and `remaining` is what
+-- is left to read from it.
 module _ {S : Type 0} (contents remaining : S → Option (List ℕ)) where
-  -- every connection took these octets at the control station's end, as one record, and gave those
-  -- that are heard at the terminal's end, as one record
+  -- Every connection took these octets at the control station's end, as one record, and gave the
+  -- heard octets at the terminal's end, as one record.
   pub record CrossesDown (sent heard : List ℕ) (old new : CableValue S) : Type 0 where
     pub written : AllZip (Takes contents sent) old.control_ends new.control_ends
     pub read : AllZip (Gives remaining heard) old.terminal_ends new.terminal_ends
 
-  -- only the connection of terminal t carried octets, from the terminal to the control station
+  -- Only the connection of terminal t carried octets, from the terminal to the control station.
   pub record CrossesUp (t : ℕ) (sent heard : List ℕ) (old new : CableValue S) : Type 0 where
     pub written : ChangesAt t (Takes contents sent) old.terminal_ends new.terminal_ends
     pub read : ChangesAt t (Gives remaining heard) old.control_ends new.control_ends
 
-  -- only the connection of terminal t carried octets, from the control station to the terminal
+  -- Only the connection of terminal t carried octets, from the control station to the terminal.
   pub record CrossesTo (t : ℕ) (sent heard : List ℕ) (old new : CableValue S) : Type 0 where
     pub written : ChangesAt t (Takes contents sent) old.control_ends new.control_ends
     pub read : ChangesAt t (Gives remaining heard) old.terminal_ends new.terminal_ends
 
-  -- octets cross from the station that speaks to those that hear it
+  -- Octets cross from the speaker to the stations that hear it.
   abbrev pub CrossesFrom : Speaker → List ℕ → List ℕ → CableValue S → CableValue S → Type 0
   CrossesFrom Control sent heard old new = CrossesDown sent heard old new
   CrossesFrom (Terminal t) sent heard old new = CrossesUp t sent heard old new
 
-  -- octets cross, and what is heard is 1 to 2,048 octets
+  -- Octets cross, and 1 to 2,048 octets are heard.
   pub record Crosses (speaker : Speaker) (sent heard : List ℕ) (old new : CableValue S)
       : Type 0 where
     pub carried : IsCarried heard
     pub crossed : CrossesFrom speaker sent heard old new
 
-  -- the item of terminal t crosses; where it is none, nothing does
+  -- The item of terminal t crosses. For an empty item nothing crosses.
   abbrev pub ItemCrosses :
       ℕ → Option (List ℕ) → Option (List ℕ) → CableValue S → CableValue S → Type 0
   ItemCrosses t None None old new = new ≡ old
   ItemCrosses t (Some sent) (Some heard) old new = IsCarried heard × CrossesTo t sent heard old new
   ItemCrosses t _ _ old new = ⊥
 
-  -- the items cross one after the other, each by the connection of its number
+  -- The items cross one after another, each over the connection with its number.
   pub data ItemsCross : List (Option (List ℕ)) → List (Option (List ℕ)) → CableValue S →
       CableValue S → Type 0 where
     none : {c : CableValue S} → ItemsCross [] [] c c

@@ -1,4 +1,4 @@
--- When each terminal may be given something to hear (own).
+-- The conditions for giving each terminal its own item to hear.
 use Rattle.std.specs.Prelude.{◌≡◌, ◌≢◌, ℕ, None}
 use Rattle.bsc_line_model.specs.declared.error.LineError.{LineError}
 use Rattle.bsc_line_model.specs.declared.error.LineError.TheVariants.{NothingSent, NotControl}
@@ -6,12 +6,12 @@ use Rattle.bsc_line_model.specs.declared.error.LineError.TheVariants.{WrongCount
 use Rattle.bsc_line_model.specs.Line.{LineValue, terminal_count}
 use Rattle.bsc_line_model.specs.Runs.{IsFromTerminal, IsFromControl}
 
--- the control station's transmission is pending, and this many items are one for each terminal
+-- A transmission of the control station is pending, and there is one item for each terminal.
 pub record WasSent (l : LineValue) (count : ℕ) : Type 0 where
   pub control : IsFromControl l
   pub one_each : count ≡ terminal_count l
 
--- why this many items are not heard
+-- The reason why this number of items is refused.
 abbrev pub IsRefusedEach : LineValue → ℕ → LineError → Type 0
 IsRefusedEach l count NothingSent = l.pending ≡ None
 IsRefusedEach l count NotControl = IsFromTerminal l

@@ -1,4 +1,4 @@
--- A run of a script is a run of the line (own).
+-- A run of a script is a run of the line.
 use Rattle.std.specs.Prelude.{◌≡◌, ℕ, List, Result, Ok, Err}
 use Rattle.bsc_line_model.specs.declared.error.Stopped.{Stopped}
 use Rattle.bsc_line_model.specs.declared.event.Event.{Event}
@@ -7,13 +7,13 @@ use Rattle.bsc_line_model.specs.Runs.{RunsFrom}
 use Rattle.bsc_run.specs.declared.error.RunError.{RunError}
 use Rattle.bsc_run.specs.declared.error.RunError.TheVariants.{Refused}
 
--- both came to the end, or both stopped at an event that is refused for the same reason
+-- Both runs reached the end, or both stopped at an event that was refused for the same reason.
 abbrev pub EndsAlike : Result (Unit {0}) RunError → Result (Unit {0}) Stopped → Type 0
 EndsAlike (Ok done) (Ok d) = Unit {0}
 EndsAlike (Err (Refused line why)) (Err stopped) = stopped.why ≡ why
 EndsAlike _ _ = ⊥
 
--- the line went from old to new by a run of some events of it, which ended alike
+-- The line went from old to new by a run of some events of the line, with the same ending.
 pub record RunsLineFrom (at : ℕ) (old : LineValue) (result : Result (Unit {0}) RunError)
     (new : LineValue) : Type 0 where
   pub events : List Event

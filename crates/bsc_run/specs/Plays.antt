@@ -1,4 +1,4 @@
--- What a run of a script does and prints (own).
+-- The effect of a run of a script, and the text that it prints.
 use Rattle.std.specs.Prelude.{⊤, ◌≡◌, ◌⊎◌, ℕ, List, [], ◌∷◌, ◌++◌, Option, Result, Ok, Err, OnOk}
 use Rattle.std.specs.Io.KnownBytes.{Appends}
 use Rattle.bsc_carrier.specs.Cable.{CableValue}
@@ -12,7 +12,7 @@ use Rattle.bsc_run.specs.Printed.{report_of}
 use Rattle.bsc_run.specs.Speaking.{Fits}
 use Rattle.bsc_run.specs.Steps.{Accepts, Refuses, trace_after}
 
--- the event is the first that is refused: nothing goes over the cable and nothing is printed
+-- The event is the first that is refused: nothing crosses the cable and nothing is printed.
 pub record Stops {S : Type 0} (step : NumberedEvent) (old : LineValue) (before : CableValue S)
     (result : Result (Unit {0}) RunError) (new : LineValue) (after : CableValue S) (text : List ℕ)
     : Type 0 where
@@ -22,10 +22,11 @@ pub record Stops {S : Type 0} (step : NumberedEvent) (old : LineValue) (before :
   pub untouched : after ≡ before
   pub nothing : text ≡ []
 
--- of the streams of a cable: what was written to one, and what one has left to give
+-- For the streams of a cable, `contents` is what was written to a stream, and `remaining` is what
+-- is left to read from it.
 module _ {S : Type 0} (contents remaining : S → Option (List ℕ)) where
-  -- the event is accepted, and a run of the rest goes on from its line and its cable, and prints
-  -- what is left of the text
+  -- The event is accepted. The run of the remaining events continues with the line and the cable
+  -- that it leaves, and prints the rest of the text.
   pub record GoesOn (step : NumberedEvent) (old : LineValue) (before : CableValue S) (text : List ℕ)
       (Rest : LineValue → CableValue S → List ℕ → Type 0) : Type 0 where
     pub mid : LineValue
@@ -36,7 +37,7 @@ module _ {S : Type 0} (contents remaining : S → Option (List ℕ)) where
     pub printed : text ≡ trace_after step.event mid ++ rest
     pub goes : Rest mid between rest
 
-  -- the events are done in order, up to the first that is refused, and this text is printed
+  -- The events are performed in order, up to the first that is refused, and this text is printed.
   abbrev pub Plays : List NumberedEvent → LineValue → CableValue S → Result (Unit {0}) RunError →
       LineValue → CableValue S → List ℕ → Type 0
   Plays [] old before (Ok done) new after text = (new ≡ old) × (after ≡ before) × (text ≡ [])
@@ -46,7 +47,7 @@ module _ {S : Type 0} (contents remaining : S → Option (List ℕ)) where
       ⊎ GoesOn step old before text
       (λ mid between rest. Plays steps mid between result new after rest)
 
-  -- one event of a script is done or refused, and what is printed for it was written
+  -- One event of a script is performed or refused, and the text for it is written.
   pub record TakesStep (step : NumberedEvent) (old : LineValue) (before : CableValue S)
       (result : Result (Unit {0}) RunError) (new : LineValue) (after : CableValue S)
       (held holds : Option (List ℕ)) : Type 0 where
@@ -57,7 +58,7 @@ module _ {S : Type 0} (contents remaining : S → Option (List ℕ)) where
         → (line ≡ step.line) × Refuses step.event why old new × (after ≡ before)
         × Appends held holds []
 
-  -- what was written is what a run of the events prints
+  -- The text that a run of the events prints was written.
   pub record Played (steps : List NumberedEvent) (old : LineValue) (before : CableValue S)
       (result : Result (Unit {0}) RunError) (new : LineValue) (after : CableValue S)
       (held holds : Option (List ℕ)) : Type 0 where
@@ -65,8 +66,7 @@ module _ {S : Type 0} (contents remaining : S → Option (List ℕ)) where
     pub plays : Plays steps old before result new after text
     pub written : Appends held holds text
 
-  -- what was written is what a run of the events prints, and then the report of the line that it
-  -- leaves
+  -- The text that a run of the events prints was written, and then the report of the line after it.
   pub record Runs (steps : List NumberedEvent) (old : LineValue) (before : CableValue S)
       (result : Result (Unit {0}) RunError) (new : LineValue) (after : CableValue S)
       (held holds : Option (List ℕ)) : Type 0 where
@@ -74,7 +74,7 @@ module _ {S : Type 0} (contents remaining : S → Option (List ℕ)) where
     pub plays : Plays steps old before result new after text
     pub written : Appends held holds (text ++ report_of new)
 
--- a run that no fault broke off: it came to the end of the script, or to a refused event
+-- P holds of a run that no fault interrupted: it reached the end of the script, or a refused event.
 abbrev pub WhereWhole : Result (Unit {0}) RunError → Type 0 → Type 0
 WhereWhole (Ok done) P = P
 WhereWhole (Err (Refused line why)) P = P

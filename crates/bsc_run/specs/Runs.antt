@@ -1,4 +1,4 @@
--- What a run of a script on the line of a configuration does and prints (own).
+-- The effect of a run of a script on the line of a configuration, and the text that it prints.
 use Rattle.std.specs.Prelude.{ℕ, List, Option, Result}
 use Rattle.bsc_carrier.specs.Cable.{CableValue}
 use Rattle.bsc_line_model.specs.Line.{LineValue}
@@ -8,7 +8,7 @@ use Rattle.bsc_script.specs.Actions.{NumberedEvent}
 use Rattle.bsc_run.specs.declared.error.RunError.{RunError}
 use Rattle.bsc_run.specs.Plays.{Runs}
 
--- the events are run on a new line of the configuration
+-- The events are run on a new line with the configuration.
 pub record RunsScript {S : Type 0} (contents remaining : S → Option (List ℕ)) (config : ConfigValue)
     (steps : List NumberedEvent) (before : CableValue S) (result : Result (Unit {0}) RunError)
     (after : CableValue S) (held holds : Option (List ℕ)) : Type 0 where

@@ -1,4 +1,4 @@
-//! What each event of a script does to the line and the cable.
+//! The effect of each event of a script on the line and the cable.
 
 ghost use Rattle.std.specs.Prelude.{◌≡◌, ◌≢◌, ℕ, length, map, option_map, None, Some, Ok, Err};
 ghost use Rattle.std.specs.Prelude.{OnOk, IfErr};
@@ -27,7 +27,7 @@ use bsc_script::{Action, Transmission};
 use std::alloc::Allocator;
 use std::io::{Read, Write};
 
-/// Does what a line of the script asks for. Nothing goes over the cable where it is refused.
+/// Performs an event of the script. A refused event sends nothing over the cable.
 pub(crate) fn act<
     S: Read + Write + Drop,
     A: Allocator,
@@ -63,7 +63,7 @@ pub(crate) fn act<
     }
 }
 
-/// The answer of a line, as that of a step.
+/// Converts the answer of a line to that of a step.
 fn tell(answer: Result<(), LineError>) -> Result<(), StepError>
     ensures { result ≡ told answer }
 {
@@ -73,7 +73,7 @@ fn tell(answer: Result<(), LineError>) -> Result<(), StepError>
     }
 }
 
-/// What is pending goes over the cable, and is heard as the octets that were read.
+/// Sends the pending transmission over the cable; the octets that are read there are heard.
 fn carry_pending<S: Read + Write + Drop, A: Allocator, B: Allocator>(
     line: &mut Line<B>,
     cable: &mut Cable<S, A>,
@@ -87,8 +87,8 @@ fn carry_pending<S: Read + Write + Drop, A: Allocator, B: Allocator>(
     Ok(())
 }
 
-/// These octets go over the cable in place of what is pending, which is heard as those that were
-/// read.
+/// Sends these octets over the cable in place of the pending transmission; the octets that are read
+/// there are heard.
 fn carry_given<S: Read + Write + Drop, A: Allocator, B: Allocator, C: Allocator>(
     line: &mut Line<B>,
     octets: &Transmission<C>,
@@ -104,7 +104,7 @@ fn carry_given<S: Read + Write + Drop, A: Allocator, B: Allocator, C: Allocator>
     Ok(())
 }
 
-/// What is pending goes over the cable: the octets that were read.
+/// Sends the pending transmission over the cable, and stores the octets that are read in `read`.
 fn send_pending<S: Read + Write + Drop, A: Allocator, B: Allocator>(
     line: &Line<B>,
     cable: &mut Cable<S, A>,
@@ -124,7 +124,8 @@ fn send_pending<S: Read + Write + Drop, A: Allocator, B: Allocator>(
     }
 }
 
-/// These octets go over the cable in place of what is pending: the octets that were read.
+/// Sends these octets over the cable in place of the pending transmission, and stores the octets
+/// that are read in `read`.
 fn send_given<S: Read + Write + Drop, A: Allocator, B: Allocator>(
     line: &Line<B>,
     octets: &[u8],
@@ -145,7 +146,7 @@ fn send_given<S: Read + Write + Drop, A: Allocator, B: Allocator>(
     }
 }
 
-/// What is pending is heard as these octets.
+/// Lets the pending transmission be heard as these octets.
 fn hear<B: Allocator>(line: &mut Line<B>, octets: &[u8])
     requires { line.old.pending ≢ None }
     ensures does { Does (event.Carry (Some octets.entry)) line.old (Ok tt) line.new }
@@ -154,8 +155,8 @@ fn hear<B: Allocator>(line: &mut Line<B>, octets: &[u8])
     line.carry(Some(octets)).unwrap();
 }
 
-/// Each item goes over the connection of its number, and each terminal hears the octets that its
-/// end read.
+/// Sends each item over the connection with its number; each terminal hears the octets that are
+/// read at its end.
 fn carry_items<
     S: Read + Write + Drop,
     A: Allocator,
@@ -179,7 +180,8 @@ fn carry_items<
     Ok(())
 }
 
-/// Whether the control station is sending, and this many items are one for each terminal.
+/// Checks that a transmission of the control station is pending, and that there is one item for
+/// each terminal.
 fn check_items<B: Allocator>(line: &Line<B>, count: usize) -> Result<(), LineError>
     ensures right { OnOk result (WasSent line.now count) }
     ensures wrong { IfErr result (λ why. IsRefusedEach line.now count why) }
@@ -197,7 +199,7 @@ fn check_items<B: Allocator>(line: &Line<B>, count: usize) -> Result<(), LineErr
     }
 }
 
-/// Each terminal hears its word.
+/// Lets each terminal hear its word.
 fn hear_each<B: Allocator>(line: &mut Line<B>, words: &[Option<&[u8]>])
     requires { WasSent line.old (length words.now) }
     ensures does { Does (event.CarryEach words.entry) line.old (Ok tt) line.new }

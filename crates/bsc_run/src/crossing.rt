@@ -1,4 +1,4 @@
-//! What crosses the cable.
+//! Transfers octets over the cable.
 
 ghost use Rattle.std.specs.Prelude.{◌≡◌, ◌≤◌, ◌<◌, length, map, option_map, OnOk, IfOk, IfErr};
 ghost use Rattle.std.specs.Result.{result_err};
@@ -15,7 +15,8 @@ use bsc_script::Transmission;
 use std::alloc::{AllocError, Allocator};
 use std::io::{Read, Write};
 
-/// The octets go over the cable from this station to those that hear it: the octets that came.
+/// Sends octets over the cable from `speaker` to the stations that hear it, and stores the octets
+/// that arrive in `heard`.
 pub(crate) fn cross<S: Read + Write + Drop, A: Allocator>(
     cable: &mut Cable<S, A>,
     speaker: Speaker,
@@ -35,7 +36,8 @@ pub(crate) fn cross<S: Read + Write + Drop, A: Allocator>(
     }
 }
 
-/// Each item goes over the connection of its number, one after the other: what came of each.
+/// Sends each item over the connection with its number, one after another, and returns what arrived
+/// for each.
 pub(crate) fn cross_each<S: Read + Write + Drop, A: Allocator, B: Allocator, C: Allocator>(
     alloc: C,
     cable: &mut Cable<S, A>,
@@ -55,7 +57,7 @@ pub(crate) fn cross_each<S: Read + Write + Drop, A: Allocator, B: Allocator, C: 
     Ok(heard)
 }
 
-/// An item goes over the connection of this number: what came of it.
+/// Sends an item over the connection with this number, and returns what arrived.
 fn cross_item<S: Read + Write + Drop, A: Allocator, B: Allocator>(
     cable: &mut Cable<S, A>,
     terminal: usize,
@@ -76,7 +78,7 @@ fn cross_item<S: Read + Write + Drop, A: Allocator, B: Allocator>(
     }
 }
 
-/// The octets of each word.
+/// Returns the octets of each word as a slice.
 pub(crate) fn slices<'a, C: Allocator>(
     alloc: C,
     words: &'a [Option<Octets>],
@@ -91,7 +93,7 @@ pub(crate) fn slices<'a, C: Allocator>(
     Ok(slices)
 }
 
-/// The octets of a word.
+/// Returns the octets of a word as a slice.
 fn slice_of(word: &Option<Octets>) -> Option<&[u8]>
     ensures { octets_in result ≡ option_map (λ w. w.items) word.now }
 {

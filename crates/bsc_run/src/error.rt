@@ -1,4 +1,4 @@
-//! Why a run of a script did not do all of it.
+//! The reasons why a run of a script ends early.
 
 ghost use Rattle.std.specs.Prelude.{◌≡◌};
 ghost use Rattle.bsc_run.specs.Faults.{fault_at, print_fault};
@@ -9,23 +9,23 @@ use bsc_print::PrintError;
 use std::alloc::{AllocError, AllocFailed};
 use thiserror::Error;
 
-/// Why a run of a script did not do all of it. Lines of the script are counted from 1.
+/// The reason why a run of a script ended early. Lines of the script are counted from 1.
 #[derive(Clone, Copy, Debug, PartialEq, Eq, Error)]
 pub enum RunError {
-    /// The writer did not take what was printed. There is no report.
+    /// The writer did not accept the output. There is no report.
     #[error("output fault")]
     Output,
 
-    /// The cable did not carry the octets of the event of this line. There is no report.
+    /// The cable did not carry the octets for the event on this line. There is no report.
     #[error("script line {line}: socket fault")]
     Socket { line: u64 },
 
-    /// A growth was refused that was not that of an offer. There is no report.
+    /// An allocation failed that was not for an offered record. There is no report.
     #[error("out of memory")]
     Memory,
 
-    /// The event of this line is refused by the line. It changed nothing, those before it are done,
-    /// and the report is printed.
+    /// The line refused the event on this line of the script. The event changed nothing, the events
+    /// before it are done, and the report is printed.
     #[error("script line {line}: refused: {why}")]
     Refused { line: u64, why: LineError },
 }
@@ -43,24 +43,24 @@ impl From<PrintError> for RunError {
     }
 }
 
-/// Why a step was not taken.
+/// The reason why a step failed.
 #[derive(Clone, Copy)]
 pub(crate) enum StepError {
-    /// The writer did not take what was printed.
+    /// The writer did not accept the output.
     Output,
 
     /// The cable did not carry the octets.
     Socket,
 
-    /// A growth was refused that was not that of an offer.
+    /// An allocation failed that was not for an offered record.
     Memory,
 
-    /// The line refuses the event.
+    /// The line refused the event.
     Refused(LineError),
 }
 
 impl StepError {
-    /// The error of the step of this line of the script.
+    /// Returns the error for the step on this line of the script.
     pub(crate) fn at(self, line: u64) -> RunError
         ensures { result ≡ fault_at line self }
     {

@@ -1,6 +1,9 @@
-//! A run of a script on a line, over a cable: each transmission goes over the cable and is heard as
-//! it was read there. What is pending is printed after each event that is heard or was to be heard,
-//! and a report of the line at the end.
+//! Runs a script on a line, over a cable. Each transmission crosses the cable and is heard as it
+//! was read there. The pending transmission is printed after each event of hearing, and a report of
+//! the line is printed at the end.
+//!
+//! The transmissions are those of GA27-3004. The events, the trace and the report are this
+//! project's own.
 #![tactic(auto)]
 
 mod actions;

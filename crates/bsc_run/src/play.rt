@@ -1,4 +1,4 @@
-//! The events of a script in their order, what is printed after each, and the report.
+//! Runs the events of a script in order, prints the trace after each, and prints the report.
 
 ghost use Rattle.std.specs.Prelude.{◌≡◌, map, OnOk};
 ghost use Rattle.std.specs.Io.KnownBytes.{Appends};
@@ -19,10 +19,11 @@ use bsc_script::{Action, Step};
 use std::alloc::Allocator;
 use std::io::{Read, Write};
 
-/// Runs the events of a script on a line, over a cable with a connection for each terminal, in
-/// their order and up to the first that is refused. What is pending is printed after each event
-/// that is heard or was to be heard, and the report at the end, also where an event is refused.
-/// After `Output`, `Socket` and `Memory` there is no report, and what was written before stays.
+/// Runs the events of a script on a line in order, up to the first that is refused, over a cable
+/// with a connection for each terminal. Prints the pending transmission after each event of hearing
+/// (`carry`, `lose`, `heard`, `heard-each` and `silence`), and the report at the end, also if an
+/// event is refused. After `Output`, `Socket` and `Memory` there is no report, and what was written
+/// before stays.
 pub fn run_on<
     S: Read + Write + Drop,
     A: Allocator,
@@ -41,8 +42,8 @@ pub fn run_on<
     ensures does { WhereWhole result (Runs S.contents S.remaining (map numbered steps.now)
         line.old cable.old result line.new cable.new (W.contents out.old) (W.contents out.new)) }
 
-    // The line went through a run of its own events, so that what is promised of every run of a
-    // line holds of it.
+    // The line went through a run of its own events, so the laws of every run of a line apply to
+    // it.
     ensures line { WhereWhole result (RunsLine line.old result line.new) }
 {
     match play(alloc, line, steps, cable, out) {
@@ -55,8 +56,7 @@ pub fn run_on<
     }
 }
 
-/// Does the events in their order, up to the first that is refused, and prints what is pending
-/// after them.
+/// Performs the events in order, up to the first that is refused, and prints the trace.
 fn play<
     S: Read + Write + Drop,
     A: Allocator,
@@ -83,7 +83,7 @@ fn play<
     Ok(())
 }
 
-/// Does one event, and prints what is then pending where something was heard or was to be heard.
+/// Performs one event, and prints the pending transmission if it is an event of hearing.
 fn take<
     S: Read + Write + Drop,
     A: Allocator,
@@ -108,7 +108,7 @@ fn take<
     }
 }
 
-/// Writes what is pending after this action, where something was heard or was to be heard.
+/// Writes the pending transmission if this action is an event of hearing.
 fn write_trace<B: Allocator, C: Allocator, E: Allocator + Copy, W: Write>(
     alloc: E,
     action: &Action<'_, C>,
@@ -124,7 +124,7 @@ fn write_trace<B: Allocator, C: Allocator, E: Allocator + Copy, W: Write>(
     Ok(())
 }
 
-/// Whether something is heard, or was to be heard.
+/// Whether the action is an event of hearing: `carry`, `lose`, `heard`, `heard-each` or `silence`.
 fn is_heard<C: Allocator>(action: &Action<'_, C>) -> bool
     ensures { result ≡ is_heard_event (event_in action.now) }
 {

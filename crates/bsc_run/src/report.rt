@@ -1,5 +1,5 @@
-//! The report of a line: what each channel offered, known and spooled, the records that arrived,
-//! and whether the line is trusted.
+//! The report of a line: the records offered, known and spooled on each channel, the records that
+//! arrived, and whether the line is trusted.
 
 ghost use Rattle.std.specs.Prelude.{◌≡◌, ◌<◌, OnOk};
 ghost use Rattle.std.specs.Io.KnownBytes.{Appends};
@@ -15,9 +15,9 @@ use bsc_report::{doubt_text, put, write_channel_name, write_records};
 use std::alloc::Allocator;
 use std::io::Write;
 
-/// Writes the report of a line: for each terminal what its channels have and the records that
-/// arrived on them, and whether the line is trusted. After an error a part of it may have been
-/// written. (Own.)
+/// Writes the report of a line: the counts of each channel of each terminal with the records that
+/// arrived on it, and whether the line is trusted. After an error a part of the report may have
+/// been written.
 pub fn write_report<A: Allocator + Copy, B: Allocator, W: Write>(
     alloc: A,
     line: &Line<B>,
@@ -32,7 +32,7 @@ pub fn write_report<A: Allocator + Copy, B: Allocator, W: Write>(
     put(trust_text(line.trusted()), out)
 }
 
-/// The last line.
+/// Returns the last line of the report.
 fn trust_text(trusted: bool) -> &'static [u8]
     ensures { result.now ≡ trust_line trusted }
 {
@@ -43,7 +43,7 @@ fn trust_text(trusted: bool) -> &'static [u8]
     }
 }
 
-/// Writes the lines of a terminal.
+/// Writes the lines for a terminal.
 fn write_terminal<A: Allocator + Copy, B: Allocator, W: Write>(
     alloc: A,
     line: &Line<B>,
@@ -61,7 +61,7 @@ fn write_terminal<A: Allocator + Copy, B: Allocator, W: Write>(
     Ok(())
 }
 
-/// Writes the lines of a channel.
+/// Writes the lines for a channel.
 fn write_channel<A: Allocator + Copy, B: Allocator, W: Write>(
     alloc: A,
     line: &Line<B>,
@@ -79,7 +79,7 @@ fn write_channel<A: Allocator + Copy, B: Allocator, W: Write>(
     write_records(alloc, line.spooled(terminal, way), out)
 }
 
-/// Writes how many records a channel has offered, known and spooled.
+/// Writes the numbers of records offered, known and spooled on a channel.
 fn write_counts<B: Allocator, W: Write>(
     line: &Line<B>,
     terminal: usize,

@@ -1,4 +1,4 @@
-//! A run of a script on the line of a configuration.
+//! Runs a script on the line of a configuration.
 
 ghost use Rattle.std.specs.Prelude.{◌≡◌, length};
 ghost use Rattle.bsc_run.specs.Crossing.{connection_count};
@@ -14,19 +14,18 @@ use bsc_script::Script;
 use std::alloc::Allocator;
 use std::io::{Read, Write};
 
-/// Runs a script on a new line of this configuration, over a cable with a connection for each
+/// Runs a script on a new line with this configuration, over a cable with a connection for each
 /// terminal.
 ///
-/// The events are done in order, up to the first that the line refuses. Each transmission that is
-/// carried goes over the cable as one record, and is heard as the octets that were read there.
-/// After each event that is heard or was to be heard (`carry`, `lose`, `heard`, `heard-each`,
-/// `silence`) a line is printed: who speaks and the name of what is now pending, or that nothing
-/// is. After the last event, or the first refused one, the report of the line is printed. (All
-/// own.)
+/// The events are performed in order, up to the first that the line refuses. Each transmission that
+/// is carried crosses the cable as one record, and is heard as the octets that were read there.
+/// After each event of hearing (`carry`, `lose`, `heard`, `heard-each`, `silence`) one line is
+/// printed: the sender and the name of the pending transmission, or that none is pending. After the
+/// last event, or the first that is refused, the report of the line is printed.
 ///
-/// `Refused` comes after the report, with the number of the line of the refused event: nothing went
-/// over the cable for it. After `Output`, `Socket` and `Memory` there is no report, and what was
-/// printed before stays; after `Socket` the cable stays at fault.
+/// `Refused` is returned after the report is printed, with the number of the line of the refused
+/// event; nothing crossed the cable for that event. After `Output`, `Socket` and `Memory` there is
+/// no report, and what was printed before stays. After `Socket` the cable remains faulty.
 pub fn run_line<S: Read + Write + Drop, A: Allocator, C: Allocator, E: Allocator + Copy, W: Write>(
     alloc: E,
     config: &Config,
@@ -41,7 +40,7 @@ pub fn run_line<S: Read + Write + Drop, A: Allocator, C: Allocator, E: Allocator
     let (terminals, poll_list) = (config.terminal_list(), config.poll_list());
     match Line::new(alloc, config.setup(), terminals, poll_list) {
         Ok(mut line) => run_on(alloc, &mut line, script.steps(), cable, out),
-        // A line can be made of every configuration, where there is memory.
+        // A line can be made of every configuration, if there is enough memory.
         Err(_) => Err(RunError::Memory),
     }
 }

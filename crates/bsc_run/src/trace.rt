@@ -1,4 +1,4 @@
-//! The line that is printed for what is pending.
+//! The line of the trace for the pending transmission.
 
 ghost use Rattle.std.specs.Prelude.{◌≡◌, ◌++◌, codes, OnOk};
 ghost use Rattle.std.specs.Io.KnownBytes.{Appends};
@@ -14,7 +14,7 @@ use bsc_report::put;
 use std::alloc::Allocator;
 use std::io::Write;
 
-/// Writes who sent what is pending.
+/// Writes the sender of a transmission.
 fn write_speaker<W: Write>(speaker: Speaker, out: &mut W) -> Result<(), PrintError>
     ensures { OnOk result
         (Appends (W.contents out.old) (W.contents out.new) (speaker_name speaker)) }
@@ -28,7 +28,7 @@ fn write_speaker<W: Write>(speaker: Speaker, out: &mut W) -> Result<(), PrintErr
     }
 }
 
-/// Writes the line for octets that this station sent.
+/// Writes the line of the trace for octets that this station sent.
 fn write_sent<A: Allocator + Copy, W: Write>(
     alloc: A,
     speaker: Speaker,
@@ -44,7 +44,7 @@ fn write_sent<A: Allocator + Copy, W: Write>(
     write_shown(alloc, Detail::Name, &decode(octets), out)
 }
 
-/// Writes the line for what is pending.
+/// Writes the line of the trace for the pending transmission, or that none is pending.
 pub(crate) fn write_pending<A: Allocator + Copy, B: Allocator, W: Write>(
     alloc: A,
     line: &Line<B>,

@@ -1,9 +1,9 @@
--- The texts of a run, which are read one after the other.
+-- The texts of a run, which are read one after another.
 use Rattle.std.proofs.Common.{◌≡◌, ◌≢◌, ℕ, List, Option, subst}
 use Rattle.std.specs.Prelude.{IfSome, codes}
 use Rattle.bsc_input.specs.Texts.{IsTextAt}
 
--- where only one of the two is standard input, what was read before the script leaves its text
+-- if only one of the two is standard input, reading the first leaves the text of the second
 pub script_is : {R : Type 0} (remaining : R → Option (List ℕ)) (config script : List ℕ)
     (before after : R) (text : List ℕ) → (script ≡ codes "-" → config ≢ codes "-")
     → (config ≢ codes "-" → after ≡ before)

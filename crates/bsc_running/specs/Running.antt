@@ -1,4 +1,4 @@
--- What a run of a script does and prints, and what one that is only checked does. All of it is own.
+-- The effect and the output of a run of a script, and of a run that only checks its texts.
 use Rattle.std.specs.Prelude.{◌≡◌, ℕ, List, Bool, true, false, length, Option, Ok}
 use Rattle.std.specs.Io.KnownBytes.{Keeps}
 use Rattle.bsc_input.specs.Texts.{IsTextAt}
@@ -10,7 +10,7 @@ use Rattle.bsc_script.specs.Script.{events_of}
 use Rattle.bsc_run.specs.Crossing.{connection_count}
 use Rattle.bsc_run.specs.Runs.{RunsScript}
 
--- The texts at two paths are a configuration and a script, and say these.
+-- The texts at the two paths are a configuration and a script with these contents.
 pub record AreRead (config_path script_path : List ℕ) (input : Option (List ℕ))
     (config : ConfigValue) (steps : List NumberedEvent) : Type 0 where
   pub config_text : List ℕ
@@ -20,7 +20,7 @@ pub record AreRead (config_path script_path : List ℕ) (input : Option (List �
   pub says : Says config_text config
   pub events : events_of script_text ≡ Ok steps
 
--- Both were read, and nothing was printed.
+-- Both texts were read, and nothing was printed.
 pub record IsChecked (config_path script_path : List ℕ) (input held holds : Option (List ℕ))
     : Type 0 where
   pub config : ConfigValue
@@ -28,10 +28,12 @@ pub record IsChecked (config_path script_path : List ℕ) (input held holds : Op
   pub read : AreRead config_path script_path input config steps
   pub nothing : Keeps held holds
 
--- Of the streams of a cable: what was written to one, and what one has left to give.
+-- For the streams of a cable, `contents` is what was written to a stream, and `remaining` is what
+-- is left to read from it.
 module _ {S : Type 0} (contents remaining : S → Option (List ℕ)) where
-  -- All events were run on a new line of the configuration, over a cable with a connection for each
-  -- terminal. A writer that held the one holds the other: what the run prints was appended.
+  -- All events were run on a new line with the configuration, over a cable with a connection for
+  -- each terminal. The output of the run was appended: the contents of the writer went from `held`
+  -- to `holds`.
   pub record RunsOnCable (config : ConfigValue) (steps : List NumberedEvent)
       (held holds : Option (List ℕ)) : Type 0 where
     pub before : CableValue S
@@ -39,7 +41,7 @@ module _ {S : Type 0} (contents remaining : S → Option (List ℕ)) where
     pub connections : connection_count before ≡ length config.terminals
     pub runs : RunsScript contents remaining config steps before (Ok tt) after held holds
 
-  -- Both were read, and all events were run.
+  -- Both texts were read, and all events were run.
   pub record HasRun (config_path script_path : List ℕ) (input held holds : Option (List ℕ))
       : Type 0 where
     pub config : ConfigValue
@@ -47,7 +49,7 @@ module _ {S : Type 0} (contents remaining : S → Option (List ℕ)) where
     pub read : AreRead config_path script_path input config steps
     pub ran : RunsOnCable config steps held holds
 
-  -- The run was done to its end, or only checked.
+  -- The run reached its end, or only checked its texts.
   abbrev pub IsRunDone : Bool → List ℕ → List ℕ → Option (List ℕ) → Option (List ℕ)
       → Option (List ℕ) → Type 0
   IsRunDone true config script input held holds = IsChecked config script input held holds

@@ -1,4 +1,4 @@
-//! What a run asks of the machine, beside its texts.
+//! The connections that a run needs from the machine.
 
 ghost use Rattle.std.specs.Prelude.{◌≡◌, ◌≤◌, length, IfOk};
 
@@ -7,12 +7,12 @@ use bsc_carrier::limits::MAX_CONNECTIONS;
 use bsc_loopback::LoopbackError;
 use std::io::{Read, Write};
 
-/// Connections of which this process holds both ends.
+/// Makes connections of which this process holds both ends.
 pub trait Cables {
     /// One end of a connection.
     type Stream: Read + Write + Drop;
 
-    /// A cable of this many new connections.
+    /// Returns a cable of `count` new connections.
     fn connect(&mut self, count: usize) -> Result<Cable<Self::Stream>, LoopbackError>
         requires least { 1 ≤ count }
         requires most { count ≤ MAX_CONNECTIONS }

@@ -1,4 +1,4 @@
-//! Why a run was not done to its end.
+//! The reasons why a run fails.
 ghost use Rattle.std.specs.Prelude.{◌≡◌};
 
 use bsc_config::ConfigError;
@@ -8,14 +8,14 @@ use bsc_run::RunError;
 use bsc_script::ScriptError;
 use thiserror::Error;
 
-/// Why a run was not done to its end. Out of memory is `Memory`, whatever met it.
+/// The reason why a run failed. Out of memory is always `Memory`.
 #[derive(Debug, Drop, Error)]
 pub enum RunningError {
-    /// The configuration and the script are both standard input, which has only one text.
+    /// The configuration and the script cannot both be standard input.
     #[error("CONFIG and SCRIPT cannot both be standard input")]
     BothStandardInput,
 
-    /// The text of the configuration or of the script was not read.
+    /// The text of the configuration or of the script could not be read.
     #[error("{error}")]
     Text { error: TextError },
 
@@ -23,7 +23,7 @@ pub enum RunningError {
     #[error("{error}")]
     Config { error: ConfigError },
 
-    /// The script has a line that is no event.
+    /// A line of the script is not an event.
     #[error("{error}")]
     Script { error: ScriptError },
 
@@ -31,11 +31,11 @@ pub enum RunningError {
     #[error("cannot make the sockets")]
     Sockets,
 
-    /// The run did not do all of the script.
+    /// The run ended before the end of the script.
     #[error("{error}")]
     Run { error: RunError },
 
-    /// A growth was refused.
+    /// An allocation failed.
     #[error("out of memory")]
     Memory,
 }

@@ -1,4 +1,4 @@
-//! A run of a line: its texts are read, then what they say is checked, and then the events are run.
+//! Runs a line: reads the texts, checks them, and then runs the events.
 
 ghost use Rattle.std.specs.Prelude.{◌≡◌, ◌≢◌, Err, IfErr, IsTrue, OnOk, codes, false};
 ghost use Rattle.bsc_running.specs.Errors.{IsEarly};
@@ -44,7 +44,7 @@ pub fn run<R: Read, H: Files + Cables, W: Write>(
     run_on_cable(alloc, &config, &script, machine, out)
 }
 
-/// Whether both paths stand for standard input, which has only one text.
+/// Whether both paths are standard input.
 fn are_both_standard_input(config: &str, script: &str) -> bool
     ensures { result ≡ false → script.now ≡ codes "-" → config.now ≢ codes "-" }
 {

@@ -1,4 +1,4 @@
--- Numbers of a few digits.
+-- The values of numbers with at most three digits.
 use Rattle.std.proofs.Common.{◌≡◌, ◌<◌, ◌≤◌, ◌^◌, ◌+◌, ◌==◌, ◌&&◌, ℕ, List, [], ◌∷◌, Bool, true}
 use Rattle.std.proofs.Common.{false, not, length, take, get_or, arith, refl}
 use Rattle.std.specs.Prelude.{nat_le}
@@ -29,7 +29,7 @@ all_digits (c ∷ word) e =
     let value = digit_value_digit c range in
     (omega arith, all_digits word p.1)
 
--- the digit at a place
+-- the character at each index is a digit, with its value
 pub digit_at : (most : ℕ) (word : List ℕ) (i : ℕ) → has_digits most word ≡ true → i < length word
     → (48 ≤ get_or word i 0) × (get_or word i 0 ≤ 57)
     × (digit_value (get_or word i 0) + 48 ≡ get_or word i 0)
@@ -42,7 +42,7 @@ digit_at most word i e below =
     below) in
     (range.0, range.1, digit_value_digit (get_or word i 0) range)
 
--- at most three digits are below a thousand, and so are those at their front
+-- at most three digits, and every prefix of them, are below a thousand
 pub below_thousand : (most : ℕ) (word : List ℕ) (i : ℕ) → most ≤ 3 → has_digits most word ≡ true
     → digits_value 10 (take i word) < 1000
 below_thousand most word i few e =

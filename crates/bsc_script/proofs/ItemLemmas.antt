@@ -1,4 +1,4 @@
--- The items that were read, before those of the words that are left.
+-- The items read so far, followed by those of the remaining words.
 use Rattle.std.proofs.Common.{List, ◌++◌, Option, option_map}
 use Rattle.bsc_script.specs.Transmissions.{Item}
 

@@ -1,4 +1,4 @@
--- The events that were read, before those of the lines that are left.
+-- The events read so far, followed by those of the remaining lines.
 use Rattle.std.proofs.Common.{◌≡◌, ◌+◌, ℕ, map, List, [], ◌∷◌, ◌++◌, Some, Ok, Err, true, false}
 use Rattle.std.proofs.Common.{refl, ap, sym, ◌∙◌, append_assoc, append-nil}
 use Rattle.std.proofs.lemmas.List.{map-append}
@@ -37,7 +37,7 @@ take_line old new step n line more h e number event pushed =
     (events_from (n + 1) more) ∙ ap (λ done. after_these done (events_from (n + 1) more))
     (sym taken)
 
--- no line is left
+-- no line remains
 pub all_read : {all : Reading} (done : List NumberedEvent) (n : ℕ) → all
     ≡ after_these done (events_from n []) → all ≡ Ok done
 all_read done n h = h ∙ ap Ok (append-nil done)

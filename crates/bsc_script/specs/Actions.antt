@@ -1,4 +1,4 @@
--- The steps of a script as events. All of it is own.
+-- The events of the steps of a script.
 use Rattle.std.specs.Prelude.{ℕ}
 use Rattle.bsc_script.specs.Events.{Event, offer_at, offer_for, carry, lose, heard, heard_each}
 use Rattle.bsc_script.specs.Events.{silence, ready, urgent_at, urgent_for, release}
@@ -11,7 +11,7 @@ pub record NumberedEvent : Type 0 where
   pub line : ℕ
   pub event : Event
 
--- The event that an action is.
+-- The event of an action.
 abbrev pub event_in : {A : Type 0} → Action A → Event
 event_in (act.OfferAt t codes) = offer_at t codes.now
 event_in (act.OfferFor t s codes) = offer_for t s codes.now

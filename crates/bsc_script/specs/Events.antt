@@ -1,4 +1,4 @@
--- What the lines of a script ask for: the events, and the line of each. All of it is own.
+-- The events of a script, and the line that describes each.
 use Rattle.std.specs.Prelude.{ℕ, Bool, true, false, List, [], codes, Option, Some, None, option_map}
 use Rattle.std.specs.Prelude.{unwrap_or, if◌then◌else◌}
 use Rattle.std.specs.Option.{option_and_then}
@@ -14,32 +14,33 @@ use Rattle.bsc_script.specs.Numbers.{terminal_of, select_of}
 use Rattle.bsc_script.specs.Transmissions.{transmission_of, items_of}
 use Rattle.bsc_script.specs.Words.{first_word, after_word, words_of}
 
--- What happens. Terminals and selection addresses are numbers, whether the line has them or not.
+-- What happens on a line. Terminals and selection addresses are numbers, whether or not the line
+-- has them.
 pub data Event : Type 0 where
-  -- the codes of a record are offered at a terminal
+  -- a record with these codes is offered at a terminal
   offer_at : ℕ → List ℕ → Event
-  -- the codes of a record are offered for a selection address of a terminal
+  -- a record with these codes is offered for a selection address of a terminal
   offer_for : ℕ → ℕ → List ℕ → Event
-  -- what is pending is carried as it was sent
+  -- the pending transmission is heard as it was sent
   carry : Event
-  -- what is pending is lost
+  -- the pending transmission is lost
   lose : Event
-  -- what is pending is heard as these octets
+  -- the pending transmission is heard as these octets
   heard : List ℕ → Event
-  -- what the control station sent is heard by each terminal as its item
+  -- each terminal hears its item in place of what the control station sent
   heard_each : List (Option (List ℕ)) → Event
-  -- nothing is heard for the time of a time-out
+  -- a time-out passes in which nothing is heard
   silence : Event
-  -- a terminal takes selections, or it does not
+  -- a terminal starts or stops accepting selections
   ready : ℕ → Bool → Event
   -- a terminal asks the control station for the line
   urgent_at : ℕ → Event
   -- the control station asks a terminal for the line
   urgent_for : ℕ → Event
-  -- a doubt about what went this way is ended
+  -- a doubt about the records sent in this direction is released
   release : ℕ → Way → Event
 
--- The first words of lines.
+-- The keyword that a word spells.
 abbrev pub keyword_of : List ℕ → Option Keyword
 keyword_of word =
     if bytes_eq word (codes "offer-at") then Some OfferAt else
@@ -56,65 +57,65 @@ keyword_of word =
     if bytes_eq word (codes "urgent-for") then Some UrgentFor else
     if bytes_eq word (codes "release") then Some Release else None
 
--- The terminal that the first word names.
+-- The terminal with the number in the first word.
 abbrev pub first_terminal : List ℕ → Option ℕ
 first_terminal rest = terminal_of (first_word rest)
 
--- The selection address that the first word names.
+-- The selection address with the number in the first word.
 abbrev pub first_select : List ℕ → Option ℕ
 first_select rest = select_of (first_word rest)
 
--- The codes of a record that ends the line, after a word: what follows the space, or none where
--- that space is missing.
+-- The codes of a record at the end of the line: those after the space, or none if there is no
+-- space.
 abbrev pub codes_after : List ℕ → List ℕ
 codes_after rest = unwrap_or (after_word rest) []
 
--- `T RECORD`, at a terminal.
+-- `T RECORD`, a record offered at a terminal.
 abbrev pub offer_at_of : List ℕ → Option Event
 offer_at_of rest = option_map (λ t. offer_at t (codes_after rest)) (first_terminal rest)
 
--- `T RECORD`, for the first selection address of a terminal.
+-- `T RECORD`, a record for the first selection address of a terminal.
 abbrev pub offer_for_of : List ℕ → Option Event
 offer_for_of rest = option_map (λ t. offer_for t 0 (codes_after rest)) (first_terminal rest)
 
--- `S RECORD`, for a selection address of this terminal.
+-- `S RECORD`, a record for a selection address of this terminal.
 abbrev pub offer_select_of : ℕ → List ℕ → Option Event
 offer_select_of t rest = option_map (λ s. offer_for t s (codes_after rest)) (first_select rest)
 
--- `T S RECORD`, for a selection address of a terminal.
+-- `T S RECORD`, a record for a selection address of a terminal.
 abbrev pub offer_to_of : List ℕ → Option Event
 offer_to_of rest =
     option_and_then (λ t. option_and_then (offer_select_of t) (after_word rest))
     (first_terminal rest)
 
--- `to S`: the way to this selection address.
+-- `to S`: the direction to this selection address.
 abbrev pub way_to : List ℕ → Option Way
 way_to words = option_map (λ s. ToTerminal s) (option_and_then select_of (after_word words))
 
--- The ways: `from`, `to` for address 0, and `to S`.
+-- The directions: `from`, `to` for address 0, and `to S`.
 abbrev pub way_of : List ℕ → Option Way
 way_of words =
     if bytes_eq words (codes "from") then Some FromTerminal else
     if bytes_eq words (codes "to") then Some (ToTerminal 0) else
     if bytes_eq (first_word words) (codes "to") then way_to words else None
 
--- A way, after a word.
+-- A direction after a word.
 abbrev pub way_after : List ℕ → Option Way
 way_after rest = option_and_then way_of (after_word rest)
 
--- `T` and a way.
+-- `T` and a direction.
 abbrev pub release_of : List ℕ → Option Event
 release_of rest =
     option_and_then (λ t. option_map (release t) (way_after rest)) (first_terminal rest)
 
--- The events of a word that stands with nothing after it.
+-- The event of a keyword with nothing after it.
 abbrev pub event_alone : Keyword → Option Event
 event_alone Carry = Some carry
 event_alone Lose = Some lose
 event_alone Silence = Some silence
 event_alone _ = None
 
--- The events of a word with the rest of the line, which follows the space after it.
+-- The event of a keyword with the rest of the line, which follows the space.
 abbrev pub event_with : Keyword → List ℕ → Option Event
 event_with OfferAt rest = offer_at_of rest
 event_with OfferFor rest = offer_for_of rest
@@ -128,11 +129,11 @@ event_with UrgentFor rest = option_map urgent_for (terminal_of rest)
 event_with Release rest = release_of rest
 event_with _ rest = None
 
--- The event of a word, by itself or with the rest of the line.
+-- The event of a keyword, with or without the rest of the line.
 abbrev pub event_by : Option (List ℕ) → Keyword → Option Event
 event_by None keyword = event_alone keyword
 event_by (Some rest) keyword = event_with keyword rest
 
--- The event of a line: None where the line is no event.
+-- The event of a line, or none if the line is not an event.
 abbrev pub event_of : List ℕ → Option Event
 event_of line = option_and_then (event_by (after_word line)) (keyword_of (first_word line))

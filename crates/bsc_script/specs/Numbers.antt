@@ -1,16 +1,16 @@
--- Numbers in decimal digits. All of it is own.
+-- Numbers in decimal digits.
 use Rattle.std.specs.Prelude.{ℕ, ◌==◌, ◌&&◌, not, nat_le, Bool, List, length, Option, Some, None}
 use Rattle.std.specs.Prelude.{if◌then◌else◌}
 use Rattle.std.specs.List.{list_all}
 use Rattle.std.specs.Char.{is_ascii_digit}
 use Rattle.std.specs.Str.Parse.{digits_value}
 
--- At least one digit, at most this many, and nothing else.
+-- Whether the word has at least one digit, at most `most` digits, and nothing else.
 abbrev pub has_digits : ℕ → List ℕ → Bool
 has_digits most word =
     not (length word == 0) && nat_le (length word) most && list_all is_ascii_digit word
 
--- The number that they stand for.
+-- The number of at most `most` digits.
 abbrev pub number_of : ℕ → List ℕ → Option ℕ
 number_of most word = if has_digits most word then Some (digits_value 10 word) else None
 

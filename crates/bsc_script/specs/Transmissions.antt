@@ -1,4 +1,4 @@
--- Octets that are put on the line, in hexadecimal text. All of it is own.
+-- Octets that are heard on the line, in hexadecimal text.
 use Rattle.std.specs.Prelude.{ℕ, ◌&&◌, nat_le, Bool, List, [], ◌∷◌, length, codes, Option, Some}
 use Rattle.std.specs.Prelude.{None, option_map, if◌then◌else◌}
 use Rattle.std.specs.Option.{option_and_then}
@@ -6,16 +6,16 @@ use Rattle.std.specs.Str.{bytes_eq}
 use Rattle.bsc_carrier.specs.declared.limits.TheConstants.{MAX_RECORD}
 use Rattle.bsc_input.specs.Hexadecimal.{octets_of}
 
--- 1 to 2,048 octets, as many as a socket record carries.
+-- Whether there are 1 to 2,048 octets, the length of a socket record.
 abbrev pub is_carried : List ℕ → Bool
 is_carried octets = nat_le 1 (length octets) && nat_le (length octets) MAX_RECORD
 
--- These octets, where a socket record carries them.
+-- The octets, if a socket record can carry them.
 abbrev pub carried : List ℕ → Option (List ℕ)
 carried octets = if is_carried octets then Some octets else None
 
--- The octets that hexadecimal text gives, its spaces dropped. None where it is no such text, or has
--- no octet or more than 2,048.
+-- The octets of hexadecimal text without its spaces. There are none if the text is not hexadecimal,
+-- or has no octets or more than 2,048.
 abbrev pub transmission_of : List ℕ → Option (List ℕ)
 transmission_of text = option_and_then carried (octets_of text)
 
@@ -23,16 +23,16 @@ transmission_of text = option_and_then carried (octets_of text)
 abbrev pub Item : Type 0
 Item = Option (List ℕ)
 
--- The item of a word: octets, or nothing where it is a dash. None where it is neither.
+-- The item that a word spells: octets, or nothing for a dash. There is none if the word is neither.
 abbrev pub item_of : List ℕ → Option Item
 item_of word =
     if bytes_eq word (codes "-") then Some None else option_map Some (transmission_of word)
 
--- An item before others, where there are others.
+-- An item followed by others, if there are others.
 abbrev pub item_before : Option (List Item) → Item → Option (List Item)
 item_before items item = option_map (λ more. item ∷ more) items
 
--- The items of words. None where a word has none.
+-- The items of all the words, if each word is an item.
 abbrev pub items_of : List (List ℕ) → Option (List Item)
 items_of [] = Some []
 items_of (word ∷ more) = option_and_then (item_before (items_of more)) (item_of word)

@@ -1,21 +1,21 @@
-//! What the lines of a script ask for.
+//! The events of a script.
 
 use crate::Transmission;
 use bsc_directory::Way;
 use std::alloc::Allocator;
 
-/// What one line of a script asks for (own). Terminals are counted from 0, and so are the selection
-/// addresses of each. Whether the terminal and the address that are named exist, whether the record
-/// is taken and whether something is pending shows only when the event is run.
+/// The event that one line of a script describes. Terminals, and the selection addresses of each,
+/// are counted from 0. Whether the terminal and the address exist, whether the record is accepted
+/// and whether a transmission is pending is checked only when the event is run.
 #[derive(Drop)]
 pub enum Action<'a, A: Allocator> {
-    /// A record of these codes is offered at a terminal, for the control station.
+    /// A record with these codes is offered at a terminal, for the control station.
     OfferAt {
         terminal: usize,
         codes: &'a [u8],
     },
 
-    /// A record of these codes is offered at the control station, for a selection address of a
+    /// A record with these codes is offered at the control station, for a selection address of a
     /// terminal.
     OfferFor {
         terminal: usize,
@@ -23,27 +23,27 @@ pub enum Action<'a, A: Allocator> {
         codes: &'a [u8],
     },
 
-    /// What is pending is carried as it was sent.
+    /// The pending transmission is heard as it was sent.
     Carry,
 
-    /// What is pending is lost.
+    /// The pending transmission is lost.
     Lose,
 
-    /// What is pending is heard as these octets by all who hear it.
+    /// The pending transmission is heard as these octets by all its listeners.
     Heard {
         octets: Transmission<A>,
     },
 
-    /// What the control station sent is heard by each terminal as the item of its number; None is
-    /// nothing. There is at least one item.
+    /// Each terminal hears the item with its number in place of the pending transmission of the
+    /// control station; `None` means that it hears nothing. There is at least one item.
     HeardEach {
         items: Vec<Option<Transmission<A>>, A>,
     },
 
-    /// Nothing is heard for the time of a time-out.
+    /// A time-out passes in which nothing is heard.
     Silence,
 
-    /// A terminal takes selections from now on, or it does not.
+    /// A terminal starts or stops accepting selections.
     Ready {
         terminal: usize,
         ready: bool,
@@ -59,7 +59,7 @@ pub enum Action<'a, A: Allocator> {
         terminal: usize,
     },
 
-    /// A doubt about what went this way is ended.
+    /// A doubt about the records sent in this direction is released.
     Release {
         terminal: usize,
         way: Way,
@@ -72,6 +72,6 @@ pub struct Step<'a, A: Allocator> {
     /// The number of its line, counted from 1.
     pub line: u64,
 
-    /// What the line asks for.
+    /// The event.
     pub action: Action<'a, A>,
 }

@@ -2,7 +2,7 @@
 ghost use Rattle.std.specs.Prelude.{◌≡◌};
 ghost use Rattle.bsc_script.specs.Events.{keyword_of};
 
-/// The first word of a line that is an event.
+/// The first word of a line with an event.
 #[derive(Clone, Copy)]
 pub(crate) enum Keyword {
     OfferAt,
@@ -20,7 +20,7 @@ pub(crate) enum Keyword {
     Release,
 }
 
-/// The keyword that the word is; None where it is none.
+/// Returns the keyword that the word spells, or `None` if it is not a keyword.
 pub(crate) fn read_keyword(word: &[u8]) -> Option<Keyword>
     ensures { result ≡ keyword_of word.now }
 {

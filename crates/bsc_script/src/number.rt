@@ -11,7 +11,7 @@ fn are_digits(word: &[u8]) -> bool
     word.iter().all(|&octet| octet.is_ascii_digit())
 }
 
-/// Whether the word has at least one digit, at most this many, and nothing else.
+/// Whether the word has at least one digit, at most `most` digits, and nothing else.
 fn has_digits(word: &[u8], most: usize) -> bool
     ensures { result ≡ digits most word.now }
 {
@@ -21,7 +21,7 @@ fn has_digits(word: &[u8], most: usize) -> bool
     are_digits(word)
 }
 
-/// The number of at most this many digits. None where the word is none.
+/// Returns the number of at most `most` digits, or `None` if the word is not such a number.
 fn number(word: &[u8], most: usize) -> Option<usize>
     requires { most ≤ 3 }
     ensures { result ≡ number_of most word.now }
@@ -36,14 +36,14 @@ fn number(word: &[u8], most: usize) -> Option<usize>
     Some(number)
 }
 
-/// The number of a terminal: one to three digits.
+/// Returns the number of a terminal: one to three digits.
 pub(crate) fn terminal(word: &[u8]) -> Option<usize>
     ensures { result ≡ terminal_of word.now }
 {
     number(word, 3)
 }
 
-/// The number of a selection address: one digit.
+/// Returns the number of a selection address: one digit.
 pub(crate) fn select(word: &[u8]) -> Option<usize>
     ensures { result ≡ select_of word.now }
 {

@@ -1,4 +1,4 @@
-//! What one line of a script asks for.
+//! Reads one line of a script.
 ghost use Rattle.std.specs.Prelude.{◌≡◌, [], IfOk, option_map, unwrap_or, true, false};
 ghost use Rattle.bsc_script.specs.Actions.{event_in};
 ghost use Rattle.bsc_script.specs.Events as events;
@@ -17,7 +17,7 @@ use crate::{Action, Transmission};
 use bsc_directory::Way;
 use std::alloc::{AllocError, Allocator};
 
-/// What the line asks for. None where it is no event.
+/// Returns the event of the line, or `None` if the line is not an event.
 pub(crate) fn read_action<'a, A: Allocator + Copy>(
     alloc: A,
     line: &'a [u8],
@@ -31,7 +31,7 @@ pub(crate) fn read_action<'a, A: Allocator + Copy>(
     }
 }
 
-/// The action of a word, by itself or with the rest of the line.
+/// Returns the event of a keyword, with or without the rest of the line.
 fn action_by<'a, A: Allocator + Copy>(
     alloc: A,
     keyword: Keyword,
@@ -46,7 +46,7 @@ fn action_by<'a, A: Allocator + Copy>(
     }
 }
 
-/// The action of a word that stands with nothing after it.
+/// Returns the event of a keyword with nothing after it.
 fn action_alone<'a, A: Allocator>(keyword: Keyword) -> Option<Action<'a, A>>
     ensures { option_map event_in result ≡ event_alone keyword }
 {
@@ -58,7 +58,7 @@ fn action_alone<'a, A: Allocator>(keyword: Keyword) -> Option<Action<'a, A>>
     }
 }
 
-/// The action of a word with the rest of the line.
+/// Returns the event of a keyword with the rest of the line.
 fn action_with<'a, A: Allocator + Copy>(
     alloc: A,
     keyword: Keyword,
@@ -81,15 +81,15 @@ fn action_with<'a, A: Allocator + Copy>(
     }
 }
 
-/// The codes of a record that ends the line: those after the space, or none where there is no
-/// space.
+/// Returns the codes of a record at the end of the line: those after the space, or none if there is
+/// no space.
 fn codes_after(rest: Option<&[u8]>) -> &[u8]
     ensures { result.now ≡ unwrap_or (option_map (λ r. r.now) rest.entry) [] }
 {
     rest.unwrap_or(&[])
 }
 
-/// `T RECORD`, at a terminal.
+/// Reads `T RECORD`, a record offered at a terminal.
 fn offer_at<'a, A: Allocator>(rest: &'a [u8]) -> Option<Action<'a, A>>
     ensures { option_map event_in result ≡ offer_at_of rest.now }
 {
@@ -99,7 +99,7 @@ fn offer_at<'a, A: Allocator>(rest: &'a [u8]) -> Option<Action<'a, A>>
     Some(Action::OfferAt { terminal, codes })
 }
 
-/// `T RECORD`, for the first selection address of a terminal.
+/// Reads `T RECORD`, a record for the first selection address of a terminal.
 fn offer_for<'a, A: Allocator>(rest: &'a [u8]) -> Option<Action<'a, A>>
     ensures { option_map event_in result ≡ offer_for_of rest.now }
 {
@@ -113,7 +113,7 @@ fn offer_for<'a, A: Allocator>(rest: &'a [u8]) -> Option<Action<'a, A>>
     })
 }
 
-/// `T S RECORD`, for a selection address of a terminal.
+/// Reads `T S RECORD`, a record for a selection address of a terminal.
 fn offer_to<'a, A: Allocator>(rest: &'a [u8]) -> Option<Action<'a, A>>
     ensures { option_map event_in result ≡ offer_to_of rest.now }
 {
@@ -122,7 +122,7 @@ fn offer_to<'a, A: Allocator>(rest: &'a [u8]) -> Option<Action<'a, A>>
     offer_select(terminal, rest?)
 }
 
-/// `S RECORD`, for a selection address of this terminal.
+/// Reads `S RECORD`, a record for a selection address of this terminal.
 fn offer_select<'a, A: Allocator>(terminal: usize, rest: &'a [u8]) -> Option<Action<'a, A>>
     ensures { option_map event_in result ≡ offer_select_of terminal rest.now }
 {
@@ -136,7 +136,7 @@ fn offer_select<'a, A: Allocator>(terminal: usize, rest: &'a [u8]) -> Option<Act
     })
 }
 
-/// Octets in hexadecimal text.
+/// Reads the octets of a transmission in hexadecimal text.
 fn heard<'a, A: Allocator + Copy>(
     alloc: A,
     text: &[u8],
@@ -150,7 +150,7 @@ fn heard<'a, A: Allocator + Copy>(
     }
 }
 
-/// A word for each terminal.
+/// Reads one word for each terminal.
 fn heard_each<'a, A: Allocator + Copy>(
     alloc: A,
     text: &[u8],
@@ -164,7 +164,7 @@ fn heard_each<'a, A: Allocator + Copy>(
     }
 }
 
-/// What each terminal hears. None where a word is no item.
+/// Returns what each terminal hears, or `None` if a word is not an item.
 fn read_items<A: Allocator + Copy>(
     alloc: A,
     text: &[u8],
@@ -187,7 +187,8 @@ fn read_items<A: Allocator + Copy>(
     }
 }
 
-/// What one terminal hears: octets, or nothing where the word is a dash. None where it is neither.
+/// Returns what one terminal hears: octets, or nothing if the word is `-`. Returns `None` if the
+/// word is neither.
 fn read_item<A: Allocator + Copy>(
     alloc: A,
     word: &[u8],
@@ -203,7 +204,7 @@ fn read_item<A: Allocator + Copy>(
     }
 }
 
-/// `T`, where the terminal is ready or not.
+/// Reads `T`, the terminal that starts or stops accepting selections.
 fn ready<'a, A: Allocator>(rest: &[u8], ready: bool) -> Option<Action<'a, A>>
     ensures { option_map event_in result ≡
         option_map (λ t. events.ready t ready) (terminal_of rest.now) }
@@ -212,7 +213,7 @@ fn ready<'a, A: Allocator>(rest: &[u8], ready: bool) -> Option<Action<'a, A>>
     Some(Action::Ready { terminal, ready })
 }
 
-/// `T`, the terminal that asks the control station for the line.
+/// Reads `T`, the terminal that asks the control station for the line.
 fn urgent_at<'a, A: Allocator>(rest: &[u8]) -> Option<Action<'a, A>>
     ensures { option_map event_in result ≡ option_map events.urgent_at (terminal_of rest.now) }
 {
@@ -220,7 +221,7 @@ fn urgent_at<'a, A: Allocator>(rest: &[u8]) -> Option<Action<'a, A>>
     Some(Action::UrgentAt { terminal })
 }
 
-/// `T`, the terminal that the control station asks for the line.
+/// Reads `T`, the terminal that the control station asks for the line.
 fn urgent_for<'a, A: Allocator>(rest: &[u8]) -> Option<Action<'a, A>>
     ensures { option_map event_in result ≡ option_map events.urgent_for (terminal_of rest.now) }
 {
@@ -228,7 +229,7 @@ fn urgent_for<'a, A: Allocator>(rest: &[u8]) -> Option<Action<'a, A>>
     Some(Action::UrgentFor { terminal })
 }
 
-/// `T` and a way.
+/// Reads `T` and a direction.
 fn release<'a, A: Allocator>(rest: &[u8]) -> Option<Action<'a, A>>
     ensures { option_map event_in result ≡ release_of rest.now }
 {
@@ -238,7 +239,7 @@ fn release<'a, A: Allocator>(rest: &[u8]) -> Option<Action<'a, A>>
     Some(Action::Release { terminal, way })
 }
 
-/// `from`, `to` or `to S`.
+/// Reads a direction: `from`, `to` or `to S`.
 fn way(words: &[u8]) -> Option<Way>
     ensures { result ≡ way_of words.now }
 {

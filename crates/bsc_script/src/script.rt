@@ -1,4 +1,4 @@
-//! A script as a whole.
+//! A whole script.
 ghost use Rattle.std.specs.Prelude.{◌≡◌, ◌+◌, ◌<◌, ◌≤◌, ◌^◌, ℕ, IfOk, length, map};
 ghost use Rattle.bsc_script.specs.Actions.{event_in, numbered};
 ghost use Rattle.bsc_script.specs.Events.{event_of};
@@ -11,7 +11,7 @@ use std::alloc::{AllocError, AllocFailed, Allocator};
 use std::marker::Model;
 use thiserror::Error;
 
-/// Why a text is not read as a script.
+/// The reason for refusing a text as a script.
 #[derive(Clone, Copy, Debug, PartialEq, Eq, Error)]
 pub enum ScriptError {
     /// The line with this number, counted from 1, is the first that is neither skipped nor an
@@ -19,7 +19,7 @@ pub enum ScriptError {
     #[error("script line {line}: not an event")]
     NotAnEvent { line: u64 },
 
-    /// A growth was refused. It may stand in place of `NotAnEvent`.
+    /// An allocation failed. This may come in place of `NotAnEvent`.
     #[error("out of memory")]
     Memory,
 }
@@ -62,7 +62,7 @@ impl<'a, A: Allocator> Model for Script<'a, A> {
 }
 
 impl<'a, A: Allocator> Script<'a, A> {
-    /// The events, each with the number of its line.
+    /// Returns the events, each with the number of its line.
     pub fn steps(&self) -> &[Step<'a, A>]
         ensures { map numbered result.now ≡ self.now }
     {
@@ -70,15 +70,15 @@ impl<'a, A: Allocator> Script<'a, A> {
     }
 }
 
-/// Whether the line has no event and is right: it is empty, or begins with `#`.
+/// Whether the line is skipped: it is empty, or begins with `#`.
 fn is_skipped(line: &[u8]) -> bool
     ensures { result ≡ skipped line.now }
 {
     line.is_empty() || line[0] == b'#'
 }
 
-/// The events of the text's lines. `NotAnEvent` comes where a line is wrong, with the number of the
-/// first such line; `Memory` may come in its place.
+/// Reads the events of a text. Returns `NotAnEvent` with the number of the first wrong line, if
+/// there is one; `Memory` may come in place of it.
 pub fn read_script<'a, A: Allocator + Copy>(
     alloc: A,
     text: &'a [u8],
@@ -103,7 +103,7 @@ pub fn read_script<'a, A: Allocator + Copy>(
     }
 }
 
-/// The event of a line that has this many lines before it.
+/// Reads the event of a line with `before` lines before it.
 fn read_step<'a, A: Allocator + Copy>(
     alloc: A,
     line: &'a [u8],

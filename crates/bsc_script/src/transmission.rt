@@ -1,4 +1,4 @@
-//! Octets that are put on a line in place of what was sent.
+//! Octets that are heard in place of what was sent.
 ghost use Rattle.std.specs.Prelude.{◌≡◌, IfOk, option_map};
 ghost use Rattle.bsc_carrier.specs.Record.{IsCarried};
 ghost use Rattle.bsc_script.specs.Transmissions.{transmission_of};
@@ -8,7 +8,7 @@ use bsc_input::read_octets;
 use std::alloc::{AllocError, Allocator};
 use std::marker::Model;
 
-/// The octets of one transmission: 1 to 2,048, as many as a socket record carries (own).
+/// The octets of one transmission: 1 to 2,048, the length of a socket record.
 #[derive(Drop)]
 pub struct Transmission<A: Allocator> {
     octets: Vec<u8, A>,
@@ -26,7 +26,7 @@ impl<A: Allocator> Model for Transmission<A> {
 }
 
 impl<A: Allocator> Transmission<A> {
-    /// The octets.
+    /// Returns the octets.
     pub fn as_slice(&self) -> &[u8]
         ensures value { result.now ≡ self.now }
         ensures carried { IsCarried self.now }
@@ -35,8 +35,8 @@ impl<A: Allocator> Transmission<A> {
     }
 }
 
-/// The octets of hexadecimal text, its spaces dropped. None where it is no such text, or has no
-/// octet or more than 2,048.
+/// Returns the octets of hexadecimal text without its spaces. Returns `None` if the text is not
+/// hexadecimal, or has no octets or more than 2,048.
 pub(crate) fn read_transmission<A: Allocator + Copy>(
     alloc: A,
     text: &[u8],

@@ -1,10 +1,11 @@
-//! The words of a line, which stand one space apart.
+//! The words of a line, which are separated by one space.
 ghost use Rattle.std.specs.Prelude.{◌≡◌, ◌∷◌, ◌<◌, [], IfSome, None, length, option_map};
 ghost use Rattle.bsc_script.specs.Words.{after_word, first_word, words_of};
 
 use bsc_input::split_at_first;
 
-/// The first word, and what follows the space after it; None where there is no space.
+/// Returns the first word, and the text after the space that follows it; `None` if there is no
+/// space.
 pub(crate) fn split_word(text: &[u8]) -> (&[u8], Option<&[u8]>)
     ensures word { result.0.now ≡ first_word text.now }
     ensures rest { option_map (λ rest. rest.now) result.1 ≡ after_word text.now }

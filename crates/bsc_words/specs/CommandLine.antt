@@ -1,5 +1,4 @@
--- The command line: what `clap` reads of the command, and the work that its matches ask for. All of
--- it is own.
+-- The command line: the commands that `clap` reads, and the work that their matches ask for.
 use Rattle.std.specs.Prelude.{◌≡◌, ◌⊎◌, List, [], ◌∷◌, true, Option, Some, None, codes}
 use Rattle.std.specs.Prelude.{if◌then◌else◌}
 use Rattle.std.specs.Str.{bytes_eq}
@@ -24,7 +23,7 @@ run_app =
     with_rules (new_app (codes "run"))
     (required (codes "CONFIG") ∷ required (codes "SCRIPT") ∷ flag (codes "check") ∷ [])
 
--- The program, which has a version.
+-- The program, which has a version, without its commands.
 abbrev pub program_app : App
 program_app =
     record { top = record (new_app (codes "bscline")).top { has_version = true }; subs = [] }
@@ -34,36 +33,36 @@ abbrev pub bscline_app : App
 bscline_app =
     with_shapes program_app (name_app.top ∷ show_app.top ∷ run_app.top ∷ station_app.top ∷ [])
 
--- The kinds of error that `clap` may give at the words; none where the words are a command.
+-- The kinds of error that `clap` may return for the arguments; none if they are a command.
 unfoldable pub faults_at : List Text → Kinds
 faults_at words = fault_of bscline_app words
 
--- The configuration and the script, by their paths, and whether they are only checked.
+-- A run: the paths of the configuration and the script, and whether they are only checked.
 abbrev pub asked_run : List Row → AskedValue
 asked_run rows =
     run (value_at (codes "CONFIG") rows) (value_at (codes "SCRIPT") rows)
     (is_true_text (value_at (codes "check") rows))
 
--- One station, by its words.
+-- A station, with its arguments.
 abbrev pub asked_station : List Row → AskedValue
 asked_station rows = station (words_in rows)
 
--- The work that was asked for, by the name of the command and its values.
+-- The work for the name of a command and its values.
 abbrev pub asked_by : Text → List Row → AskedValue
 asked_by sub rows =
     if bytes_eq sub (codes "name") then name (value_at (codes "HEX") rows)
     else (if bytes_eq sub (codes "run") then asked_run rows
     else (if bytes_eq sub (codes "station") then asked_station rows else show))
 
--- The work that was asked for by a command; without one, the names of standard input.
+-- The work for a command. Without a command it is naming the lines of standard input.
 abbrev pub asked_sub : Option (Text × List Row) → AskedValue
 asked_sub None = names
 asked_sub (Some p) = asked_by p.0 p.1
 
--- What the words ask for, as `clap` reads them.
+-- The work that the arguments ask for, as `clap` reads them.
 unfoldable pub asked_of : List Text → AskedValue
 asked_of words = asked_sub (subcommand_of bscline_app words)
 
--- The help or the version was asked for.
+-- The kinds of error by which `clap` reports that the help or the version was asked for.
 abbrev pub IsHelp : ErrorKind → Type 0
 IsHelp kind = (kind ≡ DisplayHelp) ⊎ (kind ≡ DisplayVersion)

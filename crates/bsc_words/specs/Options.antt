@@ -1,4 +1,4 @@
--- Arguments and options of the command line, and their values. All of it is own.
+-- Arguments and options of the command line, and their values.
 use Rattle.std.specs.Prelude.{List, [], ◌∷◌, map, Bool, true, Some, unwrap_or, codes}
 use Rattle.std.specs.Str.{bytes_eq}
 use Rattle.clap.specs.Words.{App, Row, Rule, Shape, Text, first_of, new_app, new_rule, with_rule}
@@ -21,32 +21,32 @@ flag id = record (new_rule id) { long = Some id; action = Some SetTrue }
 abbrev pub option : Text → Rule
 option id = record (new_rule id) { long = Some id; value_names = 1; action = Some Set }
 
--- An option with a long name and a value that may be given more than once.
+-- An option with a long name and a value that may be given any number of times.
 abbrev pub value_list : Text → Rule
 value_list id = record (new_rule id) { long = Some id; value_names = 1; action = Some Append }
 
--- What is given for an entry with this name.
+-- The rule for an entry with this name that is given in this form.
 abbrev pub given_rule : Given → Text → Rule
 given_rule given.Required id = required id
 given_rule given.Flag id = flag id
 given_rule given.Value id = option id
 given_rule given.Values id = value_list id
 
--- The rule of an entry of a table.
+-- The rule for an entry of a table.
 abbrev pub entry_rule : Entry → Rule
 entry_rule entry = given_rule entry.given entry.id.now
 
--- A command with these rules after those that it has.
+-- A command with these rules added.
 abbrev pub with_rules : App → List Rule → App
 with_rules app [] = app
 with_rules app (rule ∷ rules) = with_rules (with_rule app rule) rules
 
--- The command of a row.
+-- The shape of the command for a row.
 abbrev pub subcommand_shape : Subcommand → Shape
 subcommand_shape row =
     (with_rules (new_app row.name.now) (map entry_rule row.entries.now)).top
 
--- A program with these commands after those that it has.
+-- A program with these commands added.
 abbrev pub with_shapes : App → List Shape → App
 with_shapes program [] = program
 with_shapes program (shape ∷ shapes) = with_shapes (with_subcommand program shape) shapes
@@ -55,6 +55,6 @@ with_shapes program (shape ∷ shapes) = with_shapes (with_subcommand program sh
 abbrev pub value_at : Text → List Row → Text
 value_at id rows = unwrap_or (first_of id rows) []
 
--- The text that `clap` has for a flag that was given.
+-- Whether the text is the one that `clap` gives a flag that was given.
 abbrev pub is_true_text : Text → Bool
 is_true_text text = bytes_eq text (codes "true")

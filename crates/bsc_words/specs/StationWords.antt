@@ -1,4 +1,4 @@
--- The words of `station`: what `clap` reads of them, and what they ask for. All of it is own.
+-- The arguments of `station`: those that `clap` reads, and their values.
 use Rattle.std.specs.Prelude.{List, [], ◌∷◌, Bool, codes}
 use Rattle.std.specs.Prelude.{unwrap_or}
 use Rattle.clap.specs.Words.{App, Row, Text, all_of, first_of, new_app}
@@ -6,8 +6,8 @@ use Rattle.bsc_words.specs.Options.{flag, is_true_text, option, required, value_
 use Rattle.bsc_words.specs.Options.{with_rules}
 use Rattle.bsc_asked.specs.StationWords.{AskedWords}
 
--- the command `station CONFIG`, with the options that say which station it is, where its
--- connections are, how long it waits and when it ends, what is offered, and what is printed
+-- The command `station CONFIG`. Its options select the station, its connections, its times and
+-- limits, the records that it offers, and its output.
 abbrev pub station_app : App
 station_app =
     with_rules (new_app (codes "station"))
@@ -27,11 +27,11 @@ station_app =
     ∷ flag (codes "trace")
     ∷ [])
 
--- whether a flag was given
+-- Whether a flag was given.
 abbrev pub given : Text → List Row → Bool
 given id rows = is_true_text (value_at id rows)
 
--- the words that the matches have
+-- The arguments in the matches.
 abbrev pub words_in : List Row → AskedWords
 words_in rows = record {
   config = value_at (codes "CONFIG") rows;

@@ -1,4 +1,4 @@
-//! Commands that are made of the rows of a table.
+//! Commands built from the rows of a table.
 ghost use Rattle.std.specs.Prelude.{◌≡◌, IfOk, map, false};
 ghost use Rattle.clap.specs.Words.{app_of, rule_of, shape_of};
 ghost use Rattle.clap.specs.declared.builder.command.Command.TheViews.{out-Command};
@@ -7,10 +7,10 @@ ghost use Rattle.bsc_words.specs.Options.{entry_rule, subcommand_shape, with_rul
 use clap::{Arg, ArgAction, Command};
 use std::alloc::{AllocError, Global};
 
-/// What is given for an entry.
+/// The form in which an entry is given.
 #[derive(Clone, Copy)]
 pub(crate) enum Given {
-    /// A value without a name before it, which has to be there.
+    /// A required value without a name.
     Required,
 
     /// A name only.
@@ -19,7 +19,7 @@ pub(crate) enum Given {
     /// A name and a value.
     Value,
 
-    /// A name and a value, more than once.
+    /// A name and a value, any number of times.
     Values,
 }
 
@@ -29,13 +29,13 @@ pub(crate) struct Entry {
     /// Its name, without the two hyphens of an option.
     pub(crate) id: &'static str,
 
-    /// What is given for it.
+    /// The form in which it is given.
     pub(crate) given: Given,
 
-    /// What its value is called in the help; nothing where it has none.
+    /// The name of its value in the help; empty if it has no value.
     pub(crate) value: &'static str,
 
-    /// What the help says of it.
+    /// Its description in the help.
     pub(crate) help: &'static str,
 }
 
@@ -45,14 +45,14 @@ pub(crate) struct Subcommand {
     /// Its name.
     pub(crate) name: &'static str,
 
-    /// What the help says of it.
+    /// Its description in the help.
     pub(crate) about: &'static str,
 
     /// Its arguments and options.
     pub(crate) entries: &'static [Entry],
 }
 
-/// The argument of an entry, as `clap` takes it.
+/// Returns the `clap` argument for an entry.
 fn argument<'a>(alloc: Global, entry: &'a Entry) -> Arg<'a>
     ensures rule { rule_of result ≡ entry_rule entry.now }
     ensures local { result.global ≡ false }
@@ -72,7 +72,7 @@ fn argument<'a>(alloc: Global, entry: &'a Entry) -> Arg<'a>
     }
 }
 
-/// The command with these arguments and options after those that it has.
+/// Adds these arguments and options to a command.
 fn with_entries<'a>(
     alloc: Global,
     command: Command<'a>,
@@ -90,7 +90,7 @@ fn with_entries<'a>(
     Ok(command)
 }
 
-/// The command of a row.
+/// Returns the `clap` command for a row.
 fn command_of<'a>(alloc: Global, row: &'a Subcommand) -> Result<Command<'a>, AllocError>
     ensures shape { IfOk result (λ c. shape_of c ≡ subcommand_shape row.now) }
     ensures local { IfOk result (λ c. (out-Command c).has_globals ≡ false) }
@@ -99,7 +99,7 @@ fn command_of<'a>(alloc: Global, row: &'a Subcommand) -> Result<Command<'a>, All
     with_entries(alloc, bare, row.entries)
 }
 
-/// The program with these commands after those that it has.
+/// Adds these commands to a program.
 pub(crate) fn with_subcommands<'a>(
     alloc: Global,
     program: Command<'a>,

@@ -1,4 +1,7 @@
-//! The words of the command `bscline`: what they ask for, as `clap` reads them.
+//! The command line of `bscline`: reads its arguments with `clap` and returns the work that they
+//! ask for.
+//!
+//! The standard, GA27-3004, defines no command; all of this is this project's own.
 #![tactic(auto)]
 
 mod entries;

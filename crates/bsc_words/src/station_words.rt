@@ -1,4 +1,4 @@
-//! The words of `bscline station`.
+//! The arguments of `bscline station`.
 ghost use Rattle.std.specs.Prelude.{◌≡◌, IfOk};
 ghost use Rattle.clap.specs.Words.{found_of, rows_of};
 ghost use Rattle.bsc_asked.specs.StationWords.{asked_words};
@@ -9,7 +9,7 @@ use bsc_asked::StationWords;
 use clap::ArgMatches;
 use std::alloc::{AllocError, Global};
 
-/// The words that the matches of `station` have.
+/// Returns the arguments of `station` in these matches.
 pub(crate) fn station_words(
     alloc: Global,
     matches: &ArgMatches<'_>,

@@ -1,4 +1,4 @@
-//! The commands of the program, with their arguments and options, as tables.
+//! The commands of the program with their arguments and options, as tables.
 
 use crate::entries::Given::{Flag, Required, Value, Values};
 use crate::entries::{Entry, Subcommand};
@@ -15,7 +15,7 @@ const NAME: Subcommand = Subcommand {
     }],
 };
 
-/// Prints names, with the units of texts.
+/// Prints the names of transmissions, with the units of texts.
 const SHOW: Subcommand = Subcommand {
     name: "show",
     about: "Print the names of standard input, with the units of texts",
@@ -140,5 +140,5 @@ const STATION: Subcommand = Subcommand {
     ],
 };
 
-/// The commands, in the order in which the help has them.
+/// The commands, in the order of the help.
 pub(crate) const COMMANDS: &[Subcommand] = &[NAME, SHOW, RUN, STATION];

@@ -1,4 +1,4 @@
-//! The values of the words, as `clap` has matched them.
+//! The values of the arguments that `clap` has matched.
 ghost use Rattle.std.specs.Prelude.{◌≡◌, [], map, IfOk, option_map, string_bytes, unwrap_or};
 ghost use Rattle.clap.specs.Words.{first_value, found_of, matched_of, raw_values};
 ghost use Rattle.bsc_words.specs.Options.{is_true_text};
@@ -6,7 +6,7 @@ ghost use Rattle.bsc_words.specs.Options.{is_true_text};
 use clap::ArgMatches;
 use std::alloc::{AllocError, Global};
 
-/// The text of a value that the command requires.
+/// Returns the text of a required argument.
 pub(crate) fn required_text(
     alloc: Global,
     matches: &ArgMatches<'_>,
@@ -21,7 +21,7 @@ pub(crate) fn required_text(
     }
 }
 
-/// The text of an option, where it was given.
+/// Returns the text of an option, if it was given.
 pub(crate) fn option_text(
     alloc: Global,
     matches: &ArgMatches<'_>,
@@ -36,7 +36,7 @@ pub(crate) fn option_text(
     }
 }
 
-/// The texts of an option, as often as it was given.
+/// Returns the texts of an option, one for each time that it was given.
 pub(crate) fn option_texts(
     alloc: Global,
     matches: &ArgMatches<'_>,
@@ -51,7 +51,7 @@ pub(crate) fn option_texts(
     }
 }
 
-/// Texts of their own.
+/// Returns owned copies of the texts.
 fn texts_of(alloc: Global, texts: &[&str]) -> Result<Vec<String>, AllocError>
     ensures { IfOk result (λ s. map string_bytes s.items ≡ map (λ t. t.now) texts.now) }
 {
@@ -62,7 +62,7 @@ fn texts_of(alloc: Global, texts: &[&str]) -> Result<Vec<String>, AllocError>
     Ok(own)
 }
 
-/// Whether the flag was given. `clap` has the text `true` for one that was.
+/// Whether the flag was given. `clap` gives such a flag the text `true`.
 pub(crate) fn is_given(matches: &ArgMatches<'_>, id: &str) -> bool
     ensures { result ≡ is_true_text (unwrap_or (first_value (found_of matches.now) id.now) []) }
 {

@@ -1,4 +1,4 @@
-//! The words of the command line.
+//! The arguments of the command line.
 ghost use Rattle.std.specs.Prelude.{◌≡◌, ◌⊎◌, [], map, IfOk, IfErr, OnOk};
 ghost use Rattle.clap.specs.Words.{HasKind, app_of, found_of, kind_of, rows_of, subcommand_rows_of};
 ghost use Rattle.bsc_asked.specs.Asked.{asked};
@@ -14,7 +14,7 @@ use clap::error::ErrorKind;
 use clap::{ArgMatches, Command, Error};
 use std::alloc::{AllocError, Global};
 
-/// The command line of `bscline`.
+/// Returns the command line of `bscline`.
 fn command_line<'a>(alloc: Global) -> Result<Command<'a>, AllocError>
     ensures { IfOk result (λ c. app_of c ≡ bscline_app) }
 {
@@ -24,7 +24,7 @@ fn command_line<'a>(alloc: Global) -> Result<Command<'a>, AllocError>
     with_subcommands(alloc, program, COMMANDS)
 }
 
-/// The run that the matches of `run` ask for.
+/// Returns the run that the matches of `run` ask for.
 fn run_of(alloc: Global, matches: &ArgMatches<'_>) -> Result<Asked, AllocError>
     ensures { IfOk result (λ w. asked w ≡ asked_run (rows_of (found_of matches.now))) }
 {
@@ -35,14 +35,14 @@ fn run_of(alloc: Global, matches: &ArgMatches<'_>) -> Result<Asked, AllocError>
     })
 }
 
-/// The station that the matches of `station` ask for.
+/// Returns the station that the matches of `station` ask for.
 fn station_of(alloc: Global, matches: &ArgMatches<'_>) -> Result<Asked, AllocError>
     ensures { IfOk result (λ w. asked w ≡ asked_station (rows_of (found_of matches.now))) }
 {
     Ok(Asked::Station(station_words(alloc, matches)?))
 }
 
-/// The work that the matches ask for.
+/// Returns the work that the matches ask for.
 fn work_of(alloc: Global, matches: &ArgMatches<'_>) -> Result<Asked, AllocError>
     ensures { IfOk result (λ w. asked w ≡ asked_sub (subcommand_rows_of matches.now)) }
 {
@@ -57,7 +57,7 @@ fn work_of(alloc: Global, matches: &ArgMatches<'_>) -> Result<Asked, AllocError>
     }
 }
 
-/// What the words ask for, the program's name first.
+/// Returns the work that the arguments ask for. The first argument is the name of the program.
 pub fn read_words(alloc: Global, words: &[&str]) -> Result<Asked, Error>
     ensures asked { IfOk result (λ w. asked w ≡ asked_of (map (λ s. s.now) words.now)) }
     ensures kinds { IfErr result (HasKind (faults_at (map (λ s. s.now) words.now))) }
@@ -70,8 +70,7 @@ pub fn read_words(alloc: Global, words: &[&str]) -> Result<Asked, Error>
     }
 }
 
-/// The answer where a value is wrong, or values do not go together, for this reason, as `clap` has
-/// it.
+/// Returns the error of `clap` for a wrong value, or for values that conflict, with this reason.
 pub fn wrong_words(alloc: Global, kind: ErrorKind, why: &str) -> Error
     ensures { (kind_of result ≡ kind) ⊎ (kind_of result ≡ ErrorKind.OutOfMemory) }
 {
@@ -81,7 +80,7 @@ pub fn wrong_words(alloc: Global, kind: ErrorKind, why: &str) -> Error
     }
 }
 
-/// The answer of [`wrong_words`], or out of memory.
+/// Returns the error of [`wrong_words`], or out of memory.
 fn wrong_words_error(alloc: Global, kind: ErrorKind, why: &str) -> Result<Error, AllocError>
     ensures { IfOk result (λ e. kind_of e ≡ kind) }
 {

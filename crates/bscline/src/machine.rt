@@ -1,4 +1,4 @@
-//! The machine that the program runs on: its files, its loopback address, its network, its clock,
+//! The machine on which the program runs: its files, its loopback address, its network, its clock
 //! and standard error.
 
 use bsc_attending::{Network, Opened, Place, Wanted};
@@ -20,7 +20,7 @@ use std::net::Net;
 use std::rt::Files as Filing;
 use std::time::{Clock, Duration, Instant};
 
-/// For how long a station that listens waits for each peer before it gives up, in milliseconds.
+/// The time that a listening station waits for each peer before it gives up, in milliseconds.
 const PATIENCE: u64 = 60_000;
 
 /// The machine of this runtime.
@@ -29,7 +29,7 @@ pub struct Machine<'a, R> {
     pub runtime: &'a R,
 }
 
-/// The time that has passed on this machine.
+/// A clock that counts from its start on this machine.
 #[derive(Drop)]
 pub struct Since<'a, R> {
     runtime: &'a R,
@@ -87,7 +87,7 @@ impl<R: AllocGlobal + Net> Cables for Machine<'_, R> {
     }
 }
 
-/// The connections that a station asks for.
+/// Makes the connections that a station asks for.
 fn begin<'a, R: AllocGlobal + Clock + Net>(
     runtime: &'a R,
     wanted: &Wanted<'_>,

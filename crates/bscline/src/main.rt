@@ -1,5 +1,7 @@
-//! The command `bscline`: it gives the words of the command line, the streams and the machine to
-//! the library `bsc_command`, which does all else.
+//! The command `bscline`. It passes the arguments, the streams and the machine to the library
+//! `bsc_command`, which does everything else.
+//!
+//! The standard, GA27-3004, defines no command; all of this is this project's own.
 #![tactic(auto)]
 
 mod machine;
@@ -31,7 +33,7 @@ fn main(rt: HostRuntime) -> ExitCode {
     })
 }
 
-/// The words of the command line, the program's name first.
+/// Returns the arguments of the command line. The first is the name of the program.
 fn words<R: AllocGlobal + Env>(rt: &R) -> Result<Vec<String>, Fault> {
     match env::args(rt) {
         Ok(words) => Ok(words.collect(rt.alloc())?),
@@ -39,7 +41,7 @@ fn words<R: AllocGlobal + Env>(rt: &R) -> Result<Vec<String>, Fault> {
     }
 }
 
-/// The fault of words that could not be had, for this reason.
+/// Returns the fault for arguments that are not available, for this reason.
 fn fault(alloc: Global, kind: ErrorKind) -> Fault {
     match kind {
         ErrorKind::OutOfMemory => Fault::OutOfMemory,

@@ -1,3 +1,4 @@
+-- The queue of the terminal keeps its format.
 use Rattle.std.proofs.Common.{◌≡◌}
 use Rattle.bsc_attending.proofs.offering.offer_all_at_terminal.Given as goal
 

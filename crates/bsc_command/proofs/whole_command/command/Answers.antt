@@ -1,3 +1,4 @@
+-- Shows that status 0 means that the arguments were obeyed, and that any other is that of a fault.
 use Rattle.std.proofs.Common.{inl, inr, map, string_bytes}
 use Rattle.std.specs.Io.Buffered.{writer_contents}
 use Rattle.bsc_command.specs.Faults.{IsPrintFault}

@@ -1,3 +1,4 @@
+-- The arguments so far have the bytes of the given ones.
 use Rattle.std.proofs.Common.{◌≡◌, map, take, string_bytes}
 use Rattle.bsc_command.proofs.whole_command.lent.Given as goal
 

@@ -1,3 +1,4 @@
+-- The check of all terminals is the check of those that the loop has not reached.
 use Rattle.std.proofs.Common.{◌≡◌, drop}
 use Rattle.toml.specs.View.{items_view}
 use Rattle.bsc_config.specs.declared.key.Owner.TheVariants.{Terminal}

@@ -1,3 +1,4 @@
+-- Shows that the loop over the names finds the first unknown one.
 use Rattle.std.proofs.Common.{rules, ◌≡◌, true, false, cond, Some, string_bytes, ap, sym, ◌∙◌}
 use Rattle.std.proofs.lemmas.Map.Iter.{rest_more}
 use Rattle.std.specs.Map.Iter.{deref}

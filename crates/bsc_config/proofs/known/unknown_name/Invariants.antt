@@ -1,3 +1,4 @@
+-- The first unknown key of the table is the first unknown one of the names that remain.
 use Rattle.std.proofs.Common.{◌≡◌}
 use Rattle.toml.specs.View.{members_view}
 use Rattle.bsc_config.specs.Checks.{first_unknown}

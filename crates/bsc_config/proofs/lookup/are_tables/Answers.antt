@@ -1,3 +1,4 @@
+-- Shows that the loop answers whether all the values are tables.
 use Rattle.std.proofs.Common.{◌+◌, ◌&&◌, ◌∙◌, ap, sym, drop}
 use Rattle.toml.specs.View.{items_view}
 use Rattle.bsc_config.specs.Tables.{are_tables}

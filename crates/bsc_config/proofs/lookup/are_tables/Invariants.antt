@@ -1,3 +1,4 @@
+-- All the values are tables exactly when those that the loop has not reached are.
 use Rattle.std.proofs.Common.{◌≡◌, drop}
 use Rattle.toml.specs.View.{items_view}
 use Rattle.bsc_config.specs.Tables.{are_tables}

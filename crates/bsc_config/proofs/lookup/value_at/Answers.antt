@@ -1,3 +1,4 @@
+-- Shows that the value found is the member of the table with the name of the key.
 use Rattle.std.proofs.Common.{◌∙◌, ap}
 use Rattle.toml.specs.Data.{get_member}
 use Rattle.toml.specs.View.{table_view}

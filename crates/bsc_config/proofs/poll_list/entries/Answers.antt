@@ -1,3 +1,4 @@
+-- Shows that the loop reads the entries, and that an entry that cannot be read is refused.
 use Rattle.std.proofs.Common.{◌+◌, ◌++◌, ◌∙◌, ap, sym, drop}
 use Rattle.std.specs.Option.{option_map}
 use Rattle.toml.specs.View.{items_view}

@@ -1,3 +1,4 @@
+-- Shows that the loop reads the addresses, and that a value that is not an address is refused.
 use Rattle.std.proofs.Common.{◌+◌, ◌++◌, ◌∙◌, ap, sym, drop}
 use Rattle.std.specs.Option.{option_map}
 use Rattle.toml.specs.View.{items_view}

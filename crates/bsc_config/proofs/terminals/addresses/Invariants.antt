@@ -1,3 +1,4 @@
+-- The reading of all values is the addresses read so far and the reading of the rest.
 use Rattle.std.proofs.Common.{◌≡◌, ◌++◌, drop}
 use Rattle.std.specs.Option.{option_map}
 use Rattle.toml.specs.View.{items_view}

@@ -1,3 +1,4 @@
+-- Shows that the loop reads the terminals, and that the first fault is reported.
 use Rattle.std.proofs.Common.{◌++◌, ◌∙◌, ap, sym, drop, ◌+◌, Ok, subst}
 use Rattle.std.proofs.lemmas.Result.{err_from_is_err_and}
 use Rattle.toml.specs.View.{items_view}

@@ -1,3 +1,4 @@
+-- The reading of all terminals is the terminals read so far and the reading of the rest.
 use Rattle.std.proofs.Common.{◌≡◌, ◌++◌, drop, Ok}
 use Rattle.toml.specs.View.{items_view}
 use Rattle.bsc_config.specs.Faults.{◌>>=◌}

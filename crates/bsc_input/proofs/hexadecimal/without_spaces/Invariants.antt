@@ -1,3 +1,4 @@
+-- The digits are the text read so far without its spaces.
 use Rattle.std.proofs.Common.{◌≡◌, take}
 use Rattle.bsc_input.specs.Hexadecimal.{without_spaces}
 use Rattle.bsc_input.proofs.hexadecimal.without_spaces.Given as goal

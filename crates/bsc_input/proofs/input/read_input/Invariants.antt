@@ -1,3 +1,4 @@
+-- The input read so far is within the limit, and each iteration leaves less room below it.
 use Rattle.std.proofs.Common.{◌≤◌, ◌-◌, length}
 use Rattle.std.specs.Io.KnownBytes.{Consumes}
 use Rattle.bsc_input.proofs.input.read_input.Given as goal

@@ -1,3 +1,4 @@
+-- Shows that the two results are the text before the first such octet and the text after it.
 use Rattle.std.proofs.Common.{◌≡◌, ◌-◌, ◌+◌, ◌==◌, ◌∷◌, length, take, drop, sym, ◌∙◌, ap, arith}
 use Rattle.std.proofs.Common.{length-drop}
 use Rattle.std.specs.List.{slice_split}

@@ -1,3 +1,4 @@
+-- Shows that each iteration of the loop prints the new records of one more channel.
 use Rattle.std.proofs.Common.{◌≡◌, ℕ, rules, arith, slice_index, subst}
 use Rattle.std.specs.Io.KnownBytes.{Appends}
 use Rattle.bsc_report.proofs.Appending.{each_below_more}

@@ -1,3 +1,4 @@
+-- The new records of the channels so far are printed and counted.
 use Rattle.std.proofs.Common.{◌≡◌, ℕ, ◌≤◌, true, false, slice_index}
 use Rattle.std.specs.Io.KnownBytes.{Appends}
 use Rattle.bsc_report.specs.Channels.{each_below}

@@ -1,3 +1,4 @@
+-- The lines of the records so far are printed.
 use Rattle.std.proofs.Common.{take}
 use Rattle.std.specs.List.{flat_map}
 use Rattle.std.specs.Io.KnownBytes.{Appends}

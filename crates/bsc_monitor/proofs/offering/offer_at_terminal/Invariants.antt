@@ -1,3 +1,4 @@
+-- The records so far are offered at the terminal.
 use Rattle.std.proofs.Common.{◌≡◌, ◌++◌}
 use Rattle.std.specs.Vec.Iter.{into_iter_items}
 use Rattle.bsc_block.specs.Blocks.{AreShort}

@@ -1,3 +1,4 @@
+-- The records so far are offered for the address, which the control station still has.
 use Rattle.std.proofs.Common.{◌≡◌, ◌<◌, ◌++◌, length}
 use Rattle.std.specs.Vec.Iter.{into_iter_items}
 use Rattle.bsc_block.specs.Blocks.{AreShort}

@@ -1,3 +1,4 @@
+-- Shows that an accepted offer adds the record, and keeps the addresses.
 use Rattle.bsc_monitor.proofs.Offered.{one_offered}
 use Rattle.bsc_monitor.proofs.offering.offer_one.Goals as goal
 

@@ -1,3 +1,4 @@
+-- Shows that the lines of the text are the first line and those of the rest.
 use Rattle.std.proofs.Common.{sym, ap, ◌∙◌, ◌∷◌}
 use Rattle.std.specs.Str.Lines.{lines}
 use Rattle.bsc_monitor.proofs.Firsts.{lines_more, lines_one}

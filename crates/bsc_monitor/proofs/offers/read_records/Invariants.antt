@@ -1,3 +1,5 @@
+-- The lines of the text are the records read so far and the lines of the rest, which becomes
+-- shorter.
 use Rattle.std.proofs.Common.{◌≡◌, ◌≤◌, ◌+◌, ◌++◌, length}
 use Rattle.std.specs.Str.Lines.{lines}
 use Rattle.bsc_block.specs.Blocks.{AreShort}

@@ -1,3 +1,4 @@
+-- The lines of the terminals so far are written.
 use Rattle.std.specs.Io.KnownBytes.{Appends}
 use Rattle.bsc_report.specs.Channels.{each_below}
 use Rattle.bsc_monitor.specs.Printed.{terminal_lines}

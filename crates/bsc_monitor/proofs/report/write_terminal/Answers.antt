@@ -1,3 +1,4 @@
+-- Shows that the channel from the terminal is written, and then each channel to it.
 use Rattle.std.proofs.Common.{◌≡◌, arith}
 use Rattle.std.proofs.KnownBytes.{Appends-trans}
 use Rattle.bsc_directory.specs.declared.way.Way.TheVariants.{FromTerminal, ToTerminal}

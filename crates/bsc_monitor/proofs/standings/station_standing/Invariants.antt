@@ -1,3 +1,4 @@
+-- The state is that of the channels of the terminals so far.
 use Rattle.std.proofs.Common.{◌≡◌, false}
 use Rattle.bsc_monitor.specs.Ends.{standing_of, terminal_standing, together}
 use Rattle.bsc_monitor.proofs.standings.station_standing.Given as goal

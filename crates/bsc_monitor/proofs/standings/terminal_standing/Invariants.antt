@@ -1,3 +1,4 @@
+-- The state is that of the channel from the terminal and the channels to it so far.
 use Rattle.std.proofs.Common.{◌≡◌}
 use Rattle.bsc_directory.specs.declared.way.Way.TheVariants.{FromTerminal, ToTerminal}
 use Rattle.bsc_monitor.specs.Ends.{standing_at, together}

@@ -1,3 +1,4 @@
+-- Shows that dropping the first word keeps the last word.
 use Rattle.std.proofs.Common.{ap, ◌∙◌}
 use Rattle.bsc_naming.specs.Lines.{last_part}
 use Rattle.bsc_naming.proofs.PartLemmas.{last_part_more}

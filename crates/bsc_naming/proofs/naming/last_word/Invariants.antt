@@ -1,3 +1,4 @@
+-- The last word of the line is that of the text that remains, which becomes shorter.
 use Rattle.std.proofs.Common.{◌≡◌, length}
 use Rattle.bsc_input.specs.Parts.{parts_at}
 use Rattle.bsc_naming.specs.Lines.{last_part}

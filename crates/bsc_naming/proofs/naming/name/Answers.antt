@@ -1,3 +1,4 @@
+-- Shows that the name of the transmission in the text is printed.
 use Rattle.std.proofs.Common.{◌≡◌, Some, sym, ap, ◌∙◌, option_map}
 use Rattle.bsc_input.specs.Hexadecimal.{octets_of}
 use Rattle.bsc_print.specs.Names.{Prints, name_line}

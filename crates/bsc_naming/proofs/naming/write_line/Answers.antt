@@ -1,3 +1,4 @@
+-- Shows that a blank line prints nothing, and that any other prints its transmission.
 use Rattle.std.proofs.Common.{◌≡◌, Some, true, false, sym, ap, ◌∙◌, option_map, rules}
 use Rattle.bsc_input.specs.Hexadecimal.{octets_of}
 use Rattle.bsc_input.specs.Lines.{is_blank}

@@ -1,3 +1,4 @@
+-- Shows that the loop prints the lines in order, up to the first wrong one.
 use Rattle.std.proofs.Common.{◌≡◌, ◌∷◌, [], map, sym, ap, ◌∙◌, arith, rules, Err}
 use Rattle.std.specs.Str.Lines.{strip_carriage_return}
 use Rattle.bsc_input.specs.Lines.{lines_of}

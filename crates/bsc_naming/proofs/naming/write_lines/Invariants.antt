@@ -1,3 +1,4 @@
+-- The lines so far are printed, and the text that remains becomes shorter.
 use Rattle.std.proofs.Common.{◌≤◌, ◌+◌, length}
 use Rattle.bsc_input.specs.Lines.{lines_of}
 use Rattle.bsc_print.specs.Names.{shown}

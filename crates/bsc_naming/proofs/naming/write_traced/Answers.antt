@@ -1,3 +1,4 @@
+-- Shows that a line of a trace prints the transmission in its last word, if there is one.
 use Rattle.std.proofs.Common.{◌≡◌, Some, None, true, false, sym, ap, ◌∙◌, option_map, rules}
 use Rattle.bsc_input.specs.Hexadecimal.{octets_of}
 use Rattle.bsc_input.specs.Lines.{is_blank}

@@ -1,3 +1,4 @@
+-- Shows that the output is that for what the octets are heard as.
 use Rattle.bsc_naming.proofs.HeardLemmas.{is_heard}
 use Rattle.bsc_naming.proofs.naming.write_transmission.Goals as goal
 

@@ -1,3 +1,4 @@
+-- Shows that each iteration of the loop writes the line for one more unit.
 use Rattle.std.proofs.Common.{take}
 use Rattle.std.specs.List.{flat_map}
 use Rattle.std.proofs.KnownBytes.{Appends-trans}

@@ -1,3 +1,4 @@
+-- Shows that each event that sends nothing over the cable is answered as the line answers it.
 use Rattle.std.proofs.Common.{refl, None}
 use Rattle.bsc_line_model.specs.declared.event.Event.TheVariants as event
 use Rattle.bsc_script.specs.Events.{lose, silence, ready, urgent_at, urgent_for, release}

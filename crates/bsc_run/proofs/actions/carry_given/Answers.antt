@@ -1,3 +1,4 @@
+-- Shows that the line hears the octets that crossed the cable in place of what was sent.
 use Rattle.std.proofs.Common.{ℕ, List}
 use Rattle.bsc_frame.specs.declared.message.Message.{Message}
 use Rattle.bsc_script.specs.Events.{heard}

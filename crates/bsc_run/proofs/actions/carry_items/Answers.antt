@@ -1,3 +1,4 @@
+-- Shows that each terminal hears the octets that crossed the cable for it, or that a fault comes.
 use Rattle.std.proofs.Common.{◌≡◌, length, option_map, Err, ◌∙◌, ap, rules}
 use Rattle.bsc_script.specs.Events.{heard_each}
 use Rattle.bsc_run.proofs.Acting.{acts_fault, hears_items}

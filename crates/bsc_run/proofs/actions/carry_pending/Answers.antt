@@ -1,3 +1,4 @@
+-- Shows that the line hears the octets that crossed the cable for the pending transmission.
 use Rattle.bsc_frame.specs.Wire.{wire}
 use Rattle.bsc_script.specs.Events.{carry}
 use Rattle.bsc_run.proofs.Acting.{hears_octets}

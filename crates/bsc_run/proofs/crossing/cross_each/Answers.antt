@@ -1,3 +1,4 @@
+-- Shows that each iteration of the loop lets one more item cross the cable.
 use Rattle.std.proofs.Common.{option_map, refl, ◌∙◌, arith}
 use Rattle.bsc_run.specs.Crossing.{none}
 use Rattle.bsc_run.proofs.Items.{items_cross_more}

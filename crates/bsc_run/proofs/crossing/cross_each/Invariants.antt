@@ -1,3 +1,4 @@
+-- The items so far have crossed the cable, and it has as many connections as before.
 use Rattle.std.proofs.Common.{◌≡◌, map, option_map, take}
 use Rattle.bsc_run.specs.Crossing.{connection_count, ItemsCross}
 use Rattle.bsc_run.proofs.crossing.cross_each.Given as goal

@@ -1,3 +1,4 @@
+-- The slices have the octets of the words so far.
 use Rattle.std.proofs.Common.{◌≡◌, map, option_map, take}
 use Rattle.bsc_line_model.specs.Hearing.{octets_in}
 use Rattle.bsc_run.proofs.crossing.slices.Given as goal

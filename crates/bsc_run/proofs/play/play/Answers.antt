@@ -1,3 +1,4 @@
+-- Shows that the loop performs the events in order, up to the first that fails.
 use Rattle.std.proofs.Common.{map, drop, ◌+◌, arith}
 use Rattle.bsc_script.specs.Actions.{numbered}
 use Rattle.bsc_run.proofs.Playing.{drop_map, drop_map_all, has_played_none, has_played_more}

@@ -1,3 +1,4 @@
+-- The events so far are performed, and the cable fits the line.
 use Rattle.std.proofs.Common.{map, drop}
 use Rattle.bsc_script.specs.Actions.{numbered}
 use Rattle.bsc_run.specs.Speaking.{Fits}

@@ -1,3 +1,4 @@
+-- Shows that the report follows the run, and that the run is a run of the line.
 use Rattle.std.proofs.Common.{map, Ok, Err}
 use Rattle.bsc_run.specs.declared.error.RunError.TheVariants.{Refused}
 use Rattle.bsc_script.specs.Actions.{numbered}

@@ -1,3 +1,4 @@
+-- Shows that the four parts of a channel's lines are written one after another.
 use Rattle.std.specs.List.{flat_map}
 use Rattle.bsc_bid.specs.Sender.{is_in_doubt}
 use Rattle.bsc_line_model.specs.Line.{channel_of, phase_of}

@@ -1,3 +1,4 @@
+-- Shows that the lines of each terminal are written in order, and then the last line.
 use Rattle.std.proofs.Common.{◌≡◌, arith}
 use Rattle.bsc_line_model.specs.Line.{terminal_count}
 use Rattle.bsc_report.specs.Channels.{each_below}

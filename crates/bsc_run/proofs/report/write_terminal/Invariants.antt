@@ -1,3 +1,4 @@
+-- The lines of the channels so far are written.
 use Rattle.std.specs.Io.KnownBytes.{Appends}
 use Rattle.bsc_directory.specs.declared.way.Way.TheVariants.{ToTerminal}
 use Rattle.bsc_report.specs.Channels.{each_below}

@@ -1,3 +1,4 @@
+-- Shows that the cable fits the new line, and that the run is one of the configuration.
 use Rattle.bsc_run.proofs.Playing.{where_whole}
 use Rattle.bsc_run.proofs.Speaking.{new_line_fits}
 use Rattle.bsc_run.proofs.run.run_line.Goals as goal

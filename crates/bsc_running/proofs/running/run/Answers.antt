@@ -1,3 +1,4 @@
+-- Shows that both texts are read, and that the events are run or only checked.
 use Rattle.std.proofs.Common.{sym, subst}
 use Rattle.std.proofs.KnownBytes.{Keeps-refl}
 use Rattle.bsc_run.proofs.Appending.{on_ok}

@@ -1,3 +1,4 @@
+-- Shows that the number read so far does not overflow and is the value of the digits read.
 use Rattle.std.proofs.Common.{◌≡◌, true, take, arith, sym}
 use Rattle.std.specs.Str.Parse.{digits_value}
 use Rattle.std.proofs.lemmas.Int.Digits.{digits_value_more}

@@ -1,3 +1,4 @@
+-- The number is the value of the digits read so far.
 use Rattle.std.proofs.Common.{◌≡◌, take}
 use Rattle.std.specs.Str.Parse.{digits_value}
 use Rattle.bsc_script.proofs.number.number.Given as goal

@@ -1,3 +1,4 @@
+-- The items of the text are those read so far and those of the rest, which becomes shorter.
 use Rattle.std.proofs.Common.{◌≡◌, length}
 use Rattle.bsc_script.specs.Transmissions.{items_of}
 use Rattle.bsc_script.specs.Words.{words_of}

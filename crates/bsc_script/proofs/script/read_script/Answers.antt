@@ -1,3 +1,4 @@
+-- Shows that the loop reads each line in turn, and ends with the events of the whole text.
 use Rattle.std.proofs.Common.{◌≡◌, ◌+◌, ◌∷◌, [], map, sym, ap, ◌∙◌, arith}
 use Rattle.std.specs.Str.Lines.{strip_carriage_return}
 use Rattle.bsc_input.specs.Lines.{lines_of}

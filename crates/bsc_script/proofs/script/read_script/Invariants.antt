@@ -1,3 +1,4 @@
+-- The events of the text are those read so far and those of the rest, which becomes shorter.
 use Rattle.std.proofs.Common.{◌≡◌, ◌+◌, ◌≤◌, length, map}
 use Rattle.bsc_input.specs.Lines.{lines_of}
 use Rattle.bsc_script.specs.Actions.{numbered}

@@ -1,3 +1,4 @@
+-- Shows that each iteration of the loop adds the command of one more row.
 use Rattle.std.proofs.Common.{ap, sym, ◌∙◌, ◌+◌, drop, map}
 use Rattle.std.proofs.lemmas.List.{at_drop_more}
 use Rattle.clap.specs.Words.{app_of, with_subcommand}

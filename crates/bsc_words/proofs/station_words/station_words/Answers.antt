@@ -1,3 +1,4 @@
+-- Shows that each argument has the value of its name in the matches.
 use Rattle.std.proofs.Common.{◌≡◌, ◌∙◌, ap, [], option_map, unwrap_or, codes}
 use Rattle.clap.specs.Words.{Text, all_of, first_value, found_of, matched_of, raw_values, rows_of}
 use Rattle.clap.proofs.WalkLemmas.{first_value-rows, raw_values-rows}

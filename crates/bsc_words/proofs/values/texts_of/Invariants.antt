@@ -1,3 +1,4 @@
+-- The texts so far are copied.
 use Rattle.std.proofs.Common.{◌≡◌, map, take, string_bytes}
 use Rattle.bsc_words.proofs.values.texts_of.Given as goal
 

@@ -1,3 +1,4 @@
+-- Shows that the work and the errors are those of the command line of the program.
 use Rattle.std.proofs.Common.{ap, sym, refl, true, ◌≡◌, ◌∙◌, map, subst}
 use Rattle.clap.specs.Words.{App, app_of, fault_of, is_simple, is_simple_and_free, HasKind}
 use Rattle.clap.specs.Words.{subcommand_of}

@@ -1,3 +1,4 @@
+-- Shows that the paths and the flag of a run have the values of their names in the matches.
 use Rattle.std.proofs.Common.{ap, ◌≡◌, ◌∙◌, [], unwrap_or, codes, string_bytes}
 use Rattle.clap.specs.Words.{Text, first_value, found_of, rows_of}
 use Rattle.clap.proofs.WalkLemmas.{first_value-rows}

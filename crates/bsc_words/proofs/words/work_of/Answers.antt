@@ -1,3 +1,4 @@
+-- Shows that `name` asks for the name of the transmission in its argument.
 use Rattle.std.proofs.Common.{rules, ap, ap₂, sym, ◌≡◌, ◌∙◌, List, [], Option, Some, None}
 use Rattle.std.proofs.Common.{option_map, unwrap_or, codes}
 use Rattle.std.proofs.lemmas.Option.{same_Some}
