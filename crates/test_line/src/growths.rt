@@ -15,10 +15,10 @@ use std::test::Fail;
 use test_alloc::{Refusal, Refusing};
 use test_fixtures::octets::{NAK, WACK};
 
-/// Growths above a multiple of 512 octets, which three records exceed.
+/// Refuses growths of more octets than a multiple of 512. Three records fill 512 octets.
 const ABOVE: Refusal = Refusal::Above { octets: 512 };
 
-/// Growths above a multiple of 64 octets.
+/// Refuses growths of more octets than a multiple of 64.
 const ABOVE_LITTLE: Refusal = Refusal::Above { octets: 64 };
 
 /// The records to offer on channels: the terminal and direction of each channel, and one character
