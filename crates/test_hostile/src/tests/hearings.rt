@@ -72,7 +72,7 @@ fn hear_by_one(rt: &impl Abort, stage: Stage<'_>, sent: &Sent, octets: &[u8]) ->
 }
 
 /// All stations that hear the transmission hear these octets in its place; if the control station
-/// sent it, one terminal alone does too.
+/// sent it, each single terminal does too.
 fn hear(rt: &impl Abort, stage: Stage<'_>, sent: &Sent, octets: &[u8]) -> Result<(), Fail> {
     let heard = Some(octets);
     let seen = play(stage, sent, &Event::Carry { heard })?;
