@@ -1,4 +1,7 @@
-//! Plays workloads against a line, for the comparison with plain Rust: bench/line runs it.
+//! Plays workloads on a line, for the comparison with plain Rust that bench/line makes.
+//!
+//! The messages are the standard's (GA27-3004); the workloads and their numbers are this project's
+//! own.
 #![tactic(auto)]
 
 mod random;
@@ -17,7 +20,7 @@ fn main(rt: HostRuntime) -> Result<()> {
     run(&rt)
 }
 
-/// Plays the workload of the command line, or small ones where there is none.
+/// Plays the workload of the command line, or small ones if there is none.
 fn run<R: AllocGlobal + Clock + Env + Eprint + Files + Print>(rt: &R) -> Result<()> {
     let mut words = Vec::new(rt.alloc());
     read_words(rt, &mut words)?;
@@ -33,7 +36,7 @@ fn read_words<R: AllocGlobal + Env>(rt: &R, words: &mut Vec<String>) -> Result<(
     Ok(())
 }
 
-/// Plays the workload of these words, or small ones where there is none, and writes it all.
+/// Plays the workload of these words, or small ones if there is none, and flushes the output.
 fn play_to<R: AllocGlobal + Clock + Eprint + Files, W: Write>(
     rt: &R,
     out: &mut W,
@@ -55,7 +58,7 @@ fn play_small<R: AllocGlobal + Clock + Files, W: Write>(rt: &R, out: &mut W) -> 
     scripts::play(rt.alloc(), out, 1, 10, 100)
 }
 
-/// Plays the workload of these words: its name, and its numbers.
+/// Plays the workload with this name and these numbers.
 fn play<R: AllocGlobal + Clock + Eprint + Files, W: Write>(
     rt: &R,
     out: &mut W,

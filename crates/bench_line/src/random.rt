@@ -1,4 +1,4 @@
-//! The numbers that the workloads are made of: the same here and in bench/line_plain.
+//! The random numbers from which the workloads are made; the same as in bench/line_plain.
 
 ghost use Rattle.std.specs.Prelude.{◌<◌};
 
@@ -22,7 +22,7 @@ impl Random {
         self.state.wrapping_mul(0x2545_f491_4f6c_dd1d)
     }
 
-    /// A number below the bound; 0 where that is 0.
+    /// A number below the bound; 0 if the bound is 0.
     pub fn below(&mut self, bound: usize) -> usize
         ensures { 0 < bound → result < bound }
     {
@@ -30,7 +30,7 @@ impl Random {
         if bound == 0 { 0 } else { number % bound }
     }
 
-    /// Whether one in this many comes up.
+    /// Returns true once in this many times on average.
     pub fn one_in(&mut self, many: usize) -> bool {
         self.below(many) == 0
     }

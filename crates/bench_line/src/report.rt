@@ -1,4 +1,5 @@
-//! What was left on a line, in a line of text that is the same here and in bench/line_plain.
+//! The state of a line after a workload, as a line of text that is the same here and in
+//! bench/line_plain.
 
 ghost use Rattle.std.specs.Prelude.{◌<◌};
 ghost use Rattle.bsc_line_model.specs.Line.{IsChannel, terminal_count};
@@ -35,7 +36,7 @@ impl Digest {
         }
     }
 
-    /// How an event was answered, and what is on the line after it.
+    /// Adds the answer to an event, and what is pending after it.
     pub fn event(&mut self, answer: Result<(), LineError>, line: &Line<Global>) {
         self.number(code(answer));
         match line.pending() {
@@ -75,7 +76,7 @@ fn code(answer: Result<(), LineError>) -> usize {
     }
 }
 
-/// What is left on all channels.
+/// Totals over all channels.
 #[derive(Drop)]
 struct Left {
     digest: Digest,
@@ -86,7 +87,7 @@ struct Left {
 }
 
 impl Left {
-    /// What is left on this line after a history with this digest.
+    /// The totals of this line, with the digest of the events before.
     fn on(line: &Line<Global>, digest: Digest) -> Left {
         let mut left = Left {
             digest,
@@ -131,7 +132,7 @@ impl Left {
     }
 }
 
-/// Prints what is left on the line after a history with this digest.
+/// Prints the totals of the line, with the digest of the events before.
 pub fn print<W: Write>(out: &mut W, digest: Digest, line: &Line<Global>) -> io::Result<()> {
     let left = Left::on(line, digest);
     let (offered, known, spooled, doubts) = (left.offered, left.known, left.spooled, left.doubts);

@@ -13,7 +13,7 @@ use std::alloc::{AllocError, Global};
 use std::io::Write;
 use std::mem;
 
-/// A script as it is played.
+/// A script that is being played.
 #[derive(Drop)]
 struct Script {
     alloc: Global,
@@ -21,13 +21,13 @@ struct Script {
     line: Line<Global>,
     full: usize,
 
-    /// Of eight transmissions this many are not heard as they were sent.
+    /// Out of eight transmissions, this many are not heard as they were sent.
     spoiled: usize,
 
-    /// How many ways of spoiling there are.
+    /// The number of ways of spoiling.
     ways: usize,
 
-    /// The record that is offered next.
+    /// The record to offer next.
     record: Vec<u8>,
 
     /// What is pending, and what was pending some time before.
@@ -35,10 +35,10 @@ struct Script {
     earlier: Vec<u8>,
 }
 
-/// What an event answers; the outer error is that memory ran out outside the line.
+/// The answer to an event; the outer error is that memory ran out outside the line.
 type Answer = Result<Result<(), LineError>, AllocError>;
 
-/// Plays a number of scripts, and tells what each leaves.
+/// Plays a number of scripts, and prints the state after each.
 pub fn play<W: Write>(
     alloc: Global,
     out: &mut W,
@@ -52,13 +52,13 @@ pub fn play<W: Write>(
     Ok(())
 }
 
-/// Plays the script of this seed, and tells what it leaves.
+/// Plays the script of this seed, and prints the state after it.
 fn play_one<W: Write>(alloc: Global, out: &mut W, seed: u64, events: usize) -> anyhow::Result<()> {
     let mut script = Script::new(alloc, seed)?;
     script.play(out, seed, events)
 }
 
-/// Plays one script, and tells after each event what is left.
+/// Plays one script, and prints the state after each event.
 pub fn trace<W: Write>(alloc: Global, out: &mut W, seed: u64, events: u64) -> anyhow::Result<()> {
     let mut script = Script::new(alloc, seed)?;
     script.trace(out, events)
@@ -82,7 +82,7 @@ impl Script {
         })
     }
 
-    /// Plays this many events, and tells under this number what they leave.
+    /// Plays this many events, and prints the state after them with this number.
     fn play<W: Write>(&mut self, out: &mut W, number: u64, events: usize) -> anyhow::Result<()> {
         let digest = self.steps(events)?;
         write!(out, "{number}: ")?;
@@ -90,7 +90,7 @@ impl Script {
         Ok(())
     }
 
-    /// Plays this many events one by one.
+    /// Plays this many events one by one, and prints the state after each.
     fn trace<W: Write>(&mut self, out: &mut W, events: u64) -> anyhow::Result<()> {
         for number in 0..events {
             self.play(out, number, 1)?;
@@ -98,7 +98,7 @@ impl Script {
         Ok(())
     }
 
-    /// This many events, and what came of them.
+    /// Plays this many events, and returns the digest of their answers.
     fn steps(&mut self, events: usize) -> Result<Digest, AllocError> {
         let mut digest = Digest::new();
         for _ in 0..events {
@@ -108,7 +108,7 @@ impl Script {
         Ok(digest)
     }
 
-    /// One event.
+    /// Plays one event.
     fn step(&mut self) -> Answer {
         let count = self.line.terminals();
         let terminal = self.one_of(count);
@@ -135,7 +135,7 @@ impl Script {
         }
     }
 
-    /// A number below the count, or sometimes also the count.
+    /// A number below the count, or sometimes the count itself.
     fn one_of(&mut self, count: usize) -> usize {
         if self.random.one_in(16) {
             self.random.below(count.wrapping_add(1))
@@ -144,7 +144,7 @@ impl Script {
         }
     }
 
-    /// The number of an address of a terminal, or one more.
+    /// The number of an address of a terminal, sometimes of one that does not exist.
     fn select(&mut self, terminal: usize) -> usize {
         let selects = if terminal < self.line.terminals() {
             self.line.addresses(terminal)
@@ -192,7 +192,7 @@ impl Script {
         self.line.release(terminal, way)
     }
 
-    /// What is pending is carried or lost, or a silence passes, also at a wrong time.
+    /// What is pending is carried or lost, or a silence passes, even if the line has to refuse it.
     fn any_turn(&mut self) -> Answer {
         match self.random.below(4) {
             0 => Ok(self.line.silence()),
@@ -202,7 +202,7 @@ impl Script {
         }
     }
 
-    /// What is pending is carried or lost; where nothing is, a silence passes.
+    /// What is pending is carried or lost; if nothing is pending, a silence passes.
     fn turn(&mut self) -> Answer {
         let Some(speaker) = self.copy_pending()? else {
             return Ok(self.line.silence());
@@ -217,8 +217,8 @@ impl Script {
         }
     }
 
-    /// Copies what is pending, and sometimes keeps what was before it: who sent it, or None where
-    /// nothing is pending.
+    /// Copies what is pending, and sometimes keeps what was pending before. Returns the station
+    /// that sent it, or None if nothing is pending.
     fn copy_pending(&mut self) -> Result<Option<Speaker>, AllocError> {
         let Some((speaker, octets)) = self.line.pending() else {
             return Ok(None);
@@ -231,13 +231,13 @@ impl Script {
         Ok(Some(speaker))
     }
 
-    /// What is pending is heard spoiled by all who hear it.
+    /// All stations that hear what is pending hear it spoiled in the same way.
     fn carry_spoiled(&mut self) -> Answer {
         let heard = self.spoil()?;
         Ok(self.line.carry(Some(heard.as_slice())))
     }
 
-    /// Each terminal hears what is pending in a way of its own.
+    /// Each terminal hears what is pending differently.
     fn carry_each(&mut self) -> Answer {
         let count = self.line.terminals();
         let count = if self.random.one_in(16) {
@@ -262,7 +262,7 @@ impl Script {
         Ok(())
     }
 
-    /// Each terminal hears its one of these.
+    /// Each terminal hears its own item.
     fn carry_as(&mut self, hearings: &[Option<Vec<u8>>]) -> Answer {
         let mut items = Vec::new(self.alloc);
         for hearing in hearings {
@@ -298,7 +298,7 @@ impl Script {
     }
 }
 
-/// Damages the octets in this way: from this place on, there, or after them.
+/// Damages the octets in this way: from this place on, at this place, or after them.
 fn damage(
     random: &mut Random,
     octets: &mut Vec<u8>,
@@ -314,7 +314,7 @@ fn damage(
     Ok(())
 }
 
-/// Turns a bit of the octet at this place.
+/// Inverts a bit of the octet at this place.
 fn turn_bit(random: &mut Random, octets: &mut [u8], place: usize) {
     let bit = random.below(8);
     if let Some(octet) = octets.get_mut(place) {
@@ -322,7 +322,7 @@ fn turn_bit(random: &mut Random, octets: &mut [u8], place: usize) {
     }
 }
 
-/// Puts any octet at this place.
+/// Replaces the octet at this place with any octet.
 fn put(random: &mut Random, octets: &mut [u8], place: usize) {
     let new = random.octet();
     if let Some(octet) = octets.get_mut(place) {
@@ -330,7 +330,7 @@ fn put(random: &mut Random, octets: &mut [u8], place: usize) {
     }
 }
 
-/// How many characters a record has at most, and settings with that.
+/// The greatest number of characters of a record, and settings with it.
 fn setup(random: &mut Random) -> anyhow::Result<(usize, Setup)> {
     let full = if random.one_in(2) {
         80
@@ -348,7 +348,7 @@ fn setup(random: &mut Random) -> anyhow::Result<(usize, Setup)> {
     Ok((full, setup))
 }
 
-/// A line of one to four terminals, and of one to six entries of its poll list.
+/// A line of one to four terminals, with a poll list of one to six entries.
 fn line(alloc: Global, random: &mut Random, setup: Setup) -> anyhow::Result<Line<Global>> {
     let terminals = terminals(alloc, random)?;
     let poll_list = poll_list(alloc, random, terminals.len())?;
@@ -371,7 +371,8 @@ fn poll_list(alloc: Global, random: &mut Random, terminals: usize) -> Result<Vec
     Ok(poll_list)
 }
 
-/// How many ways of spoiling a script has: bits are turned, or more is cut short, or all.
+/// The number of ways of spoiling in a script: only inverted bits, also transmissions cut short, or
+/// all.
 fn ways(choice: usize) -> usize {
     match choice {
         0 => 1,
@@ -380,7 +381,8 @@ fn ways(choice: usize) -> usize {
     }
 }
 
-/// What else may be heard: EOT, ENQ, NAK, ACK0, ACK1, WACK, RVI, and a text whose check fails.
+/// Other messages that may be heard: EOT, ENQ, NAK, ACK0, ACK1, WACK, RVI, and a text that fails
+/// its check.
 const OTHERS: [&[u8]; 8] = [
     &[0x16, 0x04],
     &[0x16, 0x85],
@@ -392,7 +394,7 @@ const OTHERS: [&[u8]; 8] = [
     &[0x16, 0x02, 0x85],
 ];
 
-/// A terminal of one to four addresses.
+/// A terminal with one to four selection addresses.
 fn terminal(alloc: Global, random: &mut Random, number: usize) -> anyhow::Result<Terminal>
     requires { number < 4 }
 {
@@ -405,7 +407,7 @@ fn terminal(alloc: Global, random: &mut Random, number: usize) -> anyhow::Result
     Ok(Terminal::new(poll, &selects)?)
 }
 
-/// An address of these codes and some more.
+/// An address that begins with these codes, followed by up to five more.
 fn address(alloc: Global, random: &mut Random, first: &[u8]) -> anyhow::Result<Address> {
     let mut codes = Vec::from_slice(alloc, first)?;
     for _ in 0..random.below(6) {

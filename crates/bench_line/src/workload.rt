@@ -1,4 +1,5 @@
-//! The workloads for the clock: polls of nothing, and texts of seven records each way.
+//! The workloads that are timed: polls without records, and texts of seven records in each
+//! direction.
 
 ghost use Rattle.std.specs.Prelude.{◌<◌};
 
@@ -14,27 +15,28 @@ use std::io::Write;
 use std::rt::{Clock, Files};
 use std::time::{Duration, Instant};
 
-/// How what is pending comes to be heard.
+/// How a pending transmission is heard.
 #[derive(Clone, Copy)]
 pub enum Hearing {
-    /// By a call that says that it is heard as it was sent.
+    /// By the function that carries it as it was sent.
     Sent,
 
-    /// As octets that are those that were sent.
+    /// As the same octets, which are passed to the line.
     Octets,
 
-    /// As these and one more FF after them, which is no part of the message.
+    /// As the same octets with one more FF, which is not part of the message.
     Padded,
 }
 
-/// The records of a text.
+/// The number of records of a text.
 const RECORDS: usize = 7;
 
-/// How many transmissions a visit of a terminal takes: two calls, two texts, their replies and EOT.
+/// The number of transmissions of a visit of a terminal: two calls, two texts, their replies and
+/// EOT.
 const TRANSMISSIONS: usize = 8;
 
-/// A line that is lent to those that play on it, and the record that was offered last on it: of 55 characters, so that it counts 57 and
-/// seven of them fill a block of 400.
+/// A line, which is lent to the functions that play on it, and the record that was offered last. It
+/// has 55 characters, so that it counts 57, and seven of them fill a block of 400.
 #[derive(Drop)]
 struct Player {
     line: Line<Global>,
@@ -44,7 +46,7 @@ struct Player {
     terminal: usize,
 }
 
-/// How long a number of events took, and how many octets of memory were taken before it.
+/// The time of a number of events, and the number of octets of memory allocated before.
 #[derive(Drop)]
 pub struct Measured {
     events: usize,
@@ -61,7 +63,7 @@ impl Measured {
     }
 }
 
-/// Polls of nothing.
+/// Plays polls without records.
 pub fn polls<R: AllocGlobal + Clock, W: Write>(
     rt: &R,
     out: &mut W,
@@ -73,7 +75,7 @@ pub fn polls<R: AllocGlobal + Clock, W: Write>(
     player.measure_polls(rt, out, events)
 }
 
-/// Texts of seven records each way, after a history of this many records.
+/// Plays texts of seven records in each direction, after a history of this many records.
 pub fn texts<R: AllocGlobal + Clock + Files, W: Write>(
     rt: &R,
     out: &mut W,
@@ -86,7 +88,7 @@ pub fn texts<R: AllocGlobal + Clock + Files, W: Write>(
     player.measure_texts(rt, out, history, visits)
 }
 
-/// A terminal for each number below this, and a poll list that names each in turn.
+/// A terminal for each number below `count`, and a poll list with each of them in turn.
 fn stations(alloc: Global, count: u8) -> anyhow::Result<(Vec<Terminal>, Vec<u8>)> {
     let mut terminals = Vec::new(alloc);
     let mut poll_list = Vec::new(alloc);
@@ -104,7 +106,7 @@ fn station(number: u8) -> anyhow::Result<Terminal> {
     Ok(Terminal::new(poll, &[select])?)
 }
 
-/// A line of the terminals of the numbers below this, which are called in turn.
+/// A line with the terminals of the numbers below `count`, which are polled in turn.
 fn line(alloc: Global, count: u8) -> anyhow::Result<Line<Global>> {
     let setup = Setup::new(80, 400, 3, 10)?;
     let (terminals, poll_list) = stations(alloc, count)?;
@@ -123,7 +125,7 @@ impl Player {
         })
     }
 
-    /// Polls of nothing, and what is left.
+    /// Measures polls without records, and prints the state after them.
     fn measure_polls<R: Clock, W: Write>(
         &mut self,
         rt: &R,
@@ -136,7 +138,7 @@ impl Player {
         Ok(measured)
     }
 
-    /// Texts after a history, and what is left.
+    /// Measures texts after a history, and prints the state after them.
     fn measure_texts<R: AllocGlobal + Clock + Files, W: Write>(
         &mut self,
         rt: &R,
@@ -151,7 +153,7 @@ impl Player {
         Ok(measured)
     }
 
-    /// How long this many polls of nothing take.
+    /// Measures the time of this many polls without records.
     fn time_polls<R: Clock>(&mut self, rt: &R, events: usize) -> anyhow::Result<Measured> {
         self.line.silence()?;
         let started = Instant::now(rt)?;
@@ -165,7 +167,8 @@ impl Player {
         })
     }
 
-    /// Starts, and delivers this many records: how many octets of memory that takes.
+    /// Calls the first terminal, and delivers this many records. Returns the number of octets of
+    /// memory that they take.
     fn remember<R: AllocGlobal + Files>(
         &mut self,
         rt: &R,
@@ -177,7 +180,7 @@ impl Player {
         Ok(resident(rt)?.saturating_sub(before))
     }
 
-    /// How long this many visits take, where this many octets of memory were taken before.
+    /// Measures the time of this many visits; `octets` is the memory taken before.
     fn time_visits<R: Clock>(
         &mut self,
         rt: &R,
@@ -193,7 +196,7 @@ impl Player {
         })
     }
 
-    /// The first terminal has records to send and to take, and is called.
+    /// Offers records from and for the first terminal, and calls it.
     fn start(&mut self) -> Result<(), LineError> {
         self.offer()?;
         self.line.silence()
@@ -211,7 +214,7 @@ impl Player {
         self.line.carry(Some(self.octets.as_slice()))
     }
 
-    /// Copies the octets of what is pending, which are at most 1,033.
+    /// Copies the octets of what is pending, at most 1,033.
     fn copy_pending(&mut self) {
         self.octets.clear();
         if let Some((_, octets)) = self.line.pending() {
@@ -219,7 +222,7 @@ impl Player {
         }
     }
 
-    /// Seven records at the next terminal, and seven for it.
+    /// Offers seven records at the next terminal, and seven for it.
     fn offer(&mut self) -> Result<(), LineError> {
         for _ in 0..RECORDS {
             count_on(&mut self.record);
@@ -243,7 +246,7 @@ impl Player {
         Ok(())
     }
 
-    /// A terminal is selected and polled, and then the next one is called.
+    /// Selects and polls a terminal, and then calls the next one.
     fn visit(&mut self) -> Result<(), LineError> {
         for _ in 1..TRANSMISSIONS {
             self.carry()?;
@@ -253,8 +256,8 @@ impl Player {
     }
 }
 
-/// The next record: its first four characters tell its number, as digits from 0x40 to 0x7f, the
-/// lowest first.
+/// Makes the next record. Its first four characters are its number, in digits from 0x40 to 0x7f,
+/// the lowest first.
 fn count_on(record: &mut [u8]) {
     for digit in record.iter_mut().take(4) {
         if *digit < 0x7f {
@@ -265,20 +268,20 @@ fn count_on(record: &mut [u8]) {
     }
 }
 
-/// A letter and a number below 64 in two characters.
+/// An address of two characters, from a letter and a number below 64.
 fn address(letter: u8, number: u8) -> anyhow::Result<Address> {
     let high = letter.wrapping_add(number / 16);
     let low = b'0'.wrapping_add(number % 16);
     Ok(Address::read(&[high, low])?)
 }
 
-/// How many octets of memory the process has.
+/// The number of octets of memory of the process.
 fn resident<R: AllocGlobal + Files>(rt: &R) -> anyhow::Result<usize> {
     let pages = fs::read_to_string(rt, "/proc/self/statm")?;
     read_resident(pages.as_str())
 }
 
-/// How many octets are resident, by the numbers of pages that the system tells.
+/// The number of resident octets, from the numbers of pages that the system reports.
 fn read_resident(pages: &str) -> anyhow::Result<usize> {
     let resident = pages.split(' ').nth(1).context("no resident pages")?;
     Ok(resident.parse::<usize>()?.saturating_mul(4096))

@@ -1,4 +1,4 @@
-//! One terminal against the control station of another maker.
+//! One terminal on a line with the control station of another manufacturer.
 
 use anyhow::bail;
 use bsc_bid::{Setup, Station, Terminal};
@@ -7,9 +7,9 @@ use bsc_tributary::{Tributary, addresses_differ};
 use std::alloc::Allocator;
 use std::io::Write;
 
-/// Runs the terminal that is polled by `A` and selected by `a` on what it hears: the octets of one
-/// transmission after another, and None where nothing was heard for the time of a time-out. What it
-/// sends goes to `line`, and then the records that arrived to `printer`.
+/// Runs the terminal that is polled by `A` and selected by `a`. `heard` are the transmissions that
+/// it hears, in order, with None for a time-out. What it sends is written to `line`, and then the
+/// records that arrived to `printer`.
 pub fn run_terminal<A: Allocator + Copy, W: Write>(
     alloc: A,
     heard: &[Option<&[u8]>],

@@ -1,4 +1,4 @@
--- The call of `refuses`: what it is handed, and what comes back. Assumes `Logic`.
+-- The call of `refuses`: its arguments and its result. Assumes `Logic`.
 use Rattle.std.proofs.Common.{◌≡◌, ℕ, ◌^◌, ◌<◌, Bool, List, [], ◌∷◌, refl, ap, w64}
 use seplogic.Ra.Ura.{Ura}
 use mir.Val.{Val, vbool, vint, vptr}

@@ -1,5 +1,5 @@
--- What the holder of a `&` to the allocator has: a `&` to the allocator below, and one to the cell
--- that counts. Assumes `Logic`.
+-- The contents of a `&` to the allocator: a `&` to the allocator below, and one to the cell with the counts.
+-- Assumes `Logic`.
 use Rattle.std.proofs.Common.{ℕ, ◌+◌, [], ◌∷◌, refl, Bor}
 use seplogic.Ra.Ura.{Ura}
 use mir.Syntax.{Args, a_type, dnil, dcons}
@@ -22,19 +22,19 @@ use Rattle.std.specs.contracts.cell.Cell as cell
 use Rattle.test_alloc.specs.contracts.tally.Tally as tally
 use Rattle.test_alloc.specs.contracts.refusing.Refusing as refusing
 
--- the cell's type
+-- the type of the cell
 abbrev pub Counts : RattleType
 Counts = cell.the_row tally.the_row
 
 module _ (Z : Al) where
-  -- what both methods are instantiated at
+  -- the arguments with which both methods are instantiated
   abbrev pub args : Args
   args = bounded (a_type ∷ []) (Z.row, tt) (dcons Z.d (dcons Z.drops dnil))
 
   abbrev pub Whole : RattleType
   Whole = refusing.the_row (param 0 Z.row)
 
-  -- the two fields' places, from the allocator's own
+  -- the addresses of the two fields, from that of the allocator
   abbrev pub below : ℕ × ℕ → ℕ × ℕ
   below p = (p.0, p.1 + up (align (α Z)) 0)
 
@@ -61,7 +61,7 @@ module _ (Z : Al) where
         use1 𝓛 (‵ (hidden_shr Counts κ r.now.tally (counts p).0 (counts p).1)) (id⊢ 𝓤 _) $ keep !
         (2 ∷ 0 ∷ []) $ join ! $ done !
 
--- and a number, as the size and the alignment are
+-- the same for a number, as the size and the alignment are
 pub number_goes : {M : Type 1} {𝓤 : Ura M} (𝓛 : Logic 𝓤)
     → Goes 𝓛 2 (plain (λ _. usize)) yes (stay_dropped (plain (λ _. usize)) yes)
 number_goes 𝓛 = Goes-dropped 𝓛 2 (plain (λ _. usize)) yes (λ κs x f. refl)

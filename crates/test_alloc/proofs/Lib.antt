@@ -1,3 +1,3 @@
--- What the two proofs by hand share.
+-- Lemmas shared by the proofs of `allocate` and `deallocate`.
 mod Behind
 mod Asks

@@ -7,15 +7,15 @@ use crate::{Refusal, Refusing};
 use std::alloc::{Allocator, Global};
 use std::ops::Range;
 
-/// The numbers of the runs of a test, in each of which the requests of that number are refused. See
-/// [`Refusing::in_turn`].
+/// The numbers of the runs of a test; in each run, the requests that the number stands for are
+/// refused. See [`Refusing::in_turn`].
 #[derive(Drop)]
 pub struct InTurn<'a, B: Allocator = Global> {
     alloc: &'a Refusing<B>,
     refusal: Refusal,
     turns: Turns,
 
-    /// How many requests were ever refused before the run that goes on.
+    /// The number of requests ever refused before the current run.
     refused_before: usize,
 }
 

@@ -1,5 +1,7 @@
-//! An allocator for tests. It hands each request on to another allocator, counts it, and refuses
-//! the requests that the test names, so that a test can refuse each growth of a collection in turn.
+//! An allocator for tests. It passes each request to another allocator, counts it, and refuses the
+//! requests that the test selects, so that a test can refuse each growth of a collection in turn.
+//!
+//! Nothing in this crate is part of the line procedure.
 #![tactic(auto)]
 
 mod in_turn;

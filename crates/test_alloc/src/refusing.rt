@@ -1,4 +1,4 @@
-//! The allocator, and the one place where the repository's tests own raw memory.
+//! The allocator. It is the only place where the tests of this repository own raw memory.
 ghost use Rattle.std.specs.Prelude.{◌≡◌};
 ghost use Rattle.test_alloc.specs.Turns.{new_turns};
 
@@ -8,28 +8,28 @@ use std::alloc::{AllocError, Allocator, Global};
 use std::cell::Cell;
 use std::ops::Range;
 
-/// Which requests are refused, by a number that a test counts up.
+/// Which requests are refused, given a number that a test counts up.
 #[derive(Clone, Copy, Debug, PartialEq, Eq)]
 pub enum Refusal {
-    /// Only the request of the number, where 1 is the next one.
+    /// Only the request with this number; 1 is the next request.
     Nth,
 
-    /// The request of the number and each later one.
+    /// The request with this number and each later one.
     From,
 
     /// Each request of more octets than the number times this many.
     Above { octets: usize },
 }
 
-/// An allocator over `B` that refuses the requests that a test names. A test makes one over
-/// `rt.alloc()`, and hands `&refusing`, which is a `Copy` allocator, to what it tests.
+/// An allocator over `B` that refuses the requests that a test selects. A test makes one over
+/// `rt.alloc()`, and passes `&refusing`, which is a `Copy` allocator, to what it tests.
 ///
-/// A request is a call for a new block: an allocation, or a growth or a shrinking of a collection,
+/// A request is a call for a new block: an allocation, or a growth or shrinking of a collection,
 /// since each of these moves to a new block. A refused request changes nothing, as if `B` were out
-/// of memory, and giving a block back is never refused.
+/// of memory. Returning a block is never refused.
 ///
-/// Where `extend` and `from_iter` of std are refused once, they ask again for less: `refuse_nth`
-/// does not stop them, and `refuse_from` does.
+/// If `extend` and `from_iter` of std are refused once, they ask again for less: `refuse_nth` does
+/// not stop them, but `refuse_from` does.
 #[derive(Drop)]
 pub struct Refusing<B: Allocator = Global> {
     inner: B,
@@ -37,7 +37,7 @@ pub struct Refusing<B: Allocator = Global> {
 }
 
 impl<B: Allocator> Refusing<B> {
-    /// Refuses nothing yet.
+    /// Makes an allocator that refuses nothing yet.
     pub fn new(inner: B) -> Refusing<B> {
         Refusing {
             inner,
@@ -51,29 +51,29 @@ impl<B: Allocator> Refusing<B> {
         self.tally.set(tally);
     }
 
-    /// From here on refuses nothing. Counting starts anew.
+    /// Refuses nothing from now on. Counting starts again.
     pub fn refuse_none(&self) {
         self.set(Rule::Nothing);
     }
 
-    /// From here on refuses only the request of this number, where 1 is the next one. Counting
-    /// starts anew.
+    /// Refuses only the request of this number from now on; 1 is the next request. Counting starts
+    /// again.
     pub fn refuse_nth(&self, request: usize) {
         self.set(Rule::Nth { request });
     }
 
-    /// From here on refuses the request of this number and each later one, where 1 is the next
-    /// one. Counting starts anew.
+    /// Refuses the request of this number and each later one from now on; 1 is the next request.
+    /// Counting starts again.
     pub fn refuse_from(&self, request: usize) {
         self.set(Rule::From { request });
     }
 
-    /// From here on refuses each request of more than `size` octets. Counting starts anew.
+    /// Refuses each request of more than `size` octets from now on. Counting starts again.
     pub fn refuse_larger(&self, size: usize) {
         self.set(Rule::LargerThan { size });
     }
 
-    /// From here on refuses the requests that the number names. Counting starts anew.
+    /// Refuses the requests that the number stands for from now on. Counting starts again.
     pub fn refuse(&self, refusal: Refusal, number: usize) {
         match refusal {
             Refusal::Nth => self.refuse_nth(number),
@@ -93,9 +93,9 @@ impl<B: Allocator> Refusing<B> {
     /// }
     /// ```
     ///
-    /// `refused` says whether a run met a refusal, and `refuse` may begin its counting later. How
-    /// many runs meet a refusal has to be in this range, and at least 1: else the last item is an
-    /// error. After the last item nothing is refused.
+    /// `refused` tells whether a run met a refusal, and `refuse` may restart its counting during a
+    /// run. The number of runs that meet a refusal has to be in this range, and at least 1;
+    /// otherwise the last item is an error. After the last item nothing is refused.
     pub fn in_turn(&self, refusal: Refusal, runs: Range<usize>) -> InTurn<'_, B>
         ensures turns { result.turns ≡ new_turns runs.start runs.end }
         ensures refusal { result.refusal ≡ refusal }
@@ -103,24 +103,24 @@ impl<B: Allocator> Refusing<B> {
         InTurn::new(self, refusal, runs)
     }
 
-    /// How many requests there were since counting began, refused or not.
+    /// The number of requests since counting started, refused or not.
     pub fn requests(&self) -> usize {
         self.tally.get().requests
     }
 
-    /// How many requests this allocator refused since counting began. One that `B` could not meet
-    /// is not among them.
+    /// The number of requests that this allocator refused since counting started. It does not
+    /// include requests that `B` could not satisfy.
     pub fn refused(&self) -> usize {
         self.tally.get().refused
     }
 
-    /// How many requests this allocator ever refused.
+    /// The number of requests that this allocator ever refused.
     pub(crate) fn ever_refused(&self) -> usize {
         self.tally.get().ever_refused
     }
 }
 
-// Takes only the cell, so that it is one function for every allocator.
+// Takes only the cell, so that it is the same function for every allocator.
 fn refuses(tally: &Cell<Tally>, size: usize) -> bool {
     let mut now = tally.get();
     let refused = now.ask(size);

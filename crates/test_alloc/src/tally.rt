@@ -1,5 +1,5 @@
-//! Which requests are refused, and the count of them. This is the whole decision of the allocator,
-//! kept apart from it so that its contract can be stated: no contract sees what a cell holds.
+//! The rule of refusals and the counts of requests. Every decision of the allocator is made here on
+//! plain values, so that contracts can state it: no contract can state what a cell holds.
 ghost use Rattle.std.specs.Prelude.{◌≡◌, ◌↔◌, IsTrue};
 ghost use Rattle.test_alloc.specs.Refusals.{RefusesRequest, next_count, count_if};
 
@@ -12,8 +12,8 @@ pub(crate) enum Rule {
     LargerThan { size: usize },
 }
 
-/// A rule, how many requests were made since it was set, how many of them were refused, and how
-/// many were ever refused.
+/// A rule, the number of requests since it was set, how many of them were refused, and how many
+/// requests were ever refused.
 #[derive(Clone, Copy, Debug, PartialEq, Eq)]
 pub(crate) struct Tally {
     pub(crate) rule: Rule,
@@ -23,7 +23,7 @@ pub(crate) struct Tally {
 }
 
 impl Tally {
-    /// No rule, and nothing was asked yet.
+    /// No rule, and no requests.
     pub(crate) fn new() -> Tally
         ensures { result
             ≡ record { rule = Rule.Nothing; requests = 0; refused = 0; ever_refused = 0 } }
@@ -36,7 +36,7 @@ impl Tally {
         }
     }
 
-    /// From here on this rule. Counting starts anew, but for what was ever refused.
+    /// Sets the rule. Counting starts again, except for the requests ever refused.
     pub(crate) fn set(&mut self, rule: Rule)
         ensures { self.new ≡ record {
           rule = rule;
@@ -50,8 +50,8 @@ impl Tally {
         self.refused = 0;
     }
 
-    /// Counts one more request, of `size` octets, and says whether it is refused. A count that is
-    /// at `usize::MAX` stays there.
+    /// Counts one more request, of `size` octets, and returns whether it is refused. A count stays
+    /// at `usize::MAX` once it is there.
     pub(crate) fn ask(&mut self, size: usize) -> bool
         ensures refuses { IsTrue result
             ↔ RefusesRequest self.old.rule (next_count self.old.requests) size }

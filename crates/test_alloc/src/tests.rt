@@ -7,7 +7,8 @@ use std::test::Fail;
 
 const VALUES: u8 = 100;
 
-/// Pushes each value, a second time where the first was refused, and tells at which lengths.
+/// Pushes each value, a second time if the first push was refused, and returns the lengths at which
+/// that happened.
 fn refused_pushes<A: Allocator>(
     alloc: Global,
     pushed: &mut Vec<u8, A>,
@@ -94,7 +95,8 @@ fn each_collection_meets_each_refusal(rt: HostRuntime) -> Result<(), Fail> {
     Ok(())
 }
 
-/// Three hundred records, under their places, with a text beside them.
+/// Makes a map of three hundred records by their places, and a text. Returns the smaller of the two
+/// lengths.
 fn fill<A: Allocator + Copy>(alloc: A) -> Result<usize, AllocError> {
     let mut records = BTreeMap::new(alloc);
     let mut text = String::new(alloc);
@@ -136,7 +138,7 @@ fn an_allocator_below_that_is_full_is_no_refusal(rt: HostRuntime) -> Result<(), 
     Ok(())
 }
 
-/// Five requests of 1 to 5 octets, and which of them are refused by each refusal and number.
+/// Five requests of 1 to 5 octets, and which of them each refusal and number grants.
 #[test]
 fn refusals_by_a_number(rt: HostRuntime) -> Result<(), Fail> {
     let alloc = Refusing::new(rt.alloc());
@@ -164,7 +166,7 @@ fn refusals_by_a_number(rt: HostRuntime) -> Result<(), Fail> {
     Ok(())
 }
 
-/// The runs of a test that asks for 1 to 5 octets: their numbers, and the error at the end.
+/// The runs of a test that requests 1 to 5 octets: their numbers, and the error at the end.
 fn runs(
     global: Global,
     alloc: &Refusing,

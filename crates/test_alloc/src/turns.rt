@@ -1,33 +1,33 @@
-//! Which run comes next, and whether as many runs met a refusal as are to. This is the whole
-//! decision of the runs, on values, since no contract sees what a cell holds.
+//! Which run comes next, and whether enough runs met a refusal. Every decision about the runs is
+//! made here on plain values, since no contract can state what a cell holds.
 ghost use Rattle.std.specs.Prelude.{◌≡◌};
 ghost use Rattle.test_alloc.specs.Turns.{new_turns, IsTurn};
 
-/// Why refusals in turn are no test.
+/// Why the refusals in turn do not make a test.
 #[derive(Clone, Copy, Debug, PartialEq, Eq)]
 pub enum TurnError {
-    /// The runs met no refusal, or fewer of them met one than are to.
+    /// No run met a refusal, or fewer runs did than required.
     TooFew,
 
-    /// Each run met a refusal, as many as are to at most and one more.
+    /// Every run met a refusal, and no number is left.
     NoEnd,
 }
 
 /// The runs of a test, by their numbers.
 #[derive(Clone, Copy, Debug, PartialEq, Eq)]
 pub(crate) struct Turns {
-    /// At least this many runs are to meet a refusal.
+    /// The least number of runs that have to meet a refusal.
     least: usize,
 
-    /// The number of the run that goes on, 0 before the first.
+    /// The number of the current run; 0 before the first.
     number: usize,
 
-    /// At most how many more numbers and errors come; 0 once it is over.
+    /// The greatest number of numbers and errors that may follow; 0 after the last.
     pub(crate) left: usize,
 }
 
 impl Turns {
-    /// No run yet. At least `least` runs are to meet a refusal, though 1 where that is 0, and fewer
+    /// No run has begun. At least `least` runs, and at least 1, have to meet a refusal, and fewer
     /// than `end`.
     pub(crate) fn new(least: usize, end: usize) -> Turns
         ensures { result ≡ new_turns least end }
@@ -39,7 +39,8 @@ impl Turns {
         }
     }
 
-    /// The number of the next run; None where the run that went on met no refusal, and it is over.
+    /// The number of the next run, or an error; None if the current run met no refusal and the runs
+    /// are over.
     pub(crate) fn next(&mut self, is_refused: bool) -> Option<Result<usize, TurnError>>
         ensures { IsTurn self.old is_refused result self.new }
     {

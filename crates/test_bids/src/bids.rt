@@ -1,4 +1,4 @@
-//! Bids by hand, as tables: what happens at the two ends of a channel, and what comes of it.
+//! Bids as tables: events at the two ends of a channel, and their results.
 
 use crate::bids::Then::{Done, Enq, Over, Refused, Replied, Text};
 use crate::ends::Ends;
@@ -7,12 +7,12 @@ use bsc_bid::{Outcome, ReleaseError, Setup};
 use bsc_frame::{End, Message, Reply};
 use std::alloc::{Allocator, Global};
 
-/// What happens.
+/// An event.
 enum Step {
-    /// This many empty records are offered.
+    /// Offers this many empty records.
     Offer(usize),
 
-    /// A bid begins.
+    /// Begins a bid.
     Begin,
 
     /// The receiver hears what the sender sent last.
@@ -21,20 +21,21 @@ enum Step {
     /// The sender hears this reply.
     Hear(Reply),
 
-    /// The sender hears nothing for the time of a time-out.
+    /// The sender hears nothing until a time-out.
     Silence,
 
-    /// A turn: this becomes of what the sender sent last, and it hears this reply, or nothing.
+    /// A turn: what the sender sent last meets this fate, and the sender hears this reply or
+    /// nothing.
     Turn(Fate, Option<Reply>),
 
     /// The line is taken from the sender.
     CutOff,
 
-    /// The sender is told that the other end has this many records.
+    /// Ends the doubt of the sender, with this count of records at the other end.
     Release(usize),
 }
 
-/// What comes of it.
+/// The result of an event.
 #[derive(PartialEq, Drop)]
 enum Then {
     /// Nothing is sent.
@@ -52,15 +53,16 @@ enum Then {
     /// The receiver replies.
     Replied(Reply),
 
-    /// The doubt is not ended.
+    /// The release is refused, and the doubt remains.
     Refused(ReleaseError),
 }
 
-/// How often this happens, what comes of it each time, and how the ends then stand: how many
-/// records are known to have arrived, how many did, and whether the sender is in doubt.
+/// How often the event happens, its result each time, and the state of the ends after it: the
+/// number of records known to have arrived, the number that arrived, and whether the sender is in
+/// doubt.
 type Row = (usize, Step, Then, (usize, usize, bool));
 
-/// A bid by its name: how many failures in a row and how many WACKs are borne, and what happens.
+/// A named bid: its limits of failures in a row and of WACKs, and its events.
 type Exchange = (&'static str, u8, u8, &'static [Row]);
 
 const EXCHANGES: &[Exchange] = &[
@@ -106,7 +108,7 @@ const EXCHANGES: &[Exchange] = &[
             (1, Step::Arrive, Replied(Reply::Ack1), (0, 7, false)),
         ],
     ),
-    // The second bid begins with the same block; ACK1 for it ends what NAK counted.
+    // The second bid begins with the same block; the ACK1 for it ends the count of the NAKs.
     (
         "NAK asks for the block again",
         3,
@@ -228,7 +230,8 @@ const EXCHANGES: &[Exchange] = &[
             ),
         ],
     ),
-    // No block came at the second turn, so ENQ is answered by ACK0, and the text is sent again.
+    // No block came at the second turn, so the ENQ is answered with ACK0, and the text is sent
+    // again.
     (
         "a bid goes on over what is lost and spoiled",
         4,
@@ -260,8 +263,8 @@ const EXCHANGES: &[Exchange] = &[
     ),
 ];
 
-/// What comes of a call of the sender that answered this and left this message; None where the two
-/// do not fit.
+/// The result of a call of the sender with this outcome and this message; None if they do not go
+/// together.
 fn told(outcome: Outcome, sent: &Option<Message>) -> Option<Then> {
     match (outcome, sent) {
         (Outcome::Sends, Some(Message::Text(text))) => Some(Text(text.count(), text.end())),
@@ -271,7 +274,7 @@ fn told(outcome: Outcome, sent: &Option<Message>) -> Option<Then> {
     }
 }
 
-/// What comes of an offer of this many records; None where one is refused.
+/// The result of offering this many records; None if one is refused.
 fn offer<A: Allocator>(ends: &mut Ends<A>, count: usize) -> Option<Then> {
     for _ in 0..count {
         if !ends.offer() {
@@ -281,7 +284,7 @@ fn offer<A: Allocator>(ends: &mut Ends<A>, count: usize) -> Option<Then> {
     Some(Done)
 }
 
-/// What comes of this; None where it cannot be done.
+/// The result of the event; None if it is not possible.
 fn take<A: Allocator>(ends: &mut Ends<A>, step: &Step) -> Option<Then> {
     let outcome = match step {
         Step::Offer(count) => return offer(ends, *count),
@@ -304,7 +307,7 @@ fn take<A: Allocator>(ends: &mut Ends<A>, step: &Step) -> Option<Then> {
     told(outcome, &ends.sent)
 }
 
-/// Whether a row goes as is said.
+/// Whether a row has the expected results.
 fn goes<A: Allocator>(ends: &mut Ends<A>, (times, step, then, standing): &Row) -> bool {
     for _ in 0..*times {
         if take(ends, step).as_ref() != Some(then) || ends.standing() != *standing {
@@ -314,7 +317,7 @@ fn goes<A: Allocator>(ends: &mut Ends<A>, (times, step, then, standing): &Row) -
     true
 }
 
-/// The first row that goes otherwise, on a new channel; the first of all where there is none with
+/// The place of the first row with other results, on a new channel, or 0 if no channel can have
 /// these limits.
 fn wrong_row(alloc: Global, tries: u8, waits: u8, rows: &[Row]) -> Option<usize> {
     let Ok(setup) = Setup::new(80, 400, tries, waits) else {
@@ -329,7 +332,7 @@ fn wrong_row(alloc: Global, tries: u8, waits: u8, rows: &[Row]) -> Option<usize>
     None
 }
 
-/// The first exchange that goes otherwise, and the place of the row.
+/// The first exchange with other results, and the place of its row.
 fn wrong_exchange(alloc: Global) -> Option<(&'static str, usize)> {
     for (name, tries, waits, rows) in EXCHANGES {
         if let Some(place) = wrong_row(alloc, *tries, *waits, rows) {

@@ -1,5 +1,5 @@
-//! The two ends of a channel, as stations keep them: the conditions of the sender's calls are
-//! tested.
+//! The two ends of a channel, as stations keep them. The preconditions of the sender's functions
+//! are tested before each call.
 
 ghost use Rattle.std.specs.Prelude.{◌≡◌};
 
@@ -20,7 +20,7 @@ pub(crate) struct Ends<A: Allocator> {
     /// The records that it sends.
     queue: Queue<A>,
 
-    /// Whether a bid may go on.
+    /// Whether a bid is in progress.
     going: bool,
 
     /// What the sender sent last.
@@ -64,7 +64,7 @@ impl<A: Allocator + Copy> Ends<A> {
 }
 
 impl<A: Allocator> Ends<A> {
-    /// Offers an empty record: whether it was taken.
+    /// Offers an empty record, and returns whether it was accepted.
     #[tactic(auto, using(bsc_bid::proofs::OfferLemmas::counts_offered))]
     pub(crate) fn offer(&mut self) -> bool {
         let Ok(record) = Record::read(&[], 1) else {
@@ -75,7 +75,7 @@ impl<A: Allocator> Ends<A> {
         taken
     }
 
-    /// Begins a bid, where records wait and there is neither a bid nor a doubt.
+    /// Begins a bid; None unless records wait and there is neither a bid nor a doubt.
     pub(crate) fn begin(&mut self) -> Option<Outcome> {
         if self.going || self.sender.in_doubt() || !self.queue.has_waiting() {
             return None;
@@ -84,7 +84,7 @@ impl<A: Allocator> Ends<A> {
         Some(self.sender.begin(&self.queue, &mut self.sent))
     }
 
-    /// The sender hears this reply; nothing for the time of a time-out where it is None.
+    /// The sender hears this reply, or nothing until a time-out if it is None.
     pub(crate) fn hear(&mut self, reply: Option<Reply>) -> Outcome {
         let outcome = match reply {
             Some(reply) => {
@@ -101,13 +101,13 @@ impl<A: Allocator> Ends<A> {
         outcome
     }
 
-    /// What the receiver replies to what the sender sent last.
+    /// The reply of the receiver to what the sender sent last.
     pub(crate) fn arrive(&mut self) -> Option<Reply> {
         let heard = Heard::Whole(self.sent.take()?);
         self.receiver.heard(&heard, false, &mut self.spool)
     }
 
-    /// A turn in which this becomes of what the sender sent last, and it hears this reply.
+    /// A turn in which what the sender sent last meets this fate, and the sender hears this reply.
     pub(crate) fn turn(&mut self, fate: &Fate, reply: Option<Reply>) -> Outcome {
         self.going = true;
         turn(
@@ -126,13 +126,13 @@ impl<A: Allocator> Ends<A> {
         self.going = false;
     }
 
-    /// The sender is told that the other end has this many records.
+    /// Ends the doubt of the sender, with this count of records at the other end.
     pub(crate) fn release(&mut self, count: usize) -> Result<(), ReleaseError> {
         self.sender.release(count, &mut self.queue)
     }
 
-    /// How many records are known to have arrived, how many did, and whether the sender is in
-    /// doubt.
+    /// The number of records known to have arrived, the number that arrived, and whether the sender
+    /// is in doubt.
     pub(crate) fn standing(&self) -> (usize, usize, bool) {
         (
             self.queue.known(),

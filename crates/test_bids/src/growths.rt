@@ -1,4 +1,4 @@
-//! Each growth of a queue and of a spool refused in turn.
+//! Each growth of a queue and of a spool is refused in turn.
 
 ghost use Rattle.std.specs.Prelude.{◌≡◌, ◌≤◌};
 
@@ -10,7 +10,8 @@ use test_alloc::{Refusal, Refusing};
 
 const RECORDS: usize = 420;
 
-/// Offers records until as many are taken, though at most twice as often. How many came back.
+/// Offers records until `RECORDS` were accepted, with at most twice as many offers. Returns how
+/// many offers were refused.
 fn offer_all(queue: &mut Queue<&Refusing>) -> usize
     requires { 80 ≤ queue.old.format.full }
     ensures { queue.new.format ≡ queue.old.format }
@@ -30,8 +31,8 @@ fn offer_all(queue: &mut Queue<&Refusing>) -> usize
     back
 }
 
-/// Delivers the next block, unless there is no room for it: whether it was stored, and neither room
-/// that was there nor storing took memory.
+/// Delivers the next block if there is room for it. Returns whether it was stored, room that was
+/// there already needed no memory, and storing needed none either.
 fn is_delivered(
     alloc: &Refusing,
     queue: &mut Queue<&Refusing>,
@@ -56,8 +57,8 @@ fn is_delivered(
     alloc.requests() == requests
 }
 
-/// Delivers blocks until no record waits, though at most twice as often as there are records. How
-/// often one was not delivered.
+/// Delivers blocks until no record waits, with at most twice as many attempts as there are records.
+/// Returns how many attempts failed.
 fn deliver_all(
     alloc: &Refusing,
     queue: &mut Queue<&Refusing>,
@@ -75,8 +76,8 @@ fn deliver_all(
     delayed
 }
 
-/// Offers and delivers all records, where what is refused is done again: how many records are known
-/// to have arrived, how many are stored, and how often something was refused.
+/// Offers and delivers all records, and repeats what is refused. Returns the number of records
+/// known to have arrived, the number stored, and the number of refusals.
 fn made_good(alloc: &Refusing, format: Format) -> (usize, usize, usize)
     requires { 80 ≤ format.full }
 {
@@ -103,8 +104,8 @@ fn each_growth_is_refused_in_turn(rt: HostRuntime) -> Result<(), Fail> {
     Ok(())
 }
 
-/// Offers all records, and delivers all, first where growths are refused and then where none is:
-/// how many were taken and stored before, and how many are stored in the end.
+/// Offers and delivers all records, first with growths refused and then without. Returns how many
+/// records were accepted and stored with refusals, and how many are stored in the end.
 fn stored_in_two(alloc: &Refusing, format: Format, refusal: Refusal) -> (usize, usize, usize)
     requires { 80 ≤ format.full }
 {

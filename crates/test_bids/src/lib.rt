@@ -1,4 +1,7 @@
-//! Tests of queues, spools and bids by their public calls.
+//! Tests of queues, spools and bids with their public functions.
+//!
+//! Blocks, replies and their order are the standard's (GA27-3004); limits of a bid, doubt and
+//! release are this project's own.
 #![tactic(auto)]
 
 #[cfg(test)]

@@ -1,4 +1,4 @@
-//! The blocks of a queue by hand, and settings that are refused.
+//! The blocks of a queue, and settings that are refused.
 
 ghost use Rattle.std.specs.Prelude.{◌≡◌, ◌≤◌};
 
@@ -12,7 +12,7 @@ use std::test::Fail;
 /// A record of 80 letters A, the full length.
 const FULL: &[u8] = &[b'A'; 80];
 
-/// What is offered, what the next block then is, and whether it is then known to have arrived.
+/// The records to offer, the next block after that, and whether it is then reported as arrived.
 type Step<'a> = (&'a [&'a [u8]], Option<Next>, bool);
 
 /// Four full records, after which more wait.
@@ -33,8 +33,7 @@ const TWO: Option<Next> = Some(Next {
     end: End::Etx,
 });
 
-/// Five full records go in two blocks, and a record that is offered before the second is sent goes
-/// with it.
+/// Five full records need two blocks; a record offered before the second is sent goes with it.
 const STEPS: &[Step<'static>] = &[
     (&[], None, false),
     (&[FULL; 5], FOUR, true),
@@ -43,7 +42,7 @@ const STEPS: &[Step<'static>] = &[
     (&[], None, false),
 ];
 
-/// Offers records of these characters.
+/// Offers records with these characters.
 fn offer_each<A: Allocator>(queue: &mut Queue<A>, records: &[&[u8]]) -> Result<(), Fail>
     requires { 80 ≤ queue.old.format.full }
     ensures { queue.new.format ≡ queue.old.format }
@@ -54,7 +53,7 @@ fn offer_each<A: Allocator>(queue: &mut Queue<A>, records: &[&[u8]]) -> Result<(
     Ok(())
 }
 
-/// The first step that goes otherwise.
+/// The place of the first step with another result.
 fn wrong_step<A: Allocator>(queue: &mut Queue<A>) -> Result<Option<usize>, Fail>
     requires { 80 ≤ queue.old.format.full }
 {
@@ -80,7 +79,7 @@ fn five_full_records_go_in_two_blocks(rt: HostRuntime) -> Result<(), Fail> {
     Ok(())
 }
 
-/// Settings, and why they are refused.
+/// Settings, and the errors with which they are refused.
 const REFUSED: &[(u8, u16, u8, u8, SettingError)] = &[
     (0, 145, 0, 0, SettingError::Full),
     (145, 400, 3, 10, SettingError::Full),

@@ -1,4 +1,4 @@
-//! Receivers by hand, and each growth of their spools refused.
+//! The replies of receivers, with refused growths of their spools.
 
 use bsc_bid::Receiver;
 use bsc_frame::{Reply, decode};
@@ -8,16 +8,17 @@ use std::test::Fail;
 use test_alloc::{Refusal, Refusing};
 use test_fixtures::octets::{BROKEN_TEXT, ENQ, TEXT_EMPTY, TEXT_LAST_SEVEN};
 
-/// The number from which on no request is refused.
+/// The number of a request that never comes, so that no request is refused.
 const NEVER: usize = usize::MAX;
 
-/// The number of the first request for memory that is refused from here on, what the receiver
-/// hears, whether it asks for the line, its reply, and how many records are then spooled.
+/// The number of the first request for memory that is refused, counted from here, what the receiver
+/// hears, whether it asks for the line, its reply, and the number of records in its spool
+/// afterwards.
 type Hearing<'a> = (usize, &'a [u8], bool, Option<Reply>, usize);
 
-/// A text that fails its check is refused, and so is one for which there is no room. Where there is
-/// none for a second text, the acknowledgement is put off. An urgent receiver asks for the line,
-/// but not twice in a row.
+/// A text that fails its check is answered with NAK, and so is one for which there is no room. If
+/// there is no room for a second text, the acknowledgement is delayed with WACK. An urgent receiver
+/// asks for the line with RVI, but not twice in a row.
 const HEARINGS: &[Hearing<'static>] = &[
     (NEVER, BROKEN_TEXT, false, Some(Reply::Nak), 0),
     (1, TEXT_LAST_SEVEN, false, Some(Reply::Nak), 0),
@@ -29,7 +30,7 @@ const HEARINGS: &[Hearing<'static>] = &[
     (NEVER, TEXT_EMPTY, true, Some(Reply::Rvi), 10),
 ];
 
-/// What a receiver replies to these octets.
+/// The reply of a receiver to these octets.
 fn reply_to<A: Allocator>(
     receiver: &mut Receiver,
     spool: &mut Spool<A>,
@@ -39,7 +40,7 @@ fn reply_to<A: Allocator>(
     receiver.heard(&decode(octets), urgent, spool)
 }
 
-/// The first hearing of a new receiver that goes otherwise.
+/// The place of the first hearing of a new receiver with another result.
 fn wrong_hearing(alloc: &Refusing) -> Option<usize> {
     let mut receiver = Receiver::new();
     let mut spool = Spool::new(alloc);
@@ -59,8 +60,8 @@ fn a_receiver_replies_to_what_it_hears(rt: HostRuntime) {
     assert_eq!(rt; wrong_hearing(&alloc), None);
 }
 
-/// A new receiver hears a text this often, or asks again after WACK: how often it replied NAK, how
-/// often WACK, and how many records are spooled.
+/// A new receiver hears a text or, after a WACK, an ENQ, this many times in total. Returns how
+/// often it replied NAK, how often WACK, and how many records are in its spool.
 fn hear_texts<A: Allocator>(alloc: A, times: usize) -> (usize, usize, usize) {
     let mut receiver = Receiver::new();
     let mut spool = Spool::new(alloc);

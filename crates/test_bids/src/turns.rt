@@ -1,4 +1,5 @@
-//! The calls in the order of a turn, so that what the law of one bid says of turns is said of them.
+//! The functions of a bid in the order of a turn, so that the theorem about the turns of a bid
+//! applies to the tests.
 
 ghost use Rattle.std.specs.Prelude.{◌≡◌, length, unwrap_or};
 ghost use Rattle.bsc_frame.specs.declared.message.Heard.TheVariants.{Noise};
@@ -14,20 +15,20 @@ use bsc_frame::{Heard, Message, Reply};
 use bsc_spool::{Queue, Spool};
 use std::alloc::Allocator;
 
-/// What one exchange meets.
+/// What the two ends hear in one exchange.
 #[derive(Drop)]
 pub(crate) struct Hearings {
-    /// What the receiver hears of the sender's transmission; None where it is lost.
+    /// What the receiver hears of the sender's transmission; None if it is lost.
     there: Option<Heard>,
 
     /// Whether the receiver asks for the line.
     urgent: bool,
 
-    /// What the sender hears of the reply; None where it is lost.
+    /// What the sender hears of the reply; None if it is lost.
     back: Option<Heard>,
 }
 
-/// A turn in which this is heard.
+/// A turn in which the ends hear this.
 pub(crate) fn turn<A: Allocator>(
     sender: &mut Sender,
     queue: &mut Queue<A>,
@@ -72,20 +73,20 @@ pub(crate) fn turn<A: Allocator>(
     }
 }
 
-/// What becomes of the sender's transmission on its way.
+/// What happens to the sender's transmission.
 pub(crate) enum Fate {
     /// It arrives.
     Arrives,
 
-    /// It is a text that fails its check.
+    /// It is heard as a text that fails its check.
     Fails,
 
     /// It is lost.
     Lost,
 }
 
-/// What is heard at both ends where this becomes of the sender's transmission, and the sender hears
-/// this reply.
+/// What both ends hear if the sender's transmission meets this fate and the sender hears this
+/// reply.
 pub(crate) fn heard_at_both(sent: Option<Message>, fate: &Fate, reply: Option<Reply>) -> Hearings {
     Hearings {
         there: match fate {

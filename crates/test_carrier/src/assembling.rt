@@ -1,9 +1,9 @@
-//! Records out of pieces.
+//! Socket records that arrive in pieces.
 
 use bsc_carrier::{Assembler, CarrierError};
 
-/// A piece, what a feed of it answers, how many octets are wanted after it, and the octets that the
-/// last complete record carried.
+/// A piece, the result of feeding it, the number of octets wanted after it, and the octets of the
+/// last complete record.
 type Feed = (
     &'static [u8],
     Result<(usize, bool), CarrierError>,
@@ -11,13 +11,13 @@ type Feed = (
     &'static [u8],
 );
 
-/// Streams from their beginning: each feed is of the assembler that was fed the one before it.
+/// Streams from their beginning: all feeds of a stream go to the same assembler.
 const STREAMS: &[&[Feed]] = &[
     &[
         (&[], Ok((0, false)), 2, &[]),
         (&[0x00], Ok((1, false)), 1, &[]),
         (&[], Ok((0, false)), 1, &[]),
-        // The next record is left in the piece.
+        // The beginning of the next record is left in the piece.
         (&[0x02, 0x16, 0x04, 0x00], Ok((3, true)), 2, &[0x16, 0x04]),
         (&[0x00], Ok((1, false)), 1, &[0x16, 0x04]),
         (&[0x05], Ok((1, false)), 5, &[0x16, 0x04]),
@@ -27,7 +27,7 @@ const STREAMS: &[&[Feed]] = &[
         (&[0x00], WRONG, 0, &ACK0),
         (&[], WRONG, 0, &ACK0),
     ],
-    // The least and the most that a record carries, and one less and one more.
+    // The least and the greatest length of a record, one less and one more.
     &[(&[0x00, 0x00], WRONG, 0, &[])],
     &[(&[0x00, 0x01], Ok((2, false)), 1, &[])],
     &[(&[0x08, 0x00], Ok((2, false)), 2048, &[])],
@@ -35,7 +35,7 @@ const STREAMS: &[&[Feed]] = &[
     &[(&[0xff, 0xff], WRONG, 0, &[])],
 ];
 
-/// What is sent for a positive acknowledgement, ACK0.
+/// The octets of the positive acknowledgement ACK0.
 const ACK0: [u8; 5] = [0x16, 0x16, 0x10, 0xb0, 0xff];
 
 /// Three records of ACK0.
@@ -46,7 +46,8 @@ const THREE_RECORDS: [u8; 21] = [
 
 const WRONG: Result<(usize, bool), CarrierError> = Err(CarrierError::Length);
 
-/// Whether the feed goes as it says. An assembler is between records where it wants two octets.
+/// Whether the feed has the expected results. An assembler is between records if it wants two
+/// octets.
 fn goes(assembler: &mut Assembler, feed: &Feed) -> bool {
     let (piece, answer, wanted, octets) = *feed;
     let is_answered = assembler.feed(piece) == answer;
@@ -55,7 +56,7 @@ fn goes(assembler: &mut Assembler, feed: &Feed) -> bool {
     is_answered && is_left && assembler.octets() == octets
 }
 
-/// The place of the first feed of a stream that goes otherwise.
+/// The place of the first feed of a stream with another result.
 fn first_wrong(stream: &[Feed]) -> Option<usize> {
     let mut assembler = Assembler::new();
     stream
@@ -70,8 +71,8 @@ fn octets_are_taken_up_to_the_end_of_a_record(rt: HostRuntime) {
     }
 }
 
-/// Feeds the piece until all of it is taken, and counts the records that come, each of which has to
-/// be ACK0.
+/// Feeds the piece until all of it is taken. Returns the number of complete records; None unless
+/// each of them is ACK0.
 fn feed_whole(assembler: &mut Assembler, piece: &[u8]) -> Option<usize> {
     let mut rest = piece;
     let mut records = 0usize;
@@ -88,8 +89,8 @@ fn feed_whole(assembler: &mut Assembler, piece: &[u8]) -> Option<usize> {
     Some(records)
 }
 
-/// How many records of ACK0, and nothing else, come out of these octets where they are cut at these
-/// two places.
+/// The number of records in these octets if they are divided at these two places; None unless each
+/// record is ACK0.
 fn records_of(octets: &[u8], first: usize, second: usize) -> Option<usize> {
     let mut assembler = Assembler::new();
     let mut records = 0usize;

@@ -1,4 +1,4 @@
-//! Cables over memory.
+//! Cables over streams in memory.
 
 use crate::memory::MemoryStream;
 use bsc_carrier::{Cable, CarrierError, Octets};
@@ -11,7 +11,7 @@ const SYN: &[u8] = &[0x00, 0x01, 0x16];
 /// A record of another octet, EOT.
 const EOT: &[u8] = &[0x00, 0x01, 0x04];
 
-/// Inputs that begin with no whole record, and the error that each is where one has to come.
+/// Inputs that do not begin with a whole record, and the error of a read of each.
 const WRONG_INPUTS: &[(&[u8], CarrierError)] = &[
     (&[], CarrierError::Short),
     (&[0x00], CarrierError::Short),
@@ -20,7 +20,7 @@ const WRONG_INPUTS: &[(&[u8], CarrierError)] = &[
     (&[0x08, 0x01], CarrierError::Length),
 ];
 
-/// Which call of a cable is made.
+/// A call of a cable.
 #[derive(Clone, Copy)]
 enum Call {
     Down,
@@ -30,16 +30,17 @@ enum Call {
 
 type Answer = Result<(), CarrierError>;
 
-/// One connection: what the control station's end and the terminal's end give.
+/// One connection: the octets that the control station's end and the terminal's end return.
 type Connection<'a> = (&'a [u8], &'a [u8]);
 
-/// Which call of which end fails: the ends of the first connection are 0 and 1, those of the next
-/// one 2 and 3, the control station's first. The first call is 1, and 0 none.
+/// The number of an end and the number of its call that fails. The ends of the first connection are
+/// 0 and 1, those of the second 2 and 3, the control station's end first. The first call is 1; 0
+/// means that none fails.
 type Failing = (usize, usize);
 
 const NONE_FAILS: Failing = (0, 0);
 
-/// A cable of these connections, each end of which moves one octet a call.
+/// A cable of these connections, whose ends move one octet in each call.
 fn cable<'a>(
     alloc: Global,
     connections: &[Connection<'a>],
@@ -58,13 +59,13 @@ fn cable<'a>(
     Ok(Cable::new(control_ends, terminal_ends))
 }
 
-/// The end at this place, which gives these octets.
+/// The end with this number, which returns these octets.
 fn end<'a>(alloc: Global, input: &'a [u8], place: usize, failing: Failing) -> MemoryStream<'a> {
     let (fails, call) = failing;
     MemoryStream::new(alloc, input, 1, if place == fails { call } else { 0 })
 }
 
-/// What the call of an octet, SYN, answers; None where there is no such terminal.
+/// The result of the call with the octet SYN; None if there is no such terminal.
 fn answer(cable: &mut Cable<MemoryStream<'_>>, call: Call, heard: &mut Octets) -> Option<Answer> {
     let count = cable.terminals();
     match call {
@@ -77,8 +78,8 @@ fn answer(cable: &mut Cable<MemoryStream<'_>>, call: Call, heard: &mut Octets) -
     }
 }
 
-/// The place of the first call that answers something else, or after which something else was
-/// heard: SYN, or after an error what was heard before.
+/// The place of the first call with another result, or after which something else was heard: SYN,
+/// or after an error what was heard before.
 fn first_wrong(cable: &mut Cable<MemoryStream<'_>>, calls: &[(Call, Answer)]) -> Option<usize> {
     for (place, (call, expected)) in calls.iter().enumerate() {
         let mut heard = Octets::new();
@@ -92,7 +93,7 @@ fn first_wrong(cable: &mut Cable<MemoryStream<'_>>, calls: &[(Call, Answer)]) ->
     None
 }
 
-/// The place of the first call that goes wrong over a cable of these connections.
+/// The place of the first call with another result on a cable of these connections.
 fn wrong_call(
     alloc: Global,
     connections: &[Connection<'_>],
@@ -103,13 +104,13 @@ fn wrong_call(
     Ok(first_wrong(&mut cable, calls))
 }
 
-/// Two connections whose terminals' ends give different octets.
+/// Two connections whose terminals' ends return different octets.
 const DIFFERENT: &[Connection<'static>] = &[(SYN, SYN), (SYN, EOT)];
 
 const UNEQUAL: Answer = Err(CarrierError::Unequal);
 
-/// Calls of a cable of these connections, and what they answer: the first error is the answer from
-/// then on.
+/// Calls of a cable of these connections with their results: the first error is also the result of
+/// every later call.
 const CALLS_WHEN_DIFFERENT: &[(Call, Answer)] = &[
     (Call::Down, UNEQUAL),
     (Call::Up(0), UNEQUAL),
@@ -124,8 +125,9 @@ fn far_ends_that_differ_are_unequal_for_good(rt: HostRuntime) -> Result<(), Fail
     Ok(())
 }
 
-/// The first call that goes wrong where one end gives this input, a control station's end or a
-/// terminal's, the first or a later one. The first error of a cable is its error from then on.
+/// The first call with another result if one end returns this input: a control station's end or a
+/// terminal's, the first or a later one. The first error of a cable is also the error of every
+/// later call.
 fn wrong_after(alloc: Global, input: &[u8], error: CarrierError) -> Result<Option<usize>, Fail> {
     let (up, down) = ((Call::Up(0), Err(error)), (Call::Down, Err(error)));
     let to_second = (Call::DownTo(1), Err(error));
@@ -147,13 +149,13 @@ fn what_is_read_at_an_end_is_told(rt: HostRuntime) -> Result<(), Fail> {
     Ok(())
 }
 
-/// Two connections of which nothing is wrong.
+/// Two connections without a fault.
 const RIGHT: &[Connection<'static>] = &[(SYN, SYN), (SYN, SYN)];
 
 const DEVICE: Answer = Err(CarrierError::Device);
 
-/// What a call of all terminals and then one of the second terminal answer over `RIGHT`. Each takes
-/// three reads or writes of each end that it uses.
+/// The results of a call for all terminals and then one for the second terminal over `RIGHT`. Each
+/// takes three reads or writes of each end that it uses.
 fn calls_when_failing(failing: Failing) -> &'static [(Call, Answer)] {
     let (end, call) = failing;
     if call <= 3 {
@@ -165,7 +167,7 @@ fn calls_when_failing(failing: Failing) -> &'static [(Call, Answer)] {
     }
 }
 
-/// The failed call is each of the first seven of each of four ends.
+/// Each of the first seven calls of each of four ends fails in turn.
 #[test]
 fn first_failed_call_is_the_error_from_then_on(rt: HostRuntime) -> Result<(), Fail> {
     for place in 0..28usize {

@@ -1,4 +1,6 @@
-//! Tests of records and cables, over streams in memory and over the loopback address.
+//! Tests of socket records and cables, over streams in memory and over the loopback address.
+//!
+//! Socket records and cables are this project's own; what they carry is the standard's (GA27-3004).
 #![tactic(auto)]
 
 #[cfg(test)]

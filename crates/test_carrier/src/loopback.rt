@@ -8,13 +8,13 @@ use bsc_loopback::{LoopbackError, connect};
 use std::io::{Read, Write};
 use std::test::Fail;
 
-/// Whether what a call heard is what was sent.
+/// Whether a call succeeded and what was heard is what was sent.
 fn is_heard(answer: Result<(), CarrierError>, heard: &Octets, sent: &[u8]) -> bool {
     answer.is_ok() && heard.as_slice() == sent
 }
 
-/// Whether these octets go down to all terminals, the later ones up from this terminal, and the
-/// first ones down to it again, each in place of what was heard before.
+/// Whether the first octets go down to all terminals, the later ones up from this terminal, and the
+/// first ones down to it again, each replacing what was heard before.
 fn goes_each_way<S: Read + Write + Drop>(
     cable: &mut Cable<S>,
     terminal: usize,
@@ -57,8 +57,8 @@ fn sixty_four_connections_carry_the_largest_record_each_way(rt: HostRuntime) -> 
     Ok(())
 }
 
-/// While the octets of one way become more, those of the other way become fewer, so that what is
-/// heard takes the place of fewer octets and of more.
+/// While the octets in one direction become more, those in the other become fewer, so that what is
+/// heard replaces both fewer and more octets.
 #[test]
 fn each_length_is_carried_each_way(rt: HostRuntime) -> Result<(), Fail> {
     let mut cable = connect(&rt, rt.alloc(), 1)?;
@@ -74,7 +74,7 @@ fn each_length_is_carried_each_way(rt: HostRuntime) -> Result<(), Fail> {
     Ok(())
 }
 
-/// Why there are no connections, as it is printed.
+/// The errors and their messages.
 const PRINTED: &[(LoopbackError, &str)] = &[
     (LoopbackError::Sockets, "cannot make the sockets"),
     (LoopbackError::Memory, "out of memory"),

@@ -1,5 +1,5 @@
-//! A stream over memory: it moves a few octets a call, counts its calls, and fails when it is told
-//! to.
+//! A stream in memory, which moves a limited number of octets in each call, counts its calls, and
+//! fails at a given one.
 
 use std::alloc::Global;
 use std::io;
@@ -7,19 +7,19 @@ use std::io::{Error, ErrorKind, Read, Write};
 
 #[derive(Drop)]
 pub(crate) struct MemoryStream<'a> {
-    /// What is left to be read.
+    /// The octets that are left to read.
     input: &'a [u8],
     pub(crate) output: Vec<u8>,
-    /// How many octets a call moves at most.
+    /// The greatest number of octets that a call moves.
     step: usize,
-    /// How many reads and writes there were.
+    /// The number of reads and writes so far.
     pub(crate) calls: usize,
-    /// Which call fails, the first being 1; 0 where none does.
+    /// The number of the call that fails, counted from 1; 0 if none does.
     fails_at: usize,
 }
 
 impl<'a> MemoryStream<'a> {
-    /// A stream that gives these octets.
+    /// A stream that returns these octets.
     pub(crate) fn new(
         alloc: Global,
         input: &'a [u8],

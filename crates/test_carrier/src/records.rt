@@ -1,4 +1,4 @@
-//! Records over readers and writers.
+//! Socket records over readers and writers.
 
 ghost use Rattle.std.specs.Prelude.{◌≤◌, length};
 
@@ -8,13 +8,13 @@ use bsc_carrier::{CarrierError, Octets, read_record, write_record};
 use std::alloc::Global;
 use std::test::Fail;
 
-/// What is sent for a positive acknowledgement, ACK0.
+/// The octets of the positive acknowledgement ACK0.
 const ACK0: [u8; 5] = [0x16, 0x16, 0x10, 0xb0, 0xff];
 
 /// The record of ACK0.
 const RECORD: [u8; 7] = [0x00, 0x05, 0x16, 0x16, 0x10, 0xb0, 0xff];
 
-/// What has ended, and what begins with no whole record, and what a read of it answers.
+/// Inputs that are at their end or do not begin with a whole record, and the result of a read.
 const REFUSED: &[(&[u8], Result<bool, CarrierError>)] = &[
     (&[], Ok(false)),
     (&[0x00, 0x00, 0x16], Err(CarrierError::Length)),
@@ -33,7 +33,7 @@ fn ack0_crosses_a_stream_as_a_record(rt: HostRuntime) -> Result<(), Fail> {
     Ok(())
 }
 
-/// Whether a read of these octets answers this and leaves what was heard before.
+/// Whether a read of these octets has this result and keeps what was heard before.
 fn is_refused(input: &[u8], answer: Result<bool, CarrierError>) -> bool {
     let mut octets = Octets::new();
     octets.push(0x42);
@@ -48,7 +48,8 @@ fn wrong_and_broken_records_are_refused(rt: HostRuntime) {
     }
 }
 
-/// What a write of octets over a stream answers, how many writes it took, and what was written.
+/// The result of a write of these octets to a stream, the number of writes that it took, and the
+/// octets written.
 fn written(
     alloc: Global,
     sent: &[u8],
@@ -63,7 +64,7 @@ fn written(
     (answer, sender.calls, sender.output)
 }
 
-/// What a read of a record over a stream answers, and how many reads it took.
+/// The result of a read of a record from a stream, and the number of reads that it took.
 fn read(
     alloc: Global,
     input: &[u8],
@@ -76,8 +77,8 @@ fn read(
     (answer, receiver.calls)
 }
 
-/// Whether these octets are written as their record, and read back in place of what was heard
-/// before, in as many writes and reads.
+/// Whether these octets are written as a record and read back, replacing what was heard before, in
+/// these numbers of writes and reads.
 fn crosses(
     alloc: Global,
     sent: &[u8],
@@ -102,7 +103,7 @@ fn largest_record_takes_2050_reads_and_writes(rt: HostRuntime) {
     assert!(rt; crosses(rt.alloc(), &[0x16; 2048], 1, (2050, 2050), &mut heard));
 }
 
-/// Octets of which no two near each other are the same.
+/// Octets that repeat only every 251 places.
 pub(crate) fn many_octets() -> [u8; 2048] {
     let mut octets = [0; 2048];
     for (place, octet) in octets.iter_mut().enumerate() {
@@ -124,8 +125,8 @@ fn each_length_is_written_at_once_and_read_back(rt: HostRuntime) {
     }
 }
 
-/// Whether a write and a read of ACK0 whose call at this place fails answer `Device`, after the
-/// octets before it were written and none were heard.
+/// Whether a write and a read of ACK0 whose call at this place fails return `Device`, after the
+/// octets before it were written and with nothing heard.
 fn is_device(alloc: Global, place: usize) -> bool {
     let device = CarrierError::Device;
     let mut heard = Octets::new();

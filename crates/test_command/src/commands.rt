@@ -1,4 +1,4 @@
-//! Words, standard input, and what comes of them.
+//! Words and standard input of the command, and its results.
 
 use crate::machine::{Case, Due, SILENT, first_wrong};
 use std::test::Fail;
@@ -77,7 +77,7 @@ const CASES: &[Case] = &[
             asking: None,
         },
     },
-    // Words that were not had.
+    // The words could not be read.
     Case {
         words: None,
         input: Some(""),
@@ -90,7 +90,7 @@ const CASES: &[Case] = &[
             asking: None,
         },
     },
-    // A standard output that takes nothing.
+    // Standard output accepts nothing.
     Case {
         words: Some(&[]),
         input: Some("16 04"),
@@ -103,7 +103,7 @@ const CASES: &[Case] = &[
             asking: None,
         },
     },
-    // A standard input that fails.
+    // Standard input fails.
     Case {
         words: Some(&["show"]),
         input: None,
@@ -118,7 +118,7 @@ const CASES: &[Case] = &[
     },
 ];
 
-/// The exit status of each, and what is on standard output and on standard error.
+/// Tests the exit status, standard output and standard error of each case.
 #[test]
 fn words_give_texts_and_a_status(rt: HostRuntime) -> Result<(), Fail> {
     assert_eq!(rt; first_wrong(rt.alloc(), CASES), None);

@@ -1,4 +1,4 @@
-//! The line of standard error and the exit status of each fault.
+//! The line on standard error and the exit status of each fault.
 
 use bsc_attending::AttendingError;
 use bsc_block::RecordError;
@@ -19,10 +19,10 @@ use std::alloc::{AllocError, Global};
 use std::fmt::Display;
 use std::test::Fail;
 
-/// What a fault of the command comes of.
+/// The cause of a fault of the command.
 #[derive(Clone, Copy)]
 enum Cause {
-    /// A word that is no text.
+    /// A word that is not UTF-8.
     Words,
     Input(InputError),
     Naming(NamingError),
@@ -35,7 +35,7 @@ enum Cause {
 /// An error that ends a run.
 #[derive(Clone, Copy)]
 enum Ends {
-    /// A file that is not read.
+    /// A file that cannot be read.
     File(&'static str),
     NotToml,
     ConfigMemory,
@@ -43,7 +43,7 @@ enum Ends {
     Loopback(LoopbackError),
     Run(RunError),
 
-    /// The event of line 9 is refused.
+    /// A refusal of the event in line 9.
     Refused(LineError),
 }
 
@@ -59,7 +59,7 @@ enum Stops {
     Undelivered,
 }
 
-/// The error of the run.
+/// The error of a run.
 fn running(alloc: Global, error: Ends) -> Result<RunningError, AllocError> {
     Ok(match error {
         Ends::File(path) => RunningError::from(TextError::CannotRead {
@@ -74,7 +74,7 @@ fn running(alloc: Global, error: Ends) -> Result<RunningError, AllocError> {
     })
 }
 
-/// The error of the station.
+/// The error of a station.
 fn attending(alloc: Global, error: Stops) -> Result<AttendingError, AllocError> {
     Ok(match error {
         Stops::Offer(path, error) => AttendingError::Offer {
@@ -89,7 +89,7 @@ fn attending(alloc: Global, error: Stops) -> Result<AttendingError, AllocError> 
     })
 }
 
-/// The fault that comes of this.
+/// The fault with this cause.
 fn fault(alloc: Global, cause: Cause) -> Result<Fault, AllocError> {
     Ok(match cause {
         Cause::Words => not_text(alloc),
@@ -106,10 +106,10 @@ fn fault(alloc: Global, cause: Cause) -> Result<Fault, AllocError> {
     })
 }
 
-/// A cause, the text of its fault, and its exit status.
+/// A cause, the message of its fault, and its exit status.
 type Row = (Cause, &'static str, u8);
 
-/// Whether an error has this text.
+/// Whether an error has this message.
 pub(crate) fn has_text<E: Display>(alloc: Global, error: &E, text: &str) -> bool {
     match error.to_string(alloc) {
         Ok(told) => told.as_str() == text,
@@ -117,7 +117,7 @@ pub(crate) fn has_text<E: Display>(alloc: Global, error: &E, text: &str) -> bool
     }
 }
 
-/// Whether the fault that comes of this has this text and this exit status.
+/// Whether the fault with this cause has this message and this exit status.
 fn is_told(alloc: Global, cause: Cause, text: &str, exit: u8) -> bool {
     match fault(alloc, cause) {
         Ok(fault) => has_text(alloc, &fault, text) && status(&fault) == exit,
@@ -125,7 +125,7 @@ fn is_told(alloc: Global, cause: Cause, text: &str, exit: u8) -> bool {
     }
 }
 
-/// The first cause whose fault has another text or another exit status.
+/// The place of the first cause whose fault has another message or another exit status.
 fn first_wrong(alloc: Global, rows: &[Row]) -> Option<usize> {
     for (place, (cause, text, exit)) in rows.iter().enumerate() {
         if !is_told(alloc, *cause, text, *exit) {
@@ -135,7 +135,7 @@ fn first_wrong(alloc: Global, rows: &[Row]) -> Option<usize> {
     None
 }
 
-/// Faults of words, of standard input, of naming and of standard output.
+/// Faults of words, standard input, naming and standard output.
 const STREAMS: &[Row] = &[
     (
         Cause::Words,
@@ -168,7 +168,7 @@ fn faults_of_words_and_streams(rt: HostRuntime) -> Result<(), Fail> {
     Ok(())
 }
 
-/// Faults of a run, before its events and in their course.
+/// Faults of a run, before its events and during them.
 const RUNS: &[Row] = &[
     (
         Cause::Running(Ends::File("line.toml")),
@@ -220,7 +220,7 @@ fn faults_of_a_run(rt: HostRuntime) -> Result<(), Fail> {
     Ok(())
 }
 
-/// Each refusal of the line, by its text after the number of the line of the script.
+/// Each refusal of the line, with its message after the number of the script line.
 const REFUSALS: &[Row] = &[
     (
         Cause::Running(Ends::Refused(LineError::NothingSent)),
@@ -285,7 +285,7 @@ fn refused_events_have_status_three(rt: HostRuntime) -> Result<(), Fail> {
     Ok(())
 }
 
-/// Errors that end a station, and their exit statuses.
+/// Errors that end a station, with their exit statuses.
 const STATIONS: &[Row] = &[
     (
         Cause::Attending(Stops::Offer(

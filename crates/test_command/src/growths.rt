@@ -1,4 +1,4 @@
-//! Growths refused: each in turn, all from one on, and all above a size.
+//! Growths are refused: each one in turn, all from each one on, and all above each size.
 
 use crate::naming::{Call, print};
 use bsc_naming::NamingError;
@@ -6,18 +6,18 @@ use std::alloc::Global;
 use std::test::Fail;
 use test_alloc::{Refusal, Refusing, TurnError};
 
-/// A call, what it is given and what it prints.
+/// A call, its input and its output.
 type Row = (Call, &'static str, &'static str);
 
 const GROWING: &[Row] = &[
     (Call::Name, "16 16 02 C8 49 19 83 9B FF", "TEXT ETX 1\n"),
-    // Of these four transmissions one is noise.
+    // One of these four transmissions is noise.
     (
         Call::Names,
         "16 16 10 B0 FF\n16 16 10 30 FF\n16 16 04 FF 16 16 C1 85 FF\n16 04\n",
         "ACK0\nNOISE\nCALL A\nEOT\n",
     ),
-    // Two transmissions of one character, and between them a text of two units.
+    // Two transmissions without a text, and between them a text of two units.
     (
         Call::Show,
         "16 04\n16 16 02 C8 49 19 1F 07 19 83 1A FF\n16 04",
@@ -25,8 +25,8 @@ const GROWING: &[Row] = &[
     ),
 ];
 
-/// Whether this much is printed of a text before out of memory is told: names are printed a whole
-/// line at a time, units are not.
+/// Whether the output before out of memory is right: a beginning of the text but not all of it;
+/// names are printed in whole lines, units need not be.
 fn is_front(call: Call, printed: &[u8], text: &[u8]) -> bool {
     let is_whole = match call {
         Call::Name | Call::Names => matches!(printed.last(), None | Some(b'\n')),
@@ -35,8 +35,8 @@ fn is_front(call: Call, printed: &[u8], text: &[u8]) -> bool {
     is_whole && printed.len() < text.len() && text.starts_with(printed)
 }
 
-/// Whether out of memory is told, after a front of the text, where a growth is refused, and else
-/// all of it is printed.
+/// Whether the result is right: out of memory after a beginning of the text if a growth was
+/// refused, and the whole text otherwise.
 fn is_due(alloc: Global, refusing: &Refusing<Global>, row: &Row) -> bool {
     let (call, input, text) = *row;
     let mut out = Vec::new(alloc);
@@ -49,7 +49,7 @@ fn is_due(alloc: Global, refusing: &Refusing<Global>, row: &Row) -> bool {
     }
 }
 
-/// The first number by which growths are refused so and something else comes of the call.
+/// The first number for which a call has another result while growths are refused in this way.
 fn first_number(
     alloc: Global,
     refusing: &Refusing<Global>,
@@ -67,7 +67,7 @@ fn first_number(
 
 const REFUSALS: &[Refusal] = &[Refusal::Nth, Refusal::From, Refusal::Above { octets: 1 }];
 
-/// The first refusals by which something else comes of a call, with the number and the input.
+/// The first kind of refusal with another result of a call, with the number and the input.
 fn first_wrong(
     alloc: Global,
     refusing: &Refusing<Global>,

@@ -1,5 +1,8 @@
-//! Tests of the command: its words, its faults, and whole runs and stations over machines that are
-//! made for them; growths refused in turn, and the largest inputs.
+//! Tests of the command: its words, its faults, whole runs and stations on machines made for tests,
+//! refused growths, and the largest inputs.
+//!
+//! Words, texts, traces and exit statuses are this project's own; the messages in them are the
+//! standard's (GA27-3004).
 #![tactic(auto)]
 
 #[cfg(test)]

@@ -1,5 +1,5 @@
-//! A machine that is made for tests: one file, one connection that is scripted, and no sockets; and
-//! commands that are played on it.
+//! A machine for tests, with one file, one scripted connection and no sockets, and commands that
+//! run on it.
 
 use bsc_attending::{Network, Opened, Place, Wanted};
 use bsc_carrier::Cable;
@@ -15,7 +15,7 @@ use std::io;
 use std::io::{BufWriter, Error, ErrorKind, Read, Write};
 use test_fixtures::configurations::TWO_TERMINALS;
 
-/// An end of a connection that nobody holds.
+/// An unused end of a connection.
 #[derive(Drop)]
 pub(crate) struct Nothing;
 
@@ -35,7 +35,7 @@ impl Write for Nothing {
     }
 }
 
-/// A clock that stands.
+/// A clock that stands still.
 #[derive(Drop)]
 pub(crate) struct NoTimer;
 
@@ -45,13 +45,13 @@ impl Timer for NoTimer {
     }
 }
 
-/// Gives these pieces, at most one a read, and then the end, or a fault.
+/// Returns these pieces, at most one in each read, and then the end of the stream or a fault.
 #[derive(Drop)]
 pub(crate) struct Pieces {
     left: &'static [&'static [u8]],
     piece: &'static [u8],
 
-    /// Whether a fault comes in place of the end.
+    /// Whether a fault comes instead of the end.
     fails: bool,
 }
 
@@ -74,8 +74,8 @@ impl Read for Pieces {
     }
 }
 
-/// Has octets to read for each `r` of a text, and lets the time pass for each `t`; after the text
-/// there is always something to read.
+/// Reports octets to read for each `r` of the steps, and a time-out for each `t`; after the last
+/// step there are always octets to read.
 #[derive(Drop)]
 pub(crate) struct Scripted {
     steps: &'static [u8],
@@ -104,18 +104,18 @@ impl Waiter<Pieces, Vec<u8>> for Scripted {
     fn turn_away(&mut self) {}
 }
 
-/// What a station asked for: whether it listens, how many connections, whether others may come
-/// later, whether it begins, its time-out and its gap.
+/// What a station requested: whether it listens, the number of connections, whether others may
+/// connect later, whether it begins, its time-out and its gap.
 pub(crate) type Asking = (bool, usize, bool, bool, u64, u64);
 
-/// What a connection gives, at most one piece a read, and when.
+/// The octets of a connection, at most one piece in each read, and the waits before them.
 #[derive(Clone, Copy)]
 pub(crate) struct Scene {
     pub(crate) pieces: &'static [&'static [u8]],
     pub(crate) steps: &'static [u8],
 }
 
-/// A connection on which nothing comes.
+/// A connection on which nothing arrives.
 pub(crate) const SILENT: Scene = Scene {
     pieces: &[],
     steps: b"",
@@ -207,7 +207,7 @@ impl Network for Machine {
 struct Output {
     octets: Vec<u8>,
 
-    /// Whether it takes what is printed.
+    /// Whether it accepts what is printed.
     takes: bool,
 }
 
@@ -224,8 +224,7 @@ impl Write for Output {
     }
 }
 
-/// What a command is to print, to tell on standard error, and to end with, and what it is to ask
-/// for.
+/// The expected output, standard error and exit status of a command, and what it has to request.
 #[derive(Clone, Copy)]
 pub(crate) struct Due {
     pub(crate) out: &'static str,
@@ -235,7 +234,7 @@ pub(crate) struct Due {
 }
 
 impl Due {
-    /// What is otherwise than it is to be.
+    /// The first of these that differs from what is expected.
     fn difference(
         &self,
         status: u8,
@@ -259,25 +258,25 @@ impl Due {
     }
 }
 
-/// A command, and what is to come of it.
+/// A command, and its expected results.
 pub(crate) struct Case {
-    /// The words after the program's name; none where they could not be had.
+    /// The words after the program's name; None if they could not be read.
     pub(crate) words: Option<&'static [&'static str]>,
 
-    /// Standard input; none where it fails.
+    /// Standard input; None if it fails.
     pub(crate) input: Option<&'static str>,
 
-    /// Whether standard output takes what is printed.
+    /// Whether standard output accepts what is printed.
     pub(crate) takes: bool,
 
     /// The connection.
     pub(crate) scene: Scene,
 
-    /// What is to come of it.
+    /// The expected results.
     pub(crate) due: Due,
 }
 
-/// The words of the command, the program's name first.
+/// The words of the command, with the program's name first.
 fn owned(alloc: Global, words: &[&str]) -> Result<Vec<String>, AllocError> {
     let mut owned = Vec::new(alloc);
     owned.push(String::from_str(alloc, "bscline")?)?;
@@ -287,7 +286,7 @@ fn owned(alloc: Global, words: &[&str]) -> Result<Vec<String>, AllocError> {
     Ok(owned)
 }
 
-/// The words that the command is given.
+/// The words of the case, or the fault if they could not be read.
 fn given(alloc: Global, case: &Case) -> Result<Vec<String>, Fault> {
     match case.words {
         Some(words) => Ok(owned(alloc, words)?),
@@ -295,7 +294,7 @@ fn given(alloc: Global, case: &Case) -> Result<Vec<String>, Fault> {
     }
 }
 
-/// The standard input of the command.
+/// The standard input of the case.
 fn input(case: &Case) -> Pieces {
     Pieces {
         left: &[],
@@ -304,7 +303,7 @@ fn input(case: &Case) -> Pieces {
     }
 }
 
-/// What comes of the command otherwise than is due.
+/// The first result of the command that differs from what is expected.
 fn difference(alloc: Global, case: &Case) -> Option<&'static str> {
     let mut machine = Machine {
         alloc,
@@ -332,7 +331,7 @@ fn difference(alloc: Global, case: &Case) -> Option<&'static str> {
         .difference(status, &out.get_ref().octets, &errors, machine.asking)
 }
 
-/// The first command of which something else comes than is due, and what that is.
+/// The first command with another result than expected, and which result that is.
 pub(crate) fn first_wrong(alloc: Global, cases: &[Case]) -> Option<(usize, &'static str)> {
     for (place, case) in cases.iter().enumerate() {
         if let Some(what) = difference(alloc, case) {

@@ -1,4 +1,4 @@
-//! Names of worked transmissions, of lines and of traces.
+//! The names of transmissions, of lines and of traces.
 
 use bsc_naming::{NamingError, name, names, show};
 use std::alloc::{Allocator, Global};
@@ -15,7 +15,7 @@ pub(crate) enum Call {
     Show,
 }
 
-/// Prints names of this input by the call.
+/// Prints the names of this input with this call.
 pub(crate) fn print<A: Allocator + Copy, W: Write>(
     alloc: A,
     call: Call,
@@ -29,7 +29,7 @@ pub(crate) fn print<A: Allocator + Copy, W: Write>(
     }
 }
 
-/// Whether this is printed of the input, and this error comes after it.
+/// Whether this is printed for the input, with this error after it.
 pub(crate) fn is_due(
     alloc: Global,
     call: Call,
@@ -41,10 +41,10 @@ pub(crate) fn is_due(
     print(alloc, call, input, &mut out).err() == error && out.as_slice() == printed.as_bytes()
 }
 
-/// An input, what is printed of it, and the error after that.
+/// An input, its output, and the error after that.
 type Row = (&'static str, &'static str, Option<NamingError>);
 
-/// The first row of which something else comes.
+/// The place of the first row with another result.
 fn first_wrong(alloc: Global, call: Call, rows: &[Row]) -> Option<usize> {
     for (place, (input, printed, error)) in rows.iter().enumerate() {
         if !is_due(alloc, call, input, printed, *error) {
@@ -54,8 +54,8 @@ fn first_wrong(alloc: Global, call: Call, rows: &[Row]) -> Option<usize> {
     None
 }
 
-/// Transmissions with their names; and text that is not hexadecimal: another character, an odd
-/// number of digits, a letter past F.
+/// Transmissions with their names, and text that is not hexadecimal: another character, an odd
+/// number of digits, a letter after F.
 const NAMED: &[Row] = &[
     ("16 16 10 B0 FF", "ACK0\n", None),
     ("161610b0ff", "ACK0\n", None),
@@ -102,12 +102,12 @@ fn worked_transmissions(rt: HostRuntime) -> Result<(), Fail> {
     Ok(())
 }
 
-/// Line 4 is wrong.
+/// The error in line 4.
 const WRONG: Option<NamingError> = Some(NamingError::NotHexadecimalAt { line: 4 });
 
-/// Names in the order of the lines; blank lines give none, and the last line feed may be missing.
-/// The lines before a wrong one are printed, and those after it are not. Blank lines are counted.
-/// Of two carriage returns one belongs to the line.
+/// Names are printed in the order of the lines. Blank lines have no name but are counted, and the
+/// last line feed may be missing. The lines before a wrong one are printed, and those after it are
+/// not. The first of two carriage returns belongs to the line.
 const LINES: &[Row] = &[
     (
         "16 16 10 B0 FF\n\n16 16 10 30 FF\r\n   \n \r\n16 16 04 FF 16 16 C1 85 FF\n16 04\r",
@@ -125,8 +125,8 @@ fn names_of_standard_input(rt: HostRuntime) -> Result<(), Fail> {
     Ok(())
 }
 
-/// A trace that `station` wrote: time-outs and connections give nothing, and a line of hexadecimal
-/// text between stays as it is.
+/// A trace that `station` wrote. Time-outs and connections print nothing, and a line of hexadecimal
+/// text in between is read as such.
 const TRACE: &str = "+1 control heard CALL A 161604ff1616c185ff
 +3 terminal 0 sent TEXT ETX 1 161602c84919839bff
 +3000 silence
@@ -138,8 +138,8 @@ const TRACE: &str = "+1 control heard CALL A 161604ff1616c185ff
 +
 + \n";
 
-/// The units of texts, some without characters and some without EM among them; and traces, of
-/// which a line without the sign is still hexadecimal text or a fault.
+/// The units of texts, some without characters and some without EM. In traces, a line without the
+/// sign is still read as hexadecimal text.
 const SHOWN: &[Row] = &[
     (
         "16 16 02 C8 49 19 1F 07 19 83 1A FF",
@@ -165,7 +165,7 @@ fn units_of_texts_and_traces(rt: HostRuntime) -> Result<(), Fail> {
     Ok(())
 }
 
-/// Of these numbers of writes, the first after which another one that fails is not told.
+/// The first of these numbers of successful writes after which a failing one is not reported.
 fn first_untold(alloc: Global, call: Call, input: &str, writes: Range<usize>) -> Option<usize> {
     for left in writes {
         if print(alloc, call, input, &mut Full { left }) != Err(NamingError::Output) {
@@ -175,7 +175,7 @@ fn first_untold(alloc: Global, call: Call, input: &str, writes: Range<usize>) ->
     None
 }
 
-/// A write that fails at any place of the output.
+/// A write fails at each place of the output.
 #[test]
 fn failing_write(rt: HostRuntime) -> Result<(), Fail> {
     let input = "16 04\n16 16 02 C8 49 19 83 9B FF\nzz";

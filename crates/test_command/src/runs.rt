@@ -1,4 +1,4 @@
-//! The examples of the repository, with the texts of their files, run over loopback connections.
+//! The examples of the repository, with the contents of their files, run over loopback connections.
 
 use crate::faults::has_text;
 use bsc_carrier::Cable;
@@ -228,8 +228,8 @@ impl<R: Net> Cables for Machine<'_, R> {
     }
 }
 
-/// A run: the texts of the two files, the paths that it is given, standard input, and what comes of
-/// it.
+/// A run: the contents of the two files, the paths given to it, its standard input, and its
+/// results.
 struct Case {
     line: &'static str,
     script: &'static str,
@@ -240,7 +240,7 @@ struct Case {
     error: &'static str,
 }
 
-/// Whether what is to come of a run comes of it.
+/// Whether a run has the expected results.
 fn is_due<R: Net>(runtime: &R, alloc: Global, case: &Case) -> bool {
     let (line, script) = (case.line, case.script);
     let mut machine = Machine {
@@ -271,7 +271,7 @@ fn is_due<R: Net>(runtime: &R, alloc: Global, case: &Case) -> bool {
         }
 }
 
-/// The first of these runs of which something else comes.
+/// The place of the first of these runs with other results.
 fn first_wrong<R: Net>(runtime: &R, alloc: Global, cases: &[Case]) -> Option<usize> {
     for (place, case) in cases.iter().enumerate() {
         if !is_due(runtime, alloc, case) {
@@ -329,8 +329,8 @@ fn examples_print_what_their_files_say(rt: HostRuntime) -> Result<(), Fail> {
     Ok(())
 }
 
-/// The configuration is read first, then the script; then what they say is checked in that order,
-/// and only then is the line made.
+/// The configuration is read first, then the script; then they are checked in this order, and only
+/// then is the line made.
 const FAULTS: &[Case] = &[
     Case {
         line: "?",

@@ -1,5 +1,4 @@
-//! That memory which is there is granted at any size: scripts and inputs of a mebibyte, and the
-//! longest text.
+//! Large sizes, with enough memory: scripts and inputs of a mebibyte, and the longest text.
 
 use crate::naming::{Call, is_due};
 use bsc_input::MAX_INPUT;
@@ -7,7 +6,7 @@ use bsc_script::read_script;
 use std::alloc::{AllocError, Global};
 use std::test::Fail;
 
-/// This line as often as it fits into a mebibyte, and line feeds up to its end.
+/// This line as many times as it fits into a mebibyte, with line feeds up to its end.
 fn mebibyte_of(alloc: Global, line: &str) -> Result<String, AllocError> {
     let mut whole = line.repeat(alloc, MAX_INPUT / line.len().max(1))?;
     for _ in whole.len()..MAX_INPUT {
@@ -16,7 +15,7 @@ fn mebibyte_of(alloc: Global, line: &str) -> Result<String, AllocError> {
     Ok(whole)
 }
 
-/// A text this many times, with a text before it and one after it.
+/// A text this many times, with one text before it and one after it.
 fn around(
     alloc: Global,
     before: &str,
@@ -32,8 +31,8 @@ fn around(
     Ok(whole)
 }
 
-/// How many octets a script of a mebibyte of this line has, and how many events; which they are is
-/// said by the contract of `read_script`.
+/// The numbers of octets and of events of a script of a mebibyte of this line. The contract of
+/// `read_script` says which events they are.
 fn counts(alloc: Global, line: &str) -> Result<Option<(usize, usize)>, AllocError> {
     let text = mebibyte_of(alloc, line)?;
     Ok(match read_script(alloc, text.as_bytes()) {
@@ -49,7 +48,7 @@ fn a_script_of_a_mebibyte_has_each_event(rt: HostRuntime) -> Result<(), Fail> {
     Ok(())
 }
 
-/// The same of the longest hearing.
+/// The same for the longest hearing.
 fn counts_of_longest(alloc: Global) -> Result<Option<(usize, usize)>, AllocError> {
     let line = around(alloc, "heard ", "16", 2048, "\n")?;
     counts(alloc, &line)
@@ -61,7 +60,7 @@ fn a_script_of_the_longest_hearings_has_each(rt: HostRuntime) -> Result<(), Fail
     Ok(())
 }
 
-/// Whether an input of a mebibyte has each name.
+/// Whether each line of an input of a mebibyte has its name printed.
 fn has_each_name(alloc: Global) -> Result<bool, AllocError> {
     let input = mebibyte_of(alloc, "161610B0FF\n")?;
     let names = "ACK0\n".repeat(alloc, 95_325)?;
@@ -74,8 +73,8 @@ fn an_input_of_a_mebibyte_has_each_name(rt: HostRuntime) -> Result<(), Fail> {
     Ok(())
 }
 
-/// The text with the most octets that are sent, as hexadecimal text: each of its seven units is 144
-/// times A, EM, the ending character and the check, to which the even number of A adds nothing.
+/// The longest text that is sent, as hexadecimal text. Each of its seven units is 144 times A, EM,
+/// the ending character and the check; the even number of A adds nothing to the check.
 fn longest_text(alloc: Global) -> Result<String, AllocError> {
     let unit = around(alloc, "", "C1", 144, "191F86")?;
     let last = around(alloc, "", "C1", 144, "19831AFF")?;
@@ -85,13 +84,13 @@ fn longest_text(alloc: Global) -> Result<String, AllocError> {
 /// The name of the longest text.
 const LONGEST_NAME: &str = "TEXT ETX 7\n";
 
-/// The longest text, unit by unit.
+/// The output for the longest text, unit by unit.
 fn longest_shown(alloc: Global) -> Result<String, AllocError> {
     let unit = around(alloc, "unit ", "41", 144, " EM\n")?;
     around(alloc, LONGEST_NAME, &unit, 7, "")
 }
 
-/// Whether the call prints this of the longest text.
+/// Whether the call prints this for the longest text.
 fn is_due_of_longest(alloc: Global, call: Call, printed: &str) -> Result<bool, AllocError> {
     let input = longest_text(alloc)?;
     Ok(is_due(alloc, call, &input, printed, None))

@@ -1,10 +1,10 @@
-//! Whole stations by their words, over a connection that is scripted. The octets are those of
+//! Whole stations run by their words, over a scripted connection. The octets are those of
 //! docs/PROTOCOL.md.
 
 use crate::machine::{Case, Due, Scene, first_wrong};
 use std::test::Fail;
 
-/// What terminal 0 hears: a poll, which it answers by a text; ACK1; a selection; a text; EOT.
+/// What terminal 0 hears: a poll, which it answers with a text; ACK1; a selection; a text; EOT.
 const HEARD: &[&[u8]] = &[
     b"\x16\x16\x04\xFF\x16\x16\xC1\x85\xFF",
     b"\x16\x16\x10\x31\xFF",
@@ -13,7 +13,7 @@ const HEARD: &[&[u8]] = &[
     b"\x16\x16\x04\xFF",
 ];
 
-/// These transmissions as socket records.
+/// The same transmissions as socket records.
 const RECORDS: &[&[u8]] = &[
     b"\x00\x09\x16\x16\x04\xFF\x16\x16\xC1\x85\xFF",
     b"\x00\x05\x16\x16\x10\x31\xFF",
@@ -22,14 +22,14 @@ const RECORDS: &[&[u8]] = &[
     b"\x00\x04\x16\x16\x04\xFF",
 ];
 
-/// EOT as a socket record, and a part of the next record.
+/// EOT as a socket record, and part of the next record.
 const CUT: &[&[u8]] = &[b"\x00\x04\x16\x16\x04\xFF", b"\x00\x05\x16\x16"];
 
-/// A length that no record has.
+/// A length that a socket record cannot have.
 const WRONG: &[&[u8]] = &[b"\xFF\xFF", &[0x55; 2048], &[0x55; 2048]];
 
-/// What a control station hears that has a record for terminal 0: ACK0, ACK1, and EOT to each poll
-/// of two rounds.
+/// What a control station with a record for terminal 0 hears: ACK0, ACK1, and EOT to each poll of
+/// two rounds.
 const ANSWERS: &[&[u8]] = &[
     b"\x00\x05\x16\x16\x10\xB0\xFF",
     b"\x00\x05\x16\x16\x10\x31\xFF",
@@ -39,7 +39,7 @@ const ANSWERS: &[&[u8]] = &[
     b"\x00\x04\x16\x16\x04\xFF",
 ];
 
-/// What terminal 0 prints that hears this and has a record to send.
+/// The output of terminal 0 with a record to send, if it hears this.
 const TERMINAL: &str = "to 0: HI\nfrom 0: offered 1, known 1\nto 0: spooled 1\n  4849\n";
 
 const CASES: &[Case] = &[
@@ -197,7 +197,8 @@ const CASES: &[Case] = &[
     },
 ];
 
-/// What each asks for of its machine, prints, tells on standard error, and ends with.
+/// Tests what each station requests of its machine, its output, its standard error and its exit
+/// status.
 #[test]
 fn stations_end_as_their_connections_do(rt: HostRuntime) -> Result<(), Fail> {
     assert_eq!(rt; first_wrong(rt.alloc(), CASES), None);

@@ -1,14 +1,14 @@
-//! What words are read as, and what `clap` prints for them.
+//! How words are read, and what `clap` prints for them.
 
 use bsc_words::read_words;
 use std::alloc::Global;
 use std::io::Write;
 use std::test::Fail;
 
-/// Words, and what is read of them or printed for them.
+/// Words, and what is read from them or printed for them.
 type Row = (&'static [&'static str], &'static str);
 
-/// Whether this is what the words ask for, or what `clap` prints for them.
+/// Whether this is what the words request, or what `clap` prints for them.
 fn is_answered(alloc: Global, words: &[&str], text: &str) -> bool {
     let mut out = Vec::new(alloc);
     let answer = read_words(alloc, words);
@@ -19,7 +19,7 @@ fn is_answered(alloc: Global, words: &[&str], text: &str) -> bool {
     written.is_ok() && out.as_slice() == text.as_bytes()
 }
 
-/// The first row of a table that is answered otherwise.
+/// The place of the first row with another result.
 fn first_wrong(alloc: Global, rows: &[Row]) -> Option<usize> {
     for (place, (words, text)) in rows.iter().enumerate() {
         if !is_answered(alloc, words, text) {
@@ -29,7 +29,7 @@ fn first_wrong(alloc: Global, rows: &[Row]) -> Option<usize> {
     None
 }
 
-/// What is asked for.
+/// Words that are read, and what they request.
 const ASKED: &[Row] = &[
     (
         &[
@@ -123,7 +123,7 @@ const HELPED: &[Row] = &[
     (&["bscline", "name", "-h"], NAME_HELP),
 ];
 
-/// A word that is no command, one too many and one too few.
+/// A word that is not a command, one word too many, and one too few.
 const WRONG: &[Row] = &[
     (
         &["bscline", "poll", "c", "s"],

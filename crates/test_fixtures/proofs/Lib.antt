@@ -1,2 +1,2 @@
--- Records and the fronts of lists.
+-- Lemmas about records and the first items of lists.
 mod Fronts

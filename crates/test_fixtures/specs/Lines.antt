@@ -1,12 +1,12 @@
--- The terminals of the line that the tests play on (own: tests).
+-- The terminals of the line on which the tests play.
 use Rattle.std.specs.Prelude.{ℕ, List, [], ◌∷◌}
 use Rattle.bsc_bid.specs.Terminal.{TerminalValue}
 
--- a terminal that is polled by the first address and selected by each of the others
+-- a terminal with this polling address and these selection addresses
 abbrev pub terminal_value : List ℕ → List (List ℕ) → TerminalValue
 terminal_value poll selects = record { poll = poll; selects = selects }
 
--- the address of one code
+-- the address with this one code
 abbrev pub one : ℕ → List ℕ
 one code = code ∷ []
 
@@ -18,6 +18,6 @@ terminal_b = terminal_value (one 0x42) (one 0x62 ∷ [])
 abbrev pub two : List TerminalValue
 two = terminal_value (one 0x41) (one 0x61 ∷ []) ∷ terminal_b ∷ []
 
--- these two terminals, where the first is also selected by c
+-- the same two terminals, but the first is also selected by c
 abbrev pub two_by_three : List TerminalValue
 two_by_three = terminal_value (one 0x41) (one 0x61 ∷ one 0x63 ∷ []) ∷ terminal_b ∷ []

@@ -1,4 +1,4 @@
-//! Configurations of lines, as bsc_config reads them.
+//! Configurations of lines, in the form that bsc_config reads.
 
 /// Two terminals that are polled in turn: terminal 0 is polled by A and selected by a, terminal 1
 /// is polled by B and selected by b. The settings are the defaults.
@@ -14,7 +14,7 @@ poll = \"B\"
 select = \"b\"
 ";
 
-/// A configuration of these two terminals, where terminal 0 is also selected by c.
+/// A configuration of the same two terminals, but terminal 0 is also selected by c.
 pub const THREE_ADDRESSES: &str = "version = 2
 poll_list = [0, 1]
 

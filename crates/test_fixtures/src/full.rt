@@ -3,10 +3,10 @@
 use std::io;
 use std::io::{Error, ErrorKind, Write};
 
-/// Takes this many writes whole, and fails at each one after them as a full device does.
+/// Accepts this many writes completely, and fails each later one, as a full device does.
 #[derive(Drop)]
 pub struct Full {
-    /// How many writes it still takes.
+    /// The number of writes that it still accepts.
     pub left: usize,
 }
 

@@ -1,7 +1,9 @@
-//! What the tests of several crates are made of: the transmissions of worked exchanges, the
-//! settings and the terminals of the line that most of them play on, its configuration, records
-//! compared with their characters, and a writer that fails. No crate of the line stands on it but
-//! for its tests.
+//! Data shared by the tests of several crates: the transmissions of their exchanges, the settings
+//! and terminals of the line on which most of them play, its configuration, comparisons of records
+//! with characters, and a writer that fails. The crates of the line use it in their tests only.
+//!
+//! The transmissions are the standard's (GA27-3004); the settings and terminals are this project's
+//! own.
 #![tactic(auto)]
 
 pub mod configurations;

@@ -1,4 +1,4 @@
-//! The transmissions of the worked exchanges, octet by octet.
+//! The transmissions of the exchanges, octet by octet.
 
 /// The call that polls terminal 0.
 pub const CALL_POLL_A: &[u8] = &[0x16, 0x16, 0x04, 0xff, 0x16, 0x16, 0xc1, 0x85, 0xff];
@@ -15,25 +15,25 @@ pub const CALL_SELECT_B: &[u8] = &[0x16, 0x16, 0x04, 0xff, 0x16, 0x16, 0x62, 0x8
 /// The call that selects terminal 0 by its second selection address.
 pub const CALL_SELECT_C: &[u8] = &[0x16, 0x16, 0x04, 0xff, 0x16, 0x16, 0xe3, 0x85, 0xff];
 
-/// EOT: nothing, or nothing more, is to be sent.
+/// EOT: the sender has nothing, or nothing more, to send.
 pub const EOT: &[u8] = &[0x16, 0x16, 0x04, 0xff];
 
-/// ENQ: the last reply is asked for again.
+/// ENQ: asks for the last reply again.
 pub const ENQ: &[u8] = &[0x16, 0x16, 0x85, 0xff];
 
-/// NAK: the block is asked for again, or the selection is refused.
+/// NAK: asks for the block again, or refuses the selection.
 pub const NAK: &[u8] = &[0x16, 0x16, 0x15, 0xff];
 
-/// ACK0: the selection, or an even block of the bid, is taken.
+/// ACK0: accepts the selection, or an even block of the bid.
 pub const ACK0: &[u8] = &[0x16, 0x16, 0x10, 0xb0, 0xff];
 
-/// ACK1: an odd block of the bid is taken.
+/// ACK1: accepts an odd block of the bid.
 pub const ACK1: &[u8] = &[0x16, 0x16, 0x10, 0x31, 0xff];
 
-/// WACK: taken, but there is no room yet for what follows.
+/// WACK: accepts, but has no room yet for what follows.
 pub const WACK: &[u8] = &[0x16, 0x16, 0x10, 0x3b, 0xff];
 
-/// RVI: the block is taken, and the sender is asked to end its bid.
+/// RVI: accepts the block, and asks the sender to end its bid.
 pub const RVI: &[u8] = &[0x16, 0x16, 0x10, 0xbc, 0xff];
 
 /// The text of the record HI, which ends with ETX.
@@ -42,7 +42,7 @@ pub const TEXT_HI: &[u8] = &[0x16, 0x16, 0x02, 0xc8, 0x49, 0x19, 0x83, 0x9b, 0xf
 /// The text of one empty record, which ends with ETX.
 pub const TEXT_EMPTY: &[u8] = &[0x16, 0x16, 0x02, 0x19, 0x83, 0x1a, 0xff];
 
-/// The text of seven empty records that takes all that wait: it ends with ETX.
+/// The text of seven empty records after which none wait: it ends with ETX.
 pub const TEXT_LAST_SEVEN: &[u8] = &[
     0x16, 0x16, 0x02, 0x19, 0x1f, 0x86, 0x19, 0x1f, 0x86, 0x19, 0x1f, 0x86, 0x19, 0x1f, 0x86, 0x19,
     0x1f, 0x86, 0x19, 0x1f, 0x86, 0x19, 0x83, 0x1a, 0xff,
@@ -54,7 +54,7 @@ pub const TEXT_FIRST_SEVEN: &[u8] = &[
     0x1f, 0x86, 0x19, 0x1f, 0x86, 0x19, 0x97, 0x0e, 0xff,
 ];
 
-/// A text that ENQ breaks off, which fails its check.
+/// A text that is ended by ENQ, which fails its check.
 pub const BROKEN_TEXT: &[u8] = &[0x16, 0x16, 0x02, 0x85, 0xff];
 
 /// The beginning of an acknowledgement, which is noise.

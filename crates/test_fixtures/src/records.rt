@@ -1,4 +1,4 @@
-//! Records of a queue or of a spool, compared with the characters that are expected.
+//! Comparisons of the records of a queue or of a spool with their expected characters.
 ghost use Rattle.std.specs.Prelude.{◌≡◌, ◌↔◌, IsTrue, Some};
 ghost use Rattle.std.specs.List.{slice_get};
 ghost use Rattle.test_fixtures.specs.Records.{Begins, values};
@@ -12,7 +12,7 @@ fn is_of(own: &Record, chars: &[u8]) -> bool
     own.chars() == chars
 }
 
-/// Whether the characters at this place are those of the record.
+/// Whether the expected characters at this place are those of the record.
 #[tactic(auto, using(crate::proofs::Fronts::value_steps))]
 fn has_at(expected: &[&[u8]], place: usize, own: &Record) -> bool
     ensures { IsTrue result ↔ (slice_get (values expected.now) place ≡ Some own.now) }
@@ -20,7 +20,7 @@ fn has_at(expected: &[&[u8]], place: usize, own: &Record) -> bool
     place < expected.len() && is_of(own, expected[place])
 }
 
-/// Whether the records are those of the first of these characters, in order.
+/// Whether the records have the first of these characters, in order.
 #[tactic(auto, using(crate::proofs::Fronts::front_more, crate::proofs::Fronts::front_at))]
 pub fn are_front(records: &[Record], expected: &[&[u8]]) -> bool
     ensures { IsTrue result ↔ Begins records.now (values expected.now) }
@@ -33,7 +33,7 @@ pub fn are_front(records: &[Record], expected: &[&[u8]]) -> bool
     true
 }
 
-/// Whether the records are those of exactly these characters, in order.
+/// Whether the records have exactly these characters, in order.
 pub fn are_records(records: &[Record], expected: &[&[u8]]) -> bool
     ensures { IsTrue result ↔ (records.now ≡ values expected.now) }
 {

@@ -1,4 +1,4 @@
-//! That the transmissions are those of their names, and the calls on their happy path.
+//! Tests that each transmission is the one that its name says, and tests of the functions.
 
 use crate::lines::{address, setup, two_terminals, two_terminals_by_three};
 use crate::records::{are_front, are_records};
@@ -30,7 +30,7 @@ fn transmissions_of_control_sequences_and_calls(rt: HostRuntime) {
     }
 }
 
-/// Whether the text carries this many records, each of these characters.
+/// Whether the text carries this many records, each with these characters.
 fn carries(text: &Text, count: usize, chars: &[u8]) -> bool {
     let block = unpack(text);
     for place in 0..block.count() {
@@ -60,7 +60,7 @@ fn transmissions_of_texts(rt: HostRuntime) -> Result<(), Fail> {
     Ok(())
 }
 
-/// Characters that are not those of the records HI and an empty one.
+/// Lists of characters that differ from those of the records HI and an empty one.
 const OTHERS: &[&[&[u8]]] = &[
     &[],
     &[b"HI"],

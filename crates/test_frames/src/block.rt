@@ -1,4 +1,4 @@
-//! Records and blocks by hand.
+//! Examples of records and blocks.
 ghost use Rattle.std.specs.Prelude.{◌≡◌, ◌≤◌, IfOk, length};
 ghost use Rattle.bsc_block.specs.Blocks.{AreShort};
 
@@ -7,7 +7,7 @@ use bsc_frame::limits::MAX_UNITS;
 use bsc_frame::{End, Heard, Message, Text, Wire, decode, encode};
 use std::test::Fail;
 
-/// Two numbers, and what a format of them is refused for.
+/// Two numbers, and the error of a format with them.
 const FORMATS: &[(u8, u16, Option<FormatError>)] = &[
     (0, 145, Some(FormatError::Full)),
     (145, 400, Some(FormatError::Full)),
@@ -17,7 +17,7 @@ const FORMATS: &[(u8, u16, Option<FormatError>)] = &[
     (144, 400, None),
 ];
 
-/// Codes, and what a record of them is refused for where the full length is 80.
+/// Codes, and the error of a record with them if the full length is 80.
 const RECORDS: &[(&[u8], Option<RecordError>)] = &[
     (&[0x19; 81], Some(RecordError::TooLong)),
     (&[0x19], Some(RecordError::NotText(0))),
@@ -29,18 +29,18 @@ const RECORDS: &[(&[u8], Option<RecordError>)] = &[
 /// The text of the record HI, which is not full: EM follows it.
 const HI: &[u8] = &[0x16, 0x16, 0x02, 0xc8, 0x49, 0x19, 0x83, 0x9b, 0xff];
 
-/// The text of the record HI where the full length is 2.
+/// The text of the record HI if the full length is 2.
 const FULL_HI: &[u8] = &[0x16, 0x16, 0x02, 0xc8, 0x49, 0x83, 0x02, 0xff];
 
-/// The text of a form feed, whose check is the octet of SYN.
+/// The text of a form feed, whose check is the same octet as SYN.
 const FORM_FEED: &[u8] = &[0x16, 0x16, 0x02, 0x8c, 0x19, 0x83, 0x16, 0xff];
 
-/// The text of HI with EM, and of a unit that has only EM.
+/// The text of HI with EM, and of a unit with only EM.
 const TWO_UNITS: &[u8] = &[
     0x16, 0x16, 0x02, 0xc8, 0x49, 0x19, 0x1f, 0x07, 0x19, 0x83, 0x1a, 0xff,
 ];
 
-// Whether a format of these numbers is refused for this.
+// Whether a format of these numbers has this error, or none.
 fn is_format(full: u8, block_chars: u16, why: Option<FormatError>) -> bool {
     match Format::new(full, block_chars) {
         Ok(format) => why.is_none() && format.full() == full,
@@ -48,7 +48,7 @@ fn is_format(full: u8, block_chars: u16, why: Option<FormatError>) -> bool {
     }
 }
 
-// Whether a record of these codes is refused for this.
+// Whether a record of these codes has this error, or none.
 fn is_record(codes: &[u8], why: Option<RecordError>) -> bool {
     match Record::read(codes, 80) {
         Ok(record) => why.is_none() && record.chars() == codes,
@@ -81,7 +81,7 @@ fn letters(count: usize) -> Result<Record, RecordError>
     Record::read(&[0x41; 80][..count], 80)
 }
 
-// How many of four records of 80 letters A and one of `count` are packed.
+// The number of records packed, out of four with 80 letters A and one with `count`.
 fn packed(count: usize, format: Format) -> Result<usize, RecordError>
     requires count { count ≤ 80 }
     requires full { format.full ≡ 80 }
@@ -105,7 +105,7 @@ fn a_block_takes_what_counts_400(rt: HostRuntime) -> Result<(), Fail> {
     Ok(())
 }
 
-// What is sent for the text of the records.
+// The octets that are sent for the text of the records.
 fn wire_of(records: &[Record], format: Format) -> Wire
     requires some { 1 ≤ length records.now }
     requires few { length records.now ≤ MAX_UNITS }
@@ -120,7 +120,7 @@ fn wire_of(records: &[Record], format: Format) -> Wire
     wire
 }
 
-// Whether these octets are sent for the text of the record of these codes.
+// Whether these octets are sent for the text of the record with these codes.
 fn is_sent(codes: &[u8], full: u8, octets: &[u8]) -> bool
     requires low { 1 ≤ full }
     requires high { full ≤ 144 }
@@ -175,7 +175,7 @@ fn carries(octets: &[u8], records: &[&[u8]]) -> bool {
 #[test]
 fn units_hold_records(rt: HostRuntime) {
     assert!(rt; carries(TWO_UNITS, &[b"HI", b""]));
-    // A unit without characters and EM holds no record.
+    // A unit without characters and without EM does not contain a record.
     assert!(rt; carries(&[0x16, 0x16, 0x02, 0x83, 0x83, 0xff], &[]));
 }
 

@@ -1,4 +1,4 @@
-//! Transmissions by hand.
+//! Examples of transmissions.
 ghost use Rattle.std.specs.Prelude.{◌≤◌};
 
 mod spoiled;
@@ -11,7 +11,7 @@ use bsc_frame::{
 /// The characters of a unit, and whether EM follows them.
 type UnitRow<'a> = (&'a [u8], bool);
 
-/// A unit that has only EM.
+/// A unit with only EM.
 const EM_ALONE: UnitRow = (b"", true);
 
 /// The longest unit: 144 characters A and EM.
@@ -31,15 +31,15 @@ const CONTROLS: &[(&[u8], &str)] = &[
     (&[0x16, 0x16, 0x10, 0xbc, 0xff], "RVI"),
 ];
 
-/// Octets that are no call and no whole text, and the name of what is heard.
+/// Octets that are neither a call nor a whole text, and what they are heard as.
 const NAMES: &[(&[u8], &str)] = &[
     (&[], "NOISE"),
-    // The parity of 0 is even.
+    // The code 0 with even parity.
     (&[0x16, 0x16, 0x10, 0x30, 0xff], "NOISE"),
     // One SYN, no PAD, and other leading pads.
     (&[0x16, 0x04], "EOT"),
     (&[0x55, 0xaa, 0x16, 0x04, 0xff, 0xff], "EOT"),
-    // A call of no character, and one of eight.
+    // A call without characters, and one with eight.
     (&[0x16, 0x16, 0x04, 0xff, 0x16, 0x16, 0x85, 0xff], "NOISE"),
     (
         &[
@@ -48,7 +48,7 @@ const NAMES: &[(&[u8], &str)] = &[
         ],
         "NOISE",
     ),
-    // A text that ENQ breaks off.
+    // A text that is ended by ENQ.
     (&[0x16, 0x16, 0x02, 0x85, 0xff], "FAILED"),
     // A wrong check, and fill before a check.
     (
@@ -80,15 +80,15 @@ const LONGEST_CALL: &[u8] = &[
 /// The text of the one unit HI with EM.
 const HI: &[u8] = &[0x16, 0x16, 0x02, 0xc8, 0x49, 0x19, 0x83, 0x9b, 0xff];
 
-/// The text of HI with EM, and of a unit that has only EM.
+/// The text of HI with EM, and of a unit with only EM.
 const TWO_UNITS: &[u8] = &[
     0x16, 0x16, 0x02, 0xc8, 0x49, 0x19, 0x1f, 0x07, 0x19, 0x83, 0x1a, 0xff,
 ];
 
-/// Whole texts, their units and what ends them.
+/// Whole texts, their units and their ends.
 const TEXTS: &[(&[u8], &[UnitRow], End)] = &[
     (HI, &[(b"HI", true)], End::Etx),
-    // Fill among the characters is dropped.
+    // Fill between the characters is dropped.
     (
         &[
             0x16, 0x16, 0x02, 0xc8, 0x16, 0x16, 0x49, 0x19, 0x83, 0x9b, 0xff,
@@ -96,9 +96,9 @@ const TEXTS: &[(&[u8], &[UnitRow], End)] = &[
         &[(b"HI", true)],
         End::Etx,
     ),
-    // Each unit has a check of its own.
+    // Each unit has its own check.
     (TWO_UNITS, &[(b"HI", true), EM_ALONE], End::Etx),
-    // An STX after a check is in the next sum.
+    // An STX after a check is included in the next sum.
     (
         &[
             0x16, 0x16, 0x02, 0xc8, 0x49, 0x19, 0x1f, 0x07, 0x02, 0x19, 0x83, 0x98, 0xff,
@@ -106,13 +106,13 @@ const TEXTS: &[(&[u8], &[UnitRow], End)] = &[
         &[(b"HI", true), EM_ALONE],
         End::Etx,
     ),
-    // The check of a form feed is the octet of SYN.
+    // The check of a form feed is the same octet as SYN.
     (
         &[0x16, 0x16, 0x02, 0x8c, 0x19, 0x83, 0x16, 0xff],
         &[(b"\x0c", true)],
         End::Etx,
     ),
-    // A unit may have no characters and no EM.
+    // A unit may be without characters and without EM.
     (
         &[0x16, 0x16, 0x02, 0x83, 0x83, 0xff],
         &[(b"", false)],
@@ -129,29 +129,29 @@ const TEXTS: &[(&[u8], &[UnitRow], End)] = &[
     ),
 ];
 
-/// Codes, and why they are no address.
+/// Codes, and the errors with which they are refused as an address.
 const NO_ADDRESSES: &[(&[u8], AddressError)] = &[
     (b"", AddressError::Empty),
     (b"ABCDEFGH", AddressError::TooLong),
     (b"A B", AddressError::BadChar(1)),
 ];
 
-/// Octets, and whether they are heard as the message that `HI` is.
+/// Octets, and whether they are heard as the same message as `HI`.
 const SAME_AS_HI: &[(&[u8], bool)] = &[
     (HI, true),
-    // More SYN stand in front.
+    // There are more SYN at the beginning.
     (
         &[0x16, 0x16, 0x16, 0x02, 0xc8, 0x49, 0x19, 0x83, 0x9b, 0xff],
         true,
     ),
     // EM is missing.
     (&[0x16, 0x16, 0x02, 0xc8, 0x49, 0x83, 0x02, 0xff], false),
-    // ETB ends it.
+    // It ends with ETB.
     (
         &[0x16, 0x16, 0x02, 0xc8, 0x49, 0x19, 0x97, 0x8f, 0xff],
         false,
     ),
-    // The characters are cut into two units.
+    // The characters are divided into two units.
     (
         &[
             0x16, 0x16, 0x02, 0xc8, 0x19, 0x1f, 0xce, 0x49, 0x19, 0x83, 0xd3, 0xff,
@@ -161,7 +161,7 @@ const SAME_AS_HI: &[(&[u8], bool)] = &[
     (&[0x16, 0x16, 0x04, 0xff], false),
 ];
 
-// What is heard, without its contents.
+// The name of what is heard, without its contents.
 fn kind(heard: &Heard) -> &'static str {
     match heard {
         Heard::Whole(Message::Eot) => "EOT",
@@ -182,7 +182,7 @@ fn is_text_of(heard: &Heard, units: &[UnitRow], end: End) -> bool {
     }
 }
 
-// Whether the text has these units.
+// Whether the text has exactly these units.
 fn has_units(text: &Text, units: &[UnitRow]) -> bool {
     for place in 0..text.count() {
         let unit = text.unit(place);
@@ -193,7 +193,7 @@ fn has_units(text: &Text, units: &[UnitRow]) -> bool {
     text.count() == units.len()
 }
 
-// Whether the octets are what is sent for the message, whatever stood there before.
+// Whether the octets are what is sent for the message, whatever the buffer contained before.
 fn sends(message: &Message, octets: &[u8]) -> bool {
     let mut wire = Wire::new();
     wire.push(0x55);
@@ -209,7 +209,7 @@ fn hears_call(codes: &[u8], octets: &[u8]) -> bool {
     }
 }
 
-// Whether the octets are heard as a message that is sent as they are.
+// Whether the octets are heard as a message that is sent as the same octets.
 fn is_sent_again(octets: &[u8]) -> bool {
     match &decode(octets) {
         Heard::Whole(message) => sends(message, octets),
@@ -217,7 +217,7 @@ fn is_sent_again(octets: &[u8]) -> bool {
     }
 }
 
-// Whether both octets are heard as messages that are the same.
+// Whether both are heard as whole messages that are equal.
 fn are_same(a: &[u8], b: &[u8]) -> bool {
     match (&decode(a), &decode(b)) {
         (Heard::Whole(a), Heard::Whole(b)) => a == b,
@@ -247,7 +247,7 @@ fn calls_have_one_to_seven_characters(rt: HostRuntime) {
     }
 }
 
-// What SYN and EOT are heard as after this many octets of a value.
+// What SYN and EOT are heard as after this many octets with this value.
 fn kind_after(front: u8, count: usize) -> &'static str
     requires { count ≤ 2048 }
 {
@@ -260,7 +260,7 @@ fn kind_after(front: u8, count: usize) -> &'static str
     }
 }
 
-// Whether EOT is heard after this many SYN, and after as many leading pads of each kind.
+// Whether EOT is heard after this many SYN, and after this many leading pads of each kind.
 fn is_eot_after(count: usize) -> bool
     requires { count ≤ 2048 }
 {
@@ -282,7 +282,7 @@ fn more_than_2048_octets_are_noise(rt: HostRuntime) {
     assert_eq!(rt; kind_after(0x16, 2047), "NOISE");
 }
 
-// What the octets are heard as without room for a text; None where they begin as one.
+// What the octets are heard as without room for a text; None if they begin as a text.
 fn short_kind(octets: &[u8]) -> Option<&'static str> {
     match decode_short(octets) {
         Some(Short::Eot) => Some("EOT"),
@@ -327,7 +327,7 @@ fn texts_are_built_of_their_units(rt: HostRuntime) {
     assert!(rt; sends(&Message::Text(text), TWO_UNITS));
 }
 
-// Puts a unit of this many characters A, which EM follows, with its ending and its check.
+// Adds a unit of this many characters A, EM if `em` is true, its ending and its check.
 fn put_unit(octets: &mut Wire, count: usize, em: bool, last: [u8; 2]) {
     for _ in 0..count {
         let _ = octets.try_push(0xc1);
@@ -373,7 +373,7 @@ fn units_have_at_most_144_characters(rt: HostRuntime) {
     assert_eq!(rt; kind(&decode(longer.as_slice())), "FAILED");
 }
 
-// The text of 144 characters A, with fill before the character at the place.
+// The text of 144 characters A, with fill before the character at this place.
 fn filled_at(place: usize) -> Wire {
     let mut octets = Wire::new();
     let _ = octets.try_extend_from_slice(&[0x16, 0x16, 0x02]);
@@ -410,7 +410,7 @@ fn addresses_name_their_first_wrong_character(rt: HostRuntime) {
     }
 }
 
-// Whether the codes of the first address come before those of the second one.
+// Whether the first address is less than the second one.
 fn comes_before(first: &[u8], second: &[u8]) -> bool {
     match (Address::read(first), Address::read(second)) {
         (Ok(first), Ok(second)) => first < second && first != second && first == first,

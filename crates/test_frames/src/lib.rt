@@ -1,4 +1,8 @@
-//! The tests of the layers of characters, transmissions and blocks, each by its public calls.
+//! Tests of characters, transmissions and blocks with the public functions of their crates.
+//!
+//! Codes, control sequences, checks and texts are the standard's (GA27-3004); the limits of
+//! addresses, units and records, and what a receiver accepts beyond what is sent, are this
+//! project's own.
 #![tactic(auto)]
 
 #[cfg(test)]

@@ -1,10 +1,10 @@
-//! Characters and sums by hand, and the lanes against plain loops.
+//! Examples of characters and sums, and a comparison of the lanes with plain loops.
 
 ghost use Rattle.std.specs.Prelude.{◌<◌, length};
 
 use bsc_octet::{all_odd, from_line, is_record_char, sum, to_line};
 
-/// Codes, and the octets that carry them.
+/// Codes, and the octets in which they are sent.
 const CARRIED: &[(u8, u8)] = &[
     (0x01, 0x01),
     (0x02, 0x02),
@@ -23,7 +23,7 @@ const CARRIED: &[(u8, u8)] = &[
     (0x3c, 0xbc),
 ];
 
-/// Octets of even parity.
+/// Octets with even parity.
 const EVEN: &[u8] = &[0x55, 0xaa, 0xff, 0x30];
 
 /// The control characters of the line: SOH, STX, ETX, EOT, ENQ, DLE, NAK, SYN, ETB, EM and US.
@@ -31,15 +31,15 @@ const CONTROLS: &[u8] = &[
     0x01, 0x02, 0x03, 0x04, 0x05, 0x10, 0x15, 0x16, 0x17, 0x19, 0x1f,
 ];
 
-/// Octets, and their longitudinal sum.
+/// Octets, and their longitudinal sums.
 const SUMS: &[(&[u8], u8)] = &[(&[], 0), (&[0xc1; 130], 0), (&[0xc1; 131], 0x41)];
 
-// Whether the octet is sent for the code, and the code is heard from it.
+// Whether the octet is sent for the code, and is heard as the code.
 fn carries(octet: u8, code: u8) -> bool {
     to_line(code) == Some(octet) && from_line(octet) == Some(code)
 }
 
-// The longitudinal sum in one plain pass.
+// The longitudinal sum in a plain loop.
 fn plain_sum(octets: &[u8]) -> u8 {
     let mut total = 0;
     for octet in octets {
@@ -48,12 +48,12 @@ fn plain_sum(octets: &[u8]) -> u8 {
     total
 }
 
-// The parity of each octet in one plain pass.
+// Whether each octet has odd parity, in a plain loop.
 fn plain_all_odd(octets: &[u8]) -> bool {
     octets.iter().all(|octet| octet.count_ones() % 2 == 1)
 }
 
-// Octets of both parities, the same ones at each run.
+// Octets of both parities, the same ones in each run.
 fn mixed_octets() -> [u8; 200] {
     let mut octets = [0; 200];
     let mut state = 0x2cu8;
@@ -64,7 +64,7 @@ fn mixed_octets() -> [u8; 200] {
     octets
 }
 
-// Whether an even octet at this place, among odd ones, is found, and they are odd without it.
+// Whether an even octet at this place among odd ones is found, and none is found without it.
 fn finds_even_octet(octets: &mut [u8], place: usize) -> bool
     requires { place < length octets.old }
 {

@@ -1,4 +1,4 @@
--- All records of a line beside those that its watch saw one after the other (own).
+-- The records of a line, compared with those that its watch saw event by event.
 use Rattle.std.specs.Prelude.{◌≡◌, ◌≢◌, ◌*◌, ◌/◌, ◌%◌, ◌^◌, ℕ, Bool, IsTrue, List, [], ◌∷◌, length}
 use Rattle.std.specs.Prelude.{bit_xor}
 use Rattle.std.specs.List.{Contains}
@@ -9,17 +9,17 @@ use Rattle.test_hostile.specs.declared.channel.Channel.{Channel}
 use Rattle.test_hostile.specs.declared.watch.Watch.{Watch}
 use Rattle.test_fixtures.specs.Records.{Begins}
 
--- the digest with one more number
+-- the digest with one more number added
 abbrev pub with_number : ℕ → ℕ → ℕ
 with_number digest n =
     let mixed : ℕ = bit_xor digest n * 1099511628211 % 2 ^ 64 in bit_xor mixed (mixed / 2 ^ 29)
 
--- the digest with these numbers after it
+-- the digest with these numbers added
 abbrev pub with_numbers : ℕ → List ℕ → ℕ
 with_numbers digest [] = digest
 with_numbers digest (n ∷ ns) = with_numbers (with_number digest n) ns
 
--- the digest with one more record: its length, then its characters
+-- the digest with one more record added: its length, then its characters
 abbrev pub with_record : ℕ → List ℕ → ℕ
 with_record digest r = with_numbers (with_number digest (length r)) r
 
@@ -31,8 +31,8 @@ with_records digest (r ∷ rs) = with_records (with_record digest r) rs
 abbrev pub digest_of : List (List ℕ) → ℕ
 digest_of rs = with_records 14695981039346656037 rs
 
--- the line has this channel, its records are those that were seen, and on a trusted line what
--- arrived is the beginning of what was offered
+-- the line has this channel, its records are those that were seen, and if the line is trusted, the
+-- records that arrived are the first of those that were offered
 pub record IsAsSeen (l : LineValue) (trusted : Bool) (c : Channel) : Type 0 where
   pub there : IsChannel l c.terminal c.way
   pub offered : digest_of (channel_of l c.terminal c.way).offered ≡ c.offered
@@ -40,7 +40,7 @@ pub record IsAsSeen (l : LineValue) (trusted : Bool) (c : Channel) : Type 0 wher
   pub sound : IsTrue trusted →
       Begins (channel_of l c.terminal c.way).spooled (channel_of l c.terminal c.way).offered
 
--- what is told of a channel holds of it
+-- what the error says is true of the channel
 abbrev pub IsTold : LineValue → Bool → Broken → Channel → Type 0
 IsTold l trusted broken.Channel c = IsChannel l c.terminal c.way → ⊥
 IsTold l trusted broken.Offered c =
@@ -52,7 +52,7 @@ IsTold l trusted broken.OtherRecords c =
     (channel_of l c.terminal c.way).offered → ⊥)
 IsTold l trusted _ c = ⊥
 
--- it is told of one of these channels
+-- the error is true of one of these channels
 pub record TellsOf (l : LineValue) (trusted : Bool) (cs : List Channel) (why : Broken)
     : Type 0 where
   pub channel : Channel
@@ -63,6 +63,6 @@ pub record TellsOf (l : LineValue) (trusted : Bool) (cs : List Channel) (why : B
 abbrev pub channels_of : Watch → List Channel
 channels_of w = w.channels.items
 
--- whether all was heard fairly
+-- whether every transmission so far was heard fairly
 abbrev pub is_trusting : Watch → Bool
 is_trusting w = w.trusted

@@ -1,4 +1,4 @@
--- What a watch of a new line knows (own).
+-- The state of a watch of a new line.
 use Rattle.std.specs.Prelude.{◌≡◌, ◌++◌, ℕ, zero, suc, true, false, List, [], ◌∷◌, length}
 use Rattle.std.specs.Prelude.{slice_index_or, None}
 use Rattle.bsc_bid.specs.Terminal.{TerminalValue}
@@ -10,7 +10,7 @@ use Rattle.test_hostile.specs.declared.channel.Channel.{Channel}
 use Rattle.test_hostile.specs.declared.tally.Tally.{Tally}
 use Rattle.test_hostile.specs.declared.watch.Watch.{Watch}
 
--- a channel on which nothing happened yet; the digests are those of no records
+-- a channel on which nothing has happened yet; both digests are that of an empty list
 abbrev pub new_channel : ℕ → Way → List ℕ → Channel
 new_channel t way address =
     record {
@@ -38,7 +38,7 @@ channels_to ts zero = []
 channels_to ts (suc n) =
     channels_to ts n ++ all_channels_of n (slice_index_or ts n no_peer.terminal)
 
--- nothing was seen
+-- nothing has been counted
 abbrev pub no_tally : Tally
 no_tally =
     record {
@@ -60,7 +60,8 @@ no_tally =
       rvis = 0;
     }
 
--- nothing is pending or addressed, all was heard fairly and alike, and nothing was seen
+-- nothing is pending, no channel is addressed, every transmission was heard fairly and alike by all
+-- terminals, and nothing has been counted
 pub record IsNewWatch (settings : SetupValue) (given : List TerminalValue) (w : Watch)
     : Type 0 where
   pub setup : w.setup ≡ settings

@@ -1,4 +1,4 @@
--- How what is seen on a line is counted (own).
+-- How the events of a line are counted.
 use Rattle.std.specs.Prelude.{◌≡◌, ◌+◌, ◌-◌, ◌^◌, ℕ, nat_lt, nat_eq, not, ◌&&◌, if◌then◌else◌}
 use Rattle.std.specs.Prelude.{Result, Ok, Err, min}
 use Rattle.bsc_line_model.specs.declared.error.LineError.{LineError}
@@ -11,14 +11,14 @@ use Rattle.bsc_frame.specs.declared.reply.Reply.TheVariants.{Nak, Wack, Rvi}
 use Rattle.test_hostile.specs.declared.step.Effect.{Effect}
 use Rattle.test_hostile.specs.declared.step.Effect.TheVariants as effect
 
--- the sum, or the greatest number of 64 bits where it is larger
+-- the sum, at most 2 ^ 64 - 1
 abbrev pub capped_sum : ℕ → ℕ → ℕ
 capped_sum a b = min (a + b) (2 ^ 64 - 1)
 
 abbrev pub one_more : ℕ → ℕ
 one_more n = capped_sum n 1
 
--- the numbers of two lines together
+-- the counts of two lines added together
 abbrev pub sum_of : Tally → Tally → Tally
 sum_of a b =
     record {
@@ -40,7 +40,7 @@ sum_of a b =
       rvis = capped_sum a.rvis b.rvis;
     }
 
--- an event was refused for this reason
+-- the counts after an event was refused with this error
 abbrev pub refused_by : Tally → LineError → Tally
 refused_by t Memory =
     record t { refused = one_more t.refused; out_of_memory = one_more t.out_of_memory }
@@ -48,18 +48,18 @@ refused_by t CountMismatch =
     record t { refused = one_more t.refused; mismatches = one_more t.mismatches }
 refused_by t _ = record t { refused = one_more t.refused }
 
--- an event was given this answer
+-- the counts after an event was answered so
 abbrev pub answered : Tally → Result (Unit {0}) LineError → Tally
 answered t (Ok done) = record t { accepted = one_more t.accepted }
 answered t (Err why) = refused_by t why
 
--- an accepted event did this to all channels
+-- the counts after an accepted event had this effect
 abbrev pub done_by : Tally → Effect → Tally
 done_by t (effect.Offered at way) = record t { offers = one_more t.offers }
 done_by t (effect.Released at way) = record t { releases = one_more t.releases }
 done_by t _ = t
 
--- a channel that was this is that now
+-- the counts after a channel changed from the first view to the second
 abbrev pub moved_by : Tally → View → View → Tally
 moved_by t before after =
     let landed : ℕ = after.spooled - before.spooled in
@@ -71,7 +71,7 @@ moved_by t before after =
           if after.in_doubt && not before.in_doubt then one_more t.doubts else t.doubts;
     }
 
--- a message of this kind was sent
+-- the counts after a message of this kind was sent
 abbrev pub sent_as : Tally → Kind → Tally
 sent_as t kind.Call = record t { calls = one_more t.calls }
 sent_as t kind.Text = record t { texts = one_more t.texts }
@@ -81,7 +81,7 @@ sent_as t (kind.Reply Wack) = record t { wacks = one_more t.wacks }
 sent_as t (kind.Reply Rvi) = record t { rvis = one_more t.rvis }
 sent_as t _ = t
 
--- the same answers were counted
+-- both have the same counts of answers
 pub record SameAnswers (old new : Tally) : Type 0 where
   pub accepted : new.accepted ≡ old.accepted
   pub refused : new.refused ≡ old.refused

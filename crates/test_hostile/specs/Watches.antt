@@ -1,4 +1,4 @@
--- What a watch tells of a line, and what it keeps as events are played (own).
+-- What a watch reports of a line, and what it keeps while events are played.
 use Rattle.std.specs.Prelude.{◌≡◌, ℕ, List, [], ◌∷◌, Option, None, Some, Result, if◌then◌else◌}
 use Rattle.bsc_directory.specs.declared.way.Way.{Way}
 use Rattle.bsc_line_model.specs.declared.error.LineError.{LineError}
@@ -8,11 +8,11 @@ use Rattle.test_hostile.specs.declared.watch.Watch.{Watch}
 use Rattle.test_hostile.specs.declared.tally.Tally.{Tally}
 use Rattle.test_hostile.specs.Tallies.{answered, SameAnswers}
 
--- the numbers of what was seen
+-- the counts of what was seen
 abbrev pub tally_of : Watch → Tally
 tally_of w = w.tally
 
--- the terminal and the way of the first of these channels that is in doubt
+-- the terminal and direction of the first of these channels that is in doubt
 abbrev pub first_in_doubt : List Channel → Option (ℕ × Way)
 first_in_doubt [] = None
 first_in_doubt (c ∷ cs) =
@@ -21,8 +21,8 @@ first_in_doubt (c ∷ cs) =
 abbrev pub first_doubt : Watch → Option (ℕ × Way)
 first_doubt w = first_in_doubt w.channels.items
 
--- after an event that broke nothing: the watch is of the same line, has counted the answer, and
--- holds all for heard fairly exactly where the line is trusted
+-- after an event that broke no rule: the watch is still of the same line, has counted the answer,
+-- and takes every transmission as heard fairly exactly if the line is trusted
 pub record HasSeen (answer : Result (Unit {0}) LineError) (old new : Watch) (l : LineValue)
     : Type 0 where
   pub setup : new.setup ≡ old.setup
@@ -30,7 +30,7 @@ pub record HasSeen (answer : Result (Unit {0}) LineError) (old new : Watch) (l :
   pub counted : SameAnswers (answered old.tally answer) new.tally
   pub trusted : new.trusted ≡ l.trusted
 
--- the watch is of the same line, trusts it as much, and has counted the same answers
+-- both watches have the same settings, number of terminals, counts of answers and trust
 pub record SameBasis (old new : Watch) : Type 0 where
   pub setup : new.setup ≡ old.setup
   pub terminals : new.terminals ≡ old.terminals

@@ -1,45 +1,45 @@
-//! What a line did that it must not do.
+//! The rules of a line that a watch can find broken.
 
 use thiserror::Error;
 
-/// What does not hold of a line.
+/// The rule that a line broke.
 #[derive(Clone, Copy, Debug, PartialEq, Eq, Error)]
 pub enum Broken {
-    /// An event was refused that is to be accepted, or accepted where it is to be refused, or
-    /// refused for another reason.
+    /// An event was refused that has to be accepted, or accepted that has to be refused, or refused
+    /// for another reason than it has to be.
     #[error("another answer to the event")]
     Answer,
 
-    /// The line is trusted though something was heard unfairly, or it is not though all was heard
-    /// fairly.
+    /// The line is trusted although something was heard unfairly, or is not trusted although
+    /// everything was heard fairly.
     #[error("another trust")]
     Trust,
 
-    /// The line shows no such channel.
+    /// The line does not have a channel that it has to have.
     #[error("a channel is missing")]
     Channel,
 
-    /// What is offered changed in another way than by an accepted offer.
+    /// The offered records changed in another way than by an accepted offer.
     #[error("other records are offered")]
     Offered,
 
-    /// A spool shrank, or grew where no text was heard for it.
+    /// A spool lost records, or gained records that were not in a text heard for it.
     #[error("records arrived that were not heard")]
     Spooled,
 
-    /// What is known to have arrived shrank, or grew where no reply was heard.
+    /// The number of records known to have arrived fell, or rose although no reply was heard.
     #[error("records are known without a reply")]
     Known,
 
-    /// A doubt began or ended where it must not.
+    /// A doubt began or ended at an event that must not begin or end it.
     #[error("another doubt")]
     Doubt,
 
-    /// Two channels moved at an event that may move one.
+    /// Two channels changed at an event that may change only one.
     #[error("two channels moved")]
     TwoMoved,
 
-    /// A channel moved on a trusted line that was not addressed.
+    /// A channel that was not addressed changed on a trusted line.
     #[error("a channel moved that was not addressed")]
     NotAddressed,
 
@@ -47,23 +47,25 @@ pub enum Broken {
     #[error("a channel is not sound")]
     NotSound,
 
-    /// What arrived is not what was offered in its place on a trusted line.
+    /// On a trusted line, a record arrived that differs from the one offered in its place.
     #[error("other records arrived than were offered")]
     OtherRecords,
 
-    /// Something else is pending than the event may leave.
+    /// What is pending after the event is not what the event may leave.
     #[error("something else is pending")]
     Pending,
 
-    /// What is pending is no message that its sender sends, or not in the form that is sent.
+    /// What is pending is not a message that its sender may send, or is not encoded as it has to
+    /// be.
     #[error("no message of its sender is pending")]
     Message,
 
-    /// A text carries other records than its sender has next.
+    /// A text does not carry the next records of its sender.
     #[error("a text carries other records")]
     Text,
 
-    /// A call is of no address of the line, or selects where no record waits.
+    /// A call is to an address that the line does not have, or selects an address for which no
+    /// record waits.
     #[error("a call that is not due")]
     Call,
 }

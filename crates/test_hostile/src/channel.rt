@@ -9,8 +9,8 @@ use bsc_frame::Address;
 use bsc_line::Line;
 use std::alloc::Allocator;
 
-/// How many records were offered, are known to have arrived, and arrived; and whether the sending
-/// end is in doubt.
+/// The numbers of records that were offered, that are known to have arrived, and that arrived; and
+/// whether the sending end is in doubt.
 #[derive(Clone, Copy, Debug, PartialEq, Eq)]
 pub(crate) struct View {
     pub(crate) offered: usize,
@@ -19,19 +19,19 @@ pub(crate) struct View {
     pub(crate) in_doubt: bool,
 }
 
-/// A channel, the address that names it, and what was last seen of it.
+/// A channel, its address, and what was last seen of it.
 #[derive(Clone, Copy)]
 pub(crate) struct Channel {
     pub(crate) terminal: usize,
     pub(crate) way: Way,
     pub(crate) address: Address,
     pub(crate) view: View,
-    /// Digests of the records that were offered and that arrived.
+    /// The digests of the records that were offered and of those that arrived.
     pub(crate) offered: u64,
     pub(crate) spooled: u64,
 }
 
-/// Whether the line has such a channel.
+/// Whether the line has this channel.
 pub(crate) fn is_channel<A: Allocator>(line: &Line<A>, terminal: usize, way: Way) -> bool
     ensures { IsTrue result ↔ IsChannel line.now terminal way }
 {
@@ -42,7 +42,7 @@ pub(crate) fn is_channel<A: Allocator>(line: &Line<A>, terminal: usize, way: Way
         }
 }
 
-/// What is to be seen of a channel, where the line has it.
+/// What the line shows of a channel, or None if it has no such channel.
 pub(crate) fn look<A: Allocator>(line: &Line<A>, terminal: usize, way: Way) -> Option<View> {
     if !is_channel(line, terminal, way) {
         return None;
@@ -55,7 +55,7 @@ pub(crate) fn look<A: Allocator>(line: &Line<A>, terminal: usize, way: Way) -> O
     })
 }
 
-/// The records from this place on; none where there are fewer.
+/// The records from this place on; an empty slice if there are fewer.
 fn tail(records: &[Record], from: usize) -> &[Record] {
     if from <= records.len() {
         &records[from..]

@@ -1,12 +1,12 @@
-//! Whether a transmission was heard fairly, by counting who heard what.
+//! Whether a transmission was heard fairly.
 //!
-//! Of a text each station hears the text itself, or a text that failed, or noise. Of a call all
-//! hear it whole, or none does and each hears EOT or noise. Of any other message each station hears
-//! the message itself, or noise.
+//! A text is heard fairly if each station hears the text itself, a failed text, or noise. A call is
+//! heard fairly if all stations hear it whole, or none does and each hears EOT or noise. Any other
+//! message is heard fairly if each station hears the message itself or noise.
 
 use crate::heard::{Hearing, Kind};
 
-/// What a hearing means to trust.
+/// A hearing, as far as fairness depends on it.
 #[derive(Clone, Copy, PartialEq, Eq)]
 enum Fate {
     Itself,
@@ -16,7 +16,7 @@ enum Fate {
     Other,
 }
 
-/// What this hearing means to trust.
+/// What this hearing is, as far as fairness depends on it.
 fn fate_of(hearing: Hearing) -> Fate {
     if hearing.itself {
         return Fate::Itself;
@@ -29,7 +29,7 @@ fn fate_of(hearing: Hearing) -> Fate {
     }
 }
 
-/// How many stations met this fate.
+/// The number of stations with this fate.
 fn count(hearings: &[Hearing], wanted: Fate) -> usize {
     hearings
         .iter()

@@ -1,8 +1,9 @@
-//! What a station heard of a transmission: its kind, and whether it is what was sent.
+//! What a station heard of a transmission: the kind of message, and whether it is the one that was
+//! sent.
 
 use bsc_frame::{Heard, Message, Reply, Wire, decode, encode};
 
-/// What octets are heard as.
+/// The kind of what is heard.
 #[derive(Clone, Copy, Debug, PartialEq, Eq)]
 pub(crate) enum Kind {
     Eot,
@@ -14,14 +15,14 @@ pub(crate) enum Kind {
     Noise,
 }
 
-/// What a station heard, and whether that is the message that was sent.
+/// What a station heard, and whether it is the message that was sent.
 #[derive(Clone, Copy, Debug, PartialEq, Eq)]
 pub(crate) struct Hearing {
     pub(crate) kind: Kind,
     pub(crate) itself: bool,
 }
 
-/// Nothing was heard, or noise.
+/// Nothing, or noise.
 const NOTHING: Hearing = Hearing {
     kind: Kind::Noise,
     itself: false,
@@ -45,18 +46,18 @@ impl Kind {
         }
     }
 
-    /// Whether this is a reply by which a sender may learn that its block arrived.
+    /// Whether this is a reply from which a sender may learn that its block arrived.
     pub(crate) fn is_positive(self) -> bool {
         matches!(self, Kind::Reply(reply) if reply != Reply::Nak)
     }
 
-    /// Whether this takes the line from a terminal that sends.
+    /// Whether this message takes the line from a terminal that is sending.
     pub(crate) fn takes_line(self) -> bool {
         matches!(self, Kind::Eot | Kind::Call)
     }
 }
 
-/// The kind of what is heard.
+/// The kind of a decoded transmission.
 fn kind_of(heard: &Heard) -> Kind {
     match heard {
         Heard::Whole(message) => Kind::of(message),
@@ -65,15 +66,15 @@ fn kind_of(heard: &Heard) -> Kind {
     }
 }
 
-/// Whether the message that is heard is sent as these octets. Messages are told apart by what is
-/// sent for them, and not by `==`.
+/// Whether the message is encoded as these octets. Messages are compared by their encodings, not by
+/// `==`.
 pub(crate) fn is_sent_as(message: &Message, octets: &[u8]) -> bool {
     let mut wire = Wire::new();
     encode(message, &mut wire);
     wire.as_slice() == octets
 }
 
-/// Whether a message is heard that is sent as these octets.
+/// Whether a whole message was heard whose encoding is these octets.
 fn is_itself(heard: &Heard, sent: &[u8]) -> bool {
     match heard {
         Heard::Whole(message) => is_sent_as(message, sent),
@@ -82,7 +83,7 @@ fn is_itself(heard: &Heard, sent: &[u8]) -> bool {
     }
 }
 
-/// What is heard where these octets arrive, or nothing, and those were sent.
+/// What a station hears if `sent` was sent and `heard` arrives, or nothing does.
 pub(crate) fn hear(sent: &[u8], heard: Option<&[u8]>) -> Hearing {
     match heard {
         Some(octets) => hear_octets(sent, octets),
@@ -90,7 +91,7 @@ pub(crate) fn hear(sent: &[u8], heard: Option<&[u8]>) -> Hearing {
     }
 }
 
-/// What is heard where these octets arrive, and those were sent.
+/// What a station hears if `sent` was sent and `octets` arrive.
 fn hear_octets(sent: &[u8], octets: &[u8]) -> Hearing {
     let heard = decode(octets);
     Hearing {
@@ -99,7 +100,7 @@ fn hear_octets(sent: &[u8], octets: &[u8]) -> Hearing {
     }
 }
 
-/// What the station of this number heard; noise where it heard nothing.
+/// The kind of what the station of this number heard; noise if there is no such hearing.
 pub(crate) fn kind_at(hearings: &[Hearing], station: usize) -> Kind {
     match hearings.get(station) {
         Some(hearing) => hearing.kind,

@@ -1,4 +1,4 @@
-//! What is pending: whether its sender may send it.
+//! Whether a station may send what is pending.
 
 use crate::broken::Broken;
 use crate::channel::{Channel, look, offered_from};
@@ -9,7 +9,7 @@ use bsc_frame::{Address, Heard, Message, Text, Wire, decode};
 use bsc_line::{Line, Speaker};
 use std::alloc::Allocator;
 
-/// A transmission that nobody has heard yet.
+/// A transmission that has not been heard yet.
 #[derive(Drop)]
 pub(crate) struct Sent {
     pub(crate) speaker: Speaker,
@@ -17,8 +17,8 @@ pub(crate) struct Sent {
     pub(crate) octets: Wire,
 }
 
-/// Whether a station of this kind sends messages of this kind: the control station sends EOT only
-/// in a call, and only it calls.
+/// Whether a station of this kind sends messages of this kind. The control station sends EOT only
+/// as part of a call, and only it sends calls.
 fn sends(speaker: Speaker, kind: Kind) -> bool {
     match speaker {
         Speaker::Control => kind != Kind::Eot,
@@ -26,15 +26,15 @@ fn sends(speaker: Speaker, kind: Kind) -> bool {
     }
 }
 
-/// The channel that has this address.
+/// The channel with this address.
 pub(crate) fn find<'a>(channels: &'a [Channel], address: &Address) -> Option<&'a Channel> {
     channels
         .iter()
         .find(|channel| channel.address.codes() == address.codes())
 }
 
-/// Whether the control station may call this address: it is one of the line, and a selection
-/// address only where records wait for it without doubt.
+/// Whether the control station may call this address: a polling address of the line, or a selection
+/// address for which records wait and that is not in doubt.
 fn is_due(channels: &[Channel], address: &Address) -> bool {
     match find(channels, address) {
         None => false,
@@ -57,8 +57,9 @@ fn carries_next<A: Allocator>(line: &Line<A>, terminal: usize, way: Way, text: &
     }
 }
 
-/// Whether a text that this station sent carries the next records of its channel. The channel of
-/// the control station's text is told only where the line is trusted.
+/// Whether a text that this station sent carries the next records of its channel. The channel of a
+/// text of the control station is the addressed one; if no channel is addressed, any text is
+/// accepted unless the line is trusted.
 fn is_next<A: Allocator>(
     line: &Line<A>,
     speaker: Speaker,
@@ -75,7 +76,7 @@ fn is_next<A: Allocator>(
     }
 }
 
-/// What is pending, where its sender may send it.
+/// What is pending, or the rule that is broken if its sender may not send it.
 pub(crate) fn read_pending<A: Allocator>(
     line: &Line<A>,
     channels: &[Channel],
@@ -101,7 +102,8 @@ pub(crate) fn read_pending<A: Allocator>(
     }))
 }
 
-/// Whether a call or a text says what its sender may say.
+/// Checks that a call is to an address that may be called, and that a text carries the next
+/// records.
 fn check_content<A: Allocator>(
     line: &Line<A>,
     channels: &[Channel],

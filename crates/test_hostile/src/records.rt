@@ -1,4 +1,4 @@
-//! Records compared, with a text, with one another, and by a digest.
+//! Comparisons of records: with a text, with other records, and by a digest.
 
 ghost use Rattle.std.specs.Prelude.{◌≡◌, ◌<◌, ◌↔◌, IsTrue, length};
 ghost use Rattle.test_hostile.specs.Histories as digests;
@@ -7,10 +7,10 @@ ghost use Rattle.test_fixtures.specs.Records.{Begins};
 use bsc_block::{Block, Record, unpack};
 use bsc_frame::{Heard, Message, Text, decode};
 
-/// Where every digest begins.
+/// The digest of no records.
 pub(crate) const EMPTY: u64 = 0xcbf2_9ce4_8422_2325;
 
-/// The digest with one more number.
+/// The digest with one more number added.
 fn with_number(digest: u64, number: usize) -> u64
     ensures { result ≡ digests.with_number digest number }
 {
@@ -18,7 +18,7 @@ fn with_number(digest: u64, number: usize) -> u64
     mixed ^ (mixed >> 29)
 }
 
-/// The digest with one more record, of these characters.
+/// The digest with one more record added, with these characters.
 fn with_record(digest: u64, chars: &[u8]) -> u64
     ensures { result ≡ digests.with_record digest chars.now }
 {
@@ -29,7 +29,7 @@ fn with_record(digest: u64, chars: &[u8]) -> u64
     digest
 }
 
-/// The digest with these records after it.
+/// The digest with these records added.
 pub(crate) fn with_records(digest: u64, records: &[Record]) -> u64
     ensures { result ≡ digests.with_records digest records.now }
 {
@@ -40,14 +40,14 @@ pub(crate) fn with_records(digest: u64, records: &[Record]) -> u64
     digest
 }
 
-/// Whether the records are the same.
+/// Whether the two records have the same characters.
 fn is_same(record: &Record, other: &Record) -> bool
     ensures { IsTrue result ↔ (record.now ≡ other.now) }
 {
     record.chars() == other.chars()
 }
 
-/// Whether the first records are the beginning of the second.
+/// Whether `records` are the first of `of`.
 pub(crate) fn begins(records: &[Record], of: &[Record]) -> bool
     ensures { IsTrue result ↔ Begins records.now of.now }
 {
@@ -67,7 +67,7 @@ fn is_in(block: &Block<'_>, place: usize, record: &Record) -> bool
     block.chars(place) == record.chars()
 }
 
-/// Whether the block is the beginning of these records.
+/// Whether the records of the block are the first of these.
 fn block_begins(block: &Block<'_>, records: &[Record]) -> bool {
     for place in 0..block.count() {
         match records.get(place) {
@@ -78,7 +78,7 @@ fn block_begins(block: &Block<'_>, records: &[Record]) -> bool {
     true
 }
 
-/// How many records the text carries, where they are the beginning of these.
+/// The number of records in the text, or None unless they are the first of these records.
 pub(crate) fn carried(text: &Text, records: &[Record]) -> Option<usize> {
     let block = unpack(text);
     if block_begins(&block, records) {
@@ -88,7 +88,7 @@ pub(crate) fn carried(text: &Text, records: &[Record]) -> Option<usize> {
     }
 }
 
-/// Whether these octets are a text of exactly these records.
+/// Whether these octets are a text with exactly these records.
 pub(crate) fn is_text_of(octets: &[u8], records: &[Record]) -> bool {
     match decode(octets) {
         Heard::Whole(Message::Text(text)) => carried(&text, records) == Some(records.len()),

@@ -1,4 +1,4 @@
-//! Which events a line refuses.
+//! Which events a line has to refuse.
 
 use crate::channel::{View, is_channel, look};
 use bsc_bid::Setup;
@@ -7,8 +7,9 @@ use bsc_control::Way;
 use bsc_line::{Event, Line, LineError, Speaker};
 use std::alloc::Allocator;
 
-/// Why the event is to be refused on this line, where this station sent what is pending; None where
-/// it is to be accepted. That memory may run out, or a count may not fit, is not looked at.
+/// The error with which the line has to refuse the event, given the station that sent what is
+/// pending, or None if it has to accept it. Two errors are left to `may_answer`: running out of
+/// memory, and a count that does not match.
 pub(crate) fn refusal<A: Allocator>(
     line: &Line<A>,
     setup: Setup,
@@ -34,7 +35,7 @@ pub(crate) fn refusal<A: Allocator>(
     }
 }
 
-/// Where nothing is pending.
+/// `NothingSent` if nothing is pending.
 fn nothing_sent(speaker: Option<Speaker>) -> Option<LineError> {
     match speaker {
         Some(_) => None,
@@ -42,7 +43,7 @@ fn nothing_sent(speaker: Option<Speaker>) -> Option<LineError> {
     }
 }
 
-/// Where something is pending.
+/// `Pending` if something is pending.
 fn pending(speaker: Option<Speaker>) -> Option<LineError> {
     match speaker {
         Some(_) => Some(LineError::Pending),
@@ -50,7 +51,7 @@ fn pending(speaker: Option<Speaker>) -> Option<LineError> {
     }
 }
 
-/// Where the line has no such channel.
+/// `NoSuchTerminal` or `NoSuchAddress` if the line has no such channel.
 fn missing<A: Allocator>(line: &Line<A>, terminal: usize, way: Way) -> Option<LineError> {
     if terminal >= line.terminals() {
         return Some(LineError::NoSuchTerminal);
@@ -62,7 +63,7 @@ fn missing<A: Allocator>(line: &Line<A>, terminal: usize, way: Way) -> Option<Li
     }
 }
 
-/// Where the codes are no record of this line.
+/// `BadRecord` if the codes are not a record of this line.
 fn bad_record(setup: Setup, codes: &[u8]) -> Option<LineError> {
     match Record::read(codes, setup.format().full()) {
         Ok(_) => None,
@@ -70,7 +71,7 @@ fn bad_record(setup: Setup, codes: &[u8]) -> Option<LineError> {
     }
 }
 
-/// Why an offer is to be refused.
+/// The error with which an offer has to be refused.
 fn offer_refusal<A: Allocator>(
     line: &Line<A>,
     setup: Setup,
@@ -84,7 +85,7 @@ fn offer_refusal<A: Allocator>(
     }
 }
 
-/// Why this many items are not heard each by its terminal.
+/// The error with which `CarryEach` with this many items has to be refused.
 fn each_refusal<A: Allocator>(
     line: &Line<A>,
     speaker: Option<Speaker>,
@@ -97,7 +98,7 @@ fn each_refusal<A: Allocator>(
     }
 }
 
-/// Where there is not one item for each terminal.
+/// `WrongCount` unless there is one item for each terminal.
 fn wrong_count<A: Allocator>(line: &Line<A>, items: usize) -> Option<LineError> {
     if items == line.terminals() {
         None
@@ -106,7 +107,7 @@ fn wrong_count<A: Allocator>(line: &Line<A>, items: usize) -> Option<LineError> 
     }
 }
 
-/// Why a release is to be refused.
+/// The error with which a release has to be refused.
 fn release_refusal<A: Allocator>(line: &Line<A>, terminal: usize, way: Way) -> Option<LineError> {
     match missing(line, terminal, way) {
         Some(why) => Some(why),
@@ -114,7 +115,7 @@ fn release_refusal<A: Allocator>(line: &Line<A>, terminal: usize, way: Way) -> O
     }
 }
 
-/// Where there is no doubt.
+/// `NotInDoubt` unless the channel is in doubt.
 fn no_doubt(view: Option<View>) -> Option<LineError> {
     match view {
         Some(view) if view.in_doubt => None,
@@ -122,9 +123,9 @@ fn no_doubt(view: Option<View>) -> Option<LineError> {
     }
 }
 
-/// Whether the line may give this answer to an event that is to be answered so, where the line is
-/// trusted or not: an offer may also find no memory, and the count of a release may not fit where
-/// the line is not trusted.
+/// Whether the line may give this answer if it has to refuse the event with `refusal`, or to accept
+/// it. An offer may also fail with `Memory`, and a release with `CountMismatch` if the line is not
+/// trusted.
 pub(crate) fn may_answer(
     event: &Event<'_>,
     answer: Result<(), LineError>,

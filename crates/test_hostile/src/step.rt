@@ -1,4 +1,4 @@
-//! What one event may do to a channel.
+//! What an event may do to a channel.
 
 use crate::broken::Broken;
 use crate::channel::View;
@@ -6,29 +6,29 @@ use crate::heard::{Hearing, Kind, kind_at};
 use bsc_control::Way;
 use bsc_line::{Event, Speaker};
 
-/// What an event did, as far as channels are concerned.
+/// The effect of an event on channels.
 #[derive(Clone, Copy, Debug, PartialEq, Eq)]
 pub(crate) enum Effect {
-    /// It was refused, or it set a flag.
+    /// The event was refused, or only set a flag.
     Nothing,
 
     /// A record was offered on this channel.
     Offered { terminal: usize, way: Way },
 
-    /// The doubt of this channel ended.
+    /// The doubt of this channel was ended.
     Released { terminal: usize, way: Way },
 
     /// A silence passed.
     Silence,
 
-    /// The control station's transmission was heard, or lost.
+    /// A transmission of the control station was heard or lost.
     Down,
 
-    /// A terminal's transmission was heard, or lost.
+    /// A transmission of a terminal was heard or lost.
     Up,
 }
 
-/// What an accepted event did, where this station had sent what was pending.
+/// The effect of an accepted event, given the station that had sent what was pending.
 pub(crate) fn effect_of(event: &Event<'_>, speaker: Option<Speaker>) -> Effect {
     match *event {
         Event::OfferAt { terminal, .. } => Effect::Offered {
@@ -50,7 +50,7 @@ pub(crate) fn effect_of(event: &Event<'_>, speaker: Option<Speaker>) -> Effect {
     }
 }
 
-/// What a transmission of this station did.
+/// The effect of a transmission of this station.
 fn carried(speaker: Option<Speaker>) -> Effect {
     match speaker {
         Some(Speaker::Control) => Effect::Down,
@@ -59,7 +59,7 @@ fn carried(speaker: Option<Speaker>) -> Effect {
     }
 }
 
-/// What a channel may do at one event.
+/// What an event may do to a channel.
 #[derive(Clone, Copy, Debug, PartialEq, Eq)]
 pub(crate) struct May {
     /// One more record is offered.
@@ -74,11 +74,11 @@ pub(crate) struct May {
     /// A doubt begins.
     doubt: bool,
 
-    /// A doubt ends, and what arrived is known.
+    /// A doubt ends, and the number of arrived records becomes known.
     release: bool,
 }
 
-/// The channel stays as it is.
+/// The channel does not change.
 const STAYS: May = May {
     offer: false,
     land: false,
@@ -87,7 +87,7 @@ const STAYS: May = May {
     release: false,
 };
 
-/// What a channel may do at an event of this effect, where stations heard this.
+/// What an event with this effect may do to the channel, given what the stations heard.
 pub(crate) fn allowed(effect: Effect, hearings: &[Hearing], terminal: usize, way: Way) -> May {
     match effect {
         Effect::Nothing => STAYS,
@@ -114,8 +114,8 @@ pub(crate) fn allowed(effect: Effect, hearings: &[Hearing], terminal: usize, way
     }
 }
 
-/// What a channel may do where its terminal heard this: the terminal is the sending end of the
-/// channel from it, and the receiving end of those to it.
+/// What a transmission of the control station may do to a channel whose terminal heard this. The
+/// terminal is the sending end of the channel from it, and the receiving end of the channels to it.
 fn may_down(heard: Kind, way: Way) -> May {
     match way {
         Way::FromTerminal => May {
@@ -130,7 +130,7 @@ fn may_down(heard: Kind, way: Way) -> May {
     }
 }
 
-/// What a channel may do where the control station heard this.
+/// What a transmission of a terminal may do to its channels if the control station heard this.
 fn may_up(heard: Kind, way: Way) -> May {
     match way {
         Way::FromTerminal => May {
@@ -144,7 +144,7 @@ fn may_up(heard: Kind, way: Way) -> May {
     }
 }
 
-/// Whether a number stays, or grows by at most a block where it may grow.
+/// Whether the number stayed the same, or grew by at most the 7 records of a block if it may grow.
 fn grows(before: usize, after: usize, may: bool) -> bool {
     match after.checked_sub(before) {
         None => false,
@@ -152,13 +152,13 @@ fn grows(before: usize, after: usize, may: bool) -> bool {
     }
 }
 
-/// Whether one more was offered exactly where it may be.
+/// Whether one more record was offered if one has to be, and none otherwise.
 fn offers(before: View, after: View, may: May) -> bool {
     let more = usize::from(may.offer);
     after.offered.checked_sub(before.offered) == Some(more)
 }
 
-/// Whether a doubt begins and ends only where it may, and ends where it must.
+/// Whether a doubt began or ended only if it may, and ended if it has to.
 fn doubts(before: View, after: View, may: May) -> bool {
     if may.release {
         return before.in_doubt && !after.in_doubt && after.known == after.spooled;
@@ -170,7 +170,7 @@ fn doubts(before: View, after: View, may: May) -> bool {
     }
 }
 
-/// Whether a channel that was this, and is that now, did only what it may.
+/// Checks that a channel did only what it may do between the two views.
 pub(crate) fn check(before: View, after: View, may: May) -> Result<(), Broken> {
     if !offers(before, after, may) {
         return Err(Broken::Offered);
@@ -188,15 +188,15 @@ pub(crate) fn check(before: View, after: View, may: May) -> Result<(), Broken> {
     Ok(())
 }
 
-/// Whether what arrived, what is known or the doubt changed.
+/// Whether the number of arrived records, the number of known records or the doubt changed.
 pub(crate) fn moved(before: View, after: View) -> bool {
     before.spooled != after.spooled
         || before.known != after.known
         || before.in_doubt != after.in_doubt
 }
 
-/// Whether a channel of a trusted line moved as such a channel may: a block lands only where the
-/// one before it is known, and all that arrived is learnt at once.
+/// Whether a channel of a trusted line changed as it may: a block arrives only if the block before
+/// it is known to have arrived, and the sender learns of all arrived records at once.
 pub(crate) fn steps(before: View, after: View) -> bool {
     let landed = before.spooled != after.spooled;
     let learnt = before.known != after.known;
@@ -204,9 +204,9 @@ pub(crate) fn steps(before: View, after: View) -> bool {
         && (!learnt || after.known == after.spooled)
 }
 
-/// Whether a channel of a trusted line is sound, as far as numbers tell: what arrived is no more
-/// than what was offered, and is what is known, or a block more where one may be unanswered or in
-/// doubt.
+/// Whether the counts of a channel of a trusted line are sound: no more records arrived than were
+/// offered, and all of them are known to have arrived, except for up to a block of 7 records while
+/// the channel is in use or in doubt.
 pub(crate) fn is_sound(view: View, in_use: bool) -> bool {
     let ahead = view.spooled.checked_sub(view.known);
     let most = if in_use || view.in_doubt {

@@ -1,4 +1,4 @@
-//! An event as a call of the line.
+//! Plays an event by the function of the line that it stands for.
 
 ghost use Rattle.bsc_line_model.specs.Runs.{Does};
 ghost use Rattle.bsc_line_model.specs.Kept.{IsLine};
@@ -6,7 +6,7 @@ ghost use Rattle.bsc_line_model.specs.Kept.{IsLine};
 use bsc_line::{Event, Line, LineError};
 use std::alloc::Allocator;
 
-/// Makes the call of the line that the event names.
+/// Calls the function of the line that the event stands for.
 pub(crate) fn take<A: Allocator>(line: &mut Line<A>, event: &Event<'_>) -> Result<(), LineError>
     ensures does { Does event.now line.old result line.new }
     ensures line { IsLine line.new }

@@ -1,4 +1,4 @@
-//! What was seen on a line, in numbers.
+//! Counts of what was seen on a line.
 
 ghost use Rattle.std.specs.Prelude.{◌≡◌};
 ghost use Rattle.test_hostile.specs.Tallies.{one_more, answered, refused_by, done_by, moved_by};
@@ -10,40 +10,40 @@ use crate::step::Effect;
 use bsc_frame::Reply;
 use bsc_line::LineError;
 
-/// How often what happened. A number that is the greatest of 64 bits stays it.
+/// Counts of what was seen on a line. A count stops at 2^64 - 1.
 #[derive(Clone, Copy, Debug, Default, PartialEq, Eq)]
 pub struct Tally {
-    /// Events that were accepted.
+    /// The events that were accepted.
     pub accepted: u64,
 
-    /// Events that were refused.
+    /// The events that were refused.
     pub refused: u64,
 
-    /// Offers that were refused by `Memory`.
+    /// The offers that were refused with `Memory`.
     pub out_of_memory: u64,
 
-    /// Releases that were refused by `CountMismatch`.
+    /// The releases that were refused with `CountMismatch`.
     pub mismatches: u64,
 
-    /// Offers that were accepted.
+    /// The offers that were accepted.
     pub offers: u64,
 
-    /// Texts whose records arrived.
+    /// The texts from which records arrived.
     pub blocks: u64,
 
-    /// Records that arrived.
+    /// The records that arrived.
     pub records: u64,
 
-    /// Times that a sending end learned that records arrived.
+    /// How often a sending end learned that records arrived.
     pub learned: u64,
 
-    /// Doubts that began.
+    /// The doubts that began.
     pub doubts: u64,
 
-    /// Doubts that were ended by a release.
+    /// The doubts that were ended by a release.
     pub releases: u64,
 
-    /// Calls, texts, ENQ, NAK, WACK and RVI that were sent.
+    /// The calls, texts, ENQ, NAK, WACK and RVI that were sent.
     pub calls: u64,
     pub texts: u64,
     pub enquiries: u64,
@@ -52,7 +52,7 @@ pub struct Tally {
     pub rvis: u64,
 }
 
-/// One more.
+/// Adds 1 to the count.
 fn add(count: &mut u64)
     ensures { count.new ≡ one_more count.old }
 {
@@ -82,7 +82,7 @@ impl Tally {
         }
     }
 
-    /// Counts what an accepted event did to all channels.
+    /// Counts the effect of an accepted event.
     pub(crate) fn count_effect(&mut self, effect: Effect)
         ensures { self.new ≡ done_by self.old effect }
     {
@@ -93,7 +93,7 @@ impl Tally {
         }
     }
 
-    /// Counts how a channel moved.
+    /// Counts what changed in a channel.
     pub(crate) fn count_move(&mut self, before: View, after: View)
         ensures { self.new ≡ moved_by self.old before after }
     {
@@ -110,7 +110,7 @@ impl Tally {
         }
     }
 
-    /// Counts what was sent.
+    /// Counts a message that was sent.
     pub(crate) fn count_sent(&mut self, kind: Kind)
         ensures { self.new ≡ sent_as self.old kind }
     {
@@ -125,7 +125,7 @@ impl Tally {
         }
     }
 
-    /// Adds the numbers of another line, each up to the greatest number of 64 bits.
+    /// Adds the counts of another line, each up to 2^64 - 1.
     pub fn add(&mut self, other: &Tally)
         ensures { self.new ≡ sum_of self.old other.now }
     {

@@ -1,4 +1,4 @@
-//! Exchanges in which a transmission is heard as something else, and the texts of what is broken.
+//! Exchanges in which one transmission is heard as something else, and the messages of [`Broken`].
 
 mod exchanges;
 mod fixtures;

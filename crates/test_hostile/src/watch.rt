@@ -1,4 +1,4 @@
-//! A line that is watched.
+//! The watch of a line.
 
 mod answers;
 mod history;
@@ -29,10 +29,10 @@ use bsc_frame::Address;
 use bsc_line::{Event, Line, LineError, Speaker};
 use std::alloc::{AllocError, Allocator, Global};
 
-/// What each station heard that hears a transmission.
+/// What each station that hears the transmission heard.
 type Hearings = ArrayVec<Hearing, MAX_TERMINALS>;
 
-/// What is known of a line that is watched from its beginning on.
+/// The state of a watch, which follows a line from its beginning.
 #[derive(Drop)]
 pub struct Watch {
     setup: Setup,
@@ -44,13 +44,13 @@ pub struct Watch {
     // the same octets.
     trusted: bool,
     alike: bool,
-    // The channel that the last call named which all terminals heard whole.
+    // The channel named by the last call that all terminals heard whole.
     addressed: Option<(usize, Way)>,
     hearings: Hearings,
     tally: Tally,
 }
 
-/// A channel on which nothing happened yet.
+/// A channel on which nothing has happened yet.
 fn new_channel(terminal: usize, way: Way, address: Address) -> Channel
     ensures { result ≡ new_channel terminal way address }
 {
@@ -70,7 +70,7 @@ fn new_channel(terminal: usize, way: Way, address: Address) -> Channel
     }
 }
 
-/// Adds the channels of a terminal.
+/// Adds the channels of this terminal.
 fn add_channels(
     channels: &mut Vec<Channel>,
     number: usize,
@@ -87,22 +87,22 @@ fn add_channels(
     Ok(())
 }
 
-/// Puts this many times the same hearing.
+/// Adds the same hearing this many times.
 fn hear_alike(hearings: &mut Hearings, count: usize, hearing: Hearing) {
     for _ in 0..count {
         let _ = hearings.try_push(hearing);
     }
 }
 
-/// Puts what each of these items is heard as, where these octets were sent.
+/// Adds what each of these items is heard as if `sent` was sent.
 fn hear_each(hearings: &mut Hearings, sent: &[u8], items: &[Option<&[u8]>]) {
     for item in items {
         let _ = hearings.try_push(hear(sent, *item));
     }
 }
 
-/// The octets that the terminal of this number hears at an event, or the control station where all
-/// hear the same.
+/// The octets that the terminal of this number hears at an event, or that the control station
+/// hears; the number matters only if each terminal hears its own octets.
 fn octets_heard<'a>(event: &Event<'a>, sent: &'a [u8], terminal: usize) -> &'a [u8] {
     match *event {
         Event::Carry {
@@ -139,15 +139,15 @@ impl Watch {
         })
     }
 
-    /// What was seen so far.
+    /// The counts of what was seen so far.
     pub fn tally(&self) -> Tally
         ensures { result ≡ tally_of self.now }
     {
         self.tally
     }
 
-    /// The terminal and the way of the first channel that is in doubt, in the order of the
-    /// terminals, and of each terminal the channel from it before those to it.
+    /// The terminal and direction of the first channel that is in doubt, in the order of the
+    /// terminals, and for each terminal the channel from it before the channels to it.
     pub fn doubtful(&self) -> Option<(usize, Way)>
         ensures { result ≡ first_doubt self.now }
     {
@@ -159,7 +159,7 @@ impl Watch {
         None
     }
 
-    /// Who sent what is pending.
+    /// The station that sent what is pending.
     fn speaker(&self) -> Option<Speaker> {
         match &self.sent {
             Some(sent) => Some(sent.speaker),
@@ -167,8 +167,8 @@ impl Watch {
         }
     }
 
-    /// Plays an event on the line that is watched, and compares what the line shows with what the
-    /// event may do. The answer is that of the line; an error says what does not hold of the line.
+    /// Plays an event on the line, and compares what the line shows with what the event may do.
+    /// Returns the answer of the line, or the first rule that it broke.
     pub fn play<A: Allocator>(
         &mut self,
         line: &mut Line<A>,
@@ -194,7 +194,7 @@ impl Watch {
         Ok(answer)
     }
 
-    /// What each station hears of what is pending.
+    /// Stores what each station hears of what is pending.
     fn hear(&mut self, event: &Event<'_>)
         ensures { self.new ≡ record self.old { hearings = self.new.hearings } }
     {
@@ -221,7 +221,7 @@ impl Watch {
         }
     }
 
-    /// Compares what the line shows after an event.
+    /// Checks what the line shows after an event with this effect.
     fn see<A: Allocator>(
         &mut self,
         line: &Line<A>,
@@ -241,7 +241,7 @@ impl Watch {
         self.see_pending(line, effect)
     }
 
-    /// Whether the line is trusted as what was heard has it.
+    /// Checks that the line is trusted exactly if everything was heard fairly.
     fn see_trust<A: Allocator>(
         &mut self,
         line: &Line<A>,
@@ -273,7 +273,7 @@ impl Watch {
         }
     }
 
-    /// Whether each channel of a trusted line is sound.
+    /// Checks that each channel of a trusted line is sound.
     fn see_soundness(&self) -> Result<(), Broken> {
         if !self.trusted {
             return Ok(());

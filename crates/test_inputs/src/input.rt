@@ -1,5 +1,5 @@
-//! What no contract says of inputs: calls that succeed, streams that fail, and growths that are
-//! refused.
+//! Properties of inputs that no contract states: calls that succeed, streams that fail, and refused
+//! growths.
 use bsc_input::{
     InputError, MAX_INPUT, is_blank, read_input, read_octets, split_at_first, split_line,
     without_return,
@@ -10,7 +10,7 @@ use std::io::{Error, ErrorKind, Read};
 use std::test::Fail;
 use test_alloc::{Refusal, Refusing};
 
-/// Gives one octet a read, as many as are left, and counts the reads.
+/// Returns one octet in each read, as long as octets are left, and counts the reads.
 #[derive(Drop)]
 struct Drip {
     left: usize,
@@ -29,7 +29,7 @@ impl Read for Drip {
     }
 }
 
-/// Gives the text in one read, is interrupted once, and then has ended.
+/// Returns the text in one read, is interrupted once, and then ends.
 #[derive(Drop)]
 struct Broken {
     text: Option<&'static [u8]>,
@@ -49,8 +49,8 @@ impl Read for Broken {
     }
 }
 
-/// Texts, their first line, and the rest where there is one: a line feed at the end has an empty
-/// line after it.
+/// Texts, their first line, and the rest if there is one. A line feed at the end is followed by an
+/// empty line.
 const FIRST_LINES: &[(&[u8], &[u8], Option<&[u8]>)] = &[
     (b"ab\ncd\ne", b"ab", Some(b"cd\ne")),
     (b"ab\r\n", b"ab\r", Some(b"")),
@@ -59,7 +59,7 @@ const FIRST_LINES: &[(&[u8], &[u8], Option<&[u8]>)] = &[
     (b"", b"", None),
 ];
 
-/// Texts that are cut at the first space, and not at another octet.
+/// Texts that are divided at the first space, and at no other octet.
 const FIRST_WORDS: &[(&[u8], &[u8], Option<&[u8]>)] = &[
     (b"ab cd e", b"ab", Some(b"cd e")),
     (b" ab", b"", Some(b"ab")),
@@ -67,7 +67,7 @@ const FIRST_WORDS: &[(&[u8], &[u8], Option<&[u8]>)] = &[
     (b"a\nb", b"a\nb", None),
 ];
 
-/// Lines, and what they are less one carriage return at their end.
+/// Lines, and what they are without one carriage return at their end.
 const RETURNS: &[(&[u8], &[u8])] = &[
     (b"ab\r", b"ab"),
     (b"ab\r\r", b"ab\r"),
@@ -85,7 +85,7 @@ const BLANKS: &[(&[u8], bool)] = &[
     (b"\r", false),
 ];
 
-/// Hexadecimal text, with spaces wherever they stand and both cases of letters, and its octets.
+/// Hexadecimal text, with spaces anywhere and letters of both cases, and its octets.
 const OCTETS: &[(&[u8], &[u8])] = &[
     (b"1610B0FF", &[0x16, 0x10, 0xB0, 0xFF]),
     (b"16 10 b0 fF", &[0x16, 0x10, 0xB0, 0xFF]),
@@ -94,7 +94,7 @@ const OCTETS: &[(&[u8], &[u8])] = &[
     (b"", &[]),
 ];
 
-/// Another character, an odd number of digits, a letter past F, and a letter of two octets.
+/// Another character, an odd number of digits, a letter after F, and a letter of two octets.
 const NO_OCTETS: &[&[u8]] = &[
     b"zz",
     b"1",
@@ -133,7 +133,7 @@ fn blank_lines(rt: HostRuntime) {
     }
 }
 
-// Whether these octets are read from the text.
+// Whether exactly these octets are read from the text.
 fn reads_octets(text: &[u8], wanted: &[u8], alloc: Global) -> bool {
     match read_octets(alloc, text) {
         Ok(Some(octets)) => octets.as_slice() == wanted,
@@ -141,7 +141,7 @@ fn reads_octets(text: &[u8], wanted: &[u8], alloc: Global) -> bool {
     }
 }
 
-// Whether the text is told to be no hexadecimal text.
+// Whether the text is reported as not hexadecimal.
 fn reads_none(text: &[u8], alloc: Global) -> bool {
     match read_octets(alloc, text) {
         Ok(octets) => octets.is_none(),
@@ -163,14 +163,14 @@ fn not_hexadecimal(rt: HostRuntime) {
     }
 }
 
-// How many octets are read from this many, one a read, and in how many reads.
+// The number of octets read from a stream of this many, one in each read, and the number of reads.
 fn read_drip(left: usize, alloc: Global) -> (Result<usize, InputError>, usize) {
     let mut drip = Drip { left, reads: 0 };
     let answer = read_input(alloc, &mut drip).map(|input| input.len());
     (answer, drip.reads)
 }
 
-/// An input of the greatest length at one octet a read, and one that is longer.
+/// An input of the greatest length with one octet in each read, and a longer one.
 #[test]
 fn one_octet_a_read(rt: HostRuntime) {
     let whole = read_drip(MAX_INPUT, rt.alloc());
@@ -179,7 +179,7 @@ fn one_octet_a_read(rt: HostRuntime) {
     assert!(rt; longer == (Err(InputError::TooLong), 1_048_577));
 }
 
-/// A read that fails after good lines: an interrupted one is not tried again.
+/// A read fails after good lines; an interrupted read is not repeated.
 #[test]
 fn failing_read(rt: HostRuntime) {
     let mut broken = Broken {
@@ -190,8 +190,8 @@ fn failing_read(rt: HostRuntime) {
     assert!(rt; answer.err() == Some(InputError::Device));
 }
 
-// Whether the input is read with this allocator, or out of memory is told, as the allocator refused
-// nothing or something.
+// Whether the result is out of memory if this allocator refused something, and the whole input
+// otherwise.
 fn is_read_or_refused(alloc: &Refusing) -> bool {
     let mut drip = Drip {
         left: 1000,
@@ -203,7 +203,7 @@ fn is_read_or_refused(alloc: &Refusing) -> bool {
     }
 }
 
-/// Each growth for an input is refused in turn, at one octet a read.
+/// Each growth for an input is refused in turn, with one octet in each read.
 #[test]
 fn each_growth_of_an_input(rt: HostRuntime) -> Result<(), Fail> {
     let alloc = Refusing::new(rt.alloc());
@@ -214,8 +214,8 @@ fn each_growth_of_an_input(rt: HostRuntime) -> Result<(), Fail> {
     Ok(())
 }
 
-// Whether octets are read with this allocator, or out of memory is told, as the allocator refused
-// nothing or something.
+// Whether the result is out of memory if this allocator refused something, and the octets
+// otherwise.
 fn are_octets_or_refused(alloc: &Refusing) -> bool {
     match read_octets(alloc, b"16 16 10 B0 FF 16 16 10 B0 FF") {
         Ok(Some(octets)) => alloc.refused() == 0 && octets.len() == 10,
@@ -224,7 +224,7 @@ fn are_octets_or_refused(alloc: &Refusing) -> bool {
     }
 }
 
-/// Each growth for octets is refused in turn: out of memory is told, and no octets.
+/// Each growth for octets is refused in turn; the result is out of memory, without octets.
 #[test]
 fn each_growth_of_octets(rt: HostRuntime) -> Result<(), Fail> {
     let alloc = Refusing::new(rt.alloc());

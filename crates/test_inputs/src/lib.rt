@@ -1,4 +1,7 @@
-//! The tests of the layers of names and inputs, each by its public calls.
+//! Tests of names and inputs with the public functions of their crates.
+//!
+//! The forms of names and inputs are this project's own; the messages are the standard's
+//! (GA27-3004).
 #![tactic(auto)]
 
 #[cfg(test)]

@@ -1,5 +1,5 @@
-//! What no contract says of names: calls that succeed, a writer that fails, and growths that are
-//! refused.
+//! Properties of names that no contract states: calls that succeed, a writer that fails, and
+//! refused growths.
 use bsc_frame::{Heard, Message, decode};
 use bsc_print::{Detail, PrintError, write_chars, write_name, write_shown};
 use std::alloc::Global;
@@ -8,7 +8,7 @@ use std::io::{Error, ErrorKind, Write};
 use std::test::Fail;
 use test_alloc::{Refusal, Refusing};
 
-/// Takes this many writes, and fails at the next.
+/// Accepts this many writes, and fails at the next.
 #[derive(Drop)]
 struct Full {
     left: usize,
@@ -28,12 +28,12 @@ impl Write for Full {
     }
 }
 
-/// Two units, the second without characters, each with EM.
+/// A text of two units, the second without characters, each with EM.
 const TEXT: &[u8] = &[
     0x16, 0x16, 0x02, 0xC8, 0x49, 0x19, 0x1F, 0x07, 0x19, 0x83, 0x1A, 0xFF,
 ];
 
-/// What is printed for them.
+/// The output for this text.
 const UNITS: &[u8] = b"TEXT ETX 2\nunit 4849 EM\nunit - EM\n";
 
 /// A call of AB.
@@ -52,10 +52,10 @@ const NAMES: &[(&[u8], &[u8])] = &[
     (TEXT, b"TEXT ETX 2"),
 ];
 
-/// Characters, and how they are shown.
+/// Characters, and how they are printed.
 const CHARS: &[(&[u8], &[u8])] = &[(b"HI", b"4849"), (b"JoZ", b"4a6f5a"), (b"", b"-")];
 
-/// Octets, how much is printed for them, and what.
+/// Octets, the detail, and the output.
 const SHOWN: &[(&[u8], Detail, &[u8])] = &[
     (TEXT, Detail::Name, b"TEXT ETX 2\n"),
     (TEXT, Detail::Units, UNITS),
@@ -63,7 +63,7 @@ const SHOWN: &[(&[u8], Detail, &[u8])] = &[
     (b"", Detail::Units, b"NOISE\n"),
 ];
 
-// Writes the name of the message that the octets spell.
+// Writes the name of the message that the octets are heard as.
 fn write_name_of<W: Write>(octets: &[u8], out: &mut W) -> Result<(), PrintError> {
     match &decode(octets) {
         Heard::Whole(message) => write_name(message, out),
@@ -71,13 +71,13 @@ fn write_name_of<W: Write>(octets: &[u8], out: &mut W) -> Result<(), PrintError>
     }
 }
 
-// Whether the octets spell a message of this name.
+// Whether the octets are heard as a message with this name.
 fn is_name(octets: &[u8], name: &[u8], alloc: Global) -> bool {
     let mut out = Vec::new(alloc);
     write_name_of(octets, &mut out).is_ok() && out.as_slice() == name
 }
 
-// Whether the characters are shown so.
+// Whether the characters are printed as this.
 fn are_chars(chars: &[u8], shown: &[u8], alloc: Global) -> bool {
     let mut out = Vec::new(alloc);
     write_chars(alloc, chars, &mut out).is_ok() && out.as_slice() == shown
@@ -110,7 +110,7 @@ fn both_details(rt: HostRuntime) {
     }
 }
 
-/// A write that fails at any place is told.
+/// A write that fails is reported at each place.
 #[test]
 fn failing_write(rt: HostRuntime) {
     for left in 0..8usize {
@@ -122,8 +122,8 @@ fn failing_write(rt: HostRuntime) {
     assert!(rt; chars == Err(PrintError::Output));
 }
 
-// Whether all is printed with this allocator, or out of memory is told and what was written before
-// it stays, as the allocator refused nothing or something.
+// Whether the result is right: out of memory after a beginning of the output if this allocator
+// refused something, and the whole output otherwise.
 fn is_shown_or_refused(alloc: &Refusing, kept: Global) -> bool {
     let mut out = Vec::new(kept);
     let answer = write_shown(alloc, Detail::Units, &decode(TEXT), &mut out);
@@ -135,7 +135,7 @@ fn is_shown_or_refused(alloc: &Refusing, kept: Global) -> bool {
     }
 }
 
-/// Each growth is refused in turn: out of memory is told, and what was written before it stays.
+/// Each growth is refused in turn; the result is out of memory, and the output before it stays.
 #[test]
 fn each_growth(rt: HostRuntime) -> Result<(), Fail> {
     let alloc = Refusing::new(rt.alloc());

@@ -1,4 +1,4 @@
-//! What a channel of a line has, compared with what is expected.
+//! The state of a channel, compared with the expected one.
 
 ghost use Rattle.std.specs.Prelude.{◌<◌, IsTrue};
 ghost use Rattle.bsc_line_model.specs.Line.{IsChannel, terminal_count};
@@ -10,8 +10,8 @@ use bsc_line::{Line, LineError};
 use std::alloc::Allocator;
 use test_fixtures::records::are_records;
 
-/// What a channel has: records were offered, the sending end knows of some of them to have arrived,
-/// and records arrived.
+/// The expected state of a channel: the records that were offered, how many of them the sending end
+/// knows to have arrived, and the records that arrived.
 #[derive(Clone, Copy)]
 pub(crate) enum Has<'a> {
     /// Each of these records arrived once, in order, and the sending end knows it.
@@ -20,16 +20,16 @@ pub(crate) enum Has<'a> {
     /// These records wait, and none of them arrived.
     Waiting(&'a [&'a [u8]]),
 
-    /// Of the offered records the sending end knows that this many arrived, and it is not in doubt;
-    /// these arrived.
+    /// The sending end knows that `known` of the offered records arrived, and is not in doubt;
+    /// `spooled` arrived.
     Arrived {
         offered: &'a [&'a [u8]],
         known: usize,
         spooled: &'a [&'a [u8]],
     },
 
-    /// Of the offered records the sending end knows that this many arrived, and it is in doubt;
-    /// these arrived.
+    /// The sending end knows that `known` of the offered records arrived, and is in doubt;
+    /// `spooled` arrived.
     InDoubt {
         offered: &'a [&'a [u8]],
         known: usize,
@@ -37,8 +37,8 @@ pub(crate) enum Has<'a> {
     },
 }
 
-/// How a channel stands, of whichever kind: the offered records, how many of them the sending end
-/// knows to have arrived, the records that arrived, and whether the sending end is in doubt.
+/// The state of a channel: the offered records, how many of them the sending end knows to have
+/// arrived, the records that arrived, and whether the sending end is in doubt.
 #[derive(Clone, Copy)]
 struct Ends<'a> {
     offered: &'a [&'a [u8]],
@@ -72,7 +72,7 @@ impl<'a> Has<'a> {
     }
 }
 
-/// Whether the line has such a channel.
+/// Whether the line has this channel.
 pub(crate) fn is_channel<A: Allocator>(line: &Line<A>, terminal: usize, way: Way) -> bool
     ensures { IsTrue result → IsChannel line.now terminal way }
 {
@@ -96,7 +96,7 @@ pub(crate) fn offer<A: Allocator>(
     }
 }
 
-/// How many records were offered on a channel; 0 where the line has no such channel.
+/// The number of records offered on a channel; 0 if the line has no such channel.
 pub(crate) fn offered_count<A: Allocator>(line: &Line<A>, terminal: usize, way: Way) -> usize {
     if is_channel(line, terminal, way) {
         line.offered(terminal, way).len()
@@ -105,7 +105,7 @@ pub(crate) fn offered_count<A: Allocator>(line: &Line<A>, terminal: usize, way: 
     }
 }
 
-/// Whether the line has such a channel, and that has this.
+/// Whether the line has this channel, and the channel has the expected state.
 pub(crate) fn has_left<A: Allocator>(
     line: &Line<A>,
     terminal: usize,
@@ -120,7 +120,7 @@ pub(crate) fn has_left<A: Allocator>(
         && line.in_doubt(terminal, way) == ends.in_doubt
 }
 
-/// Whether the first records are the first of the others, in order.
+/// Whether `first` are the first of `records`, in order.
 fn is_front(first: &[Record], records: &[Record]) -> bool {
     for (one, other) in first.iter().zip(records) {
         if one.chars() != other.chars() {
@@ -130,8 +130,8 @@ fn is_front(first: &[Record], records: &[Record]) -> bool {
     first.len() <= records.len()
 }
 
-/// Whether what arrived on a channel is the first of what was offered, in order and each record
-/// once, and what the sending end knows of is among it.
+/// Whether the records that arrived on a channel are the first of those that were offered, in order
+/// and each record once, and include those that the sending end knows to have arrived.
 fn is_sound<A: Allocator>(line: &Line<A>, terminal: usize, way: Way) -> bool
     requires { IsChannel line.now terminal way }
 {

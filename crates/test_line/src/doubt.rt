@@ -1,4 +1,4 @@
-//! Blocks whose acknowledgement never comes, and what they do on a line that is not trusted.
+//! Blocks whose acknowledgement never comes, and their effect on a line that is not trusted.
 
 use crate::channels::Has::{Arrived, Delivered, InDoubt, Waiting};
 use crate::events::{HI, LOSE, NONE, OFFER_AT, OFFER_FOR, RELEASE_FROM, RELEASE_TO};
@@ -54,8 +54,8 @@ const ACKNOWLEDGEMENT_LOST: Part<'static> = Part {
     left: &[],
 };
 
-/// After that the control station hears the ENQ as a broken text, asks for the text again and takes
-/// it a second time.
+/// Then the control station hears the ENQ as a broken text, asks for the text again and accepts it
+/// a second time.
 const SPOOLED_TWICE: Part<'static> = Part {
     steps: &[(
         HEAR_BROKEN_TEXT,
@@ -84,7 +84,7 @@ const TWICE_IN_DOUBT: Left<'static> = &[(
     },
 )];
 
-/// The terminal is not released, and stays in doubt.
+/// The release is refused, and the terminal stays in doubt.
 const NOT_RELEASED: Part<'static> = Part {
     steps: &[(RELEASE_FROM, Refused(LineError::CountMismatch))],
     trusted: false,

@@ -1,9 +1,9 @@
-//! The events and records of the worked exchanges.
+//! The events and records of the exchanges.
 
 use bsc_control::Way;
 use bsc_line::Event;
 
-/// No record.
+/// No records.
 pub(crate) const NONE: &[&[u8]] = &[];
 
 /// The record HI.
@@ -15,20 +15,20 @@ pub(crate) const SEVEN: &[&[u8]] = &[b"", b"", b"", b"", b"", b"", b""];
 /// Eight empty records.
 pub(crate) const EIGHT: &[&[u8]] = &[b"", b"", b"", b"", b"", b"", b"", b""];
 
-/// HI is offered at terminal 0.
+/// Offers HI at terminal 0.
 pub(crate) const OFFER_AT: Event<'static> = Event::OfferAt {
     terminal: 0,
     codes: b"HI",
 };
 
-/// HI is offered for the first selection address of terminal 0.
+/// Offers HI for the first selection address of terminal 0.
 pub(crate) const OFFER_FOR: Event<'static> = Event::OfferFor {
     terminal: 0,
     select: 0,
     codes: b"HI",
 };
 
-/// An empty record is offered for the first selection address of terminal 0.
+/// Offers an empty record for the first selection address of terminal 0.
 pub(crate) const OFFER_EMPTY: Event<'static> = Event::OfferFor {
     terminal: 0,
     select: 0,
@@ -44,13 +44,13 @@ pub(crate) const URGENT_AT: Event<'static> = Event::UrgentAt { terminal: 0 };
 /// The control station asks terminal 0 for the line.
 pub(crate) const URGENT_FOR: Event<'static> = Event::UrgentFor { terminal: 0 };
 
-/// A doubt about what terminal 0 sent is ended.
+/// Ends a doubt about what terminal 0 sent.
 pub(crate) const RELEASE_FROM: Event<'static> = Event::Release {
     terminal: 0,
     way: Way::FromTerminal,
 };
 
-/// A doubt about what was sent to the first selection address of terminal 0 is ended.
+/// Ends a doubt about what was sent to the first selection address of terminal 0.
 pub(crate) const RELEASE_TO: Event<'static> = Event::Release {
     terminal: 0,
     way: Way::ToTerminal(0),

@@ -1,4 +1,4 @@
-//! The lines of the worked exchanges.
+//! The lines on which the exchanges are played.
 
 use bsc_bid::{Setup, Terminal};
 use bsc_control::SetupError;
@@ -23,7 +23,7 @@ pub(crate) const FIRST: Codes<'static> = (b"A", &[b"a"]);
 /// The codes of terminal 1, which is polled by B and selected by b.
 pub(crate) const SECOND: Codes<'static> = (b"B", &[b"b"]);
 
-/// The addresses of these codes.
+/// The addresses with these codes.
 fn addresses_of(alloc: Global, codes: &[&[u8]]) -> Result<Vec<Address>, Fail> {
     let mut addresses = Vec::new(alloc);
     for address in codes {
@@ -32,7 +32,7 @@ fn addresses_of(alloc: Global, codes: &[&[u8]]) -> Result<Vec<Address>, Fail> {
     Ok(addresses)
 }
 
-/// The terminals of these codes.
+/// The terminals with these codes.
 pub(crate) fn terminals_of(alloc: Global, codes: &[Codes<'_>]) -> Result<Vec<Terminal>, Fail> {
     let mut terminals = Vec::new(alloc);
     for (poll, selects) in codes {
@@ -41,12 +41,11 @@ pub(crate) fn terminals_of(alloc: Global, codes: &[Codes<'_>]) -> Result<Vec<Ter
     Ok(terminals)
 }
 
-/// The code by which the addresses of the first of many terminals are told apart from those of the
-/// others.
+/// The second code of the addresses of the first terminal, if a line has many terminals.
 pub(crate) const FIRST_CODE: u8 = 0x21;
 
-/// A terminal whose polling address is P with this code, and whose selection addresses are a, b, c
-/// and d with it.
+/// A terminal with the polling address P and the selection addresses a, b, c and d, each followed
+/// by this code.
 fn coded_terminal(code: u8) -> Result<Terminal, Fail> {
     let selects = [
         Address::read(&[b'a', code])?,
@@ -57,7 +56,8 @@ fn coded_terminal(code: u8) -> Result<Terminal, Fail> {
     terminal_of(&[b'P', code], &selects)
 }
 
-/// As many terminals as a line may have, each with as many selection addresses as it may have.
+/// The greatest number of terminals of a line, each with the greatest number of selection
+/// addresses.
 pub(crate) fn most_terminals() -> Result<[Terminal; 64], Fail> {
     let mut terminals = [coded_terminal(FIRST_CODE)?; 64];
     for (terminal, code) in terminals.iter_mut().zip(FIRST_CODE..=0x7e) {
@@ -69,18 +69,18 @@ pub(crate) fn most_terminals() -> Result<[Terminal; 64], Fail> {
 /// The terminals of a line.
 #[derive(Clone, Copy)]
 enum Terminals {
-    /// Terminals 0 and 1, of one selection address each.
+    /// Terminals 0 and 1, with one selection address each.
     Two,
 
-    /// These, where terminal 0 has a second selection address.
+    /// Terminals 0 and 1; terminal 0 has a second selection address.
     TwoByThree,
 
-    /// This many of the most that there may be.
+    /// The first terminals of `most_terminals`, this many.
     First(usize),
 }
 
-/// A line: its terminals, its poll list, how many failures in a row are borne, and how many
-/// characters a record may have.
+/// A line: its terminals, its poll list, the greatest number of failures in a row, and the greatest
+/// number of characters of a record.
 #[derive(Clone, Copy)]
 pub(crate) struct On<'a> {
     terminals: Terminals,
@@ -90,7 +90,7 @@ pub(crate) struct On<'a> {
 }
 
 impl<'a> On<'a> {
-    /// This many of the most terminals with this poll list.
+    /// A line with the first `count` terminals of `most_terminals` and this poll list.
     pub(crate) fn first(count: usize, poll_list: &'a [u8]) -> On<'a> {
         On {
             terminals: Terminals::First(count),
@@ -101,7 +101,7 @@ impl<'a> On<'a> {
     }
 }
 
-/// Terminals 0 and 1 polled in turn, and the default of three tries.
+/// Terminals 0 and 1 polled in turn, with the default of three tries.
 pub(crate) const TWO: On<'static> = On {
     terminals: Terminals::Two,
     poll_list: &[0, 1],
@@ -109,7 +109,7 @@ pub(crate) const TWO: On<'static> = On {
     chars: 80,
 };
 
-/// These, with one try.
+/// The same with one try.
 pub(crate) const TWO_WITH_ONE_TRY: On<'static> = On {
     terminals: Terminals::Two,
     poll_list: &[0, 1],
@@ -117,7 +117,7 @@ pub(crate) const TWO_WITH_ONE_TRY: On<'static> = On {
     chars: 80,
 };
 
-/// These, with one try, where terminal 1 is polled first.
+/// The same with one try, and terminal 1 is polled first.
 pub(crate) const SECOND_FIRST: On<'static> = On {
     terminals: Terminals::Two,
     poll_list: &[1, 0],
@@ -125,7 +125,7 @@ pub(crate) const SECOND_FIRST: On<'static> = On {
     chars: 80,
 };
 
-/// Terminals 0 and 1 polled in turn, where terminal 0 has two selection addresses.
+/// Terminals 0 and 1 polled in turn; terminal 0 has two selection addresses.
 pub(crate) const TWO_BY_THREE: On<'static> = On {
     terminals: Terminals::TwoByThree,
     poll_list: &[0, 1],
@@ -133,7 +133,7 @@ pub(crate) const TWO_BY_THREE: On<'static> = On {
     chars: 80,
 };
 
-/// These, where terminal 0 has two entries of the poll list.
+/// The same, and terminal 0 has two entries in the poll list.
 pub(crate) const TWO_BY_THREE_ENTRIES: On<'static> = On {
     terminals: Terminals::TwoByThree,
     poll_list: &[0, 0, 1],
@@ -141,7 +141,7 @@ pub(crate) const TWO_BY_THREE_ENTRIES: On<'static> = On {
     chars: 80,
 };
 
-/// Terminals 0 and 1 polled in turn, with the longest records, of which two go in one block.
+/// Terminals 0 and 1 polled in turn, with the longest records, two of which fit in one block.
 pub(crate) const TWO_OF_LONGEST: On<'static> = On {
     terminals: Terminals::Two,
     poll_list: &[0, 1],
@@ -149,7 +149,7 @@ pub(crate) const TWO_OF_LONGEST: On<'static> = On {
     chars: 144,
 };
 
-/// As many terminals as there may be, of which one is polled.
+/// The greatest number of terminals, one of which is polled.
 pub(crate) const MOST: On<'static> = On {
     terminals: Terminals::First(64),
     poll_list: &[0],
@@ -167,7 +167,7 @@ fn line_of<A: Allocator + Copy>(
     Ok(Line::new(alloc, setup, terminals, poll_list)?)
 }
 
-/// A new line.
+/// A new line as `on` describes it.
 fn line_on<A: Allocator + Copy>(alloc: A, on: &On<'_>) -> Result<Line<A>, Fail> {
     let setup = Setup::new(on.chars, 400, on.tries, 10)?;
     match on.terminals {
@@ -181,26 +181,26 @@ fn line_on<A: Allocator + Copy>(alloc: A, on: &On<'_>) -> Result<Line<A>, Fail> 
     }
 }
 
-/// What is played on a new line.
+/// Something that can be played on a new line.
 pub(crate) trait Play {
-    /// What comes of it.
+    /// The result.
     type Answer: Drop;
 
     /// Plays it.
     fn play<A: Allocator>(&self, line: &mut Line<A>) -> Self::Answer;
 }
 
-/// Whether a line did as it should, or which of its calls was refused.
+/// Whether a line did what it has to, or the error of the first call that it refused.
 pub(crate) type Answer = Result<bool, LineError>;
 
-/// Plays this on a new line, for which no growth is refused.
+/// Plays this on a new line, whose allocations are not refused while it is made.
 pub(crate) fn play_on<P: Play>(alloc: &Refusing, on: &On<'_>, play: &P) -> Result<P::Answer, Fail> {
     alloc.refuse_none();
     let mut line = line_on(alloc, on)?;
     Ok(play.play(&mut line))
 }
 
-/// Why there is no line with these terminals and this poll list; None where there is one.
+/// The error of a new line with these terminals and this poll list; None if it can be made.
 pub(crate) fn refusal(
     alloc: &Refusing,
     terminals: &[Terminal],

@@ -1,4 +1,5 @@
-//! Each growth of whole exchanges refused in turn, all growths from one on, and all above a size.
+//! Growths of whole exchanges are refused: each one in turn, all from each one on, and all above
+//! each size.
 
 use crate::channels::{are_sound, is_channel, offer, offered_count};
 use crate::fixtures::{Play, TWO, play_on, refusal, terminals_of};
@@ -14,17 +15,17 @@ use std::test::Fail;
 use test_alloc::{Refusal, Refusing};
 use test_fixtures::octets::{NAK, WACK};
 
-/// Growths of more octets than a number of units of 512: three records fill one.
+/// Refuses growths of more octets than a multiple of 512. Three records fill 512 octets.
 const ABOVE: Refusal = Refusal::Above { octets: 512 };
 
-/// Growths of more octets than a number of units of 64.
+/// Refuses growths of more octets than a multiple of 64.
 const ABOVE_LITTLE: Refusal = Refusal::Above { octets: 64 };
 
-/// What is offered on channels: each one's terminal and way, and the characters of its records,
-/// which are of one character each.
+/// The records to offer on channels: the terminal and direction of each channel, and one character
+/// for each of its records, which has only this character.
 type Offered<'a> = &'a [(usize, Way, &'a [u8])];
 
-/// An exchange on a line of two terminals: what is offered, channel by channel, and whether
+/// An exchange on a line of two terminals: the records to offer on each channel, and whether
 /// terminal 0 then asks for the line.
 struct Exchange<'a> {
     offered: Offered<'a>,
@@ -33,23 +34,24 @@ struct Exchange<'a> {
 
 const ONE: &[u8] = b"H";
 
-/// As many as one block holds.
+/// As many records as one block holds.
 const SEVEN: &[u8] = b"0123456";
 
 const EIGHT: &[u8] = b"01234567";
 
-/// Of three blocks.
+/// Records for three blocks.
 const CAPITALS: &[u8] = b"ABCDEFGHIJKLMNOPQRST";
 
-/// Others of three blocks, which are told apart from the capitals.
+/// Other records for three blocks, none of which is among the capitals.
 const LETTERS: &[u8] = b"abcdefghijklmnopqrst";
 
-/// Of fifteen blocks.
+/// Records for fifteen blocks.
 const HUNDRED: &[u8] = b"A record of each of these characters is offered, one after the other, \
     each way of the first terminal";
 
-/// A record from terminal 0; one block to it; two blocks to it; two blocks to it, of which it
-/// interrupts the first to send a record; three blocks each way; and fifteen blocks each way.
+/// A record from terminal 0; one block to it; two blocks to it; two blocks to it, the first of
+/// which it interrupts to send a record; three blocks in each direction; and fifteen blocks in each
+/// direction.
 const EXCHANGES: &[Exchange<'static>] = &[
     Exchange {
         offered: &[
@@ -102,8 +104,8 @@ const EXCHANGES: &[Exchange<'static>] = &[
     },
 ];
 
-/// Offers a record, and says whether the answer was right: out of memory, and nothing more offered,
-/// exactly where a growth was refused.
+/// Offers a record. Returns whether the answer was right: out of memory with nothing offered if a
+/// growth was refused, and otherwise accepted.
 fn offers_rightly<A: Allocator>(
     alloc: &Refusing,
     line: &mut Line<A>,
@@ -122,8 +124,9 @@ fn offers_rightly<A: Allocator>(
     }
 }
 
-/// Offers those records of a channel that were not yet offered, each again where it is refused, at
-/// most twice as often as there are records: whether each answer was right.
+/// Offers the records of a channel that have not been offered yet, and repeats offers that are
+/// refused; there are at most twice as many offers as records. Returns whether each answer was
+/// right.
 fn offers_rest<A: Allocator>(
     alloc: &Refusing,
     line: &mut Line<A>,
@@ -142,7 +145,7 @@ fn offers_rest<A: Allocator>(
     true
 }
 
-/// Whether the records that are left are offered rightly on each channel.
+/// Offers the remaining records on each channel, and returns whether each answer was right.
 fn offers_all<A: Allocator>(alloc: &Refusing, line: &mut Line<A>, offered: Offered<'_>) -> bool {
     for (terminal, way, codes) in offered {
         if !offers_rest(alloc, line, *terminal, *way, codes) {
@@ -152,7 +155,7 @@ fn offers_all<A: Allocator>(alloc: &Refusing, line: &mut Line<A>, offered: Offer
     true
 }
 
-/// Whether the receiver of a text or of a selection puts the sender off.
+/// Whether the receiver of a text or of a selection puts the sender off, with NAK or WACK.
 fn is_put_off<A: Allocator>(line: &Line<A>) -> bool {
     match line.pending() {
         Some((_, octets)) => octets == NAK || octets == WACK,
@@ -160,9 +163,9 @@ fn is_put_off<A: Allocator>(line: &Line<A>) -> bool {
     }
 }
 
-/// Goes on for 80 transmissions and silences, up to the first after which the line is not trusted
-/// or a channel is not sound, or the sender is put off though no growth was refused, or it is not
-/// though one was. The number of that one.
+/// Plays 80 transmissions and silences. Returns the number of the first after which the line is not
+/// trusted, a channel is not sound, or the sender is put off although no growth was refused or is
+/// not although one was.
 fn wrong_step<A: Allocator>(
     alloc: &Refusing,
     line: &mut Line<A>,
@@ -178,7 +181,7 @@ fn wrong_step<A: Allocator>(
     Ok(None)
 }
 
-/// Whether these are the records of the first of these characters, in order.
+/// Whether these are records with the first of these characters, in order.
 fn are_first(records: &[Record], codes: &[u8]) -> bool {
     for (record, code) in records.iter().zip(codes) {
         if record.chars() != [*code].as_slice() {
@@ -188,8 +191,7 @@ fn are_first(records: &[Record], codes: &[u8]) -> bool {
     records.len() <= codes.len()
 }
 
-/// Whether the records of the first of these characters, and nothing else, were offered on each
-/// channel.
+/// Whether the records offered on each channel are those with the first of its characters.
 fn are_fronts<A: Allocator>(line: &Line<A>, offered: Offered<'_>) -> bool {
     for (terminal, way, codes) in offered {
         if !is_channel(line, *terminal, *way) || !are_first(line.offered(*terminal, *way), codes) {
@@ -199,8 +201,8 @@ fn are_fronts<A: Allocator>(line: &Line<A>, offered: Offered<'_>) -> bool {
     true
 }
 
-/// Whether as many records as there are characters were offered on a channel, arrived, and are
-/// known to have.
+/// Whether this many records were offered on a channel, arrived, and are known to have arrived,
+/// without a doubt.
 fn has_count<A: Allocator>(line: &Line<A>, terminal: usize, way: Way, count: usize) -> bool {
     is_channel(line, terminal, way)
         && line.offered(terminal, way).len() == count
@@ -209,7 +211,7 @@ fn has_count<A: Allocator>(line: &Line<A>, terminal: usize, way: Way, count: usi
         && !line.in_doubt(terminal, way)
 }
 
-/// Whether the records of all these characters were delivered on a line whose channels are sound.
+/// Whether the records of all characters were delivered, and all channels of the line are sound.
 fn are_delivered<A: Allocator>(line: &Line<A>, offered: Offered<'_>) -> bool {
     for (terminal, way, codes) in offered {
         if !has_count(line, *terminal, *way, codes.len()) {
@@ -219,10 +221,11 @@ fn are_delivered<A: Allocator>(line: &Line<A>, offered: Offered<'_>) -> bool {
     are_sound(line) && are_fronts(line, offered)
 }
 
-/// What was refused a growth in an exchange: an offer, a spool.
+/// Whether a growth was refused to an offer, and whether one was refused to a spool.
 type Refused = (bool, bool);
 
-/// Plays an exchange, growths of which may be refused: what was; None where something was wrong.
+/// Plays an exchange while growths may be refused. Returns to what growths were refused; None if
+/// something was wrong.
 fn refusals_in<A: Allocator>(
     alloc: &Refusing,
     line: &mut Line<A>,
@@ -243,7 +246,7 @@ fn refusals_in<A: Allocator>(
     Ok(Some((offered != before, after != offered)))
 }
 
-/// Whether all records of an exchange are delivered once memory is there again.
+/// Stops refusing growths, and returns whether all records of the exchange are delivered then.
 fn delivers_rest<A: Allocator>(
     alloc: &Refusing,
     line: &mut Line<A>,
@@ -255,7 +258,7 @@ fn delivers_rest<A: Allocator>(
     Ok(is_offered && wrong.is_none() && are_delivered(line, offered))
 }
 
-/// An exchange while this allocator refuses growths by this number.
+/// An exchange, and the allocator that refuses growths during it.
 #[derive(Clone, Copy)]
 struct Starved<'a> {
     alloc: &'a Refusing,
@@ -265,8 +268,8 @@ struct Starved<'a> {
 }
 
 impl Starved<'_> {
-    /// Plays the exchange, and then what is left of it: what was refused; None where something was
-    /// wrong.
+    /// Plays the exchange with refusals, and the rest of it without. Returns to what growths were
+    /// refused; None if something was wrong.
     fn refused<A: Allocator>(&self, line: &mut Line<A>) -> Result<Option<Refused>, LineError> {
         self.alloc.refuse(self.which, self.number);
         let refused = refusals_in(self.alloc, line, self.exchange)?;
@@ -279,7 +282,7 @@ impl Starved<'_> {
 }
 
 impl Play for Starved<'_> {
-    /// What was refused; None where something was wrong.
+    /// To what growths were refused; None if something was wrong.
     type Answer = Option<Refused>;
 
     fn play<A: Allocator>(&self, line: &mut Line<A>) -> Option<Refused> {
@@ -287,7 +290,8 @@ impl Play for Starved<'_> {
     }
 }
 
-/// Plays an exchange until nothing is refused a growth: what was.
+/// Plays an exchange with refusals from each number in turn, until no growth is refused. Returns to
+/// what growths were refused in all these runs.
 fn refused_in_turn<'a>(
     alloc: &'a Refusing,
     which: Refusal,
@@ -310,8 +314,8 @@ fn refused_in_turn<'a>(
     Ok((offers, rooms))
 }
 
-/// The first exchange in which no growth of an offer or none of a spool was refused, while growths
-/// are refused in this way.
+/// The first exchange in which no growth of an offer or no growth of a spool was refused, if
+/// growths are refused in this way.
 fn wrong_exchange(alloc: &Refusing, which: Refusal) -> Result<Option<usize>, Fail> {
     for (place, exchange) in EXCHANGES.iter().enumerate() {
         if refused_in_turn(alloc, which, exchange)? != (true, true) {
@@ -330,8 +334,8 @@ fn each_growth_of_an_exchange_is_refused(rt: HostRuntime) -> Result<(), Fail> {
     Ok(())
 }
 
-/// Asks for a line: whether it is answered as is due, which is out of memory where a growth is
-/// refused.
+/// Asks for a line, and returns whether the answer is right: out of memory if a growth was refused,
+/// and otherwise the expected one.
 fn is_answered(
     alloc: &Refusing,
     terminals: &[Terminal],
@@ -345,7 +349,8 @@ fn is_answered(
     })
 }
 
-/// Asks for a line until nothing is refused a growth: whether each answer is as is due.
+/// Asks for a line with refusals from each number in turn, until no growth is refused. Returns
+/// whether each answer was right.
 fn are_answered(
     global: Global,
     alloc: &Refusing,
@@ -362,7 +367,7 @@ fn are_answered(
     Ok(true)
 }
 
-/// The first setting that is not answered as is due, while growths are refused in this way.
+/// The first setting that got a wrong answer, if growths are refused in this way.
 fn wrong_setting(global: Global, alloc: &Refusing, which: Refusal) -> Result<Option<usize>, Fail> {
     for (place, setting) in SETTINGS.iter().enumerate() {
         if !are_answered(global, alloc, which, setting)? {

@@ -1,4 +1,4 @@
-//! Transmissions of the control station that each terminal hears differently.
+//! Transmissions of the control station that the terminals hear differently.
 
 use crate::channels::Has::{Arrived, Delivered};
 use crate::events::{HI, NONE, OFFER_AT, OFFER_FOR};
@@ -13,17 +13,17 @@ use test_fixtures::octets::{
     ACK0, ACK1, BROKEN_TEXT, CALL_POLL_A, CALL_POLL_B, CALL_SELECT_A, EOT, NAK, NOISE, TEXT_HI,
 };
 
-/// Terminal 0 hears nothing, and terminal 1 noise.
+/// Terminal 0 hears nothing, and terminal 1 hears noise.
 const NOISE_AT_SECOND: Event<'static> = Event::CarryEach {
     heard: &[None, Some(NOISE)],
 };
 
-/// Terminal 0 hears a broken text, and terminal 1 nothing.
+/// Terminal 0 hears a broken text, and terminal 1 hears nothing.
 const BROKEN_AT_FIRST: Event<'static> = Event::CarryEach {
     heard: &[Some(BROKEN_TEXT), None],
 };
 
-/// Terminal 0 hears the text of HI, and terminal 1 nothing.
+/// Terminal 0 hears the text of HI, and terminal 1 hears nothing.
 const TEXT_AT_FIRST: Event<'static> = Event::CarryEach {
     heard: &[Some(TEXT_HI), None],
 };
@@ -33,7 +33,7 @@ const TWO_CALLS: Event<'static> = Event::CarryEach {
     heard: &[Some(CALL_POLL_A), Some(CALL_POLL_B)],
 };
 
-/// HI is offered at terminal 1.
+/// Offers HI at terminal 1.
 const OFFER_AT_SECOND: Event<'static> = Event::OfferAt {
     terminal: 1,
     codes: b"HI",

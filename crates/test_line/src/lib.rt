@@ -1,5 +1,7 @@
-//! Tests that cross crates: whole lines, with all their stations, as a user of the libraries runs
-//! them.
+//! Tests of whole lines with all their stations, used as a program uses the libraries.
+//!
+//! The exchanges of the stations are the standard's (GA27-3004); events, doubt, trust and the
+//! limits of a line are this project's own.
 #![tactic(auto)]
 
 #[cfg(test)]

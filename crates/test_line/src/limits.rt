@@ -1,4 +1,4 @@
-//! The largest lines, and long lists of records.
+//! Lines of the greatest size, and long lists of records.
 
 use crate::channels::Has::Delivered;
 use crate::channels::{are_sound, has_left, offer};
@@ -12,10 +12,10 @@ use std::alloc::{AllocError, Allocator, Global};
 use std::test::Fail;
 use test_alloc::Refusing;
 
-/// The call that polls the first of the most terminals.
+/// The call that polls the first terminal of `most_terminals`.
 const CALL_POLL_FIRST: &[u8] = &[0x16, 0x16, 0x04, 0xff, 0x16, 0x16, 0xd0, 0xa1, 0x85, 0xff];
 
-/// A poll list of as many entries as there may be, which names each of 64 terminals in turn.
+/// A poll list with the greatest number of entries, which names each of 64 terminals in turn.
 fn longest_poll_list(alloc: Global) -> Result<Vec<u8>, AllocError> {
     let mut entries = Vec::new(alloc);
     for place in 0..255u8 {
@@ -24,10 +24,10 @@ fn longest_poll_list(alloc: Global) -> Result<Vec<u8>, AllocError> {
     Ok(entries)
 }
 
-/// How many channels a line of the most terminals has: five at each of 64 terminals.
+/// The number of channels of the largest line: five at each of 64 terminals.
 const CHANNELS: usize = 64 * 5;
 
-/// The terminal and the way of the channel of this number, of five at each terminal.
+/// The terminal and direction of the channel of this number; each terminal has five.
 fn channel(number: usize) -> (usize, Way) {
     match number % 5 {
         0 => (number / 5, FromTerminal),
@@ -44,7 +44,7 @@ fn offer_everywhere<A: Allocator>(line: &mut Line<A>) -> Result<(), LineError> {
     Ok(())
 }
 
-/// Carries this many transmissions.
+/// Carries this many transmissions as they were sent.
 pub(crate) fn carry_on<A: Allocator>(line: &mut Line<A>, count: u64) -> Result<(), LineError> {
     for _ in 0..count {
         line.carry_sent()?;
@@ -63,17 +63,18 @@ fn is_everywhere<A: Allocator>(line: &Line<A>) -> bool {
     true
 }
 
-/// Offers HI everywhere, and carries as many transmissions as deliver it.
+/// Offers HI on each channel, and carries exactly the transmissions that deliver all of it.
 fn play_round<A: Allocator>(line: &mut Line<A>) -> Result<(), LineError> {
     offer_everywhere(line)?;
     line.silence()?;
 
-    // Each of 64 terminals has four selections and a poll of four transmissions each, and each of
-    // the other 191 entries of the poll list a poll of two.
+    // Each of the 64 terminals has four selections and one poll of four transmissions each. Each of
+    // the other 191 entries of the poll list is a poll of two transmissions.
     carry_on(line, 64 * 5 * 4 + 191 * 2)
 }
 
-/// A round in which HI is delivered everywhere, and after which the first terminal is polled again.
+/// A round in which HI is delivered on each channel, and after which the first terminal is polled
+/// again.
 struct Round;
 
 impl Play for Round {
@@ -97,7 +98,7 @@ fn a_record_each_way_of_each_address_arrives_in_one_round(rt: HostRuntime) -> Re
     Ok(())
 }
 
-/// How many terminals a line has.
+/// The number of terminals of a line.
 struct Count;
 
 impl Play for Count {
@@ -119,11 +120,11 @@ fn a_line_has_each_number_of_terminals_from_1_to_64(rt: HostRuntime) -> Result<(
     Ok(())
 }
 
-/// As many characters as the longest record has.
+/// The characters of the longest record.
 const CHARS: &[u8] =
     b"Seventeen printable words are enough for eighty characters of one full record 80";
 
-/// A hundred records, of each length from 0 to 80 in turn.
+/// A hundred records, with lengths from 0 to 80 in turn.
 fn hundred_records(alloc: Global) -> Result<Vec<&'static [u8]>, AllocError> {
     let mut records = Vec::new(alloc);
     for number in 0..100usize {
@@ -132,7 +133,7 @@ fn hundred_records(alloc: Global) -> Result<Vec<&'static [u8]>, AllocError> {
     Ok(records)
 }
 
-/// Offers these records at terminal 0 and for it.
+/// Offers these records at terminal 0 and for its first selection address.
 fn offer_each_way<A: Allocator>(line: &mut Line<A>, records: &[&[u8]]) -> Result<(), LineError> {
     for record in records {
         line.offer_at(0, record)?;
@@ -141,7 +142,8 @@ fn offer_each_way<A: Allocator>(line: &mut Line<A>, records: &[&[u8]]) -> Result
     Ok(())
 }
 
-/// A silence passes where nothing is pending; else what is pending is carried, or it is lost.
+/// If nothing is pending, a silence passes; otherwise what is pending is carried as it was sent, or
+/// is lost.
 pub(crate) fn go_on<A: Allocator>(line: &mut Line<A>, is_lost: bool) -> Result<(), LineError> {
     match line.pending() {
         None => line.silence(),
@@ -150,8 +152,8 @@ pub(crate) fn go_on<A: Allocator>(line: &mut Line<A>, is_lost: bool) -> Result<(
     }
 }
 
-/// Records that are offered each way on a line that loses each transmission whose number is a
-/// multiple of `period`.
+/// Records that are offered in both directions on a line that loses each transmission whose number
+/// is a multiple of `period`.
 #[derive(Clone, Copy)]
 struct Losing<'a> {
     records: &'a [&'a [u8]],
@@ -159,8 +161,8 @@ struct Losing<'a> {
 }
 
 impl Losing<'_> {
-    /// Goes on 999 times, up to the first after which the line is not trusted or a channel is not
-    /// sound.
+    /// Plays 999 transmissions and silences. Returns the number of the first after which the line
+    /// is not trusted or a channel is not sound.
     fn first_unsound<A: Allocator>(&self, line: &mut Line<A>) -> Result<Option<usize>, LineError> {
         for number in 1..1000usize {
             go_on(line, number.checked_rem(self.period) == Some(0))?;

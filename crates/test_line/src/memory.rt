@@ -1,4 +1,4 @@
-//! Exchanges of which growths are refused at a place, and the transmissions that follow.
+//! Exchanges in which growths are refused at one place, with the transmissions that follow.
 
 use crate::channels::Has::{Delivered, Waiting};
 use crate::events::{HI, OFFER_AT, SEVEN};

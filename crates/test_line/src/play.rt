@@ -1,4 +1,4 @@
-//! Exchanges as tables: what happens on a line, what comes of it, and what is left.
+//! Exchanges as tables: the events on a line, their results, and the state of channels at the end.
 
 use crate::channels::{Has, are_sound, has_left};
 use crate::fixtures::{On, Play, play_on};
@@ -9,30 +9,30 @@ use std::process::Abort;
 use std::test::Fail;
 use test_alloc::{Refusal, Refusing};
 
-/// What is on a line, and who sent it; None where the line is quiet.
+/// What is pending, and which station sent it; None if nothing is.
 pub(crate) type Pending<'a> = Option<(Speaker, &'a [u8])>;
 
-/// What channels have: each one's terminal and way, and what it has.
+/// Channels, each with its terminal, its direction and its expected state.
 pub(crate) type Left<'a> = &'a [(usize, Way, Has<'a>)];
 
-/// What comes of an event.
+/// The result of an event.
 pub(crate) enum Then<'a> {
-    /// It is done, and what is pending stays.
+    /// It is accepted, and what was pending stays pending.
     Done,
 
-    /// It is done, and nothing is pending.
+    /// It is accepted, and nothing is pending.
     Quiet,
 
-    /// It is done, and these octets of this station are pending; each time that they are then
-    /// carried as they were sent, the next are.
+    /// It is accepted, and the first of these transmissions is pending. Each time that what is
+    /// pending is carried as it was sent, the next one is pending.
     Sent(&'a [(Speaker, &'a [u8])]),
 
-    /// It is refused, and what is pending stays.
+    /// It is refused, and what was pending stays pending.
     Refused(LineError),
 }
 
 impl<'a> Then<'a> {
-    /// How a list of this one event is answered.
+    /// The answer to a list with only this event.
     fn answer(&self) -> Result<(), Stopped> {
         match self {
             Then::Refused(why) => Err(Stopped { at: 0, why: *why }),
@@ -40,7 +40,7 @@ impl<'a> Then<'a> {
         }
     }
 
-    /// How many events it is: one, and one for each further transmission.
+    /// The number of events: one, and one more for each further transmission.
     fn count(&self) -> usize {
         match self {
             Then::Sent(sent) => sent.len(),
@@ -51,21 +51,21 @@ impl<'a> Then<'a> {
 
 /// A part of an exchange.
 pub(crate) struct Part<'a> {
-    /// What happens, and what comes of it.
+    /// The events with their results.
     pub(crate) steps: &'a [(Event<'a>, Then<'a>)],
 
     /// Whether the line is trusted after each step.
     pub(crate) trusted: bool,
 
-    /// What channels have after the last step.
+    /// The state of channels after the last step.
     pub(crate) left: Left<'a>,
 }
 
-/// Growths that are refused: from before the part of this number on, which of them, from or at the
-/// first one, and how many are by the end of the exchange.
+/// Growths that are refused: the number of the part before which that begins, the kind of refusal,
+/// which starts at the first growth, and the number of growths refused by the end of the exchange.
 pub(crate) type Starved = (usize, Refusal, usize);
 
-/// An exchange by its name: what happens on a new line.
+/// A named exchange, which is played on a new line.
 pub(crate) struct Exchange<'a> {
     pub(crate) name: &'static str,
 
@@ -79,8 +79,8 @@ pub(crate) struct Exchange<'a> {
     pub(crate) parts: &'a [Part<'a>],
 }
 
-/// Where an exchange went otherwise than its table says: the part, the event or the channel of it,
-/// all counted from 0, and what was wrong there.
+/// The first difference between an exchange and its table: the number of the part, the number of
+/// the event or channel in it, both counted from 0, and the kind of difference.
 #[derive(Debug, PartialEq, Drop)]
 pub(crate) struct Wrong {
     exchange: &'static str,
@@ -89,31 +89,31 @@ pub(crate) struct Wrong {
     what: What,
 }
 
-/// What was wrong.
+/// The kind of difference.
 #[derive(Clone, Copy, Debug, PartialEq)]
 enum What {
-    /// The event was answered otherwise.
+    /// The event had another answer.
     Answer,
 
-    /// Something else was pending after it.
+    /// Something else was pending after the event.
     Pending,
 
-    /// The line was trusted and should not be, or the other way round.
+    /// The line was trusted although it should not be, or the reverse.
     Trust,
 
-    /// The line was trusted, and what had arrived on a channel was not the first of what was
-    /// offered.
+    /// The line was trusted, and the records that had arrived on a channel were not the first of
+    /// those offered.
     Sound,
 
-    /// A channel had something else.
+    /// A channel had another state.
     Left,
 
     /// Another number of growths was refused.
     Refused,
 }
 
-/// What is wrong with a line on which this should be pending. While the line is trusted each of its
-/// channels is sound.
+/// The first difference of a line from what should be pending and from the expected trust. While
+/// the line is trusted, each of its channels has to be sound.
 fn wrong_now<A: Allocator>(line: &Line<A>, pending: Pending<'_>, trusted: bool) -> Option<What> {
     if line.pending() != pending {
         Some(What::Pending)
@@ -126,7 +126,7 @@ fn wrong_now<A: Allocator>(line: &Line<A>, pending: Pending<'_>, trusted: bool) 
     }
 }
 
-/// The first channel of these that has something else.
+/// The number of the first of these channels that has another state.
 pub(crate) fn wrong_left<A: Allocator>(line: &Line<A>, left: Left<'_>) -> Option<usize> {
     for (place, (terminal, way, expected)) in left.iter().enumerate() {
         if !has_left(line, *terminal, *way, expected) {
@@ -136,8 +136,8 @@ pub(crate) fn wrong_left<A: Allocator>(line: &Line<A>, left: Left<'_>) -> Option
     None
 }
 
-/// Carries what is pending until each of these was: the first of them that was not, and what was
-/// wrong there; else the last.
+/// Carries what is pending until the last of these transmissions is pending. Returns it, or the
+/// number of the first difference and its kind.
 fn carry_each<'a, A: Allocator>(
     line: &mut Line<A>,
     sent: &[(Speaker, &'a [u8])],
@@ -156,8 +156,8 @@ fn carry_each<'a, A: Allocator>(
     Ok(pending)
 }
 
-/// The first event of a step that goes wrong, and what is wrong there; else what is pending after
-/// the last.
+/// Plays a step. Returns what is pending after its last event, or the number of the first event
+/// that differs and how.
 fn play_step<'a, A: Allocator>(
     line: &mut Line<A>,
     (event, then): &(Event<'a>, Then<'a>),
@@ -178,8 +178,8 @@ fn play_step<'a, A: Allocator>(
     }
 }
 
-/// The first event or channel of a part that goes wrong, and what is wrong there; else what is
-/// pending after the last event.
+/// Plays a part. Returns what is pending after its last event, or the number of the first event or
+/// channel that differs and how.
 fn play_part<'a, A: Allocator>(
     line: &mut Line<A>,
     part: &Part<'a>,
@@ -200,7 +200,7 @@ fn play_part<'a, A: Allocator>(
     }
 }
 
-/// Begins to refuse the growths of an exchange, where they are refused from this part on.
+/// Begins to refuse the growths of an exchange, if they are refused from this part on.
 fn starve(alloc: &Refusing, exchange: &Exchange<'_>, part: usize) {
     match exchange.starved {
         Some((from, refusal, _)) if from == part => alloc.refuse(refusal, 1),
@@ -208,7 +208,7 @@ fn starve(alloc: &Refusing, exchange: &Exchange<'_>, part: usize) {
     }
 }
 
-/// Whether as many growths were refused as an exchange has refused.
+/// Whether the expected number of growths was refused.
 fn is_starved(alloc: &Refusing, exchange: &Exchange<'_>) -> bool {
     let refused = match exchange.starved {
         Some((_, _, count)) => count,
@@ -217,7 +217,7 @@ fn is_starved(alloc: &Refusing, exchange: &Exchange<'_>) -> bool {
     alloc.refused() == refused
 }
 
-/// An exchange that is played while this allocator refuses its growths.
+/// An exchange, and the allocator that refuses its growths.
 #[derive(Clone, Copy)]
 struct Played<'a> {
     alloc: &'a Refusing,
@@ -225,7 +225,8 @@ struct Played<'a> {
 }
 
 impl Play for Played<'_> {
-    /// The first part that goes wrong, its event or channel, and what is wrong there.
+    /// The number of the first part that differs, the number of its event or channel, and the kind
+    /// of difference.
     type Answer = Option<(usize, usize, What)>;
 
     fn play<A: Allocator>(&self, line: &mut Line<A>) -> Option<(usize, usize, What)> {
@@ -245,7 +246,7 @@ impl Play for Played<'_> {
     }
 }
 
-/// Plays each of these exchanges, up to the first difference.
+/// Plays these exchanges up to the first difference.
 fn first_wrong(alloc: &Refusing, exchanges: &[Exchange<'_>]) -> Result<Option<Wrong>, Fail> {
     for exchange in exchanges {
         let played = Played { alloc, exchange };
@@ -261,7 +262,7 @@ fn first_wrong(alloc: &Refusing, exchanges: &[Exchange<'_>]) -> Result<Option<Wr
     Ok(None)
 }
 
-/// Asserts that each of these exchanges goes as its table says.
+/// Asserts that each of these exchanges agrees with its table.
 pub(crate) fn passes_each(
     rt: &(impl Abort + AllocGlobal),
     exchanges: &[Exchange<'_>],

@@ -11,7 +11,7 @@ use bsc_line::Speaker::{Control, Terminal};
 use std::test::Fail;
 use test_fixtures::octets::{ACK0, ACK1, CALL_POLL_A, CALL_POLL_B, ENQ, EOT, TEXT_HI};
 
-/// HI arrived once, from terminal 0, and nothing on the other channels.
+/// HI arrived once, from terminal 0, and nothing arrived on the other channels.
 const HI_ALONE: Left<'static> = &[
     (0, FromTerminal, Delivered(HI)),
     (0, ToTerminal(0), Delivered(NONE)),

@@ -1,4 +1,4 @@
-//! Each refusal by its name, in the stated order, and the printed texts.
+//! Each error by name, the order in which they are checked, and their messages.
 
 use crate::channels::Has::Delivered;
 use crate::events::{LOSE, NONE, OFFER_AT, OFFER_FOR, RELEASE_FROM, RELEASE_TO};
@@ -16,15 +16,15 @@ use test_alloc::{Refusal, Refusing};
 use test_fixtures::lines::two_terminals;
 use test_fixtures::octets::{CALL_POLL_A, EOT, TEXT_HI};
 
-/// More codes than a record has.
+/// More codes than a record may have.
 const TOO_LONG: &[u8] = &[0x41; 81];
 
-/// What a line is asked for, the codes of its terminals and its poll list, and why there is no such
-/// line; None where there is one.
+/// The codes of the terminals of a new line, its poll list, and the error; None if the line can be
+/// made.
 pub(crate) type Setting<'a> = (&'a [Codes<'a>], &'a [u8], Option<SetupError>);
 
-/// Each refusal but those of a wrong number of terminals, and the longest poll list, which is
-/// granted.
+/// Each error except those of a wrong number of terminals, and the longest poll list, which is
+/// accepted.
 pub(crate) const SETTINGS: &[Setting<'static>] = &[
     (
         &[(b"A", &[b"A"]), SECOND],
@@ -63,10 +63,10 @@ const NOTHING_HEARD: Event<'static> = Event::CarryEach {
     heard: &[None, None],
 };
 
-/// The first of two terminals hears nothing, and no more is said.
+/// Only the first of two terminals has a hearing.
 const ONE_HEARING: Event<'static> = Event::CarryEach { heard: &[None] };
 
-/// What names terminal 64 of the most terminals, of which each has four selection addresses.
+/// Events for terminal 64, one past the last possible terminal; each has four selection addresses.
 const AT_NO_TERMINAL: &[(Event<'static>, Then<'static>)] = &[
     (
         Event::OfferAt {
@@ -114,7 +114,7 @@ const AT_NO_TERMINAL: &[(Event<'static>, Then<'static>)] = &[
     ),
 ];
 
-/// What names the last of the most terminals.
+/// Events for the last possible terminal.
 const AT_LAST_TERMINAL: &[(Event<'static>, Then<'static>)] = &[
     (
         Event::OfferAt {
@@ -142,8 +142,8 @@ const AT_LAST_TERMINAL: &[(Event<'static>, Then<'static>)] = &[
     (Event::UrgentFor { terminal: 63 }, Done),
 ];
 
-/// What names a selection address that the terminal does not have: terminal 0 has two of them, and
-/// terminal 1 has one.
+/// Events for a selection address that the terminal does not have: terminal 0 has two, terminal 1
+/// has one.
 const AT_NO_ADDRESS: &[(Event<'static>, Then<'static>)] = &[
     (
         Event::OfferFor {
@@ -185,7 +185,7 @@ const AT_NO_ADDRESS: &[(Event<'static>, Then<'static>)] = &[
     ),
 ];
 
-/// Releases of channels that terminal 0 has, and that are not in doubt.
+/// Releases of channels of terminal 0 that are not in doubt.
 const NOT_IN_DOUBT: &[(Event<'static>, Then<'static>)] = &[
     (RELEASE_FROM, Refused(LineError::NotInDoubt)),
     (RELEASE_TO, Refused(LineError::NotInDoubt)),
@@ -198,7 +198,8 @@ const NOT_IN_DOUBT: &[(Event<'static>, Then<'static>)] = &[
     ),
 ];
 
-/// Codes that are no record, and a record for which there is no memory, at terminal 0 and for it.
+/// Codes that are not a record, and a record for which there is no memory, at terminal 0 and for
+/// it.
 const NO_RECORDS: &[(Event<'static>, Then<'static>)] = &[
     (
         Event::OfferAt {
@@ -249,7 +250,7 @@ const NO_RECORDS: &[(Event<'static>, Then<'static>)] = &[
     (OFFER_FOR, Refused(LineError::Memory)),
 ];
 
-/// Each refusal and its text.
+/// Each error and its message.
 const TEXTS: &[(LineError, &str)] = &[
     (LineError::NothingSent, "nothing sent"),
     (LineError::NotControl, "control is not sending"),

@@ -1,4 +1,4 @@
-//! How many transmissions a visit and a round take, and that exactly as many deliver what waits.
+//! The number of transmissions of a visit and of a round, which deliver all waiting records.
 
 use crate::channels::{is_channel, offer};
 use crate::fixtures::{Answer, On, Play, TWO_BY_THREE, TWO_BY_THREE_ENTRIES, play_on};
@@ -12,22 +12,23 @@ use std::test::Fail;
 use test_alloc::Refusing;
 use test_fixtures::octets::CALL_POLL_A;
 
-/// What waits on a line of two terminals, and how long that takes.
+/// The records that wait on a line of two terminals, and the numbers of transmissions that they
+/// take.
 struct Row<'a> {
     on: On<'a>,
 
-    /// How many empty records are offered on these channels.
+    /// Channels, each with the number of empty records that are offered on it.
     channels: &'a [(usize, Way, usize)],
 
-    /// How many transmissions a visit of terminal 0 and one of terminal 1 then take.
+    /// The numbers of transmissions of a visit of terminal 0 and of a visit of terminal 1.
     visits: [u64; 2],
 
-    /// How many a round takes, after which terminal 0 is polled.
+    /// The number of transmissions of a round, after which terminal 0 is polled.
     round: u64,
 }
 
-/// Nothing waits; two blocks to terminal 0 and one from it; the same where terminal 0 is visited
-/// twice; a record for each of two selection addresses; and 43 blocks each way.
+/// Nothing waits; two blocks to terminal 0 and one from it; the same, with terminal 0 visited
+/// twice; a record for each of two selection addresses; and 43 blocks in each direction.
 const ROWS: &[Row<'static>] = &[
     Row {
         on: TWO_BY_THREE,
@@ -61,7 +62,7 @@ const ROWS: &[Row<'static>] = &[
     },
 ];
 
-/// Offers this many empty records on a channel: whether each was taken.
+/// Offers this many empty records on a channel, and returns whether each was accepted.
 fn offers<A: Allocator>(line: &mut Line<A>, terminal: usize, way: Way, count: usize) -> bool {
     for _ in 0..count {
         if offer(line, terminal, way, b"").is_err() {
@@ -71,20 +72,20 @@ fn offers<A: Allocator>(line: &mut Line<A>, terminal: usize, way: Way, count: us
     true
 }
 
-/// Whether this many records are known to have arrived on a channel, and arrived.
+/// Whether exactly this many records arrived on a channel, and are known to have arrived.
 fn arrived<A: Allocator>(line: &Line<A>, terminal: usize, way: Way, count: usize) -> bool {
     is_channel(line, terminal, way)
         && line.known(terminal, way) == count
         && line.spooled(terminal, way).len() == count
 }
 
-/// Whether a line of two terminals has these visits.
+/// Whether the visits of the two terminals take these numbers of transmissions.
 fn has_visits<A: Allocator>(line: &Line<A>, visits: &[u64; 2]) -> bool {
     line.terminals() == 2 && [line.visit(0), line.visit(1)] == *visits
 }
 
-/// Whether a round of this many transmissions, after which terminal 0 is polled, is as long as the
-/// line says before and in it.
+/// Whether a round takes this many transmissions, after which terminal 0 is polled, and the line
+/// reports this number before the round and at its beginning.
 fn is_round<A: Allocator>(line: &mut Line<A>, round: u64) -> Answer {
     let before = line.round();
     line.silence()?;
@@ -94,7 +95,7 @@ fn is_round<A: Allocator>(line: &mut Line<A>, round: u64) -> Answer {
     Ok(is_polling && before == round && within == round)
 }
 
-/// Whether the empty records are taken, one after the other, on each channel.
+/// Offers the empty records on each channel, and returns whether each was accepted.
 fn offers_all<A: Allocator>(line: &mut Line<A>, channels: &[(usize, Way, usize)]) -> bool {
     for (terminal, way, count) in channels {
         if !offers(line, *terminal, *way, *count) {
@@ -104,7 +105,7 @@ fn offers_all<A: Allocator>(line: &mut Line<A>, channels: &[(usize, Way, usize)]
     true
 }
 
-/// Whether they arrived on each channel.
+/// Whether the records arrived on each channel.
 fn all_arrived<A: Allocator>(line: &Line<A>, channels: &[(usize, Way, usize)]) -> bool {
     for (terminal, way, count) in channels {
         if !arrived(line, *terminal, *way, *count) {

@@ -13,8 +13,8 @@ use std::test::Fail;
 use test_alloc::{Refusal, Refusing};
 use test_fixtures::octets::{CALL_POLL_A, CALL_SELECT_A, ENQ, EOT, NAK, RVI, TEXT_HI};
 
-/// Which growths are refused, if any, a list of events, how it is answered, what is then pending,
-/// and what channels then have.
+/// Which growths are refused, if any, a list of events, its answer, what is then pending, and the
+/// state of channels.
 type Run<'a> = (
     Option<Refusal>,
     &'a [Event<'a>],
@@ -23,8 +23,7 @@ type Run<'a> = (
     Left<'a>,
 );
 
-/// Terminal 0 is selected while it takes no selection; then it hears the call, but its ACK0 is
-/// lost.
+/// Terminal 0 is called while it refuses selections; then it hears the call, but its ACK0 is lost.
 const SELECTED: &[Event<'static>] = &[
     OFFER_FOR,
     OFFER_AT,
@@ -50,9 +49,9 @@ const SELECTED: &[Event<'static>] = &[
     Silence,
 ];
 
-/// Lists that run one after the other on a new line, which stays trusted, by name.
+/// Named lists of events, played in order on a new line, which stays trusted.
 const RUNS: &[(&str, &[Run<'static>])] = &[
-    // After the ENQ the terminal repeats its ACK0, gets the text again, and asks for the line.
+    // After the ENQ, the terminal repeats its ACK0, receives the text again, and asks for the line.
     (
         "a run does its events in order",
         &[
@@ -106,7 +105,7 @@ const RUNS: &[(&str, &[Run<'static>])] = &[
             (None, &[], Ok(()), Some((Terminal(0), TEXT_HI)), &[]),
         ],
     ),
-    // Then there is memory, and the offer takes it.
+    // Then there is memory, and the offer is accepted.
     (
         "a run is out of memory at an offer only",
         &[
@@ -138,7 +137,7 @@ const RUNS: &[(&str, &[Run<'static>])] = &[
     ),
 ];
 
-/// Whether this list goes as is said.
+/// Plays this list, and returns whether the results are the expected ones.
 fn goes<A: Allocator>(alloc: &Refusing, line: &mut Line<A>, run: &Run<'_>) -> bool {
     let (refusal, events, answer, pending, left) = run;
     match refusal {
@@ -151,7 +150,7 @@ fn goes<A: Allocator>(alloc: &Refusing, line: &mut Line<A>, run: &Run<'_>) -> bo
         && wrong_left(line, left).is_none()
 }
 
-/// Lists that are played while this allocator refuses growths.
+/// Lists of events, and the allocator that refuses growths while they are played.
 #[derive(Clone, Copy)]
 struct Played<'a> {
     alloc: &'a Refusing,
@@ -159,7 +158,7 @@ struct Played<'a> {
 }
 
 impl Play for Played<'_> {
-    /// The first of the lists that goes otherwise.
+    /// The number of the first list whose results differ.
     type Answer = Option<usize>;
 
     fn play<A: Allocator>(&self, line: &mut Line<A>) -> Option<usize> {

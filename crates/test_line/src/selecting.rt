@@ -16,17 +16,17 @@ use test_fixtures::octets::{
     RVI, TEXT_EMPTY, TEXT_FIRST_SEVEN, TEXT_HI, TEXT_LAST_SEVEN,
 };
 
-/// An empty record is offered for the first selection address of terminal 0.
+/// Offers an empty record for the first selection address of terminal 0.
 const OFFERED: (Event<'static>, Then<'static>) = (OFFER_EMPTY, Done);
 
-/// Seven empty records are offered for the first selection address of terminal 0.
+/// Offers seven empty records for the first selection address of terminal 0.
 pub(crate) const SEVEN_OFFERED: Part<'static> = Part {
     steps: &[OFFERED; 7],
     trusted: true,
     left: &[(0, ToTerminal(0), Waiting(SEVEN))],
 };
 
-/// Eight empty records are offered for the first selection address of terminal 0.
+/// Offers eight empty records for the first selection address of terminal 0.
 const EIGHT_OFFERED: Part<'static> = Part {
     steps: &[OFFERED; 8],
     trusted: true,
@@ -35,20 +35,20 @@ const EIGHT_OFFERED: Part<'static> = Part {
 
 use std::test::Fail;
 
-/// HI is offered for the first selection address of terminal 1.
+/// Offers HI for the first selection address of terminal 1.
 const OFFER_FOR_SECOND: Event<'static> = Event::OfferFor {
     terminal: 1,
     select: 0,
     codes: b"HI",
 };
 
-/// Terminal 0 takes no selection.
+/// Terminal 0 refuses selections.
 const NOT_READY: Event<'static> = Event::Ready {
     terminal: 0,
     ready: false,
 };
 
-/// An empty record is offered for the second selection address of terminal 0.
+/// Offers an empty record for the second selection address of terminal 0.
 const OFFER_EMPTY_FOR_NEXT: Event<'static> = Event::OfferFor {
     terminal: 0,
     select: 1,

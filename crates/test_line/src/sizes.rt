@@ -1,5 +1,5 @@
-//! That memory which is there is granted at any size: the longest lists of records, the longest
-//! records, and the longest text. The largest lines are in `limits.rt`.
+//! Large sizes, with enough memory: long lists of records, the longest records, and the longest
+//! text. The lines with the most terminals are in `limits.rt`.
 
 use crate::channels::Has::{Arrived, Delivered};
 use crate::channels::{has_left, is_channel, offer};
@@ -16,10 +16,10 @@ use std::test::Fail;
 use test_alloc::Refusing;
 use test_fixtures::octets::{ACK0, ACK1, CALL_POLL_A, CALL_POLL_B, CALL_SELECT_A};
 
-/// How many records are offered on a channel.
+/// The number of records offered on each channel.
 const COUNT: u32 = 100_000;
 
-/// The decimal digits of a number below `COUNT`: the characters of another record for each.
+/// The decimal digits of a number below `COUNT`, which are the characters of its record.
 fn digits(number: u32) -> [u8; 5] {
     let digit = |value: u32| b'0' + (value % 10) as u8;
     [
@@ -31,7 +31,7 @@ fn digits(number: u32) -> [u8; 5] {
     ]
 }
 
-/// Offers a record for each number below `COUNT` at terminal 0, and for it.
+/// Offers a record for each number below `COUNT` at terminal 0 and for its first selection address.
 fn offer_all<A: Allocator>(line: &mut Line<A>) -> Result<(), LineError> {
     for number in 0..COUNT {
         let codes = digits(number);
@@ -41,7 +41,7 @@ fn offer_all<A: Allocator>(line: &mut Line<A>) -> Result<(), LineError> {
     Ok(())
 }
 
-/// Whether these are the records of the numbers below `COUNT`, in order.
+/// Whether these are the records of all numbers below `COUNT`, in order.
 fn are_all(records: &[Record]) -> bool {
     for (number, record) in (0..COUNT).zip(records) {
         if record.chars() != digits(number).as_slice() {
@@ -51,7 +51,8 @@ fn are_all(records: &[Record]) -> bool {
     records.len() == COUNT as usize
 }
 
-/// Whether they were offered on this way of terminal 0, and arrived, and are known to have.
+/// Whether all of them were offered on this channel of terminal 0, arrived, and are known to have
+/// arrived.
 fn has_all<A: Allocator>(line: &Line<A>, way: Way) -> bool {
     is_channel(line, 0, way)
         && are_all(line.offered(0, way))
@@ -59,7 +60,7 @@ fn has_all<A: Allocator>(line: &Line<A>, way: Way) -> bool {
         && line.known(0, way) == COUNT as usize
 }
 
-/// The records, delivered in as many transmissions as that takes.
+/// The records, delivered in exactly the transmissions that they take.
 struct All;
 
 impl Play for All {
@@ -69,8 +70,8 @@ impl Play for All {
         offer_all(line)?;
         line.silence()?;
 
-        // A selection and a poll, of two transmissions each and two for each of 14,286 blocks of
-        // seven.
+        // A selection and a poll, each of two transmissions and two more for each of 14,286 blocks
+        // of seven records.
         carry_on(line, 2 * (2 + 2 * 14_286))?;
         let is_polling = line.pending() == Some((Control, CALL_POLL_B));
         let arrived = has_all(line, FromTerminal) && has_all(line, ToTerminal(0));
@@ -85,14 +86,14 @@ fn a_hundred_thousand_records_arrive_each_way(rt: HostRuntime) -> Result<(), Fai
     Ok(())
 }
 
-/// A record of as many characters as there may be.
+/// A record of the greatest length.
 const LONGEST: &[u8] = &[b'A'; 144];
 
-/// As many of them as a text may have.
+/// The greatest number of such records in a text.
 const SEVEN_LONGEST: &[&[u8]] = &[LONGEST; 7];
 
-/// The octets of the text of these records, 1,033, the most that are sent: each unit is 144 times
-/// A, EM, the ending character and the check, to which the even number of A adds nothing.
+/// The 1,033 octets of the text of these records, the longest that is sent. Each unit is 144 times
+/// A, EM, the ending character and the check; the even number of A adds nothing to the check.
 fn longest_text(alloc: Global) -> Result<Vec<u8>, AllocError> {
     let mut octets = Vec::new(alloc);
     octets.extend_from_slice(&[0x16, 0x16, 0x02])?;
@@ -113,11 +114,11 @@ fn is_acknowledged<A: Allocator>(line: &Line<A>) -> bool {
     }
 }
 
-/// Each way of terminal 0, and after how many transmissions its text is pending.
+/// Each direction of terminal 0, and the number of transmissions after which its text is pending.
 const WAYS: &[(Way, u64)] = &[(FromTerminal, 1), (ToTerminal(0), 2)];
 
-/// HI is offered on this way of terminal 0, and this many transmissions after the first call its
-/// text is heard as this one.
+/// HI is offered in this direction of terminal 0, and this many transmissions after the first call
+/// its text is heard as `text`.
 #[derive(Clone, Copy)]
 struct Heard<'a> {
     way: Way,
@@ -126,7 +127,7 @@ struct Heard<'a> {
 }
 
 impl Heard<'_> {
-    /// Whether seven records of 144 characters are stored and acknowledged.
+    /// Whether seven records of 144 characters were stored and acknowledged.
     fn is_stored<A: Allocator>(&self, line: &Line<A>) -> bool {
         let arrived = Arrived {
             offered: HI,
@@ -165,7 +166,7 @@ fn the_longest_text_is_stored_whole(rt: HostRuntime) -> Result<(), Fail> {
     Ok(())
 }
 
-/// Records of as many characters as there may be, each of another character.
+/// Records of the greatest length, each of a different character.
 const LONG: &[&[u8]] = &[
     &[b'A'; 144],
     &[b'B'; 144],
@@ -175,21 +176,22 @@ const LONG: &[&[u8]] = &[
     &[b'F'; 144],
 ];
 
-/// The first octets of a text that begins with the first of them: SYN twice, STX and A.
+/// The first octets of a text that begins with the first of these records: two SYN, STX and A.
 const TEXT_OF_A: &[u8] = &[0x16, 0x16, 0x02, 0xc1];
 
-/// What is pending at the moments of a bid at which records are offered: who sent it, and its first
+/// What is pending when records are offered during a bid: the station that sent it, and its first
 /// octets.
 type Moments<'a> = &'a [(Speaker, &'a [u8])];
 
-/// After the call, after the text and after the acknowledgement of a poll.
+/// During a poll: after the call, after the text and after the acknowledgement.
 const POLLED: Moments<'static> = &[
     (Control, CALL_POLL_A),
     (Terminal(0), TEXT_OF_A),
     (Control, ACK1),
 ];
 
-/// After each of these moments of a selection, which is acknowledged too.
+/// During a selection: after the call, after its acknowledgement, after the text and after the
+/// acknowledgement of the text.
 const SELECTED: Moments<'static> = &[
     (Control, CALL_SELECT_A),
     (Terminal(0), ACK0),
@@ -197,8 +199,8 @@ const SELECTED: Moments<'static> = &[
     (Terminal(0), ACK1),
 ];
 
-/// A bid of a way of terminal 0 at whose moments records are offered, how many transmissions
-/// follow, and the call that is then pending.
+/// A bid in this direction of terminal 0: the moments at which records are offered, the number of
+/// transmissions that follow, and the call that is then pending.
 struct Bid<'a> {
     way: Way,
     moments: Moments<'a>,
@@ -222,7 +224,7 @@ const BIDS: &[Bid<'static>] = &[
     },
 ];
 
-/// Whether this station sent what is pending, and that begins with these octets.
+/// Whether this station sent what is pending, and it begins with these octets.
 fn is_pending<A: Allocator>(line: &Line<A>, speaker: Speaker, front: &[u8]) -> bool {
     match line.pending() {
         Some((sender, octets)) => sender == speaker && octets.starts_with(front),
@@ -230,13 +232,14 @@ fn is_pending<A: Allocator>(line: &Line<A>, speaker: Speaker, front: &[u8]) -> b
     }
 }
 
-/// Offers the first two long records on this way of terminal 0.
+/// Offers the first two of the longest records in this direction of terminal 0.
 fn offer_two<A: Allocator>(line: &mut Line<A>, way: Way) -> Result<(), LineError> {
     offer(line, 0, way, LONG[0])?;
     offer(line, 0, way, LONG[1])
 }
 
-/// Offers one of the other long records at each of these moments: whether each of them came.
+/// Offers another of the longest records at each of these moments, and returns whether all the
+/// moments came.
 fn offer_within<A: Allocator>(line: &mut Line<A>, way: Way, moments: Moments<'_>) -> Answer {
     for ((speaker, front), record) in moments.iter().zip(&LONG[2..]) {
         if !is_pending(line, *speaker, front) {
@@ -249,7 +252,7 @@ fn offer_within<A: Allocator>(line: &mut Line<A>, way: Way, moments: Moments<'_>
 }
 
 impl Bid<'_> {
-    /// Whether each record was delivered, and the call is made.
+    /// Whether each record was delivered and the call is pending.
     fn is_done<A: Allocator>(&self, line: &Line<A>) -> bool {
         let count = self.moments.len().saturating_add(2);
         let delivered = Delivered(LONG.get(..count).unwrap_or(NONE));

@@ -10,17 +10,17 @@ use bsc_monitor::{
 use std::alloc::Global;
 use std::test::Fail;
 
-/// What terminals send to a control station: ACK0, ACK1, a text, EOT; and EOT to its last call.
+/// What the terminals send to a control station: ACK0, ACK1, a text, EOT; and EOT to its last call.
 const TO_CONTROL: &[u8] = b"\x00\x05\x16\x16\x10\xB0\xFF\
 \x00\x05\x16\x16\x10\x31\xFF\
 \x00\x09\x16\x16\x02\xC8\x49\x19\x83\x9B\xFF\
 \x00\x04\x16\x16\x04\xFF\
 \x00\x04\x16\x16\x04\xFF";
 
-/// ACK0, and then no more.
+/// ACK0, and nothing after it.
 const ACK0_ALONE: &[u8] = b"\x00\x05\x16\x16\x10\xB0\xFF";
 
-/// The trace of the control station that hears what terminals send, and nothing of the terminal
+/// The trace of a control station that hears what the terminals send, and nothing from the terminal
 /// with the address B.
 const CONTROL_TRACE: &[u8] = b"+1 silence
 +2 control sent CALL a 161604ff16166185ff
@@ -43,14 +43,14 @@ const CONTROL_TRACE: &[u8] = b"+1 silence
 +19 connection 0 heard EOT 161604ff
 ";
 
-/// How the records of a control station are printed.
+/// How a control station prints records, with a trace.
 const PRINTING: Printing = Printing {
     form: Form::Hexadecimal,
     trace: true,
 };
 
-/// When a control station ends, what it reads, and in which order: a time-out passes for each `t`
-/// of the steps, and there is something to read for each `r`.
+/// The limits of a control station, the octets that it reads, and the waits before them: a time-out
+/// for each `t` of the steps, and octets to read for each `r`.
 struct Attended {
     limits: Limits,
     octets: &'static [u8],
@@ -80,8 +80,8 @@ fn attend_control(
     Ok(())
 }
 
-/// The same for a control station with one record for terminal 0, and its report: how its channels
-/// stand.
+/// Does the same for a control station with one record for terminal 0, and writes its report.
+/// Returns the standing of its channels.
 fn attend_and_report(
     alloc: Global,
     attended: &Attended,
@@ -94,8 +94,8 @@ fn attend_and_report(
     Ok(station_standing(&control))
 }
 
-/// Whether such a control station stands so in the end, prints these records with its report, and
-/// ends its trace with this.
+/// Whether such a control station ends with this standing, prints these records and its report, and
+/// ends its trace with these lines.
 fn prints(
     alloc: Global,
     attended: &Attended,
@@ -108,8 +108,8 @@ fn prints(
     Ok(is_so && out.as_slice() == printed && trace.ends_with(trace_end))
 }
 
-/// One round: a selection, a bid, a poll that is answered by a text, and four polls that nobody
-/// answers.
+/// One round: a selection, a bid, a poll that is answered with a text, and four polls without an
+/// answer.
 #[test]
 fn a_control_station_ends_after_a_round(rt: HostRuntime) -> Result<(), Fail> {
     const ATTENDED: Attended = Attended {
@@ -135,7 +135,7 @@ to 1: offered 0, known 0
     Ok(())
 }
 
-/// Nobody answers: the record waits, and no round is idle. The connection ends.
+/// No terminal answers: the record waits, and no round is idle. The connection ends.
 #[test]
 fn a_control_station_ends_with_its_connection(rt: HostRuntime) -> Result<(), Fail> {
     const ATTENDED: Attended = Attended {
@@ -167,8 +167,8 @@ to 1: offered 0, known 0
     Ok(())
 }
 
-/// The selected terminal answers, and then no more: after four failures the record is in doubt.
-/// The round is idle, since nothing more can be sent.
+/// The selected terminal answers once: after four failures the record is in doubt. The round is
+/// idle, since nothing can be sent any more.
 #[test]
 fn a_control_station_in_doubt_ends_idle(rt: HostRuntime) -> Result<(), Fail> {
     const ATTENDED: Attended = Attended {

@@ -8,7 +8,7 @@ use bsc_monitor::{Form, LineTerminal, Printing, TerminalWatch, Watch, write_repo
 use std::alloc::Global;
 use std::test::Fail;
 
-/// What a control station sends to a terminal: a poll, which is answered by a text; ACK1; a
+/// What a control station sends to a terminal: a poll, which is answered with a text; ACK1; a
 /// selection; a text; EOT.
 const TO_TERMINAL: &[u8] = b"\x00\x09\x16\x16\x04\xFF\x16\x16\xC1\x85\xFF\
 \x00\x05\x16\x16\x10\x31\xFF\
@@ -29,8 +29,8 @@ const TERMINAL_TRACE: &[u8] = b"+1 control heard CALL A 161604ff1616c185ff
 +10 connection 0 closed
 ";
 
-/// Attends a terminal over a connection that gives these octets: why the connection was closed,
-/// where it was a fault.
+/// Attends a terminal over a connection with these octets. Returns the fault for which the
+/// connection was closed, if there was one.
 fn attend_terminal(
     alloc: Global,
     terminal: &mut LineTerminal<Global>,
@@ -47,7 +47,7 @@ fn attend_terminal(
     Ok(watch.closed())
 }
 
-/// The same for terminal 0 with one record to send, and its report.
+/// Does the same for terminal 0 with one record to send, and writes its report.
 fn attend_and_report(
     alloc: Global,
     printing: Printing,
@@ -61,8 +61,8 @@ fn attend_and_report(
     Ok(closed)
 }
 
-/// Whether such a terminal prints these records with its report, and this trace, and whether its
-/// connection is closed for this reason.
+/// Whether such a terminal prints these records with its report, writes this trace, and has its
+/// connection closed for this reason.
 fn prints(
     alloc: Global,
     printing: Printing,
@@ -92,8 +92,8 @@ fn a_terminal_sends_and_receives(rt: HostRuntime) -> Result<(), Fail> {
     Ok(())
 }
 
-/// Without a trace only a fault of the connection is told, and characters may be printed as they
-/// stand.
+/// Without a trace, only faults of the connection are reported; characters may be printed
+/// unchanged.
 #[test]
 fn a_fault_of_a_connection_is_told(rt: HostRuntime) -> Result<(), Fail> {
     const PRINTING: Printing = Printing {
@@ -102,7 +102,7 @@ fn a_fault_of_a_connection_is_told(rt: HostRuntime) -> Result<(), Fail> {
     };
     const PRINTED: &[u8] = b"to 0: HI\nfrom 0: offered 1, known 1\nto 0: spooled 1\n  4849\n";
     const TOLD: &[u8] = b"connection 0 closed: the input ended within a record\n";
-    // The last record is cut.
+    // The last record is cut short.
     let short = &TO_TERMINAL[..TO_TERMINAL.len() - 1];
     let wanted = (PRINTED, TOLD, Some(CarrierError::Short));
     assert!(rt; prints(rt.alloc(), PRINTING, short, wanted)?);

@@ -1,4 +1,4 @@
-//! A connection that is scripted, and a clock that counts.
+//! A scripted connection, and a clock that counts.
 
 use bsc_connections::{Awaited, Connection, LiveError, SocketRecords, Wait, Waiter};
 use bsc_monitor::Timer;
@@ -6,7 +6,7 @@ use std::alloc::{AllocError, Global};
 use std::io;
 use std::io::{Read, Write};
 
-/// Gives these octets, and then the end.
+/// Returns these octets, and then the end of the stream.
 #[derive(Drop)]
 pub(crate) struct Told {
     pub(crate) octets: &'static [u8],
@@ -21,7 +21,7 @@ impl Read for Told {
     }
 }
 
-/// Takes all that is written.
+/// Accepts everything that is written.
 #[derive(Drop)]
 pub(crate) struct Taking;
 
@@ -35,7 +35,7 @@ impl Write for Taking {
     }
 }
 
-/// One millisecond more each time that it is asked.
+/// A clock that is one millisecond later each time that it is read.
 #[derive(Drop)]
 pub(crate) struct Counting {
     pub(crate) asked: u64,
@@ -48,8 +48,8 @@ impl Timer for Counting {
     }
 }
 
-/// Has octets to read at the connection at place 0 for each `r` of a text, and lets a time-out pass
-/// for each `t`; after the text there is always something to read.
+/// Reports octets to read on connection 0 for each `r` of the steps, and a time-out for each `t`;
+/// after the last step there are always octets to read.
 #[derive(Drop)]
 pub(crate) struct Scripted {
     pub(crate) steps: &'static [u8],

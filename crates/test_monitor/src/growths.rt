@@ -1,4 +1,4 @@
-//! Growths that are refused.
+//! Refused growths.
 
 use bsc_config::{Config, read_config};
 use bsc_monitor::{OfferError, new_control, read_records};
@@ -6,7 +6,7 @@ use std::test::Fail;
 use test_alloc::{Refusal, Refusing};
 use test_fixtures::configurations::TWO_TERMINALS;
 
-/// Whether out of memory is told where a growth was refused, and else two lines are read.
+/// Whether the result is out of memory if a growth was refused, and the two records otherwise.
 fn are_read_or_refused(alloc: &Refusing) -> bool {
     match read_records(alloc, b"HI\nHO\n", 80) {
         Ok(records) => alloc.refused() == 0 && records.len() == 2,
@@ -24,7 +24,7 @@ fn each_growth_of_reading_is_refused_in_turn(rt: HostRuntime) -> Result<(), Fail
     Ok(())
 }
 
-/// Whether an error is told where a growth was refused, and else a control station is made.
+/// Whether the result is an error if a growth was refused, and a control station otherwise.
 fn is_made_or_refused(alloc: &Refusing, config: &Config) -> bool {
     match new_control(alloc, config) {
         Ok(control) => alloc.refused() == 0 && control.terminals() == 2,

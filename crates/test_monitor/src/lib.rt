@@ -1,5 +1,8 @@
-//! Tests of whole stations, as the command runs them: attended over scripted connections, told of
-//! one event after another, and with growths and writes that fail.
+//! Tests of whole stations as the command runs them: attended over scripted connections, with
+//! single notes, and with growths and writes that fail.
+//!
+//! Calls and replies are the standard's (GA27-3004); rounds and visits as limits, notes, traces and
+//! reports are this project's own.
 #![tactic(auto)]
 
 #[cfg(test)]

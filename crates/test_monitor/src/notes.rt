@@ -1,5 +1,4 @@
-//! What a watch is told of, one note after another: when a visit of the poll list ends, and the
-//! lines of a trace.
+//! The notes that a watch receives: when a visit of the poll list ends, and the lines of a trace.
 
 use crate::fakes::Counting;
 use crate::stations::control_of;
@@ -13,8 +12,8 @@ use std::test::Fail;
 use test_fixtures::Full;
 use test_fixtures::octets::{ACK1, CALL_POLL_A, CALL_SELECT_A, EOT};
 
-/// A line of one terminal, of whose poll list each visit is a round. Three failures in a row are
-/// borne.
+/// A line of one terminal, so that each visit of its poll list is a round. Up to three failures in
+/// a row are allowed.
 const ONE_TERMINAL: &str = "version = 1
 poll_list = [0]
 
@@ -23,14 +22,14 @@ poll = \"A\"
 select = \"a\"
 ";
 
-/// With a trace.
+/// Hexadecimal records, with a trace.
 const PRINTING: Printing = Printing {
     form: Form::Hexadecimal,
     trace: true,
 };
 
-/// What happens: `h` something is heard, `s` a silence, `P` a poll, `S` a selection and any other
-/// letter what is no call is sent.
+/// The note of a letter: `h` something is heard, `s` a silence, `P` a poll is sent, `S` a selection
+/// is sent, and any other letter: something that is not a call is sent.
 fn note_of(letter: u8) -> Note<'static> {
     match letter {
         b'h' => Note::Heard {
@@ -48,29 +47,29 @@ fn note_of(letter: u8) -> Note<'static> {
     }
 }
 
-/// What happens, and how many visits end with it.
+/// Notes, and the number of visits that end with them.
 const VISITS: &[(&[u8], u64)] = &[
-    // The first poll, and its answers: EOT, and the poll of the next entry.
+    // The first poll, its answer EOT, and the poll of the next entry.
     (b"sP", 0),
     (b"sPhP", 1),
-    // A poll that nobody answers is repeated three times; the fourth silence ends the visit.
+    // A poll without an answer is repeated three times; the fourth silence ends the visit.
     (b"sPsPsPsP", 0),
     (b"sPsPsPsPsP", 1),
-    // EOT after two silences: the next poll repeats nothing.
+    // EOT comes after two silences, so the next poll is not a repetition.
     (b"sPsPsPhP", 1),
-    // A text was acknowledged: a silence after that ends the visit.
+    // A text was acknowledged, so the silence after it ends the visit.
     (b"sPhOsP", 1),
-    // Two selections and a bid belong to the visit that their poll ends.
+    // Two selections and a bid belong to the visit that ends with their poll.
     (b"sShOhShOhPhS", 1),
-    // A selection that nobody answers is repeated, and ends no visit.
+    // A selection without an answer is repeated, and does not end a visit.
     (b"sSsSsSsSsP", 0),
-    // Noise is not answered: the poll is repeated after it.
+    // Noise does not count as an answer: the poll is repeated after it.
     (b"sPhsP", 0),
     // Each visit is counted.
     (b"sPhPhPhP", 3),
 ];
 
-/// Whether a control station that ends after this many rounds has ended, once this happened.
+/// Whether a control station that ends after this many rounds has ended after these notes.
 fn has_ended(
     alloc: Global,
     control: &Control<Global>,
@@ -92,7 +91,7 @@ fn has_ended(
     Ok(ended)
 }
 
-/// Whether this many visits end with what happens.
+/// Whether exactly this many visits end with these notes.
 fn ends_visits(
     alloc: Global,
     control: &Control<Global>,
@@ -115,7 +114,7 @@ fn a_visit_ends_at_a_call_that_repeats_no_poll(rt: HostRuntime) -> Result<(), Fa
     Ok(())
 }
 
-/// What is told in lines of its own.
+/// Notes that have lines of the trace.
 const NOTES: &[Note<'static>] = &[
     Note::Silence,
     Note::Joined { connection: 1 },
@@ -130,7 +129,7 @@ const NOTES: &[Note<'static>] = &[
     },
 ];
 
-/// These lines.
+/// The lines of these notes.
 const TRACE: &[u8] = b"+1 silence
 +2 connection 1 joined
 +3 control sent EOT 161604ff
@@ -138,7 +137,7 @@ const TRACE: &[u8] = b"+1 silence
 +5 connection 1 closed
 ";
 
-/// Tells a watch of this.
+/// Passes these notes to a watch.
 fn tell<W: Write>(
     alloc: Global,
     control: &Control<Global>,
@@ -169,7 +168,8 @@ fn a_trace_has_a_line_for_each_note(rt: HostRuntime) -> Result<(), Fail> {
     Ok(())
 }
 
-/// How many writes of the trace fail, each with an output fault, before all of it is taken.
+/// The number of writes of the trace that may fail, each with an output fault, before all of them
+/// succeed.
 fn failing_writes(alloc: Global, control: &Control<Global>) -> Result<usize, LiveError> {
     for left in 0..99usize {
         match tell(alloc, control, &mut Full { left }) {
@@ -181,7 +181,7 @@ fn failing_writes(alloc: Global, control: &Control<Global>) -> Result<usize, Liv
     Ok(99)
 }
 
-/// Each line is written in one part at least.
+/// Each line is written in at least one part.
 #[test]
 fn a_line_of_a_trace_that_is_not_taken_is_told(rt: HostRuntime) -> Result<(), Fail> {
     let control = control_of(rt.alloc(), ONE_TERMINAL)?;

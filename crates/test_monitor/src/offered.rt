@@ -1,4 +1,4 @@
-//! Lines that become records.
+//! Lines of a text as records.
 
 use bsc_block::RecordError;
 use bsc_monitor::{OfferError, read_records};
@@ -6,7 +6,7 @@ use std::alloc::Global;
 use std::test::Fail;
 use test_fixtures::records::are_records;
 
-/// Texts, and the records that their lines are.
+/// Texts, and the records of their lines.
 const RECORDS: &[(&[u8], &[&[u8]])] = &[
     (b"", &[]),
     (b"HI\nHO\n", &[b"HI", b"HO"]),
@@ -32,8 +32,8 @@ fn lines_become_records(rt: HostRuntime) {
     }
 }
 
-/// Texts of which a line is no record of at most four characters, the number of the first such
-/// line, and why it is none.
+/// Texts with a line that is not a record of at most four characters, the number of the first such
+/// line, and the reason.
 const REFUSED: &[(&[u8], u64, RecordError)] = &[
     (b"HI\nHELLO\nTOO LONG\n", 2, RecordError::TooLong),
     (b"\x80", 1, RecordError::NotText(0)),

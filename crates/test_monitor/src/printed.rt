@@ -1,4 +1,4 @@
-//! Reports that are not taken.
+//! Reports that cannot be written.
 
 use crate::stations::control_of;
 use bsc_control::Control;
@@ -9,7 +9,8 @@ use std::test::Fail;
 use test_fixtures::Full;
 use test_fixtures::configurations::TWO_TERMINALS;
 
-/// How many writes of the report fail, each with an output fault, before all of it is taken.
+/// The number of writes of the report that may fail, each with an output fault, before all of them
+/// succeed.
 fn failing_writes(alloc: Global, control: &Control<Global>) -> Result<usize, PrintError> {
     for left in 0..99usize {
         match write_report(alloc, control, &mut Full { left }) {
@@ -21,7 +22,7 @@ fn failing_writes(alloc: Global, control: &Control<Global>) -> Result<usize, Pri
     Ok(99)
 }
 
-/// Each of the four lines is written in one part at least.
+/// Each of the four lines is written in at least one part.
 #[test]
 fn a_report_that_is_not_taken_is_told(rt: HostRuntime) -> Result<(), Fail> {
     let control = control_of(rt.alloc(), TWO_TERMINALS)?;

@@ -26,7 +26,7 @@ pub(crate) fn sending_terminal(alloc: Global) -> Result<LineTerminal<Global>, Fa
     terminal_of(alloc, &config)
 }
 
-/// The control station of the line that a document says, with nothing to send.
+/// The control station of the line that a document describes, with nothing to send.
 pub(crate) fn control_of(alloc: Global, document: &str) -> Result<Control<Global>, Fail> {
     let config = read_config(alloc, document.as_bytes())?;
     Ok(new_control(alloc, &config)?)

@@ -1,10 +1,10 @@
-//! What the examples write.
+//! The output of the examples.
 
 use readme_code::{deliver, run_terminal};
 use std::test::Fail;
 use test_fixtures::octets::{CALL_POLL_A, CALL_SELECT_A, EOT, TEXT_HI};
 
-/// What the terminal hears that is polled, selected and sent a text.
+/// What the terminal hears when it is polled, selected and sent a text.
 const HEARD: &[Option<&[u8]>] = &[
     Some(CALL_POLL_A),
     Some(CALL_SELECT_A),
@@ -13,7 +13,8 @@ const HEARD: &[Option<&[u8]>] = &[
     Some(EOT),
 ];
 
-/// What it sends. It has nothing to send: EOT. Then ACK0 to the selection, and ACK1 to the text.
+/// What it sends: EOT, since it has nothing to send, then ACK0 to the selection, and ACK1 to the
+/// text.
 const SENT: &[u8] = &[
     0x16, 0x16, 0x04, 0xff, 0x16, 0x16, 0x10, 0xb0, 0xff, 0x16, 0x16, 0x10, 0x31, 0xff,
 ];

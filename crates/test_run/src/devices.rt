@@ -1,5 +1,5 @@
 //! Each call of each stream and of the writer goes wrong in turn: it fails, is interrupted, or
-//! moves nothing; and all that with calls that move one octet at most.
+//! moves no octet. The same is tried with calls that move at most one octet each.
 
 use crate::watched::{NO_TROUBLE, Part, Plan, Seen, Trouble, Watch, When, watched_writer};
 use crate::worked::{Case, WORKED, Worked};
@@ -16,13 +16,14 @@ const ENDS: &[Part] = &[
     Part::TerminalEnd { terminal: 1 },
 ];
 
-/// How many lines this is.
+/// The number of lines in the text.
 fn count_lines(text: &[u8]) -> usize {
     text.iter().filter(|octet| **octet == b'\n').count()
 }
 
-/// Whether this is told where a call of a stream went wrong: a socket fault at the event that it
-/// was for. What is printed is the line of each event before, and no call comes after it.
+/// Whether a run ended as it has to after a call of a stream went wrong: with a socket fault at the
+/// event that the call was for, after the lines of all events before it, and without a further
+/// call.
 fn is_socket_fault(
     worked: &Worked<'_>,
     printed: &[u8],
@@ -40,8 +41,8 @@ fn is_socket_fault(
         && seen.later == 0
 }
 
-/// Whether this is told where the writer did not take the text: an output fault, and no call after
-/// it.
+/// Whether a run ended as it has to after the writer did not accept the text: with an output fault
+/// and without a further call.
 fn is_output_fault(
     worked: &Worked<'_>,
     printed: &[u8],
@@ -51,7 +52,8 @@ fn is_output_fault(
     worked.is_part(printed) && answer == Err(RunError::Output) && seen.later == 0
 }
 
-/// Whether this is told that a run of this plan has to tell, which saw this.
+/// Whether a run of this plan printed and answered what it has to, given what was seen of its
+/// calls.
 fn is_right(
     worked: &Worked<'_>,
     plan: Plan,
@@ -59,7 +61,7 @@ fn is_right(
     answer: Result<(), RunError>,
     seen: Seen,
 ) -> bool {
-    // A write of the text that was interrupted is made again.
+    // A write that was interrupted is repeated.
     let is_repeated = plan.part == Part::Writer && plan.trouble == Trouble::Interrupted;
     if seen.troubles == 0 || is_repeated {
         worked.is_whole(printed, answer)
@@ -70,7 +72,7 @@ fn is_right(
     }
 }
 
-/// Runs by this plan, and compares what is told: how many calls went wrong.
+/// Runs by this plan and checks the result. Returns the number of calls that went wrong.
 fn try_plan(alloc: Global, case: &Case<'_>, plan: Plan) -> Result<usize, Fail> {
     let watch = Watch::new(plan);
     let mut out = watched_writer(alloc, &watch);
@@ -82,7 +84,8 @@ fn try_plan(alloc: Global, case: &Case<'_>, plan: Plan) -> Result<usize, Fail> {
     Ok(seen.troubles)
 }
 
-/// Each call of a part goes wrong in turn, until a run has no such call: how many there are.
+/// Lets each call of a part go wrong in turn, until a run has no such call. Returns the number of
+/// calls.
 fn try_calls(
     alloc: Global,
     case: &Case<'_>,
@@ -102,8 +105,8 @@ fn try_calls(
     Err(Fail::new("no end of calls"))
 }
 
-/// Each call of a part goes wrong in turn, in each run, with calls that move all that they are
-/// asked to and with calls that move one octet.
+/// Lets each call of a part go wrong in turn in each run, first with calls that move all octets
+/// they are asked to move and then with calls that move one.
 fn try_part(alloc: Global, part: Part, trouble: Trouble) -> Result<(), Fail> {
     for worked in WORKED {
         let case = Case::read(alloc, worked)?;
@@ -116,7 +119,7 @@ fn try_part(alloc: Global, part: Part, trouble: Trouble) -> Result<(), Fail> {
     Ok(())
 }
 
-/// Each call of an end of a connection goes wrong in turn.
+/// Lets each call of each end of a connection go wrong in turn.
 fn try_ends(alloc: Global, trouble: Trouble) -> Result<(), Fail> {
     for part in ENDS {
         try_part(alloc, *part, trouble)?;
@@ -129,7 +132,7 @@ fn each_call_of_a_stream_fails_in_turn(rt: HostRuntime) -> Result<(), Fail> {
     try_ends(rt.alloc(), Trouble::Failed)
 }
 
-/// An interrupted call of a stream is one that failed.
+/// An interrupted call of a stream counts as one that failed.
 #[test]
 fn each_call_of_a_stream_is_interrupted_in_turn(rt: HostRuntime) -> Result<(), Fail> {
     try_ends(rt.alloc(), Trouble::Interrupted)
@@ -169,7 +172,8 @@ fn an_interrupted_write_of_the_text_is_made_again(rt: HostRuntime) -> Result<(),
     try_interruptions(rt.alloc())
 }
 
-/// Each call of a part fails in turn, until a run has no such call. What arrived is in order.
+/// Lets each call of a part fail in turn, until a run has no such call, and checks that the records
+/// that arrived are in order.
 fn try_records(alloc: Global, case: &Case<'_>, part: Part) -> Result<(), Fail> {
     for call in 1..5000usize {
         let watch = Watch::new(Plan {
@@ -188,7 +192,7 @@ fn try_records(alloc: Global, case: &Case<'_>, part: Part) -> Result<(), Fail> {
 }
 
 /// The records that arrived before a stream or the writer failed are the first of those that arrive
-/// where none fails.
+/// if none fails.
 #[test]
 fn what_arrived_before_a_fault_is_in_order(rt: HostRuntime) -> Result<(), Fail> {
     for worked in WORKED {
@@ -201,7 +205,7 @@ fn what_arrived_before_a_fault_is_in_order(rt: HostRuntime) -> Result<(), Fail> 
     Ok(())
 }
 
-/// What both terminals read before what is sent to them.
+/// The octets that both terminals read before those that are sent to them.
 const NOISE: &[u8] = &[0x00, 0x01, 0x16];
 
 /// A terminal is polled, and hears noise.
@@ -221,7 +225,7 @@ trusted
     arrived: &[],
 };
 
-/// The far ends hear what they read, and not what was sent.
+/// The far ends hear the octets that they read, not those that were sent.
 #[test]
 fn what_is_read_is_heard(rt: HostRuntime) -> Result<(), Fail> {
     let case = Case::read(rt.alloc(), &UNHEARD)?;

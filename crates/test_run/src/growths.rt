@@ -1,5 +1,5 @@
-//! What a refused growth of a spool changes in the trace of a run, before a text is stored and
-//! after.
+//! How the trace of a run changes if a growth of a spool is refused, before a text is stored or
+//! after it.
 
 use crate::runs::POLLED;
 use crate::watched::{Connections, NO_TROUBLE, Watch};
@@ -12,7 +12,7 @@ use std::test::Fail;
 use test_alloc::Refusing;
 use test_fixtures::configurations::TWO_TERMINALS;
 
-/// What is printed where the control station has no room for the text at first.
+/// The output if the control station at first has no room for the text.
 const NO_ROOM_FOR_IT: &str = "control CALL A
 terminal 0 TEXT ETX 1
 control NAK
@@ -28,7 +28,7 @@ to 1: offered 0, known 0, spooled 0
 trusted
 ";
 
-/// What is printed where the control station has no room for another text at first.
+/// The output if the control station at first has no room for a further text.
 const NO_ROOM_FOR_ANOTHER: &str = "control CALL A
 terminal 0 TEXT ETX 1
 control WACK
@@ -44,8 +44,8 @@ to 1: offered 0, known 0, spooled 0
 trusted
 ";
 
-/// Runs a script on a new line of two terminals of which the growth of this number is refused,
-/// counted from the first after the line was made.
+/// Runs a script on a new line of two terminals, and refuses the growth of this number, counted
+/// from the first after the line was made.
 fn run_without(
     alloc: Global,
     refusing: &Refusing,
@@ -66,8 +66,8 @@ fn run_without(
     Ok(run_on(alloc, &mut line, script.steps(), &mut cable, out)?)
 }
 
-/// Whether this is printed where a record is offered at terminal 0, which is then polled, and one
-/// growth is refused, that of this number.
+/// Whether this is printed if a record is offered at terminal 0, which is then polled, and only the
+/// growth of this number is refused.
 fn is_printed_without(alloc: Global, growth: usize, printed: &str) -> Result<bool, Fail> {
     let refusing = Refusing::new(alloc);
     let config = read_config(alloc, TWO_TERMINALS.as_bytes())?;
@@ -77,8 +77,8 @@ fn is_printed_without(alloc: Global, growth: usize, printed: &str) -> Result<boo
     Ok(out.as_slice() == printed.as_bytes() && refusing.refused() == 1)
 }
 
-/// The first growth is that of the offer, and the next two are those for which the control
-/// station's spool is asked, before the text is stored and after.
+/// The first growth is that of the offer. The next two are for the control station's spool, before
+/// and after the text is stored.
 #[test]
 fn a_text_is_put_off_until_there_is_room(rt: HostRuntime) -> Result<(), Fail> {
     assert!(rt; is_printed_without(rt.alloc(), 2, NO_ROOM_FOR_IT)?);

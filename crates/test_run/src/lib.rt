@@ -1,5 +1,8 @@
-//! Tests of whole runs: over loopback connections of which the test holds both ends, and over
+//! Tests of whole runs: over loopback connections, both ends of which the test holds, and over
 //! connections in memory whose calls go wrong in turn.
+//!
+//! The messages of a run are the standard's (GA27-3004); scripts, traces and reports are this
+//! project's own.
 #![tactic(auto)]
 
 #[cfg(test)]

@@ -51,7 +51,8 @@ fn run_two(
     Ok(run_line(rt.alloc(), config, script, &mut cable, out))
 }
 
-/// Runs a script on the line of a configuration: what is printed, and the answer.
+/// Runs a script on the line of a configuration. Appends the output to `out` and returns the
+/// answer.
 pub(crate) fn run(
     rt: &HostRuntime,
     config: &str,

@@ -1,4 +1,5 @@
-//! Each growth of a whole run is refused: one in turn, each from one on, and each above a size.
+//! Growths of a whole run are refused: each one in turn, all from each one on, and all above each
+//! size.
 
 use crate::runs::REPORT;
 use crate::watched::{NO_TROUBLE, Watch, watched_writer};
@@ -9,24 +10,25 @@ use std::alloc::Global;
 use std::test::Fail;
 use test_alloc::{Refusal, Refusing};
 
-/// What a run does where a growth was refused.
+/// How a run ends if a growth was refused.
 #[derive(Clone, Copy, PartialEq, Eq)]
 enum Told {
-    /// Out of memory, and no report.
+    /// Out of memory, without a report.
     Memory,
 
-    /// The offer on the first line is refused as out of memory, with the report.
+    /// The offer on the first line is refused as out of memory, and the report follows.
     Offer,
 
-    /// A text was not taken at once, since its spool was refused a growth; the report came.
+    /// A text was not accepted at once, because a growth of its spool was refused; the report
+    /// followed.
     Delay,
 
-    /// What is printed and answered where nothing goes wrong.
+    /// The output and the answer are those of a run without faults.
     Whole,
 }
 
-/// What this is that is printed and answered; none where it is not allowed. Where only one growth
-/// was refused, what comes before out of memory is as where nothing goes wrong.
+/// How the run ended, from its output and its answer, or None if no run may end so. If only one
+/// growth was refused, the output before out of memory is that of a run without faults.
 fn what_is_told(
     worked: &Worked<'_>,
     printed: &[u8],
@@ -51,7 +53,7 @@ fn what_is_told(
     }
 }
 
-/// Whether the first line that is not as where nothing goes wrong is a NAK or a WACK.
+/// Whether the first line that differs from a run without faults is a NAK or a WACK.
 fn is_delayed(worked: &Worked<'_>, printed: &[u8]) -> bool {
     let lines = printed.split(|octet| *octet == b'\n');
     let expected = worked.printed.as_bytes().split(|octet| *octet == b'\n');
@@ -63,7 +65,7 @@ fn is_delayed(worked: &Worked<'_>, printed: &[u8]) -> bool {
     false
 }
 
-/// Runs the script while the growths of this number are refused: what is told.
+/// Runs the script while growths are refused in this way. Returns how the run ended.
 fn try_refusal(
     alloc: Global,
     refusing: &Refusing,
@@ -80,10 +82,11 @@ fn try_refusal(
     }
 }
 
-/// How often a run was out of memory, refused the offer, and took a text later.
+/// How often a run was out of memory, how often the offer was refused, and how often a text was
+/// accepted later.
 type Counts = (usize, usize, usize);
 
-/// One more of these.
+/// The counts with one more run added.
 fn add(counts: Counts, told: Told) -> Counts {
     let (memory, offers, delays) = counts;
     match told {
@@ -94,8 +97,8 @@ fn add(counts: Counts, told: Told) -> Counts {
     }
 }
 
-/// Runs the script under the refusal by each number in turn, until no growth is refused: how often
-/// each was told.
+/// Runs the script with refusals from each number in turn, until no growth is refused. Returns how
+/// often the run ended in each way.
 fn count_told(alloc: Global, worked: &Worked<'_>, refusal: Refusal) -> Result<Counts, Fail> {
     let case = Case::read(alloc, worked)?;
     let refusing = Refusing::new(alloc);
@@ -107,8 +110,8 @@ fn count_told(alloc: Global, worked: &Worked<'_>, refusal: Refusal) -> Result<Co
     Ok(counts)
 }
 
-/// Only one growth is that of the offer, and two are those of the spool: before the text comes and
-/// after it was stored.
+/// One growth is that of the offer, and two are those of the spool: before the text comes and after
+/// it was stored.
 #[test]
 fn each_growth_of_a_run_is_refused_in_turn(rt: HostRuntime) -> Result<(), Fail> {
     for worked in WORKED {
@@ -136,7 +139,7 @@ fn growths_of_a_run_above_each_size_are_refused(rt: HostRuntime) -> Result<(), F
     Ok(())
 }
 
-/// Whether what arrived is in order under the refusal by each number in turn.
+/// Whether the records that arrived are in order, with refusals from each number in turn.
 fn is_each_in_order(alloc: Global, worked: &Worked<'_>, refusal: Refusal) -> Result<bool, Fail> {
     let case = Case::read(alloc, worked)?;
     let refusing = Refusing::new(alloc);
@@ -150,7 +153,8 @@ fn is_each_in_order(alloc: Global, worked: &Worked<'_>, refusal: Refusal) -> Res
     Ok(true)
 }
 
-/// What arrived while growths were refused is the first of what arrives otherwise.
+/// The records that arrived while growths were refused are the first of those that arrive
+/// otherwise.
 #[test]
 fn what_arrived_without_memory_is_in_order(rt: HostRuntime) -> Result<(), Fail> {
     for worked in WORKED {

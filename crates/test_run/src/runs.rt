@@ -1,4 +1,4 @@
-//! Worked runs, with what is printed.
+//! Runs with their complete output.
 
 use crate::loopback::run;
 use bsc_run::RunError;
@@ -17,15 +17,15 @@ struct Run<'a> {
 
     report: &'a str,
 
-    /// The text of the error; empty where there is none.
+    /// The message of the error; empty if there is none.
     error: &'a str,
 }
 
-/// A record waits at terminal 0, which is polled.
+/// A record is offered at terminal 0, which is then polled.
 pub(crate) const POLLED: &str =
     "offer-at 0 HI\nsilence\ncarry\ncarry\ncarry\ncarry\ncarry\ncarry\n";
 
-/// All that it prints.
+/// The complete output of `POLLED`.
 pub(crate) const POLLED_PRINTED: &str = "control CALL A
 terminal 0 TEXT ETX 1
 control ACK1
@@ -41,7 +41,7 @@ to 1: offered 0, known 0, spooled 0
 trusted
 ";
 
-/// All that is printed where a record for terminal 0 is heard after a call and a text were spoiled.
+/// The complete output if a record for terminal 0 arrives after a call and a text were spoiled.
 pub(crate) const HEARD_PRINTED: &str = "control CALL a
 quiet
 control CALL a
@@ -58,7 +58,7 @@ to 1: offered 0, known 0, spooled 0
 trusted
 ";
 
-/// A spoiled ENQ makes the text come twice.
+/// A spoiled ENQ causes the text to be sent twice.
 pub(crate) const COUNTED_TWICE: &str = "offer-at 0 HI
 silence
 carry
@@ -75,7 +75,7 @@ silence
 release 0 from
 ";
 
-/// All that it prints.
+/// The complete output of `COUNTED_TWICE`.
 pub(crate) const COUNTED_TWICE_PRINTED: &str = "control CALL A
 terminal 0 TEXT ETX 1
 control ACK1
@@ -106,7 +106,7 @@ const RUNS: &[Run<'static>] = &[
         report: POLLED_PRINTED,
         error: "",
     },
-    // A refused event ends the run with the report.
+    // A refused event ends the run, and the report follows.
     Run {
         config: TWO_TERMINALS,
         script: "offer-at 0 HI
@@ -124,7 +124,7 @@ carry
         report: POLLED_PRINTED,
         error: "script line 9: refused: no such terminal",
     },
-    // Each transmission of the control station is heard otherwise at each terminal.
+    // Each terminal hears the control station's transmissions differently.
     Run {
         config: TWO_TERMINALS,
         script: "# a call, of which half is heard at terminal 1 only
@@ -142,7 +142,7 @@ heard-each 161602C84919839BFF -
         report: HEARD_PRINTED,
         error: "",
     },
-    // Each selection address has its own queue and its own spool, and its own lines of the report.
+    // Each selection address has its own queue, its own spool and its own lines in the report.
     Run {
         config: THREE_ADDRESSES,
         script: "offer-to 0 0 HI
@@ -182,7 +182,8 @@ trusted
 ",
         error: "",
     },
-    // A spoiled ENQ that makes the text come twice leaves a count that no release fits.
+    // A spoiled ENQ causes the text to be sent twice, which leaves a count that no release can
+    // match.
     Run {
         config: TWO_TERMINALS,
         script: COUNTED_TWICE,
@@ -192,7 +193,7 @@ trusted
     },
 ];
 
-/// Whether the answer is an error of this text; none where it is empty.
+/// Whether the answer is an error with this message, or no error if the message is empty.
 fn has_text(alloc: Global, answer: Result<(), RunError>, text: &str) -> Result<bool, Fail> {
     match answer {
         Ok(()) => Ok(text.is_empty()),
@@ -200,7 +201,7 @@ fn has_text(alloc: Global, answer: Result<(), RunError>, text: &str) -> Result<b
     }
 }
 
-/// Whether a run prints and answers what it should.
+/// Whether a run has the expected output and answer.
 fn is_right(rt: &HostRuntime, wanted: &Run<'_>) -> Result<bool, Fail> {
     let mut out = Vec::new(rt.alloc());
     let answer = run(rt, wanted.config, wanted.script, &mut out)?;
@@ -226,11 +227,11 @@ to 1: offered 0, known 0, spooled 0
 trusted
 ";
 
-/// An offer of 81 characters, where a record has at most 80.
+/// An offer of 81 characters; a record has at most 80.
 const TOO_LONG: &str =
     "offer-at 0 .................................................................................";
 
-/// Scripts whose last event is refused, what they print before the report, and the texts of their
+/// Scripts whose last event is refused, their output before the report, and the messages of the
 /// refusals.
 const REFUSED: &[(&str, &str, &str)] = &[
     ("carry\n", "", "script line 1: refused: nothing sent"),
@@ -265,7 +266,7 @@ const REFUSED: &[(&str, &str, &str)] = &[
         "",
         "script line 1: refused: no such address",
     ),
-    // A terminal that is sending is not heard by terminals.
+    // The transmissions of a terminal are not heard by other terminals.
     (
         "silence\ncarry\nheard-each - -\n",
         "control CALL A\nterminal 0 EOT\n",

@@ -1,5 +1,5 @@
-//! Connections over memory, and a watch over the calls of one of their ends or of the writer: which
-//! of them goes wrong, and how.
+//! Connections in memory, and a watch that counts the calls of one of their ends or of the writer
+//! and lets some of them go wrong.
 
 ghost use Rattle.std.specs.Prelude.{◌≡◌, ◌≤◌, IfOk};
 ghost use Rattle.bsc_run.specs.Crossing.{connection_count};
@@ -11,7 +11,7 @@ use std::collections::VecDeque;
 use std::io;
 use std::io::{Error, ErrorKind, Read, Write};
 
-/// What makes calls: an end of the connection of a terminal, or the writer.
+/// The maker of calls: an end of the connection of a terminal, or the writer.
 #[derive(Clone, Copy, PartialEq, Eq)]
 pub(crate) enum Part {
     ControlEnd { terminal: usize },
@@ -19,7 +19,7 @@ pub(crate) enum Part {
     Writer,
 }
 
-/// What a call answers that goes wrong.
+/// How a call goes wrong.
 #[derive(Clone, Copy, PartialEq, Eq)]
 pub(crate) enum Trouble {
     /// It fails.
@@ -28,11 +28,11 @@ pub(crate) enum Trouble {
     /// It is interrupted before it moves an octet.
     Interrupted,
 
-    /// It moves nothing: a read finds the end, a write takes no octet.
+    /// It moves no octet: a read finds the end of the stream, a write accepts nothing.
     Nothing,
 }
 
-/// Which calls go wrong, counted from 1.
+/// The calls that go wrong, counted from 1.
 #[derive(Clone, Copy)]
 pub(crate) enum When {
     At { call: usize },
@@ -56,8 +56,8 @@ impl When {
     }
 }
 
-/// What goes wrong in a run: which calls of which part, and how. No call moves more octets than
-/// these.
+/// The faults of a run: which calls of which part go wrong, and how. No call moves more than `most`
+/// octets.
 #[derive(Clone, Copy)]
 pub(crate) struct Plan {
     pub(crate) part: Part,
@@ -66,8 +66,8 @@ pub(crate) struct Plan {
     pub(crate) most: usize,
 }
 
-/// What was seen of a run: how many calls the part of the plan made, how many of them went wrong,
-/// and how many calls any part made after the first of these.
+/// What was seen of a run: the number of calls that the part of the plan made, how many of them
+/// went wrong, and how many calls any part made after the first of those.
 #[derive(Clone, Copy)]
 pub(crate) struct Seen {
     pub(crate) calls: usize,
@@ -75,7 +75,7 @@ pub(crate) struct Seen {
     pub(crate) later: usize,
 }
 
-/// Sees to it that a run goes as planned, and counts its calls.
+/// Applies a plan to the calls of a run, and counts them.
 #[derive(Drop)]
 pub(crate) struct Watch {
     plan: Plan,
@@ -98,7 +98,7 @@ impl Watch {
         self.seen.get()
     }
 
-    /// Counts a call of this part: whether it goes wrong.
+    /// Counts a call of this part, and returns whether it goes wrong.
     fn count_call(&self, part: Part) -> bool {
         let mut seen = self.seen.get();
         if seen.troubles > 0 {
@@ -116,7 +116,7 @@ impl Watch {
         is_wrong
     }
 
-    /// How many of the wanted octets a call of this part may move.
+    /// The number of octets that a call of this part may move, at most `wanted`.
     fn admit(&self, part: Part, wanted: usize) -> io::Result<usize>
         ensures { IfOk result (λ count. count ≤ wanted) }
     {
@@ -157,7 +157,7 @@ impl<S: Write + Drop> Write for Watched<'_, S> {
     }
 }
 
-/// Octets that one end wrote and the other has not read yet.
+/// The octets that one end wrote and the other end has not read yet.
 type Pipe = RefCell<VecDeque<u8>>;
 
 /// A connection of two pipes: down to its terminal, and up from it.
@@ -176,7 +176,7 @@ impl Connection {
         }
     }
 
-    /// The end at the control station, which has this terminal at its other end.
+    /// The end at the control station of the connection of this terminal.
     fn control_end<'a>(&'a self, terminal: usize, watch: &'a Watch) -> Watched<'a, End<'a>> {
         let (reads, writes) = (&self.up, &self.down);
         Watched {
@@ -212,13 +212,13 @@ impl Connections {
         }
     }
 
-    /// Puts octets where both terminals read.
+    /// Adds octets to those that both terminals will read.
     pub(crate) fn put_down(&self, octets: &[u8]) -> io::Result<()> {
         self.first.down.try_borrow_mut()?.write_all(octets)?;
         self.second.down.try_borrow_mut()?.write_all(octets)
     }
 
-    /// A cable of both, whose calls are watched.
+    /// A cable of both connections, whose calls are watched.
     pub(crate) fn cable<'a>(
         &'a self,
         alloc: Global,
@@ -244,8 +244,8 @@ impl Connections {
     }
 }
 
-/// An end of a connection: it reads what the other end wrote. Where there is nothing, a read finds
-/// the end.
+/// An end of a connection. It reads what the other end wrote, and finds the end of the stream if
+/// nothing is left.
 #[derive(Drop)]
 pub(crate) struct End<'a> {
     reads: &'a Pipe,

@@ -1,4 +1,4 @@
-//! Runs of two terminals of which all is known: what is printed, and what arrives.
+//! Runs of two terminals with their complete output and the records that arrive.
 
 ghost use Rattle.std.specs.Prelude.{◌≡◌, None};
 ghost use Rattle.bsc_line_model.specs.Kept.{IsLine};
@@ -16,24 +16,25 @@ use std::test::Fail;
 use test_fixtures::configurations::TWO_TERMINALS;
 use test_fixtures::records::are_front;
 
-/// A script, and what it does where nothing goes wrong.
+/// A script, and what it does if nothing goes wrong.
 pub(crate) struct Worked<'a> {
     pub(crate) script: &'a str,
 
-    /// All that is printed, with the report.
+    /// The complete output, with the report.
     pub(crate) printed: &'a str,
 
-    /// The line of the event for which each line before the report is printed.
+    /// For each line of output before the report, the line of the script whose event it is printed
+    /// for.
     pub(crate) lines: &'a [u64],
 
     pub(crate) answer: Result<(), RunError>,
 
-    /// The one channel of terminal 0 on which records arrive, and these records.
+    /// The only channel of terminal 0 on which records arrive, and these records.
     pub(crate) way: Way,
     pub(crate) arrived: &'a [&'a [u8]],
 }
 
-/// Items cross both connections in turn, or only one of them.
+/// Hearings cross both connections in turn, or only one of them.
 const HEARD: &str = "offer-for 0 HI
 silence
 heard-each 161610 161610
@@ -45,8 +46,8 @@ carry
 heard-each 161602C84919839BFF 161602C84919839BFF
 ";
 
-/// A record of a polled terminal; one that is selected, heard at each terminal otherwise; one that
-/// arrives twice, and a release that is refused.
+/// A record of a polled terminal; a record for a selected terminal, heard differently at each
+/// terminal; and a record that arrives twice, with a release that is refused.
 pub(crate) const WORKED: &[Worked<'static>] = &[
     Worked {
         script: POLLED,
@@ -78,18 +79,18 @@ pub(crate) const WORKED: &[Worked<'static>] = &[
 ];
 
 impl Worked<'_> {
-    /// Whether this is what is printed and answered where nothing goes wrong.
+    /// Whether these are the output and the answer of a run without faults.
     pub(crate) fn is_whole(&self, printed: &[u8], answer: Result<(), RunError>) -> bool {
         printed == self.printed.as_bytes() && answer == self.answer
     }
 
-    /// Whether this is the beginning of what is printed, and not all of it.
+    /// Whether this is a beginning of the complete output, and not all of it.
     pub(crate) fn is_part(&self, printed: &[u8]) -> bool {
         printed.len() < self.printed.len() && self.printed.as_bytes().starts_with(printed)
     }
 }
 
-/// One of these runs, with its texts read.
+/// One of these runs, with its configuration and script parsed.
 #[derive(Drop)]
 pub(crate) struct Case<'a> {
     pub(crate) worked: &'a Worked<'a>,
@@ -106,8 +107,8 @@ impl<'a> Case<'a> {
         })
     }
 
-    /// Runs the script over watched connections, and prints to a watched writer. The line and what
-    /// is printed ask `stations` for memory.
+    /// Runs the script over watched connections, and prints to a watched writer. The line and the
+    /// output allocate from `stations`.
     pub(crate) fn run<E: Allocator + Copy>(
         &self,
         alloc: Global,
@@ -119,7 +120,7 @@ impl<'a> Case<'a> {
         self.run_over(alloc, stations, &connections, watch, out)
     }
 
-    /// The same where both terminals read these octets before what is sent to them.
+    /// Does the same, but both terminals read these octets before those that are sent to them.
     pub(crate) fn run_after(
         &self,
         alloc: Global,
@@ -148,7 +149,7 @@ impl<'a> Case<'a> {
         Ok(run_line(stations, &self.config, &self.script, &mut cable, out))
     }
 
-    /// Does the same, and tells whether what then has arrived is in order.
+    /// Does the same as `run`, and returns whether the records that arrived are in order.
     pub(crate) fn is_in_order<E: Allocator + Copy>(
         &self,
         alloc: Global,
@@ -164,7 +165,7 @@ impl<'a> Case<'a> {
                 self.run_on(alloc, stations, &mut line, watch)?;
                 Ok(has_arrived_in_order(&line, self.worked))
             }
-            // Nothing arrived, since there is no line.
+            // There is no line, so nothing arrived.
             Err(_) => Ok(true),
         }
     }
@@ -184,13 +185,13 @@ impl<'a> Case<'a> {
         let connections = Connections::new(alloc);
         let mut cable = connections.cable(alloc, watch)?;
         let mut out = watched_writer(alloc, watch);
-        // What it answers is compared by those who call `run`.
+        // The tests that call `run` check the answer.
         let _ = run_on(stations, line, self.script.steps(), &mut cable, &mut out);
         Ok(())
     }
 }
 
-/// Whether what arrived on a channel is the first of what arrives where nothing goes wrong.
+/// Whether the records that arrived on a channel are the first of those that arrive without faults.
 fn is_front<A: Allocator>(line: &Line<A>, worked: &Worked<'_>, terminal: usize, way: Way) -> bool
     requires { IsChannel line.now terminal way }
 {
@@ -202,8 +203,8 @@ fn is_front<A: Allocator>(line: &Line<A>, worked: &Worked<'_>, terminal: usize, 
     }
 }
 
-/// Whether what arrived on each channel of two terminals is the first of what arrives where nothing
-/// goes wrong, in order and each record once.
+/// Whether the records that arrived on each channel of two terminals are the first of those that
+/// arrive without faults, in order and each record once.
 fn has_arrived_in_order<A: Allocator>(line: &Line<A>, worked: &Worked<'_>) -> bool {
     for terminal in 0..line.terminals() {
         if line.addresses(terminal) != 1

@@ -1,4 +1,4 @@
-//! Random events of a line, made without the line.
+//! Random events of a line, which are made without access to the line.
 
 use crate::random::Random;
 use crate::spoiling::{Spoiling, any_spoiling, change};
@@ -7,7 +7,8 @@ use bsc_line::{Event, Speaker};
 use std::alloc::{AllocError, Global};
 use std::mem;
 
-/// What was pending: nothing, a call, or something else that this station sent.
+/// What was pending: nothing, a call, another message of the control station, or a message of a
+/// terminal.
 #[derive(Clone, Copy, PartialEq, Eq)]
 enum Pending {
     Nothing,
@@ -16,46 +17,46 @@ enum Pending {
     Terminal,
 }
 
-/// What events are made of.
+/// A generator of random events.
 #[derive(Drop)]
 pub struct Events {
     alloc: Global,
     random: Random,
-    // How many selection addresses each terminal has.
+    // The number of selection addresses of each terminal.
     selects: Vec<usize>,
-    // How many characters a full record has.
+    // The number of characters of a full record.
     full: usize,
     spoiling: Spoiling,
-    // Of 16 transmissions this many are not heard as they were sent.
+    // Out of 16 transmissions, this many are not heard as they were sent.
     spoiled: usize,
-    // The codes of the record that is offered.
+    // The codes of the record to offer.
     codes: Vec<u8>,
     // What is pending, and what was pending some time before.
     octets: Vec<u8>,
     earlier: Vec<u8>,
-    // What is heard by all, and by each terminal.
+    // What all stations hear, and what each terminal hears.
     heard: Vec<u8>,
     hearings: Vec<Option<Vec<u8>>>,
 }
 
-/// What happens next.
+/// The next event.
 pub enum Next<'a> {
     /// An event.
     Event(Event<'a>),
 
-    /// Each terminal hears its one of these.
+    /// Each terminal hears its own item.
     Each(&'a [Option<Vec<u8>>]),
 }
 
-/// The choice of 32 that is a release.
+/// The one of 32 choices that is a release.
 pub const RELEASE: usize = 11;
 
-/// Nothing is heard, by two terminals.
+/// Two hearings of nothing.
 const NOTHING_BY_TWO: &[Option<&[u8]>] = &[None, None];
 
 impl Events {
-    /// Events of a line on which full records have this many characters, and each terminal this
-    /// many selection addresses.
+    /// Makes events of a line on which full records have this many characters and the terminals
+    /// these numbers of selection addresses.
     pub fn new(alloc: Global, mut random: Random, full: usize, selects: Vec<usize>) -> Events {
         Events {
             alloc,
@@ -72,12 +73,12 @@ impl Events {
         }
     }
 
-    /// One of the numbers below this.
+    /// A random number below the bound.
     pub fn below(&mut self, bound: usize) -> usize {
         self.random.below(bound)
     }
 
-    /// What happens next by this choice of 32, where this channel is the first in doubt and this is
+    /// The next event for this choice of 32, if this channel is the first in doubt and this is
     /// pending.
     pub fn next(
         &mut self,
@@ -95,7 +96,7 @@ impl Events {
         }
     }
 
-    /// A number below the count, or sometimes also the count.
+    /// A number below the count, or sometimes the count itself.
     fn one_of(&mut self, count: usize) -> usize {
         if self.random.one_in(32) {
             self.random.below(count.saturating_add(1))
@@ -104,13 +105,13 @@ impl Events {
         }
     }
 
-    /// The number of a terminal, or of none.
+    /// The number of a terminal, sometimes of one that does not exist.
     fn terminal(&mut self) -> usize {
         let count = self.selects.len();
         self.one_of(count)
     }
 
-    /// The number of an address of a terminal, or one more.
+    /// The number of an address of a terminal, sometimes of one that does not exist.
     fn select(&mut self, terminal: usize) -> usize {
         let count = match self.selects.get(terminal) {
             Some(count) => *count,
@@ -119,7 +120,8 @@ impl Events {
         self.one_of(count)
     }
 
-    /// How many characters the next record has: few, as many as may be, or one too many.
+    /// The number of characters of the next record: few, the greatest number, or up to one too
+    /// many.
     fn record_len(&mut self) -> usize {
         match self.random.below(4) {
             0 => self.random.below(self.full.saturating_add(2)),
@@ -128,7 +130,7 @@ impl Events {
         }
     }
 
-    /// Makes the codes of a record, in which one is sometimes no character.
+    /// Makes the codes of a record, one of which is sometimes replaced by any octet.
     fn make_record(&mut self) -> Result<(), AllocError> {
         self.codes.clear();
         for _ in 0..self.record_len() {
@@ -158,7 +160,7 @@ impl Events {
         }))
     }
 
-    /// A terminal is ready or not, or something is urgent.
+    /// Makes a terminal ready or not ready, or asks for the line.
     fn flag(&mut self) -> Event<'_> {
         let terminal = self.terminal();
         let ready = !self.random.one_in(3);
@@ -169,7 +171,7 @@ impl Events {
         }
     }
 
-    /// A release of this channel that is in doubt, or of any.
+    /// A release of this channel that is in doubt, or of any channel.
     fn release(&mut self, doubtful: Option<(usize, Way)>) -> Event<'_> {
         if let Some((terminal, way)) = doubtful {
             return Event::Release { terminal, way };
@@ -184,7 +186,7 @@ impl Events {
         Event::Release { terminal, way }
     }
 
-    /// An event at any time.
+    /// An event that ignores what is pending.
     fn any_turn(&mut self) -> Event<'_> {
         match self.random.below(4) {
             0 => Event::Silence,
@@ -196,7 +198,7 @@ impl Events {
         }
     }
 
-    /// Copies what is pending, and keeps what was before it sometimes.
+    /// Copies what is pending, and sometimes keeps what was pending before it.
     fn copy(&mut self, pending: Option<(Speaker, &[u8])>) -> Result<Pending, AllocError> {
         if self.random.one_in(4) {
             mem::swap(&mut self.octets, &mut self.earlier);
@@ -209,7 +211,7 @@ impl Events {
         Ok(kind_of(speaker, octets))
     }
 
-    /// What is pending is carried or lost; where nothing is, a silence passes.
+    /// What is pending is carried or lost; if nothing is pending, a silence passes.
     fn turn(&mut self, pending: Option<(Speaker, &[u8])>) -> Result<Next<'_>, AllocError> {
         let pending = self.copy(pending)?;
         if pending == Pending::Nothing {
@@ -225,7 +227,7 @@ impl Events {
         }
     }
 
-    /// What is pending is heard spoiled by all who hear it.
+    /// All stations that hear what is pending hear it spoiled in the same way.
     fn hear(&mut self) -> Result<Next<'_>, AllocError> {
         self.heard.clear();
         self.heard.extend_from_slice(&self.octets)?;
@@ -235,7 +237,7 @@ impl Events {
         Ok(Next::Event(Event::Carry { heard }))
     }
 
-    /// Each terminal hears what is pending in a way of its own.
+    /// Each terminal hears what is pending differently.
     fn hear_each(&mut self, pending: Pending) -> Result<Next<'_>, AllocError> {
         self.hearings.clear();
         for _ in 0..self.selects.len() {
@@ -245,8 +247,8 @@ impl Events {
         Ok(Next::Each(self.hearings.as_slice()))
     }
 
-    /// What one terminal hears of what is pending. Where it is a call and all is to be fair, it is
-    /// not the call, so that nobody hears it.
+    /// What one terminal hears of what is pending. If it is a call and everything has to be heard
+    /// fairly, no terminal hears the call.
     fn hearing(&mut self, pending: Pending) -> Result<Option<Vec<u8>>, AllocError> {
         if pending == Pending::Call && self.spoiling.is_fair() {
             return self.hearing_of_eot();
@@ -258,7 +260,7 @@ impl Events {
         }
     }
 
-    /// EOT or nothing is heard.
+    /// EOT or nothing.
     fn hearing_of_eot(&mut self) -> Result<Option<Vec<u8>>, AllocError> {
         if self.random.one_in(2) {
             return Ok(None);
@@ -275,7 +277,7 @@ impl Events {
     }
 }
 
-/// What is pending, where this station sent these octets.
+/// The kind of what is pending, if this station sent these octets.
 fn kind_of(speaker: Speaker, octets: &[u8]) -> Pending {
     match speaker {
         Speaker::Terminal(_) => Pending::Terminal,

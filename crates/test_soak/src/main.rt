@@ -1,7 +1,10 @@
-//! Plays random events of all kinds on random lines, and compares after each event what has to hold
-//! of a line. bench/soak runs it with more events.
+//! Plays random events of all kinds on random lines, and checks all rules of a line after each
+//! event. bench/soak runs it with more events.
 //!
-//! Its words are the number of events and a seed, by default 20,000 and 1.
+//! Its arguments are the number of events and a seed, by default 20,000 and 1.
+//!
+//! The messages are the standard's (GA27-3004); the rules that are checked are those of
+//! `test_hostile`.
 #![tactic(auto)]
 
 mod events;
@@ -24,20 +27,20 @@ fn main(rt: HostRuntime) -> Result<()> {
     run(&rt)
 }
 
-/// Plays as the command line says, and prints what was seen.
+/// Plays as the command line says, and prints what was counted.
 fn run<R: AllocGlobal + Env + Print>(rt: &R) -> Result<()> {
     let (events, seed) = asked(rt)?;
     soak(rt.alloc(), events, seed)?.print(rt)
 }
 
-/// The number of events and the seed of the command line.
+/// The number of events and the seed from the command line.
 fn asked<R: AllocGlobal + Env>(rt: &R) -> Result<(u64, u64)> {
     let mut words = Vec::new(rt.alloc());
     add_words(rt, &mut words)?;
     read_words(&words)
 }
 
-/// Adds the words of the command line, which begins with the name of the program.
+/// Adds the words of the command line, the first of which is the name of the program.
 fn add_words<R: AllocGlobal + Env>(rt: &R, words: &mut Vec<String>) -> Result<()> {
     for word in env::args(rt)? {
         words.push(word)?;
@@ -55,7 +58,7 @@ fn read_words(words: &[String]) -> Result<(u64, u64)> {
     }
 }
 
-/// Plays lines, one after the other, until this many events were played.
+/// Plays lines in order until this many events have been played.
 fn soak(alloc: Global, events: u64, seed: u64) -> Result<Report> {
     let memory = Refusing::new(alloc);
     let mut report = Report::new();
@@ -69,7 +72,7 @@ fn soak(alloc: Global, events: u64, seed: u64) -> Result<Report> {
     Ok(report)
 }
 
-/// Plays a line of this seed for at most this many events.
+/// Plays the line of this seed for at most this many events.
 fn play_line(
     alloc: Global,
     memory: &Refusing,
@@ -81,7 +84,7 @@ fn play_line(
     play_on(alloc, &mut player, seed, most, report)
 }
 
-/// Plays for at most this many events on the line of this seed.
+/// Plays at most this many events on the line of this seed.
 fn play_on(
     alloc: Global,
     player: &mut Player<'_>,
@@ -95,7 +98,7 @@ fn play_on(
     Ok(())
 }
 
-/// How many events a line is played for: few on most lines, since a line loses trust once.
+/// The number of events to play on a line: few on most lines, since a line loses trust only once.
 fn life(events: &mut Events) -> u64 {
     let most = if events.below(8) == 0 { 6000 } else { 1000 };
     (events.below(most) as u64).saturating_add(100)

@@ -1,4 +1,4 @@
-//! A line that is played under a watch.
+//! A line that is played with a watch on it.
 
 use crate::events::{Events, Next, RELEASE};
 use crate::random::Random;
@@ -9,7 +9,7 @@ use std::alloc::{AllocError, Allocator, Global};
 use test_alloc::Refusing;
 use test_hostile::{Broken, Watch};
 
-/// A line, its watch, and its events. It is owned in short functions and lent to those that play.
+/// A line, its watch and its events. Short functions own it and lend it to the functions that play.
 #[derive(Drop)]
 pub struct Player<'a> {
     pub events: Events,
@@ -19,7 +19,7 @@ pub struct Player<'a> {
     starved: bool,
 }
 
-/// What a step answers: the outer error is that memory ran out outside the line.
+/// The result of a step; the outer error is that memory ran out outside the line.
 type Answer = Result<Result<(), Broken>, AllocError>;
 
 /// A new line and its watch.
@@ -35,7 +35,7 @@ fn watched<'a>(
     Ok((watch, line))
 }
 
-/// Plays an event, whatever the line answers.
+/// Plays an event with any answer of the line.
 fn play<A: Allocator>(
     watch: &mut Watch,
     line: &mut Line<A>,
@@ -47,7 +47,7 @@ fn play<A: Allocator>(
     }
 }
 
-/// What is pending is heard by each terminal as its one of these.
+/// Each terminal hears its own item in place of what is pending.
 fn play_each<A: Allocator>(
     alloc: Global,
     watch: &mut Watch,
@@ -66,7 +66,7 @@ fn play_each<A: Allocator>(
 }
 
 impl<'a> Player<'a> {
-    /// A new line made from this seed, whose records are kept in this memory.
+    /// Makes a new line from this seed, whose records are allocated from `memory`.
     pub fn new(alloc: Global, memory: &'a Refusing, seed: u64) -> anyhow::Result<Player<'a>> {
         let mut random = Random::new(seed);
         memory.refuse_none();
@@ -85,7 +85,7 @@ impl<'a> Player<'a> {
         })
     }
 
-    /// The line finds no more memory, or finds it again.
+    /// Takes the memory from the line, or gives it back.
     fn feed(&mut self) {
         if self.starved {
             self.memory.refuse_none();
@@ -95,7 +95,7 @@ impl<'a> Player<'a> {
         self.starved = !self.starved;
     }
 
-    /// One event.
+    /// Plays one event.
     pub fn step(&mut self, alloc: Global) -> Answer {
         if self.events.below(32) == 0 {
             self.feed();

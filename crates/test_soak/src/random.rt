@@ -1,4 +1,4 @@
-//! The numbers that lines and events are made of.
+//! The random numbers from which lines and events are made.
 
 ghost use Rattle.std.specs.Prelude.{◌<◌};
 
@@ -22,7 +22,7 @@ impl Random {
         self.state.wrapping_mul(0x2545_f491_4f6c_dd1d)
     }
 
-    /// A number below the bound; 0 where that is 0.
+    /// A number below the bound; 0 if the bound is 0.
     pub fn below(&mut self, bound: usize) -> usize
         ensures { 0 < bound → result < bound }
     {
@@ -30,12 +30,12 @@ impl Random {
         if bound == 0 { 0 } else { number % bound }
     }
 
-    /// Whether one in this many comes up.
+    /// Returns true once in this many times on average.
     pub fn one_in(&mut self, many: usize) -> bool {
         self.below(many) == 0
     }
 
-    /// One of these numbers, or one from 1 to the last of them.
+    /// One of these three numbers, or any number from the least to the greatest of them.
     pub fn setting(&mut self, least: usize, middle: usize, most: usize) -> usize {
         match self.below(4) {
             0 => least,

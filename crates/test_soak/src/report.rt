@@ -1,8 +1,8 @@
-//! What was seen on all lines.
+//! Counts of what was seen on all lines.
 
 use test_hostile::Tally;
 
-/// What the numbers of a report are of, in the order in which they are printed.
+/// The names of the numbers of a report, in the order in which they are printed.
 const NAMES: [&str; 19] = [
     "events",
     "lines",
@@ -25,7 +25,7 @@ const NAMES: [&str; 19] = [
     "RVI",
 ];
 
-/// Numbers of what was seen.
+/// The counts of a report.
 #[derive(Clone, Copy)]
 pub struct Report {
     pub played: u64,
@@ -44,7 +44,7 @@ impl Report {
         }
     }
 
-    /// Adds a line that was played for this many events, and what was seen on it.
+    /// Adds a line on which this many events were played, and its counts.
     pub fn add(&mut self, events: u64, trusted: bool, tally: &Tally) {
         self.played = self.played.saturating_add(events);
         self.lines = self.lines.saturating_add(1);
@@ -54,7 +54,7 @@ impl Report {
         self.tally.add(tally);
     }
 
-    /// The numbers of which [`NAMES`] says what they are of.
+    /// The numbers, in the order of [`NAMES`].
     fn numbers(&self) -> [u64; 19] {
         let tally = &self.tally;
         [
@@ -80,7 +80,7 @@ impl Report {
         ]
     }
 
-    /// Prints the numbers, a line for each.
+    /// Prints the numbers, each on its own line.
     pub fn print(&self, rt: &impl Print) -> anyhow::Result<()> {
         let numbers = self.numbers();
         for (place, name) in NAMES.iter().enumerate() {

@@ -1,4 +1,4 @@
-//! Random lines, with the extreme settings among them.
+//! Random lines, including the extreme settings.
 
 ghost use Rattle.std.specs.Prelude.{◌<◌};
 
@@ -8,7 +8,7 @@ use bsc_bid::{Setup, Terminal};
 use bsc_frame::Address;
 use std::alloc::{AllocError, Global};
 
-/// A number as one octet, or the greatest one.
+/// The number as one octet, at most 255.
 fn octet(number: usize) -> u8 {
     u8::try_from(number).unwrap_or(u8::MAX)
 }
@@ -23,7 +23,7 @@ pub fn setup(random: &mut Random) -> anyhow::Result<Setup> {
     Ok(Setup::new(full, block_chars, tries, waits)?)
 }
 
-/// How many terminals a line has: 1 to 64, and few on most lines.
+/// The number of terminals of a line: 1 to 64, and few on most lines.
 fn terminal_count(random: &mut Random) -> usize {
     match random.below(8) {
         0 => 1,
@@ -50,7 +50,7 @@ fn terminal(alloc: Global, random: &mut Random, code: u8) -> anyhow::Result<Term
     Ok(Terminal::new(poll, &selects)?)
 }
 
-/// Adds one to four addresses of this code.
+/// Adds one to four addresses with this code.
 fn add_selects(random: &mut Random, code: u8, selects: &mut Vec<Address>) -> anyhow::Result<()> {
     for letter in b'a'..=b'd' {
         if selects.is_empty() || random.one_in(2) {
@@ -60,7 +60,7 @@ fn add_selects(random: &mut Random, code: u8, selects: &mut Vec<Address>) -> any
     Ok(())
 }
 
-/// An address of this letter and code and up to five more codes.
+/// An address that begins with this letter and code, followed by up to five more codes.
 fn address(random: &mut Random, letter: u8, code: u8) -> anyhow::Result<Address> {
     let mut codes = [letter, code, 0, 0, 0, 0, 0];
     let more = random.below(6);
@@ -70,7 +70,7 @@ fn address(random: &mut Random, letter: u8, code: u8) -> anyhow::Result<Address>
     Address::read(&codes[..2 + more]).context("no address")
 }
 
-/// How many selection addresses each terminal has.
+/// The number of selection addresses of each terminal.
 pub fn select_counts(alloc: Global, terminals: &[Terminal]) -> Result<Vec<usize>, AllocError> {
     let mut counts = Vec::new(alloc);
     for terminal in terminals {
@@ -79,7 +79,7 @@ pub fn select_counts(alloc: Global, terminals: &[Terminal]) -> Result<Vec<usize>
     Ok(counts)
 }
 
-/// A poll list for this many terminals, of 1 to 255 entries: each terminal in its order, or any.
+/// A poll list of 1 to 255 entries for this many terminals: each terminal in order, or any entries.
 pub fn poll_list(
     alloc: Global,
     random: &mut Random,

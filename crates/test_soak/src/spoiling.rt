@@ -5,7 +5,7 @@ ghost use Rattle.std.specs.Prelude.{◌<◌};
 use crate::random::Random;
 use std::alloc::AllocError;
 
-/// What befalls the transmissions of a line.
+/// What happens to the transmissions of a line.
 #[derive(Clone, Copy)]
 pub enum Spoiling {
     /// They are heard or lost.
@@ -14,7 +14,7 @@ pub enum Spoiling {
     /// They are heard, lost, or damaged so that their check fails.
     Damage,
 
-    /// As damage; but a call may also reach some terminals and not others.
+    /// Like damage, but a call may also reach some terminals and not others.
     Uneven,
 
     /// Anything may be heard in their place.
@@ -22,12 +22,12 @@ pub enum Spoiling {
 }
 
 impl Spoiling {
-    /// Whether all that is heard on such a line is fair.
+    /// Whether everything on such a line is heard fairly.
     pub fn is_fair(self) -> bool {
         matches!(self, Spoiling::Loss | Spoiling::Damage)
     }
 
-    /// Spoils these octets, where some other octets were sent before.
+    /// Spoils these octets; `earlier` are octets that were sent before.
     pub fn spoil(
         self,
         random: &mut Random,
@@ -42,7 +42,7 @@ impl Spoiling {
     }
 }
 
-/// One of these.
+/// One of the kinds, at random.
 pub fn any_spoiling(random: &mut Random) -> Spoiling {
     match random.below(6) {
         0 => Spoiling::Loss,
@@ -52,7 +52,7 @@ pub fn any_spoiling(random: &mut Random) -> Spoiling {
     }
 }
 
-/// Turns one bit of the octets.
+/// Inverts one bit of the octets.
 fn turn_bit(random: &mut Random, octets: &mut [u8]) {
     let place = random.below(octets.len());
     let bit = random.below(8);
@@ -61,7 +61,7 @@ fn turn_bit(random: &mut Random, octets: &mut [u8]) {
     }
 }
 
-/// Makes one of the octets any other.
+/// Replaces one of the octets with any octet.
 pub fn change(random: &mut Random, octets: &mut [u8]) {
     let place = random.below(octets.len());
     let value = random.octet();
@@ -70,7 +70,7 @@ pub fn change(random: &mut Random, octets: &mut [u8]) {
     }
 }
 
-/// Puts some pads after the octets, sometimes too many to be read.
+/// Adds some pads after the octets, sometimes so many that they are not decoded as a message.
 fn add_pads(random: &mut Random, octets: &mut Vec<u8>) -> Result<(), AllocError> {
     let count = if random.one_in(64) {
         2048usize.saturating_add(random.below(2))
@@ -80,8 +80,8 @@ fn add_pads(random: &mut Random, octets: &mut Vec<u8>) -> Result<(), AllocError>
     octets.resize(count, 0xff)
 }
 
-/// Damages the octets so that no other message is heard: turns one bit, adds pads, or breaks them
-/// off, where a call may become EOT.
+/// Damages the octets in such a way that no other message is heard: inverts one bit, adds pads, or
+/// breaks them off, which may make a call an EOT.
 fn damage(random: &mut Random, octets: &mut Vec<u8>) -> Result<(), AllocError> {
     match random.below(4) {
         0 => add_pads(random, octets)?,
@@ -91,9 +91,8 @@ fn damage(random: &mut Random, octets: &mut Vec<u8>) -> Result<(), AllocError> {
     Ok(())
 }
 
-/// Messages that may be heard in place of others: EOT, ENQ, NAK, ACK0, ACK1, WACK, RVI, a text
-/// whose check fails, one that carries a record, one without, and a call of an address of no
-/// terminal.
+/// Messages that may be heard in place of others: EOT, ENQ, NAK, ACK0, ACK1, WACK, RVI, a text that
+/// fails its check, one with a record, one without, and a call to an address that no terminal has.
 const OTHERS: [&[u8]; 11] = [
     b"\x16\x04",
     b"\x16\x85",
@@ -108,13 +107,14 @@ const OTHERS: [&[u8]; 11] = [
     b"\x16\x04\xff\x16\xd9\x85",
 ];
 
-/// Puts these octets in place of others.
+/// Replaces the octets with these.
 fn put(octets: &mut Vec<u8>, new: &[u8]) -> Result<(), AllocError> {
     octets.clear();
     octets.extend_from_slice(new)
 }
 
-/// Puts what is heard in place of these octets, where some other octets were sent before.
+/// Replaces these octets with what is heard in their place; `earlier` are octets that were sent
+/// before.
 fn replace(random: &mut Random, octets: &mut Vec<u8>, earlier: &[u8]) -> Result<(), AllocError> {
     match random.below(6) {
         0 => damage(random, octets)?,

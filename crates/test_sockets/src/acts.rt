@@ -1,65 +1,65 @@
-//! What is done with a station and its peers, and how it goes at the station.
+//! The acts of a station and its peers in a test, and the acts at the station.
 
 use bsc_connections::{Awaited, Wait, Waiter};
 use std::io;
 use std::io::{ErrorKind, Read, Write};
 use std::time::Instant;
 
-/// What a read answers.
+/// The result of a read.
 pub(crate) type Read4 = Result<&'static [u8], ErrorKind>;
 
-/// What is done with the peer or the connection at a place.
+/// An act at the peer or the connection with this number.
 #[derive(Clone, Copy)]
 pub(crate) enum Act {
     /// A peer sends these octets.
     Sends(usize, &'static [u8]),
 
-    /// A read of a peer answers this.
+    /// A read of a peer has this result.
     Hears(usize, Read4),
 
     /// A peer ends its connection.
     Ends(usize),
 
-    /// A peer reads all that has come.
+    /// A peer reads all octets that have arrived.
     Empties(usize),
 
     /// The station writes these octets on a connection.
     Writes(usize, &'static [u8]),
 
     /// The station writes on a connection until there is no room. The write that fails does so
-    /// after at least as many milliseconds as the first, and fewer than the second.
+    /// after at least the first number of milliseconds, and less than the second.
     Fills(usize, u128, u128),
 
-    /// A read of a connection answers this.
+    /// A read of a connection has this result.
     Reads(usize, Read4),
 
-    /// The station lets a connection go.
+    /// The station closes a connection.
     LetsGo(usize),
 
-    /// A wait answers this.
+    /// A wait has this result.
     Waits(Wait, Awaited),
 
-    /// A wait answers that the time has passed, after at least as many milliseconds as the first,
-    /// and fewer than the second.
+    /// A wait ends with a time-out, after at least the first number of milliseconds, and less than
+    /// the second.
     Passes(Wait, u128, u128),
 
-    /// Of 90 waits each of two connections and a newcomer is told at least this often.
+    /// Of 90 waits, at least this many report each of two connections and a newcomer.
     Shares(usize),
 
-    /// Nothing is left at a connection.
+    /// Nothing is left to read on a connection.
     NothingLeft(usize),
 
     /// Another peer connects.
     Comes,
 
-    /// The peer that came takes this place; false where there is none.
+    /// The peer that connected takes this place; false if there is no peer.
     Joins(usize, bool),
 
-    /// The peer that came is turned away.
+    /// The peer that connected is turned away.
     TurnsAway,
 }
 
-/// Whether what a station does goes as it says.
+/// Whether an act of the station has the expected result.
 pub(crate) fn station_goes<R: Read + Drop, W: Write + Drop, S: Waiter<R, W>>(
     rt: &HostRuntime,
     sockets: &mut S,
@@ -87,7 +87,7 @@ pub(crate) fn station_goes<R: Read + Drop, W: Write + Drop, S: Waiter<R, W>>(
     }
 }
 
-/// Whether a read of at most four octets answers this.
+/// Whether a read of at most four octets has this result.
 pub(crate) fn reads<R: Read>(reader: &mut R, expected: Read4) -> bool {
     let mut buffer = [0u8; 4];
     match reader.read(&mut buffer) {
@@ -96,12 +96,12 @@ pub(crate) fn reads<R: Read>(reader: &mut R, expected: Read4) -> bool {
     }
 }
 
-/// Whether this is a time between these, in milliseconds.
+/// Whether the time is at least `least` milliseconds and less than `most`.
 fn is_between(passed: Option<u128>, least: u128, most: u128) -> bool {
     passed.is_some_and(|passed| least <= passed && passed < most)
 }
 
-/// Whether what is done with a connection goes as it says.
+/// Whether an act at a connection has the expected result.
 fn connection_goes<R: Read, W: Write>(
     rt: &HostRuntime,
     connections: &mut [(R, W)],
@@ -115,7 +115,7 @@ fn connection_goes<R: Read, W: Write>(
     }
 }
 
-/// Whether a read of the connection at this place answers this.
+/// Whether a read of the connection at this place has this result.
 pub(crate) fn reads_at<R: Read, W>(
     connections: &mut [(R, W)],
     place: usize,
@@ -127,7 +127,7 @@ pub(crate) fn reads_at<R: Read, W>(
     }
 }
 
-/// Whether the connection at this place takes these octets.
+/// Whether the connection at this place accepts these octets.
 pub(crate) fn writes_at<R, W: Write>(
     connections: &mut [(R, W)],
     place: usize,
@@ -148,7 +148,8 @@ fn fills_at<R, W: Write>(
     fills(rt, writing)
 }
 
-/// Writes until there is no room: after how many milliseconds the last write failed for a time-out.
+/// Writes until there is no room. Returns the number of milliseconds after which the last write
+/// failed with a time-out.
 fn fills<W: Write>(rt: &HostRuntime, writing: &mut W) -> Option<u128> {
     let octets = [0x55; 4_096];
     for _ in 0..100_000u32 {
@@ -180,7 +181,7 @@ fn joins_at<R: Drop, W: Drop, S: Waiter<R, W>>(
     }
 }
 
-/// After how many milliseconds a wait answers that the time has passed.
+/// The number of milliseconds after which a wait ends with a time-out.
 fn passed<R, W, S: Waiter<R, W>>(rt: &HostRuntime, sockets: &mut S, wait: Wait) -> Option<u128> {
     let start = Instant::now(rt).ok()?;
     let awaited = sockets.wait(wait);
@@ -188,7 +189,7 @@ fn passed<R, W, S: Waiter<R, W>>(rt: &HostRuntime, sockets: &mut S, wait: Wait) 
     (awaited == Ok(Awaited::TimeOut)).then_some(passed)
 }
 
-/// Whether of 90 waits each of two connections and a newcomer is told at least this often.
+/// Whether of 90 waits at least this many report each of two connections and a newcomer.
 fn shares<R, W, S: Waiter<R, W>>(sockets: &mut S, least: usize) -> bool {
     let mut told = [0usize; 3];
     for _ in 0..90 {

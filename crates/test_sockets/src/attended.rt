@@ -12,42 +12,43 @@ use std::alloc::Global;
 use std::io::ErrorKind;
 use std::test::Fail;
 
-/// What happens on the connections of a station, and what comes of it.
+/// The octets and waits of a station, and what has to come of them.
 struct Attended {
-    /// What it shows.
+    /// What the case shows.
     shows: &'static str,
 
     first: Ends,
     second: Ends,
     newcomer: Ends,
 
-    /// Each wait, and how it is answered.
+    /// The waits, each with its result.
     waits: &'static [(Wait, Awaited)],
 
-    /// What the monitor is told. It ends the station at the last note, or else the next wait fails.
+    /// The notes that the monitor has to receive. It ends the station at the last note, or the next
+    /// wait fails.
     notes: &'static [Note<'static>],
     result: Result<(), LiveError>,
 
-    /// How often nothing was left at a connection, and how many newcomers were turned away.
+    /// How often nothing was left to read on a connection, and how many newcomers were turned away.
     counts: (u32, u32),
 }
 
-/// The first connection has something to read.
+/// The first connection has octets to read.
 const FIRST: (Wait, Awaited) = (Wait::TimeOut, Awaited::Octets { connection: 0 });
 
-/// The second connection has something to read.
+/// The second connection has octets to read.
 const SECOND: (Wait, Awaited) = (Wait::TimeOut, Awaited::Octets { connection: 1 });
 
 const TIME_PASSES: (Wait, Awaited) = (Wait::TimeOut, TimeOut);
 
 const PEER_COMES: (Wait, Awaited) = (Wait::TimeOut, Newcomer);
 
-/// What is sent for EOT and for ACK0.
+/// The octets of EOT and of ACK0.
 const EOT: &[u8] = &[0x16, 0x16, 0x04, 0xff];
 
 const ACK0: &[u8] = &[0x16, 0x16, 0x10, 0xb0, 0xff];
 
-/// The records of EOT and of ACK0.
+/// The socket records of EOT and of ACK0.
 const EOT_AND_ACK0: &[u8] = &[
     0x00, 0x04, 0x16, 0x16, 0x04, 0xff, 0x00, 0x05, 0x16, 0x16, 0x10, 0xb0, 0xff,
 ];
@@ -218,13 +219,13 @@ const OVER_GAPS: &[Attended] = &[
     },
 ];
 
-/// A new connection of these ends.
+/// A new connection with these ends.
 fn connection<F: Framing + Drop>(ends: Ends) -> Connection<Pieces, Expecting, F> {
     let (pieces, rest) = ends;
     Connection::new(Pieces { pieces }, Expecting { rest })
 }
 
-/// Whether a station is attended over these new connections as it says.
+/// Whether a station over these new connections is attended as the case says.
 fn goes_over<F: Framing + Drop>(
     connections: &mut [Connection<Pieces, Expecting, F>],
     attended: &Attended,
@@ -242,7 +243,7 @@ fn goes_over<F: Framing + Drop>(
     is_done && result == attended.result && counts == attended.counts
 }
 
-/// Whether a station is attended as it says, over connections of this framing.
+/// Whether a station is attended as the case says, over connections with this framing.
 fn goes<F: Framing + Drop>(alloc: Global, attended: &Attended) -> Result<bool, Fail> {
     let mut connections: Vec<Connection<_, _, F>> = Vec::new(alloc);
     connections.push(connection(attended.first))?;
@@ -250,7 +251,7 @@ fn goes<F: Framing + Drop>(alloc: Global, attended: &Attended) -> Result<bool, F
     Ok(goes_over(&mut connections, attended))
 }
 
-/// Fails unless a station is attended as each of these says.
+/// Fails unless each case goes as it says.
 fn play<F: Framing + Drop>(alloc: Global, table: &[Attended]) -> Result<(), Fail> {
     for attended in table {
         if !goes::<F>(alloc, attended)? {

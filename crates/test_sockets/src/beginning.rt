@@ -1,4 +1,4 @@
-//! How connections begin, and why they do not.
+//! How connections begin, and the errors if they cannot.
 
 use crate::acts::{reads_at, writes_at};
 use crate::meeting::{bound, patience, peer, settings};
@@ -10,7 +10,7 @@ use std::net::SocketAddr;
 use std::test::Fail;
 use std::time::{Duration, Instant};
 
-/// How many connections there are to what listens at this address.
+/// The number of connections to the listener at this address.
 pub(crate) fn connections_to<A: Allocator + Copy>(
     rt: &HostRuntime,
     alloc: A,
@@ -20,8 +20,7 @@ pub(crate) fn connections_to<A: Allocator + Copy>(
     Ok(begun.connections.len())
 }
 
-/// How many connections there are where this many peers may connect to this listener, each in this
-/// time.
+/// The number of connections if this many peers may connect to this listener, within this time.
 pub(crate) fn connections_at<A: Allocator + Copy>(
     rt: &HostRuntime,
     alloc: A,
@@ -34,7 +33,7 @@ pub(crate) fn connections_at<A: Allocator + Copy>(
     Ok(begun.connections.len())
 }
 
-/// Fails where another fault is told than this one, or none.
+/// Fails unless the result is this fault.
 fn is_told<T: Drop>(told: Result<T, SocketsError>, fault: SocketsError) -> Result<(), Fail> {
     match told.err() {
         Some(told) if told == fault => Ok(()),
@@ -42,7 +41,7 @@ fn is_told<T: Drop>(told: Result<T, SocketsError>, fault: SocketsError) -> Resul
     }
 }
 
-/// Fails where less than this many milliseconds have passed since then, or a second.
+/// Fails unless at least `least` milliseconds and less than a second have passed since `start`.
 fn has_passed(rt: &HostRuntime, start: Instant, least: u128) -> Result<(), Fail> {
     let passed = start.elapsed(rt)?.as_millis();
     if least <= passed && passed < 1_000 {
@@ -52,8 +51,8 @@ fn has_passed(rt: &HostRuntime, start: Instant, least: u128) -> Result<(), Fail>
     }
 }
 
-/// Addresses at which none can listen, and why. No interface of this machine has the first one,
-/// which is kept for documents (RFC 5737).
+/// Addresses at which a program cannot listen, and the faults. No interface of this machine has the
+/// first one, which is reserved for documentation (RFC 5737).
 const NO_ADDRESSES: &[(&str, SocketsError)] = &[
     ("192.0.2.1:0", SocketsError::CannotListen),
     ("127.0.0.1", SocketsError::Address),
@@ -72,7 +71,7 @@ fn what_is_no_address_here_is_named(rt: HostRuntime) -> Result<(), Fail> {
     )
 }
 
-/// This address as text.
+/// The address as text.
 pub(crate) fn text(alloc: Global, address: SocketAddr) -> Result<String, AllocError> {
     format!(in alloc; "{address}")
 }
@@ -87,7 +86,7 @@ fn an_address_in_use_is_named(rt: HostRuntime) -> Result<(), Fail> {
     )
 }
 
-/// The address at which one listened that listens no more.
+/// An address at which a listener was closed.
 fn left(rt: &HostRuntime) -> Result<SocketAddr, SocketsError> {
     let (listening, address) = bound(rt)?;
     drop(listening);
@@ -103,8 +102,8 @@ fn nobody_there_is_told_at_once(rt: HostRuntime) -> Result<(), Fail> {
     has_passed(&rt, start, 0)
 }
 
-/// How many connections there are where one waits 40 milliseconds for two peers, of which one has
-/// connected.
+/// The number of connections if a station waits 40 milliseconds for two peers, only one of which
+/// has connected.
 fn connections_of_one_peer(rt: &HostRuntime, alloc: Global) -> Result<usize, SocketsError> {
     let (listening, address) = bound(rt)?;
     let _first = peer(rt, address)?;
@@ -119,14 +118,14 @@ fn peers_that_are_missing_are_told_in_time(rt: HostRuntime) -> Result<(), Fail> 
     has_passed(&rt, start, 40)
 }
 
-/// Whether one is told of an octet that arrives on its first connection.
+/// Whether a station is told of an octet that arrives on its first connection.
 fn hears<R: Read, W, S: Waiter<R, W>>(sockets: &mut S, connections: &mut [(R, W)]) -> bool {
     let first = Awaited::Octets { connection: 0 };
     sockets.wait(Wait::TimeOut) == Ok(first) && reads_at(connections, 0, Ok(&[0x16]))
 }
 
-/// Whether one that listens hears an octet of one that has connected to it with these connections,
-/// and then nobody is there for a third one.
+/// Whether a station that listens hears an octet of a station that connected to it with these
+/// connections, and a third station then gets `NobodyThere`.
 fn listens_to<P, Q: Write>(
     rt: &HostRuntime,
     alloc: Global,
@@ -143,7 +142,8 @@ fn listens_to<P, Q: Write>(
     Ok(meets && third == Err(SocketsError::NobodyThere))
 }
 
-/// Whether one that connects and one that listens exchange an octet, and a third one is refused.
+/// Whether a station that connects and one that listens exchange an octet, and a third one is
+/// refused.
 fn meet(
     rt: &HostRuntime,
     alloc: Global,
@@ -162,7 +162,7 @@ fn two_of_ours_meet_and_a_third_is_refused(rt: HostRuntime) -> Result<(), Fail> 
     Ok(())
 }
 
-/// Each fault is one line of plain text.
+/// The faults and their messages.
 const PRINTED: &[(SocketsError, &str)] = &[
     (SocketsError::Address, "cannot read the address"),
     (SocketsError::AddressInUse, "address in use"),
@@ -173,7 +173,7 @@ const PRINTED: &[(SocketsError, &str)] = &[
     (SocketsError::Memory, "out of memory"),
 ];
 
-/// Whether this fault is printed as this text.
+/// Whether this fault has this message.
 fn is_printed(alloc: Global, fault: SocketsError, text: &str) -> Result<bool, AllocError> {
     Ok(fault.to_string(alloc)?.as_str() == text)
 }

@@ -1,11 +1,11 @@
-//! How octets are cut into transmissions.
+//! How octets are divided into transmissions.
 
 use crate::memory::Expecting;
 use bsc_carrier::CarrierError;
 use bsc_connections::{Framing, Gaps, SocketRecords};
 
-/// Whether octets are sent as these, a record and then a transmission with nothing about it, and
-/// no octets as a record are refused.
+/// Whether a socket record and a transmission without framing are sent as these octets, and a
+/// socket record without octets is refused.
 fn is_sent_as(octets: &'static [u8]) -> bool {
     let mut peer = Expecting { rest: octets };
     SocketRecords::write(&mut peer, &[0x16, 0x04]).is_ok()
@@ -19,7 +19,8 @@ fn octets_are_sent_in_their_framing(rt: HostRuntime) {
     assert!(rt; is_sent_as(&[0x00, 0x02, 0x16, 0x04, 0x10, 0xb0]));
 }
 
-/// What octets are kept of many that arrive without a gap, and whether one more is refused.
+/// The number of octets kept of many that arrive without a gap, and whether a further one is
+/// refused.
 fn kept_of_most() -> Option<(usize, bool)> {
     let mut gaps = Gaps::new();
     for _ in 0..512u16 {

@@ -1,5 +1,7 @@
-//! Tests of a station that is attended: over connections in memory, and over sockets of this
-//! machine.
+//! Tests of an attended station, over connections in memory and over sockets of this machine.
+//!
+//! Time-outs and messages are the standard's (GA27-3004); connections, socket records and gaps are
+//! this project's own.
 #![tactic(auto)]
 
 #[cfg(test)]

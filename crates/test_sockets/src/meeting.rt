@@ -1,4 +1,4 @@
-//! A station that listens, and the peers that have connected to it.
+//! A station that listens, and the peers that connected to it.
 
 use crate::acts::{Act, Read4, reads, station_goes};
 use bsc_sockets::{Begun, Listening, Settings, SocketsError, listen};
@@ -9,12 +9,12 @@ use std::net::{Shutdown, SocketAddr, TcpStream};
 use std::test::Fail;
 use std::time::Duration;
 
-/// Long enough that a test which waits this long has failed.
+/// A time so long that a test which waits for it has failed.
 pub(crate) fn patience() -> Duration {
     Duration::from_secs(5)
 }
 
-/// A silence after 40 milliseconds, and a gap of 10.
+/// A time-out of 40 milliseconds, and a gap of 10.
 pub(crate) fn settings() -> Settings {
     Settings {
         time_out: Duration::from_millis(40),
@@ -23,21 +23,21 @@ pub(crate) fn settings() -> Settings {
     }
 }
 
-/// A listener of which the system has picked the port, and its address.
+/// A listener on a port that the system chose, and its address.
 pub(crate) fn bound(rt: &HostRuntime) -> Result<(Listening, SocketAddr), SocketsError> {
     let listening = Listening::bind(rt, "127.0.0.1:0")?;
     let address = listening.address()?;
     Ok((listening, address))
 }
 
-/// A peer that has connected there and waits no longer than `patience` for octets.
+/// A peer that has connected to this address and waits at most `patience` for octets.
 pub(crate) fn peer(rt: &HostRuntime, address: SocketAddr) -> io::Result<TcpStream> {
     let stream = TcpStream::connect(rt, address)?;
     stream.set_read_timeout(Some(patience()))?;
     Ok(stream)
 }
 
-/// A station, and its peers in the order in which they came.
+/// A station, and its peers in the order in which they connected.
 #[derive(Drop)]
 pub(crate) struct Meeting<'a> {
     rt: &'a HostRuntime,
@@ -46,7 +46,7 @@ pub(crate) struct Meeting<'a> {
     peers: Vec<TcpStream>,
 }
 
-/// A station that has listened until this many peers had connected, and listens on.
+/// A station that waited until this many peers had connected, and still listens.
 fn meet<'a>(
     rt: &'a HostRuntime,
     alloc: Global,
@@ -65,7 +65,7 @@ fn meet<'a>(
     })
 }
 
-/// This many peers that have connected there.
+/// This many peers that have connected to this address.
 fn peers_of(
     rt: &HostRuntime,
     alloc: Global,
@@ -79,12 +79,12 @@ fn peers_of(
     Ok(peers)
 }
 
-/// How a station and its peers meet, and what is done then.
+/// A station, its peers and their acts.
 pub(crate) struct Encounter {
-    /// What it shows.
+    /// What the case shows.
     pub(crate) shows: &'static str,
 
-    /// How many peers connect.
+    /// The number of peers that connect.
     pub(crate) peers: u16,
 
     /// Whether the station begins without delay.
@@ -93,7 +93,7 @@ pub(crate) struct Encounter {
     pub(crate) acts: &'static [Act],
 }
 
-/// Plays each of these with a new station.
+/// Plays each of these cases with a new station.
 pub(crate) fn play(rt: &HostRuntime, alloc: Global, encounters: &[Encounter]) -> Result<(), Fail> {
     for encounter in encounters {
         if let Some(place) = first_wrong(rt, alloc, encounter)? {
@@ -104,7 +104,7 @@ pub(crate) fn play(rt: &HostRuntime, alloc: Global, encounters: &[Encounter]) ->
     Ok(())
 }
 
-/// The place of the first act that goes otherwise.
+/// The place of the first act with another result.
 fn first_wrong(
     rt: &HostRuntime,
     alloc: Global,
@@ -117,7 +117,7 @@ fn first_wrong(
 }
 
 impl<'a> Meeting<'a> {
-    /// Whether this goes as it says.
+    /// Whether this act has the expected result.
     fn goes(&mut self, act: &Act) -> bool {
         match *act {
             Act::Comes => self.comes(),
@@ -134,7 +134,7 @@ impl<'a> Meeting<'a> {
         }
     }
 
-    /// The place of the first of these that goes otherwise.
+    /// The place of the first of these acts with another result.
     fn first_wrong(&mut self, acts: &[Act]) -> Option<usize> {
         for (place, act) in acts.iter().enumerate() {
             if !self.goes(act) {
@@ -152,7 +152,7 @@ impl<'a> Meeting<'a> {
     }
 }
 
-/// Whether what is done with a peer goes as it says.
+/// Whether an act of a peer has the expected result.
 fn peer_goes(peers: &mut [TcpStream], act: &Act) -> bool {
     match *act {
         Act::Sends(peer, octets) => sends_at(peers, peer, octets),
@@ -191,7 +191,7 @@ fn empties_at(peers: &mut [TcpStream], peer: usize) -> bool {
     }
 }
 
-/// Reads until nothing is there: whether it ends.
+/// Reads until nothing is left, and returns whether that happens.
 fn empties<R: Read>(reader: &mut R) -> bool {
     let mut buffer = [0u8; 4_096];
     for _ in 0..100_000u32 {

@@ -1,23 +1,23 @@
-//! A reader that gives what it is told to, a writer that takes what is expected of it, and a waiter
-//! that answers what it is told to.
+//! A reader with given octets, a writer that accepts only given octets, and a waiter with given
+//! results.
 
 use bsc_connections::{Awaited, LiveError, Wait, Waiter};
 use std::io;
 use std::io::{Error, ErrorKind, Read, Write};
 
-/// What one read gives.
+/// The result of one read.
 #[derive(Clone, Copy)]
 pub(crate) enum Piece {
-    /// These octets, or as many of them as there is room for.
+    /// These octets, or as many of them as fit in the buffer.
     Octets(&'static [u8]),
     /// An error of this kind.
     Fails(ErrorKind),
 }
 
-/// What a connection gives, and the octets that it is to take.
+/// The reads of a connection, and the octets that have to be written on it.
 pub(crate) type Ends = (&'static [Piece], &'static [u8]);
 
-/// Gives these pieces in order, and then ends.
+/// Returns these pieces in order, and then the end of the stream.
 #[derive(Drop)]
 pub(crate) struct Pieces {
     pub(crate) pieces: &'static [Piece],
@@ -39,7 +39,7 @@ impl Read for Pieces {
     }
 }
 
-/// Takes these octets in order, and fails at any other octet.
+/// Accepts these octets in order, and fails at any other octet.
 #[derive(Drop)]
 pub(crate) struct Expecting {
     pub(crate) rest: &'static [u8],
@@ -61,15 +61,15 @@ impl Write for Expecting {
     }
 }
 
-/// Answers each wait in order where it is of the kind that is given with its answer, and then
-/// fails. Each newcomer has these ends.
+/// Returns the given results of waits in order, as long as each wait is of the kind given with its
+/// result, and then fails. Each newcomer has these ends.
 #[derive(Drop)]
 pub(crate) struct Told {
     pub(crate) waits: &'static [(Wait, Awaited)],
     pub(crate) newcomer: Ends,
-    /// How often nothing was left at a connection.
+    /// How often nothing was left to read on a connection.
     pub(crate) nothing_left: u32,
-    /// How many newcomers were turned away.
+    /// The number of newcomers that were turned away.
     pub(crate) turned_away: u32,
 }
 

@@ -1,4 +1,4 @@
-//! Each growth is refused in turn.
+//! Each growth of memory is refused in turn.
 
 use crate::beginning::{connections_at, connections_to, text};
 use crate::meeting::{bound, patience, peer, settings};
@@ -10,7 +10,7 @@ use std::net::SocketAddr;
 use std::test::Fail;
 use test_alloc::{Refusal, Refusing};
 
-/// Fails unless one connection is told, or a refused growth where there was one.
+/// Fails unless there is one connection, or a growth was refused and the result is out of memory.
 fn is_told(alloc: &Refusing<Global>, begun: Result<usize, SocketsError>) -> Result<(), Fail> {
     match begun {
         Ok(1) if alloc.refused() == 0 => Ok(()),
@@ -19,7 +19,7 @@ fn is_told(alloc: &Refusing<Global>, begun: Result<usize, SocketsError>) -> Resu
     }
 }
 
-/// A peer connects to one that listens, and each growth at it may be refused.
+/// A peer connects to a station that listens, while growths of the station may be refused.
 fn listen_to_one(rt: &HostRuntime, alloc: &Refusing<Global>) -> Result<(), Fail> {
     let (listening, address) = bound(rt)?;
     let _far = peer(rt, address)?;
@@ -36,7 +36,7 @@ fn each_growth_at_the_one_that_listens(rt: HostRuntime) -> Result<(), Fail> {
     Ok(())
 }
 
-/// Each growth at one that connects there is refused in turn.
+/// Each growth of a station that connects is refused in turn.
 fn connect_in_turn(rt: &HostRuntime, alloc: &Refusing<Global>, address: &str) -> Result<(), Fail> {
     for request in alloc.in_turn(Refusal::Nth, 7..15) {
         request?;
@@ -52,7 +52,8 @@ fn each_growth_at_the_one_that_connects(rt: HostRuntime) -> Result<(), Fail> {
     connect_in_turn(&rt, &Refusing::new(rt.alloc()), text.as_str())
 }
 
-/// A station with one place, whose peer has gone, and the address at which it listens.
+/// A station with one place, whose peer has closed its connection, and the address at which it
+/// listens.
 fn without_peer<'a, A: Allocator + Copy>(
     rt: &'a HostRuntime,
     alloc: A,
@@ -63,8 +64,8 @@ fn without_peer<'a, A: Allocator + Copy>(
     Ok((begun.sockets, address))
 }
 
-/// Whether a newcomer that is there joins, and reads an end then: what joined was let go at once,
-/// and what did not has been turned away. The next growth may be refused.
+/// Waits for a newcomer and returns whether it joins. Its connection is closed at once in either
+/// case, so that it reads the end. The next growth may be refused.
 fn joins<R: Drop, W: Drop, S: Waiter<R, W>>(
     alloc: &Refusing<Global>,
     sockets: &mut S,
@@ -80,7 +81,7 @@ fn joins<R: Drop, W: Drop, S: Waiter<R, W>>(
     Ok(sockets.join(0).is_some())
 }
 
-/// A newcomer for whom a growth is refused, or not.
+/// A newcomer, for which a growth is refused or not.
 fn newcomer<R: Drop, W: Drop, S: Waiter<R, W>>(
     rt: &HostRuntime,
     alloc: &Refusing<Global>,
@@ -98,7 +99,7 @@ fn newcomer<R: Drop, W: Drop, S: Waiter<R, W>>(
     Ok(())
 }
 
-/// A newcomer for whom a growth is refused is turned away, and the next one joins.
+/// A newcomer for which a growth is refused is turned away, and the next one joins.
 fn two_newcomers<R: Drop, W: Drop, S: Waiter<R, W>>(
     rt: &HostRuntime,
     alloc: &Refusing<Global>,

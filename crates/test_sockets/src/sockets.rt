@@ -1,4 +1,4 @@
-//! What arrives at a station, and what it sends.
+//! The octets that a station receives and sends.
 
 use crate::acts::Act;
 use crate::acts::Act::{
@@ -10,7 +10,7 @@ use bsc_connections::{Awaited, Wait};
 use std::io::ErrorKind;
 use std::test::Fail;
 
-/// The first connection may have something to read.
+/// The first connection may have octets to read.
 const FIRST: Awaited = Awaited::Octets { connection: 0 };
 
 const NOTHING_THERE: Act = Reads(0, Err(ErrorKind::WouldBlock));

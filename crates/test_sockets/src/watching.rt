@@ -1,5 +1,5 @@
-//! A station that answers whatever is a transmission, and a monitor that compares what it is told
-//! with what is expected.
+//! A station that answers every message, and a monitor that compares its notes with the expected
+//! ones.
 
 ghost use Rattle.std.specs.Prelude.{◌≡◌};
 
@@ -8,7 +8,7 @@ use bsc_carrier::CarrierError;
 use bsc_connections::{LiveError, Monitor, Note};
 use bsc_frame::{Heard, Message, Reply};
 
-/// Answers ACK0 to a message and NAK to a text that failed, and sends EOT at a silence.
+/// Answers a message with ACK0 and a failed text with NAK, and sends EOT after a silence.
 #[derive(Drop)]
 pub(crate) struct Answers;
 
@@ -41,18 +41,18 @@ impl Station for Answers {
     ghost ignores_noise = { λ old new sent hears. hears refl };
 }
 
-/// Expects some notes in order, and fails at any other note.
+/// Expects these notes in order, and fails at any other note.
 #[derive(Drop)]
 pub(crate) struct Expects {
     notes: &'static [Note<'static>],
-    /// How many notes came.
+    /// The number of notes so far.
     taken: usize,
     ends: bool,
     has_ended: bool,
 }
 
-/// The octets of a note, the place of its connection, and why that is closed. No two kinds of notes
-/// have the same of these.
+/// The octets of a note, the number of its connection, and the reason for closing it. Notes of
+/// different kinds never have the same parts.
 fn parts<'a>(
     note: &Note<'a>,
 ) -> (
@@ -70,7 +70,7 @@ fn parts<'a>(
 }
 
 impl Expects {
-    /// Expects these notes, and ends the station at the last of them where it is to.
+    /// Expects these notes, and ends the station at the last of them if `ends` is true.
     pub(crate) fn new(notes: &'static [Note<'static>], ends: bool) -> Expects {
         Expects {
             notes,
@@ -80,7 +80,7 @@ impl Expects {
         }
     }
 
-    /// Whether this is the note that is expected, after which the next one is.
+    /// Whether this is the next expected note. The one after it is expected next.
     fn is_next(&mut self, note: &Note<'_>) -> bool
         ensures { self.new.has_ended ≡ self.old.has_ended }
     {
@@ -92,7 +92,7 @@ impl Expects {
         }
     }
 
-    /// Whether each note came.
+    /// Whether all notes have come.
     pub(crate) fn is_done(&self) -> bool {
         self.taken == self.notes.len()
     }

@@ -1,4 +1,4 @@
-//! A control station by itself.
+//! Tests of a control station by itself.
 
 mod exchange;
 
@@ -62,7 +62,7 @@ const POLLS: &[Exchange<'static>] = &[
     },
 ];
 
-/// Terminals are selected, and take the records for them.
+/// Terminals are selected, and receive the records for them.
 const SELECTIONS: &[Exchange<'static>] = &[
     Exchange {
         shows: "seven records go in one block",
@@ -167,7 +167,7 @@ const SELECTIONS: &[Exchange<'static>] = &[
     },
 ];
 
-/// One failure is borne.
+/// Bids with a limit of one failure.
 const FAILURES: &[Exchange<'static>] = &[
     Exchange {
         shows: "a terminal that does not answer is left",
@@ -223,7 +223,7 @@ fn failures_are_borne_as_often_as_is_set(rt: HostRuntime) -> Result<(), Fail> {
     Ok(())
 }
 
-/// Nothing happens at a new station.
+/// A new station to which nothing happens.
 const NEW: Exchange<'static> = Exchange {
     shows: "a new station takes memory",
     poll_list: &[0, 1],
@@ -254,8 +254,8 @@ const REFUSED_GROWTHS: &[Exchange<'static>] = &[
     },
 ];
 
-/// Plays these exchanges, in each of which the growth of this number is refused: what the first one
-/// that goes otherwise, or in which none is refused, shows.
+/// Plays these exchanges, and refuses the growth of this number in each. Returns what the first
+/// exchange shows that has other results or no refused growth.
 fn play_without(alloc: &Refusing, setup: Setup, growth: usize) -> Result<(), &'static str> {
     for exchange in REFUSED_GROWTHS {
         alloc.refuse_nth(growth);
@@ -275,7 +275,7 @@ fn a_refused_growth_changes_only_a_reply(rt: HostRuntime) -> Result<(), Fail> {
     Ok(())
 }
 
-/// Whether a new station is made exactly where no growth is refused.
+/// Whether a new station is made exactly if no growth is refused.
 fn is_made_of_memory(alloc: &Refusing, setup: Setup) -> bool {
     match play(alloc, setup, &NEW) {
         Ok(_) => alloc.refused() == 0,

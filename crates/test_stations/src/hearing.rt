@@ -1,4 +1,4 @@
-//! What a station of either kind sends once it has heard octets, or a silence.
+//! What a station of either kind sends after it hears octets or a silence.
 
 ghost use Rattle.std.specs.Prelude.{◌⊎◌, Option};
 ghost use Rattle.bsc_frame.specs.declared.message.Message.{Message as MessageValue};
@@ -7,17 +7,18 @@ ghost use Rattle.bsc_frame.specs.declared.message.Heard.{Heard as HeardValue};
 use bsc_bid::Station;
 use bsc_frame::Wire;
 
-/// Nothing is heard for the time of a time-out.
+/// Nothing is heard until a time-out.
 pub(crate) const SILENCE: &[u8] = &[];
 
 /// Nothing is sent.
 pub(crate) const QUIET: &[u8] = &[];
 
-/// An octet with which nothing that is sent begins.
+/// An octet with which no transmission begins.
 const NO_TRANSMISSION: u8 = 0x55;
 
-/// Whether a station that hears these octets, or a silence where there are none, sends exactly the
-/// expected ones, and answers whether it sends any. The wire has an octet before.
+/// Whether a station that hears these octets, or a silence if there are none, sends exactly the
+/// expected ones and reports correctly whether it sends any. The buffer contains another octet
+/// before.
 pub(crate) fn sends<S: Station>(station: &mut S, heard: &[u8], expected: &[u8]) -> bool
     ensures { ((heard : HeardValue) × ((sent : Option MessageValue)
         × S.hears station.old heard station.new sent))

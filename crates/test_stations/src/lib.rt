@@ -1,5 +1,8 @@
-//! Tests of single stations: worked exchanges of a control station and of a terminal, in octets, as
-//! who uses one of the two libraries by itself plays them against stations of another maker.
+//! Tests of single stations: exchanges of a control station and of a terminal, in octets, as a
+//! program uses one of the two libraries with stations of another manufacturer.
+//!
+//! What the stations send in reply to what is the standard's (GA27-3004); doubt, release and
+//! refused growths are this project's own.
 #![tactic(auto)]
 
 #[cfg(test)]

@@ -1,4 +1,4 @@
-//! A terminal by itself.
+//! Tests of a terminal by itself.
 
 mod exchange;
 
@@ -195,8 +195,8 @@ const REFUSED_GROWTHS: &[Exchange<'static>] = &[
     },
 ];
 
-/// Plays these exchanges, in each of which the first growth is refused: what the first one that
-/// goes otherwise, or in which no growth is refused, shows.
+/// Plays these exchanges, and refuses the first growth in each. Returns what the first exchange
+/// shows that has other results or no refused growth.
 fn play_without_growth(alloc: &Refusing, setup: Setup) -> Result<(), &'static str>
     requires { setup.format.full ≡ 80 }
 {

@@ -1,4 +1,4 @@
-//! Configurations that are read whole.
+//! Configurations that are read without an error.
 
 use bsc_bid::{Setup, Terminal};
 use bsc_config::{Config, read_config};
@@ -8,7 +8,7 @@ use std::test::Fail;
 /// The addresses of a terminal: its polling address, and its selection addresses.
 type Addresses<'a> = (&'a str, &'a [&'a str]);
 
-/// A document, and the configuration that it says.
+/// A document, and the configuration that it describes.
 struct Configuration<'a> {
     document: &'a str,
     full: u8,
@@ -42,7 +42,7 @@ select = \"b\"
         terminals: TWO,
         poll_list: &[0, 1],
     },
-    // This line in version 2, with its keys in another order.
+    // The same line in version 2, with its keys in another order.
     Configuration {
         document: "terminals = [
   { select = [\"a\"], poll = \"A\" }, # the first
@@ -58,7 +58,7 @@ version = 2
         terminals: TWO,
         poll_list: &[0, 1],
     },
-    // This line with each number given, in lines that end with a carriage return.
+    // The same line with each number given, in lines that end with a carriage return.
     Configuration {
         document: "version = 1\r\npoll_list = [0, 1]\r\nfull = 0x51\r\nblock_chars = 3_00\r
 tries = +7\r\nwaits = 255\r\n\r\n[[terminals]]\r\npoll = \"A\"\r\nselect = \"a\"\r
@@ -70,7 +70,7 @@ tries = +7\r\nwaits = 255\r\n\r\n[[terminals]]\r\npoll = \"A\"\r\nselect = \"a\"
         terminals: TWO,
         poll_list: &[0, 1],
     },
-    // Four selection addresses, of up to seven characters, in their order.
+    // Four selection addresses of up to seven characters, whose order is kept.
     Configuration {
         document: "version = 2
 poll_list = [0, 0]
@@ -85,7 +85,7 @@ terminals = [{ poll = \"A\", select = [\"!\", \"c\", \"abcdefg\", \"~\"] }]
     },
 ];
 
-/// Whether a terminal has these selection addresses.
+/// Whether a terminal has exactly these selection addresses.
 fn has_selects(terminal: &Terminal, selects: &[&str]) -> bool {
     if terminal.selects() != selects.len() {
         return false;
@@ -98,7 +98,7 @@ fn has_selects(terminal: &Terminal, selects: &[&str]) -> bool {
     true
 }
 
-/// Whether the terminals have these addresses.
+/// Whether the terminals have exactly these addresses.
 fn have_addresses(terminals: &[Terminal], wanted: &[Addresses<'_>]) -> bool {
     for (terminal, (poll, selects)) in terminals.iter().zip(wanted) {
         if terminal.poll().codes() != poll.as_bytes() || !has_selects(terminal, selects) {
@@ -108,7 +108,7 @@ fn have_addresses(terminals: &[Terminal], wanted: &[Addresses<'_>]) -> bool {
     terminals.len() == wanted.len()
 }
 
-/// Whether this is the configuration that was wanted, with these settings.
+/// Whether this is the expected configuration, with these settings.
 fn is_wanted(config: &Config, wanted: &Configuration<'_>, setup: Setup) -> bool {
     config.setup() == setup
         && config.terminals() == wanted.terminals.len()
@@ -116,7 +116,7 @@ fn is_wanted(config: &Config, wanted: &Configuration<'_>, setup: Setup) -> bool 
         && config.poll_list() == wanted.poll_list
 }
 
-/// Whether a document is read as the configuration that is wanted.
+/// Whether a document is read as the expected configuration.
 fn is_read(alloc: Global, wanted: &Configuration<'_>) -> Result<bool, Fail> {
     let setup = Setup::new(wanted.full, wanted.block_chars, wanted.tries, wanted.waits)?;
     let config = read_config(alloc, wanted.document.as_bytes())?;

@@ -1,11 +1,11 @@
-//! Documents of a configuration that are alike, and what is answered for each.
+//! Documents of a configuration that differ in one part, and the result for each.
 
 use bsc_config::read_config;
 use std::alloc::Global;
 use std::process::Abort;
 use std::test::Fail;
 
-/// Two terminals of version 1.
+/// Two terminals in version 1.
 pub(crate) const TERMINALS: &str = "
 [[terminals]]
 poll = \"A\"
@@ -16,20 +16,20 @@ poll = \"B\"
 select = \"b\"
 ";
 
-/// Documents that are alike but for one part.
+/// Documents that differ in one part only.
 pub(crate) struct Documents<'a> {
-    /// What stands before that part.
+    /// The text before this part.
     pub(crate) before: &'a str,
 
-    /// What stands after it.
+    /// The text after it.
     pub(crate) after: &'a str,
 
-    /// That part of each document, and what is answered: `read` where the document is a
-    /// configuration, else the fault.
+    /// This part of each document, and the result: `read` if the document is a configuration,
+    /// otherwise the message of the error.
     pub(crate) rows: &'a [(&'a str, &'a str)],
 }
 
-/// Whether this is answered for a document.
+/// Whether a document has this result.
 pub(crate) fn is_answer(alloc: Global, document: &str, answer: &str) -> Result<bool, Fail> {
     match read_config(alloc, document.as_bytes()) {
         Ok(_) => Ok(answer == "read"),
@@ -37,7 +37,7 @@ pub(crate) fn is_answer(alloc: Global, document: &str, answer: &str) -> Result<b
     }
 }
 
-/// The first row for which something else is answered.
+/// The first row with another result.
 fn first_wrong<'a>(
     alloc: Global,
     documents: &Documents<'a>,
@@ -56,7 +56,7 @@ fn first_wrong<'a>(
     Ok(None)
 }
 
-/// Asserts that each of these documents has its answer.
+/// Asserts that each of these documents has its result.
 pub(crate) fn are_answered(
     rt: &impl Abort,
     alloc: Global,

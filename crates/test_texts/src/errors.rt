@@ -1,4 +1,4 @@
-//! The texts of errors that no other test prints.
+//! The messages of errors that no other test prints.
 
 use bsc_bid::{ReleaseError, SettingError, TerminalError};
 use bsc_block::{FormatError, RecordError};

@@ -1,17 +1,16 @@
-//! Each form of a line of a script that is an event.
+//! Each form of an event line in a script.
 
 use bsc_control::Way;
 use bsc_script::{Action, Transmission, read_script};
 use std::alloc::{Allocator, Global};
 
-/// An event: what it is, its terminal, the selection address or the number that goes with it, and
-/// its octets.
+/// An event: its name, its terminal, its selection address or other number, and its octets.
 type Event<'a> = (&'static str, usize, usize, &'a [u8]);
 
-/// Lines, and the event that each is.
+/// Lines, and their events.
 const EVENTS: &[(&[u8], Event<'static>)] = &[
-    // Offers: the record is what follows the space, spaces included. Without that space it is
-    // empty.
+    // Offers: the record is everything after the space, including further spaces. Without that
+    // space it is empty.
     (b"offer-at 0 HI", ("offer at", 0, 0, b"HI")),
     (b"offer-at 0", ("offer at", 0, 0, b"")),
     (b"offer-at 0 ", ("offer at", 0, 0, b"")),
@@ -26,8 +25,7 @@ const EVENTS: &[(&[u8], Event<'static>)] = &[
     (b"offer-to 3 9", ("offer for", 3, 9, b"")),
     (b"offer-to 3 9 ", ("offer for", 3, 9, b"")),
     (b"offer-to 63 0  a b ", ("offer for", 63, 0, b" a b ")),
-    // What happens to what is pending. Where each terminal hears an item, the number is that of
-    // the items.
+    // Events for what is pending. If each terminal hears an item, the number is that of the items.
     (b"carry", ("carry", 0, 0, b"")),
     (b"lose", ("lose", 0, 0, b"")),
     (b"silence", ("silence", 0, 0, b"")),
@@ -36,7 +34,7 @@ const EVENTS: &[(&[u8], Event<'static>)] = &[
     (b"heard  1 6 ", ("heard", 0, 0, b"\x16")),
     (b"heard-each -", ("heard each", 0, 1, b"")),
     (b"heard-each 01 02 03", ("heard each", 0, 3, b"")),
-    // Terminals that are ready or urgent, and doubts that are ended.
+    // Terminals that are ready or ask for the line, and doubts that are ended.
     (b"ready 0", ("ready", 0, 0, b"")),
     (b"ready 999", ("ready", 999, 0, b"")),
     (b"unready 10", ("unready", 10, 0, b"")),
@@ -50,7 +48,7 @@ const EVENTS: &[(&[u8], Event<'static>)] = &[
     (b"release 010 from", ("release from", 10, 0, b"")),
 ];
 
-/// The event that is asked for.
+/// The event of a step of a script.
 fn event_of<'a, A: Allocator>(action: &'a Action<'a, A>) -> Event<'a> {
     match action {
         Action::OfferAt { terminal, codes } => ("offer at", *terminal, 0, codes),
@@ -71,7 +69,7 @@ fn event_of<'a, A: Allocator>(action: &'a Action<'a, A>) -> Event<'a> {
     }
 }
 
-/// What an event is that makes a terminal ready or not.
+/// The name of the event that makes a terminal ready or not ready.
 fn ready_name(ready: bool) -> &'static str {
     if ready { "ready" } else { "unready" }
 }
@@ -84,7 +82,7 @@ fn release_of(terminal: usize, way: Way) -> Event<'static> {
     }
 }
 
-/// Whether a script of this one line asks for this event.
+/// Whether a script with only this line has this event.
 fn is_event(alloc: Global, line: &[u8], event: Event<'_>) -> bool {
     match read_script(alloc, line) {
         Ok(script) => match script.steps() {
@@ -113,7 +111,7 @@ const ITEMS: &[(&[u8], &[Option<&[u8]>])] = &[
     (b"heard-each 00 -", &[Some(b"\x00"), None]),
 ];
 
-/// Whether this is heard.
+/// Whether the item is this hearing.
 fn is_item<A: Allocator>(item: &Option<Transmission<A>>, heard: Option<&[u8]>) -> bool {
     match item {
         Some(octets) => heard == Some(octets.as_slice()),
@@ -121,7 +119,7 @@ fn is_item<A: Allocator>(item: &Option<Transmission<A>>, heard: Option<&[u8]>) -
     }
 }
 
-/// Whether each terminal hears this.
+/// Whether the terminals hear exactly these items.
 fn are_items<A: Allocator>(action: &Action<'_, A>, heard: &[Option<&[u8]>]) -> bool {
     let Action::HeardEach { items } = action else {
         return false;
@@ -134,7 +132,7 @@ fn are_items<A: Allocator>(action: &Action<'_, A>, heard: &[Option<&[u8]>]) -> b
     items.len() == heard.len()
 }
 
-/// Whether a script of this one line has each terminal hear this.
+/// Whether a script with only this line lets the terminals hear this.
 fn is_heard_so(alloc: Global, line: &[u8], heard: &[Option<&[u8]>]) -> bool {
     match read_script(alloc, line) {
         Ok(script) => match script.steps() {

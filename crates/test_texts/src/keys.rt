@@ -1,12 +1,12 @@
-//! Documents that are no TOML, or whose keys are not those of a configuration.
+//! Documents that are not TOML, or whose keys are not those of a configuration.
 
 use crate::documents::{Documents, are_answered};
 use bsc_config::{ConfigError, Key, Owner, read_config};
 use std::test::Fail;
 
-/// Documents whose keys are wrong.
+/// Documents with wrong keys.
 const DOCUMENTS: &[Documents<'static>] = &[
-    // Texts that are no TOML document.
+    // Texts that are not TOML documents.
     Documents {
         before: "",
         after: "",
@@ -17,8 +17,8 @@ const DOCUMENTS: &[Documents<'static>] = &[
             ("version = 1 poll_list = [0]\n", "config: not toml"),
         ],
     },
-    // The least unknown key of the document comes first, and then those of the terminals, before
-    // any key that is missing.
+    // The least unknown key of the document is reported first, and then those of the terminals,
+    // before any missing key.
     Documents {
         before: "",
         after: "",
@@ -52,7 +52,7 @@ const DOCUMENTS: &[Documents<'static>] = &[
             ),
         ],
     },
-    // Keys that are missing, in their order, before any wrong value.
+    // Missing keys are reported in their order, before any wrong value.
     Documents {
         before: "",
         after: "",
@@ -85,7 +85,7 @@ fn unknown_keys_come_before_missing_keys(rt: HostRuntime) -> Result<(), Fail> {
     are_answered(&rt, rt.alloc(), DOCUMENTS)
 }
 
-/// Octets that are no text are no TOML document.
+/// Octets that are not UTF-8 are not a TOML document.
 #[test]
 fn octets_that_are_no_text_are_not_toml(rt: HostRuntime) -> Result<(), Fail> {
     let error = read_config(rt.alloc(), b"# \xff\n").err();

@@ -1,10 +1,11 @@
-//! The most terminals and the longest poll list of a configuration, and one more of each.
+//! The greatest number of terminals and of poll list entries of a configuration, and one more of
+//! each.
 
 use crate::documents::{TERMINALS, is_answer};
 use std::alloc::Global;
 use std::test::Fail;
 
-/// A document with this poll list and this many terminals, whose addresses differ.
+/// A document with this poll list and this many terminals, whose addresses all differ.
 fn many_terminals(alloc: Global, poll_list: &str, count: usize) -> Result<String, Fail> {
     let mut text = format!(in alloc; "version = 1\npoll_list = {poll_list}\n")?;
     for number in 0..count {
@@ -16,7 +17,7 @@ fn many_terminals(alloc: Global, poll_list: &str, count: usize) -> Result<String
     Ok(text)
 }
 
-/// A document with two terminals, and a poll list of this many entries.
+/// A document with two terminals and a poll list of this many entries.
 fn long_poll_list(alloc: Global, entries: usize) -> Result<String, Fail> {
     let mut text = format!(in alloc; "version = 1\npoll_list = [0")?;
     for _ in 1..entries {
@@ -27,7 +28,7 @@ fn long_poll_list(alloc: Global, entries: usize) -> Result<String, Fail> {
     Ok(text)
 }
 
-/// Whether this many terminals have this answer.
+/// Whether a document with this many terminals has this result.
 fn terminals_have(
     alloc: Global,
     poll_list: &str,
@@ -38,7 +39,7 @@ fn terminals_have(
     is_answer(alloc, document.as_str(), answer)
 }
 
-/// Whether a poll list of this many entries has this answer.
+/// Whether a document with this many poll list entries has this result.
 fn entries_have(alloc: Global, entries: usize, answer: &str) -> Result<bool, Fail> {
     let document = long_poll_list(alloc, entries)?;
     is_answer(alloc, document.as_str(), answer)

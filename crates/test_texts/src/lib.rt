@@ -1,5 +1,7 @@
-//! Tests of the texts that are read and printed: configurations, scripts, and the errors of the
-//! libraries, as a user of these libraries meets them.
+//! Tests of the texts that the libraries read and print: configurations, scripts, and errors.
+//!
+//! All of these texts are this project's own; the settings and events in them are those of the line
+//! procedure (GA27-3004).
 #![tactic(auto)]
 
 #[cfg(test)]

@@ -3,7 +3,7 @@
 use crate::documents::{Documents, TERMINALS, are_answered};
 use std::test::Fail;
 
-/// Documents that are right but for one number.
+/// Documents that are right except for one number.
 const DOCUMENTS: &[Documents<'static>] = &[
     // Each limit of each number, from both sides.
     Documents {
@@ -28,7 +28,7 @@ const DOCUMENTS: &[Documents<'static>] = &[
             ("waits = 256", "config: wrong value of waits"),
         ],
     },
-    // A number is a TOML integer in any form, and no other value.
+    // A number is a TOML integer in any form; no other value is accepted.
     Documents {
         before: "version = 1\npoll_list = [0]\nfull = ",
         after: TERMINALS,

@@ -1,11 +1,11 @@
-//! Configurations that no line can be made of, in the order of the refusals.
+//! Configurations that are read but do not describe a line, in the order of the errors.
 
 use crate::documents::{Documents, TERMINALS, are_answered};
 use std::test::Fail;
 
-/// Documents of which each value is right.
+/// Documents in which each value is right.
 const DOCUMENTS: &[Documents<'static>] = &[
-    // Addresses that are the same, with their numbers, before a poll list that is empty.
+    // Addresses that are the same are reported with their numbers, before an empty poll list.
     Documents {
         before: "version = 2\npoll_list = []\nterminals = [",
         after: "]\n",
@@ -29,7 +29,7 @@ const DOCUMENTS: &[Documents<'static>] = &[
             ),
         ],
     },
-    // Poll lists that are empty, or that name no terminal.
+    // Poll lists that are empty, or that name a terminal that does not exist.
     Documents {
         before: "version = 1\npoll_list = ",
         after: TERMINALS,

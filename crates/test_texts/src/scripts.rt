@@ -1,12 +1,12 @@
-//! The lines of a script: their numbers, those that are no event, and the most that fits.
+//! The lines of a script: their numbers, lines that are not events, and the longest scripts.
 
 use bsc_script::{Script, ScriptError, read_script};
 use std::alloc::{AllocError, Allocator, Global};
 use std::test::Fail;
 use test_alloc::{Refusal, Refusing};
 
-/// Scripts, and the numbers of the lines that are events. Comments and empty lines are counted, and
-/// the last line feed may be missing.
+/// Scripts, and the numbers of their event lines. Comments and empty lines are counted, and the
+/// last line feed may be missing.
 const NUMBERED: &[(&[u8], &[u64])] = &[
     (b"", &[]),
     (b"\n", &[]),
@@ -20,9 +20,9 @@ const NUMBERED: &[(&[u8], &[u64])] = &[
     (b"carry\nlose\nsilence\nready 0\n", &[1, 2, 3, 4]),
 ];
 
-/// Lines that are no event.
+/// Lines that are not events.
 const WRONG: &[&[u8]] = &[
-    // Words that are missing, too many, spelled otherwise, or two spaces apart.
+    // Words that are missing, too many, spelled differently, or two spaces apart.
     b" ",
     b"   ",
     b" # x",
@@ -56,7 +56,8 @@ const WRONG: &[&[u8]] = &[
     b"offer-to 0 10 HI",
     b"offer-to 0 HI",
     b"release",
-    // Numbers that have no digit, four of them, or other characters; and settings with more words.
+    // Numbers without a digit, with four digits or with other characters; and settings with more
+    // words.
     b"offer-at x HI",
     b"offer-at 0000 HI",
     b"offer-at 1000",
@@ -94,7 +95,7 @@ const WRONG: &[&[u8]] = &[
     b"release 0 to 10",
     b"release 0 to  1",
     b"release 0 to 1 ",
-    // Octets that are none, or in no hexadecimal text.
+    // Hearings without octets, or with octets that are not hexadecimal text.
     b"heard",
     b"heard ",
     b"heard    ",
@@ -119,7 +120,7 @@ const WRONG: &[&[u8]] = &[
     b"heard-every 16",
 ];
 
-/// Whether these are the numbers of the lines that are events.
+/// Whether the event lines of the script have exactly these numbers.
 fn has_lines<A: Allocator>(script: &Script<'_, A>, lines: &[u64]) -> bool {
     for (step, line) in script.steps().iter().zip(lines) {
         if step.line != *line {
@@ -129,7 +130,7 @@ fn has_lines<A: Allocator>(script: &Script<'_, A>, lines: &[u64]) -> bool {
     script.steps().len() == lines.len()
 }
 
-/// Whether the events of a script have these numbers.
+/// Whether the text is a script whose event lines have these numbers.
 fn is_numbered(alloc: Global, text: &[u8], lines: &[u64]) -> bool {
     match read_script(alloc, text) {
         Ok(script) => has_lines(&script, lines),
@@ -144,12 +145,12 @@ fn lines_are_numbered(rt: HostRuntime) {
     }
 }
 
-/// Whether the line of this number is the first that is no event.
+/// Whether the line of this number is reported as the first that is not an event.
 fn is_wrong_at(alloc: Global, text: &[u8], line: u64) -> bool {
     read_script(alloc, text).err() == Some(ScriptError::NotAnEvent { line })
 }
 
-/// The line between two others that are events.
+/// The line, between two event lines.
 fn between(alloc: Global, line: &[u8]) -> Result<Vec<u8>, AllocError> {
     let mut text = Vec::new(alloc);
     text.extend_from_slice(b"carry\n")?;
@@ -158,7 +159,7 @@ fn between(alloc: Global, line: &[u8]) -> Result<Vec<u8>, AllocError> {
     Ok(text)
 }
 
-/// Whether the line is no event, by itself and between two others.
+/// Whether the line is reported as not an event, by itself and between two event lines.
 fn is_wrong(alloc: Global, line: &[u8]) -> bool {
     match between(alloc, line) {
         Ok(text) => is_wrong_at(alloc, line, 1) && is_wrong_at(alloc, text.as_slice(), 2),
@@ -173,14 +174,14 @@ fn a_line_that_is_no_event_is_told(rt: HostRuntime) {
     }
 }
 
-/// The first wrong line is told, where an empty one stands before it and a wrong one after it.
+/// The first wrong line is reported, with an empty line before it and a wrong one after it.
 #[test]
 fn the_first_wrong_line_is_told(rt: HostRuntime) {
     let text = b"# a comment\n\ncarry\nready\ncarry \n".as_slice();
     assert!(rt; is_wrong_at(rt.alloc(), text, 4));
 }
 
-/// A text of this beginning, and then of a part this often.
+/// A text of this beginning, followed by the part this many times.
 fn repeated(alloc: Global, start: &[u8], part: &[u8], count: usize) -> Result<Vec<u8>, AllocError> {
     let mut text = Vec::new(alloc);
     text.extend_from_slice(start)?;
@@ -190,7 +191,7 @@ fn repeated(alloc: Global, start: &[u8], part: &[u8], count: usize) -> Result<Ve
     Ok(text)
 }
 
-/// How many events such a text has; None where it is no script.
+/// The number of events of such a text; None if it is not a script.
 fn events_of(
     alloc: Global,
     start: &[u8],
@@ -204,8 +205,8 @@ fn events_of(
     }
 }
 
-/// As many events as fit into a mebibyte, and as many words of one line: each is read once, so that
-/// this ends soon.
+/// As many events as fit into a mebibyte, and as many words in one line. Each octet is read once,
+/// so that this takes little time.
 #[test]
 fn as_much_as_fits_is_read(rt: HostRuntime) -> Result<(), Fail> {
     let lines = events_of(rt.alloc(), b"", b"carry\n", 174_762)?;
@@ -214,7 +215,7 @@ fn as_much_as_fits_is_read(rt: HostRuntime) -> Result<(), Fail> {
     Ok(())
 }
 
-/// 2,048 octets are heard, and 2,049 are no event.
+/// 2,048 octets may be heard; 2,049 are not an event.
 #[test]
 fn a_terminal_hears_2048_octets_at_most(rt: HostRuntime) -> Result<(), Fail> {
     for start in [b"heard ".as_slice(), b"heard-each - ".as_slice()] {
@@ -228,7 +229,7 @@ fn a_terminal_hears_2048_octets_at_most(rt: HostRuntime) -> Result<(), Fail> {
 /// A script of five events.
 const SCRIPT: &[u8] = b"offer-at 0 HI\nheard 16 04\nheard-each 1604 - 161610B0FF\nready 1\ncarry\n";
 
-/// Whether out of memory is told where a growth was refused, and else the script is read.
+/// Whether the result is out of memory if a growth was refused, and the script otherwise.
 fn is_read_or_refused(alloc: &Refusing) -> bool {
     match read_script(alloc, SCRIPT) {
         Ok(script) => alloc.refused() == 0 && script.steps().len() == 5,

@@ -1,11 +1,11 @@
-//! Documents whose keys are right, and a value of which is not.
+//! Documents with the right keys and a wrong value.
 
 use crate::documents::{Documents, TERMINALS, are_answered};
 use std::test::Fail;
 
 /// Documents with a wrong value.
 const DOCUMENTS: &[Documents<'static>] = &[
-    // Wrong values in the order of the keys and not of the lines, before any refusal.
+    // Wrong values are reported in the order of the keys, not of the lines, before any refusal.
     Documents {
         before: "",
         after: TERMINALS,
@@ -40,7 +40,7 @@ const DOCUMENTS: &[Documents<'static>] = &[
             ),
         ],
     },
-    // What the poll list may not be.
+    // Values that the poll list may not have.
     Documents {
         before: "version = 1\nterminals = []\npoll_list = ",
         after: "\n",
@@ -55,8 +55,8 @@ const DOCUMENTS: &[Documents<'static>] = &[
             ("{}", "config: wrong value of poll_list"),
         ],
     },
-    // What the list of terminals may not be. Where it is no list of tables, no key of a terminal is
-    // unknown or missing.
+    // Values that the list of terminals may not have. If it is not a list of tables, no key of a
+    // terminal is reported as unknown or missing.
     Documents {
         before: "version = 1\npoll_list = [0]\n",
         after: "\n",
@@ -82,8 +82,9 @@ const DOCUMENTS: &[Documents<'static>] = &[
             ),
         ],
     },
-    // What a polling address may not be, whatever the selection address is, and what the selection
-    // address of version 1 may not be; before a wrong value of the second terminal.
+    // Values that a polling address may not have, whatever the selection address is, and values
+    // that the selection address of version 1 may not have; before a wrong value of the second
+    // terminal.
     Documents {
         before: "version = 1\npoll_list = [0]\nterminals = [{",
         after: "}, {poll = 1, select = 1}]\n",
@@ -134,7 +135,7 @@ const DOCUMENTS: &[Documents<'static>] = &[
             ),
         ],
     },
-    // What the selection addresses of version 2 may not be.
+    // Values that the selection addresses of version 2 may not have.
     Documents {
         before: "version = 2\npoll_list = [0]\nterminals = [{poll = \"A\", select = ",
         after: "}, {poll = 1, select = 1}]\n",

@@ -1,21 +1,21 @@
-//! Transmissions that were spoiled on the line: cut short, with one bit turned, and with damage
-//! that is not found.
+//! Transmissions that were spoiled on the line: cut short, with one bit inverted, and with damage
+//! that is not detected.
 use super::{HI, SHORTEST_CALL, UnitRow, hears_call, is_text_of, kind};
 use bsc_frame::{End, decode};
 
-/// What the fronts of a call are heard as, by how many octets they have.
+/// What the first octets of a call are heard as, by their number.
 const CALL_FRONTS: &[&str] = &[
     "NOISE", "NOISE", "NOISE", "EOT", "EOT", "NOISE", "NOISE", "NOISE", "CALL", "CALL",
 ];
 
-/// What the fronts of a text are heard as, by how many octets they have.
+/// What the first octets of a text are heard as, by their number.
 const TEXT_FRONTS: &[&str] = &[
     "NOISE", "NOISE", "NOISE", "FAILED", "FAILED", "FAILED", "FAILED", "FAILED", "TEXT", "TEXT",
 ];
 
-/// Texts, of which each but the first one of a group comes from another one by damage.
+/// Texts; each except the first of a group results from another one by damage.
 const TEXTS: &[(&[u8], &[UnitRow])] = &[
-    // The same bits of two characters are turned.
+    // The same bits of two characters are inverted.
     (HI, &[(b"HI", true)]),
     (
         &[0x16, 0x16, 0x02, 0x49, 0xc8, 0x19, 0x83, 0x9b, 0xff],
@@ -46,18 +46,18 @@ const TEXTS: &[(&[u8], &[UnitRow])] = &[
     ),
 ];
 
-/// Octets with two turned bits, and the name of what is heard.
+/// Octets with two inverted bits, and what they are heard as.
 const NAMES: &[(&[u8], &str)] = &[
-    // ACK0, of which two bits of one octet are turned, is another reply.
+    // ACK0 with two inverted bits in one octet is another reply.
     (&[0x16, 0x16, 0x10, 0x31, 0xff], "ACK1"),
-    // HI, of which two bits of one character are turned.
+    // HI with two inverted bits in one character.
     (
         &[0x16, 0x16, 0x02, 0x49, 0x49, 0x19, 0x83, 0x9b, 0xff],
         "FAILED",
     ),
 ];
 
-// Whether the fronts of the octets are heard as these, by how many octets they have.
+// Whether the first octets are heard as these names say, by their number.
 fn fronts_are(octets: &[u8], names: &[&str]) -> bool {
     for (count, name) in names.iter().enumerate() {
         if octets.get(..count).map(|front| kind(&decode(front))) != Some(*name) {
@@ -67,7 +67,8 @@ fn fronts_are(octets: &[u8], names: &[&str]) -> bool {
     true
 }
 
-// Whether the octets are heard as this, whichever bit of the octet at the place is turned.
+// Whether the octets are heard as this name says, whichever bit of the octet at this place is
+// inverted.
 fn turned_bits_are(sent: &[u8], place: usize, name: &str) -> bool {
     let mut octets = [0; 9];
     if sent.len() != 9 || place >= 9 {
@@ -102,7 +103,8 @@ fn one_turned_bit_makes_noise_or_a_failed_text(rt: HostRuntime) {
     }
 }
 
-// Other equipment may leave out the SYN before the address; a character may then come of its PAD.
+// Other equipment may leave out the SYN before the address; then damage may turn the PAD into a
+// character.
 #[test]
 fn one_turned_bit_of_a_call_without_its_second_syn_may_make_another_call(rt: HostRuntime) {
     assert!(rt; hears_call(b"A", &[0x16, 0x04, 0xff, 0xc1, 0x85]));

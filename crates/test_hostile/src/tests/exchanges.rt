@@ -1,5 +1,4 @@
-//! The exchanges in which each transmission is heard as something else, and the transmissions of
-//! each.
+//! The exchanges in which each transmission is heard as something else, and their transmissions.
 
 use crate::tests::fixtures::Watched;
 use bsc_frame::Wire;
@@ -7,22 +6,22 @@ use bsc_line::{Event, Speaker};
 use std::alloc::Global;
 use std::test::Fail;
 
-/// What is played before the first silence, and how many transmissions follow it.
+/// An exchange: the events before the first silence, and the number of transmissions after it.
 pub(crate) struct Exchange {
-    /// The events, each this many times.
+    /// The events, each with the number of times that it is played.
     pub(crate) offers: &'static [(usize, Event<'static>)],
 
     transmissions: usize,
 }
 
-/// An empty record is offered for terminal 0.
+/// Offers an empty record for terminal 0.
 const EMPTY_FOR: Event<'static> = Event::OfferFor {
     terminal: 0,
     select: 0,
     codes: b"",
 };
 
-/// HI is offered at terminal 0.
+/// Offers HI at terminal 0.
 const HI_AT: Event<'static> = Event::OfferAt {
     terminal: 0,
     codes: b"HI",
@@ -61,13 +60,13 @@ pub(crate) const INTERRUPTED: Exchange = Exchange {
 /// A transmission of an exchange.
 #[derive(Drop)]
 pub(crate) struct Sent {
-    /// How many came before it.
+    /// The number of transmissions before it.
     pub(crate) place: usize,
     pub(crate) by_control: bool,
     pub(crate) octets: Wire,
 }
 
-/// The transmission of this number, played on a new line.
+/// The transmission of this number, when the exchange is played on a new line.
 fn sent_on(watched: &mut Watched, exchange: &Exchange, place: usize) -> Result<Sent, Fail> {
     watched.begin(exchange, place)?;
     let (speaker, sent) = watched.line.pending().ok_or("nothing is pending")?;

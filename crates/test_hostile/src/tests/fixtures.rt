@@ -1,4 +1,4 @@
-//! The line of these tests, and a player that watches it.
+//! The line of these tests, and the player that watches it.
 
 use crate::tests::exchanges::Exchange;
 use crate::{Broken, Watch};
@@ -7,7 +7,7 @@ use std::alloc::Global;
 use std::test::Fail;
 use test_fixtures::lines::{setup, two_terminals};
 
-/// A line with a watch on it. It is owned in short functions and lent to those that play on it.
+/// A line with a watch on it. Short functions own it and lend it to the functions that play on it.
 #[derive(Drop)]
 pub(crate) struct Watched {
     pub(crate) line: Line<Global>,
@@ -24,7 +24,7 @@ impl Watched {
         Ok(Watched { line, watch })
     }
 
-    /// Plays an event.
+    /// Plays one event.
     pub(crate) fn play(&mut self, event: &Event<'_>) -> Result<Result<(), LineError>, Broken> {
         self.watch.play(&mut self.line, event)
     }
@@ -37,7 +37,7 @@ impl Watched {
         Ok(())
     }
 
-    /// Plays the exchange until its transmission of this number, from 0, is pending.
+    /// Plays the exchange until its transmission of this number, counted from 0, is pending.
     pub(crate) fn begin(&mut self, exchange: &Exchange, place: usize) -> Result<(), Broken> {
         for (count, event) in exchange.offers {
             self.repeat(*count, event)?;
@@ -46,8 +46,8 @@ impl Watched {
         self.repeat(place, &Event::CarrySent)
     }
 
-    /// What is pending is heard as it was sent, this many times, or a silence passes where nothing
-    /// is pending. Then all records are compared.
+    /// Plays this many events: what is pending is heard as it was sent, or a silence passes if
+    /// nothing is pending. Then compares all records.
     pub(crate) fn go_on(&mut self, count: usize) -> Result<(), Broken> {
         for _ in 0..count {
             let event = match self.line.pending() {

@@ -1,5 +1,5 @@
-//! Each transmission of an exchange is heard as anything near it, by all or by one terminal, and
-//! then the exchange goes on for 40 events. What has to hold of a line holds after each event.
+//! Each transmission of an exchange is heard as anything near it, by all terminals or by one, and
+//! then the exchange goes on for 40 events. All rules of a line have to hold after each event.
 
 use crate::Broken;
 use crate::tests::exchanges::{
@@ -11,13 +11,13 @@ use std::alloc::Global;
 use std::process::Abort;
 use std::test::Fail;
 
-/// How many events follow.
+/// The number of events that follow.
 const EVENTS: usize = 40;
 
-/// The most octets that are read as a message.
+/// The greatest number of octets that is decoded as a message.
 const LONGEST: usize = 2048;
 
-/// An exchange, and memory to play it.
+/// An exchange, and an allocator to play it with.
 #[derive(Clone, Copy)]
 struct Stage<'a> {
     alloc: Global,
@@ -36,13 +36,13 @@ fn play_on(
     watched.go_on(EVENTS)
 }
 
-/// Plays the event at its place of the exchange, and the rest, on a new line.
+/// Plays the exchange on a new line, with the event at the place of the transmission.
 fn play(stage: Stage<'_>, sent: &Sent, event: &Event<'_>) -> Result<Result<(), Broken>, Fail> {
     let mut watched = Watched::new(stage.alloc)?;
     Ok(play_on(&mut watched, stage.exchange, sent.place, event))
 }
 
-/// Terminal 0 hears the first of these in place of the transmission, and terminal 1 the second.
+/// Terminal 0 hears the first item in place of the transmission, and terminal 1 the second.
 fn hear_each<'a>(
     rt: &impl Abort,
     stage: Stage<'_>,
@@ -61,7 +61,7 @@ fn hear_each<'a>(
     Ok(())
 }
 
-/// These octets are heard by one terminal, while the other one hears the transmission or nothing.
+/// One terminal hears these octets, while the other one hears the transmission or nothing.
 fn hear_by_one(rt: &impl Abort, stage: Stage<'_>, sent: &Sent, octets: &[u8]) -> Result<(), Fail> {
     let heard = Some(octets);
     for other in [Some(sent.octets.as_slice()), None] {
@@ -71,8 +71,8 @@ fn hear_by_one(rt: &impl Abort, stage: Stage<'_>, sent: &Sent, octets: &[u8]) ->
     Ok(())
 }
 
-/// These octets are heard in place of the transmission, by all who hear it, and where these are the
-/// terminals also by one of them.
+/// All stations that hear the transmission hear these octets in its place; if the control station
+/// sent it, each single terminal does too.
 fn hear(rt: &impl Abort, stage: Stage<'_>, sent: &Sent, octets: &[u8]) -> Result<(), Fail> {
     let heard = Some(octets);
     let seen = play(stage, sent, &Event::Carry { heard })?;
@@ -83,7 +83,7 @@ fn hear(rt: &impl Abort, stage: Stage<'_>, sent: &Sent, octets: &[u8]) -> Result
     Ok(())
 }
 
-/// The transmission breaks off after each of its octets, or before the first.
+/// The transmission breaks off before its first octet, and after each octet.
 fn hear_fronts(rt: &impl Abort, stage: Stage<'_>, sent: &Sent) -> Result<(), Fail> {
     for len in 0..=sent.octets.len() {
         hear(rt, stage, sent, &sent.octets.as_slice()[..len])?;
@@ -91,7 +91,7 @@ fn hear_fronts(rt: &impl Abort, stage: Stage<'_>, sent: &Sent) -> Result<(), Fai
     Ok(())
 }
 
-/// The octet at this place is heard as each value, those with one bit turned among them.
+/// The octet at this place is heard as each of the 256 values.
 fn hear_values(rt: &impl Abort, stage: Stage<'_>, sent: &Sent, place: usize) -> Result<(), Fail> {
     let mut heard = sent.octets.clone()?;
     for value in 0..=255u8 {
@@ -103,7 +103,7 @@ fn hear_values(rt: &impl Abort, stage: Stage<'_>, sent: &Sent, place: usize) -> 
     Ok(())
 }
 
-/// Each octet of the transmission is heard as each value.
+/// Each octet of the transmission is heard as each of the 256 values.
 fn hear_octets(rt: &impl Abort, stage: Stage<'_>, sent: &Sent) -> Result<(), Fail> {
     for place in 0..sent.octets.len() {
         hear_values(rt, stage, sent, place)?;
@@ -111,14 +111,14 @@ fn hear_octets(rt: &impl Abort, stage: Stage<'_>, sent: &Sent) -> Result<(), Fai
     Ok(())
 }
 
-/// The transmission is heard with FF after it, up to this many octets.
+/// The transmission is heard with octets FF after it, up to this many octets in total.
 fn hear_padded(rt: &impl Abort, stage: Stage<'_>, sent: &Sent, octets: usize) -> Result<(), Fail> {
     let mut heard = Vec::from_slice(stage.alloc, sent.octets.as_slice())?;
     heard.resize(octets, 0xff)?;
     hear(rt, stage, sent, heard.as_slice())
 }
 
-/// Another transmission of the exchange is heard.
+/// Each transmission of the exchange is heard in place of this one.
 fn hear_others(rt: &impl Abort, stage: Stage<'_>, sent: &Sent, all: &[Sent]) -> Result<(), Fail> {
     for other in all {
         hear(rt, stage, sent, other.octets.as_slice())?;
@@ -126,7 +126,7 @@ fn hear_others(rt: &impl Abort, stage: Stage<'_>, sent: &Sent, all: &[Sent]) -> 
     Ok(())
 }
 
-/// Each terminal hears a transmission of its own of the exchange.
+/// The two terminals hear each pair of transmissions of the exchange in place of this one.
 fn hear_two(rt: &impl Abort, stage: Stage<'_>, sent: &Sent, all: &[Sent]) -> Result<(), Fail> {
     if !sent.by_control {
         return Ok(());

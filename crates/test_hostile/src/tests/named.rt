@@ -1,4 +1,4 @@
-//! Single hearings that tell where trust ends.
+//! Single hearings, which show what ends trust.
 
 use crate::Broken;
 use crate::channel::look;
@@ -13,7 +13,7 @@ use std::process::Abort;
 use std::test::Fail;
 use test_fixtures::octets::{BROKEN_TEXT, CALL_POLL_A, EOT, TEXT_HI};
 
-/// A text that failed.
+/// What is pending is heard as a text that failed.
 const AS_FAILED: Event<'static> = Event::Carry {
     heard: Some(BROKEN_TEXT),
 };
@@ -21,7 +21,7 @@ const AS_FAILED: Event<'static> = Event::Carry {
 /// What is pending is lost.
 const LOST: Event<'static> = Event::Carry { heard: None };
 
-/// Whether something is pending, and whether the line is trusted, after the transmission of this
+/// Whether something is pending and whether the line is trusted, after the transmission of this
 /// number was heard as these octets.
 fn outcome_on(
     watched: &mut Watched,
@@ -35,7 +35,7 @@ fn outcome_on(
     Ok((watched.line.pending().is_some(), watched.line.trusted()))
 }
 
-/// What is left on a new line after these octets: whether something is pending, and trust.
+/// The same as `outcome_on`, on a new line.
 fn outcome(
     alloc: Global,
     exchange: &Exchange,
@@ -46,7 +46,7 @@ fn outcome(
     Ok(outcome_on(&mut watched, exchange, place, octets)?)
 }
 
-/// A number of SYN and then EOT.
+/// This many SYN and then EOT.
 fn late_eot(alloc: Global, syns: usize) -> Result<Vec<u8>, Fail> {
     let mut octets = Vec::new(alloc);
     octets.resize(syns, 0x16)?;
@@ -65,7 +65,8 @@ fn eot_is_heard_without_pad_and_after_2047_syn(rt: HostRuntime) -> Result<(), Fa
         (most.as_slice(), true),
         (too_many.as_slice(), false),
     ] {
-        // The EOT of terminal 0 that ends its bid: the control station calls B then.
+        // The transmission is the EOT of terminal 0 that ends its bid; the control station then
+        // calls B.
         let seen = outcome(alloc, &POLLED, 3, octets)?;
         assert_eq!(rt; seen, (is_eot, true), "{}", octets.len());
     }
@@ -83,7 +84,7 @@ fn every_front_of_a_call_and_of_a_text_is_heard_fairly(rt: HostRuntime) -> Resul
     Ok(())
 }
 
-/// One bit of the octet at this place is turned, each in turn.
+/// Each bit of the octet at this place is inverted, one at a time.
 fn turn_bits(
     rt: &(impl Abort + AllocGlobal),
     exchange: &Exchange,
@@ -118,7 +119,8 @@ fn one_turned_bit_never_ends_trust(rt: HostRuntime) -> Result<(), Fail> {
     Ok(())
 }
 
-/// How many records of the channel from terminal 0 are known to have arrived, and how many arrived.
+/// The numbers of records of the channel from terminal 0 that are known to have arrived, and that
+/// arrived.
 fn counts(watched: &Watched) -> (usize, usize) {
     match look(&watched.line, 0, Way::FromTerminal) {
         Some(view) => (view.known, view.spooled),
@@ -126,7 +128,7 @@ fn counts(watched: &Watched) -> (usize, usize) {
     }
 }
 
-/// The ENQ of terminal 0, whose ACK1 was lost, is heard as a text that failed.
+/// Terminal 0 sends ENQ because its ACK1 was lost, and the ENQ is heard as a text that failed.
 fn hear_enq_as_text(watched: &mut Watched) -> Result<(), Broken> {
     watched.begin(&POLLED, 2)?;
     watched.repeat(1, &LOST)?;
@@ -134,7 +136,7 @@ fn hear_enq_as_text(watched: &mut Watched) -> Result<(), Broken> {
     watched.repeat(1, &AS_FAILED)
 }
 
-/// Whether the line is not trusted then, and the record arrives again and again.
+/// Checks that the line is not trusted afterwards, and that the record arrives repeatedly.
 fn see_repeats(rt: &impl Abort, watched: &mut Watched) -> Result<(), Broken> {
     hear_enq_as_text(watched)?;
     assert!(rt; !watched.line.trusted());

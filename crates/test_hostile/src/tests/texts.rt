@@ -1,4 +1,4 @@
-//! The text of each thing that may not hold of a line.
+//! The message of each rule that can be broken.
 
 use crate::Broken;
 use std::test::Fail;

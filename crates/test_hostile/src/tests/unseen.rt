@@ -1,4 +1,4 @@
-//! What happens on a line without its watch is told at the next event.
+//! A watch reports at the next event what happened on the line without it.
 
 use crate::Broken;
 use crate::tests::exchanges::POLLED;
@@ -7,7 +7,7 @@ use bsc_line::Event;
 use std::alloc::Global;
 use std::test::Fail;
 
-/// HI is offered at terminal 1.
+/// Offers HI at terminal 1.
 const HI_AT: Event<'static> = Event::OfferAt {
     terminal: 1,
     codes: b"HI",
@@ -24,8 +24,8 @@ const AS_EOT: Event<'static> = Event::Carry {
 /// What is pending is lost.
 const LOST: Event<'static> = Event::Carry { heard: None };
 
-/// While the transmission of this number is pending, the first event happens without the watch;
-/// this is what the watch says of the second.
+/// The number of the pending transmission, an event that is played without the watch, the event
+/// after it, and what the watch reports at the latter.
 const CASES: &[(usize, Event<'static>, Event<'static>, Broken)] = &[
     (0, HI_AT, URGENT_AT, Broken::Offered),
     (0, Event::CarrySent, URGENT_AT, Broken::Pending),
@@ -36,7 +36,7 @@ const CASES: &[(usize, Event<'static>, Event<'static>, Broken)] = &[
     (4, Event::CarrySent, Event::CarrySent, Broken::Pending),
 ];
 
-/// What the watch says of an event, where another one happened without it.
+/// What the watch reports of an event after another one was played without it.
 fn told_on(
     watched: &mut Watched,
     place: usize,
@@ -48,7 +48,7 @@ fn told_on(
     Ok(watched.play(event).err())
 }
 
-/// What the watch tells of the event on a new line, after one that it did not see.
+/// The same as `told_on`, on a new line.
 fn told(
     alloc: Global,
     place: usize,

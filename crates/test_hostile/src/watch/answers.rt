@@ -1,4 +1,4 @@
-//! What is addressed and what is pending after an event.
+//! Which station may send next, and which channel is addressed.
 
 ghost use Rattle.std.specs.Prelude.{◌≡◌};
 ghost use Rattle.test_hostile.specs.Watches.{SameBasis};
@@ -22,7 +22,7 @@ fn address_in(message: &Message) -> Option<Address> {
     }
 }
 
-/// The address that these octets call.
+/// The address that these octets call, if they are a call.
 fn called(octets: &[u8]) -> Option<Address> {
     match decode(octets) {
         Heard::Whole(message) => address_in(&message),
@@ -30,7 +30,7 @@ fn called(octets: &[u8]) -> Option<Address> {
     }
 }
 
-/// How many hearings of an event may differ.
+/// The number of hearings of an event that can differ.
 fn hearers(event: &Event<'_>) -> usize {
     match *event {
         Event::CarryEach { heard } => heard.len(),
@@ -38,8 +38,8 @@ fn hearers(event: &Event<'_>) -> usize {
     }
 }
 
-/// The address that all terminals heard called, where these octets were sent; None where they heard
-/// different ones.
+/// The address that all terminals heard called, if `sent` was sent; None if they heard different
+/// ones.
 fn called_alike(event: &Event<'_>, sent: &[u8]) -> Option<Address> {
     let first = called(octets_heard(event, sent, 0));
     for terminal in 1..hearers(event) {
@@ -50,7 +50,7 @@ fn called_alike(event: &Event<'_>, sent: &[u8]) -> Option<Address> {
     first
 }
 
-/// The channel that an address names, where the line has it.
+/// The terminal and direction of the channel with this address, if the line has one.
 fn channel_of(channels: &[Channel], address: Address) -> Option<(usize, Way)> {
     match find(channels, &address) {
         Some(channel) => Some((channel.terminal, channel.way)),
@@ -58,7 +58,7 @@ fn channel_of(channels: &[Channel], address: Address) -> Option<(usize, Way)> {
     }
 }
 
-/// Who sent this.
+/// The station that sent this.
 fn speaker_of(sent: &Option<Sent>) -> Option<Speaker> {
     match sent {
         Some(sent) => Some(sent.speaker),
@@ -66,7 +66,7 @@ fn speaker_of(sent: &Option<Sent>) -> Option<Speaker> {
     }
 }
 
-/// Whether the line still shows this.
+/// Whether the line still shows this as pending.
 fn is_shown<A: Allocator>(line: &Line<A>, sent: &Option<Sent>) -> bool {
     match (line.pending(), sent) {
         (None, None) => true,
@@ -86,7 +86,7 @@ impl Watch {
             .all(|hearing| hearing.kind == kind)
     }
 
-    /// The channel that is addressed after a transmission of the control station.
+    /// Stores the channel that is addressed after a transmission of the control station.
     pub(crate) fn see_addressed(&mut self, event: &Event<'_>, effect: Effect)
         ensures { self.new ≡ record self.old { addressed = self.new.addressed } }
     {
@@ -100,7 +100,8 @@ impl Watch {
         }
     }
 
-    /// The channel that is addressed after all terminals heard a call, which may be different ones.
+    /// Stores the channel that is addressed after all terminals heard a call, which need not be the
+    /// same call.
     fn see_call(&mut self, event: &Event<'_>)
         ensures { self.new ≡ record self.old { addressed = self.new.addressed } }
     {
@@ -113,7 +114,7 @@ impl Watch {
         }
     }
 
-    /// Whether what is pending may be pending after the event.
+    /// Checks that what is pending may be pending after the event.
     pub(crate) fn see_pending<A: Allocator>(
         &mut self,
         line: &Line<A>,
@@ -140,7 +141,7 @@ impl Watch {
         Ok(())
     }
 
-    /// Whether this station may be the next that sends, after a silence or a transmission.
+    /// Whether this station may send next, after a silence or a transmission.
     fn may_follow(&self, effect: Effect, next: Option<Speaker>) -> bool {
         match effect {
             Effect::Silence => self.may_act(next),
@@ -155,8 +156,8 @@ impl Watch {
         self.trusted || self.alike
     }
 
-    /// Whether this station may act on a silence: some station does, and a terminal only where it
-    /// is addressed and sends.
+    /// Whether this station may send after a silence: some station has to, and a terminal only if
+    /// it is addressed and sends, unless several terminals can be out of control mode.
     fn may_act(&self, next: Option<Speaker>) -> bool {
         match next {
             None => false,
@@ -167,7 +168,7 @@ impl Watch {
         }
     }
 
-    /// Whether a call was heard by all terminals as it was sent.
+    /// Whether all terminals heard a call as it was sent.
     fn was_called(&self) -> bool {
         self.hearings
             .as_slice()
@@ -175,8 +176,8 @@ impl Watch {
             .all(|hearing| hearing.itself && hearing.kind == Kind::Call)
     }
 
-    /// Whether this station may answer the control station: a terminal that heard more than noise;
-    /// where all heard a call, the one that was called, which has to.
+    /// Whether this station may answer the control station: a terminal that heard more than noise,
+    /// and if all terminals heard the call, the called terminal, which has to answer.
     fn may_answer_down(&self, next: Option<Speaker>) -> bool {
         match next {
             None => !self.was_called(),
@@ -188,7 +189,9 @@ impl Watch {
         }
     }
 
-    /// Whether the terminal is the addressed one, where only that one can answer.
+    /// Whether the terminal may answer: the addressed terminal always may, any other one only if
+    /// several terminals can be out of control mode and the call was not heard by all as it was
+    /// sent.
     fn may_speak(&self, terminal: usize) -> bool {
         let addressed = match self.addressed {
             Some((addressed, _)) => addressed == terminal,
@@ -197,8 +200,8 @@ impl Watch {
         addressed || !(self.is_focused() || self.was_called())
     }
 
-    /// Whether this station may answer a terminal: the control station does, where it heard more
-    /// than noise.
+    /// Whether this station may answer a terminal: the control station may, if it heard more than
+    /// noise.
     fn may_answer_up(&self, next: Option<Speaker>) -> bool {
         match next {
             None => true,

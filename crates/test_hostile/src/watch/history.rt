@@ -1,4 +1,4 @@
-//! What was offered and what arrived, from the beginning.
+//! The comparison of all records that were offered and that arrived.
 
 ghost use Rattle.std.specs.Prelude.{◌↔◌, IsOk, IfErr};
 ghost use Rattle.std.specs.List.{All};
@@ -12,10 +12,11 @@ use bsc_line::Line;
 use std::alloc::Allocator;
 
 impl Watch {
-    /// Compares all records of the line with those that were seen one after the other, and where
-    /// the line is trusted what arrived with what was offered. In this order of each channel:
-    /// `Channel` where the line has no such channel, `Offered` or `Spooled` where other records
-    /// are there than were seen, `OtherRecords` where others arrived than were offered.
+    /// Compares all records of the line with those that were seen event by event, and, if the line
+    /// is trusted, the records that arrived with those that were offered. For each channel the
+    /// errors come in this order: `Channel` if the line has no such channel, `Offered` or `Spooled`
+    /// if the records differ from those that were seen, `OtherRecords` if the line is trusted and
+    /// records arrived that are not the first of those offered.
     pub fn see_all<A: Allocator>(&self, line: &Line<A>) -> Result<(), Broken>
         ensures seen { IsOk result ↔
             All (IsAsSeen line.now (is_trusting self.now)) (channels_of self.now) }

@@ -1,4 +1,4 @@
-//! How the channels of the line move.
+//! How the channels of a line may change.
 
 ghost use Rattle.test_hostile.specs.Tallies.{SameAnswers};
 ghost use Rattle.test_hostile.specs.Watches.{SameBasis};
@@ -14,7 +14,7 @@ use bsc_control::Way;
 use bsc_line::{Event, Line};
 use std::alloc::Allocator;
 
-/// An accepted event, and what is known of the line before it and of trust after it.
+/// An accepted event, what was known of the line before it, and whether it is trusted after it.
 #[derive(Clone, Copy)]
 struct Step<'a> {
     event: &'a Event<'a>,
@@ -27,7 +27,7 @@ struct Step<'a> {
 }
 
 impl Watch {
-    /// Whether each channel did only what the event may do to it.
+    /// Checks that each channel did only what the event may do to it.
     pub(crate) fn see_channels<A: Allocator>(
         &mut self,
         line: &Line<A>,
@@ -52,7 +52,8 @@ impl Watch {
     }
 }
 
-/// Whether each of these channels did only what it may, and no two moved that may not.
+/// Checks that each of these channels did only what it may, and that no two channels changed at an
+/// event that may change only one.
 fn see_each<A: Allocator>(
     line: &Line<A>,
     step: &Step<'_>,
@@ -74,8 +75,9 @@ fn see_each<A: Allocator>(
     Ok(())
 }
 
-/// Whether a channel of this terminal may move after one of the last terminal has: only where
-/// several terminals hear, each in a way of its own, and the line is not trusted.
+/// Checks that a channel of this terminal may change after a channel of terminal `last` has
+/// changed: only if the control station sent, the line is not trusted, the terminals have not
+/// always heard the same octets, and the two terminals differ.
 fn see_one(step: &Step<'_>, last: Option<usize>, terminal: usize) -> Result<(), Broken> {
     let several = step.effect == Effect::Down && !step.trusted && !step.alike;
     if last.is_none() || (several && last != Some(terminal)) {
@@ -85,7 +87,7 @@ fn see_one(step: &Step<'_>, last: Option<usize>, terminal: usize) -> Result<(), 
     }
 }
 
-/// Whether this channel did only what the event may do to it.
+/// Checks that this channel did only what the event may do to it.
 fn see_channel<A: Allocator>(
     line: &Line<A>,
     step: &Step<'_>,
@@ -107,7 +109,7 @@ fn see_channel<A: Allocator>(
     Ok(())
 }
 
-/// Whether the records that were offered on a channel since it was last seen are that of the event.
+/// Checks that the records offered on a channel since it was last seen are the record of the event.
 fn see_offered<A: Allocator>(
     line: &Line<A>,
     event: &Event<'_>,
@@ -123,7 +125,7 @@ fn see_offered<A: Allocator>(
     Ok(())
 }
 
-/// The codes that the event offers.
+/// The codes of the record that the event offers.
 fn codes_of<'a>(event: &Event<'a>) -> &'a [u8] {
     match *event {
         Event::OfferAt { codes, .. } => codes,
@@ -132,8 +134,8 @@ fn codes_of<'a>(event: &Event<'a>) -> &'a [u8] {
     }
 }
 
-/// Whether the records that arrived on a channel since it was last seen are those of the text that
-/// was heard there, and on a trusted line those that were offered.
+/// Checks that the records that arrived on a channel since it was last seen are those of the text
+/// that was heard there, and on a trusted line those that were offered.
 fn see_arrived<A: Allocator>(
     line: &Line<A>,
     step: &Step<'_>,
@@ -154,8 +156,8 @@ fn see_arrived<A: Allocator>(
     Ok(())
 }
 
-/// Whether only the addressed channel moved, where the line is trusted; and whether a terminal took
-/// records only where it is addressed, where all terminals always heard the same.
+/// Checks that, on a trusted line, only the addressed channel changed; and that a terminal received
+/// records only if it is addressed, provided that all terminals have always heard the same octets.
 fn see_addressed_only(step: &Step<'_>, channel: &Channel, after: View) -> Result<(), Broken> {
     let before = channel.view;
     let addressed = step.addressed == Some((channel.terminal, channel.way));

@@ -12,48 +12,48 @@ use std::alloc::Allocator;
 use test_fixtures::lines::two_terminals_by_three;
 use test_fixtures::records::are_records;
 
-/// A step of an exchange. A release, and what is known, are those of the first selection address of
+/// A step of an exchange. Releases and known records are those of the first selection address of
 /// terminal 0.
 pub(crate) enum Step<'a> {
-    /// These octets are heard, or a silence where there are none, and those are sent, or none.
+    /// The station hears the first octets, or a silence if there are none, and sends the second, or
+    /// nothing.
     Hears(&'a [u8], &'a [u8]),
 
-    /// These records are taken for this selection address of a terminal.
+    /// These records are accepted for this selection address of a terminal.
     Takes(usize, usize, &'a [&'a [u8]]),
 
-    /// A record for the first selection address of terminal 0 comes back as it was.
+    /// A record for the first selection address of terminal 0 is refused and returned unchanged.
     GivesBack(&'a [u8]),
 
     /// The control station asks this terminal for the line.
     AsksForLine(usize),
 
-    /// The doubt is ended with this count, which is answered so.
+    /// The doubt is ended with this count, with this answer.
     Release(usize, Result<(), ReleaseError>),
 
-    /// How many records are known to have arrived, and whether the last block is in doubt.
+    /// The number of records known to have arrived, and whether the last block is in doubt.
     Known(usize, bool),
 
     /// Exactly these records arrived from terminal 0.
     Spooled(&'a [&'a [u8]]),
 
-    /// The terminal and the way whose address these codes are.
+    /// The terminal and direction of the channel with this address.
     Owner(&'a [u8], Option<(usize, Way)>),
 }
 
-/// An exchange of a new control station with two terminals, where terminal 0 has two selection
-/// addresses.
+/// An exchange of a new control station with two terminals; terminal 0 has two selection addresses.
 pub(crate) struct Exchange<'a> {
-    /// What it shows.
+    /// What the exchange shows.
     pub(crate) shows: &'a str,
 
     /// The poll list.
     pub(crate) poll_list: &'a [u8],
 
-    /// What happens, and what comes of it.
+    /// The steps with their results.
     pub(crate) steps: &'a [Step<'a>],
 }
 
-/// Whether the control station has such a selection address.
+/// Whether the control station has this selection address.
 fn has_address<A: Allocator>(control: &Control<A>, terminal: usize, select: usize) -> bool
     ensures terminal { IsTrue result → terminal < length control.now.peers }
     ensures select { IsTrue result → select < length (peer_at control.now terminal).outbounds }
@@ -61,8 +61,8 @@ fn has_address<A: Allocator>(control: &Control<A>, terminal: usize, select: usiz
     terminal < control.terminals() && select < control.addresses(terminal)
 }
 
-/// Offers a record for a selection address: whether it is taken, or comes back as it was. None
-/// where there is no such record or address, or another record comes back.
+/// Offers a record for a selection address. Returns whether it is accepted or returned unchanged;
+/// None if there is no such record or address, or another record is returned.
 fn offers<A: Allocator>(
     control: &mut Control<A>,
     terminal: usize,
@@ -80,7 +80,7 @@ fn offers<A: Allocator>(
     }
 }
 
-/// Offers these records for a selection address: whether each of them is taken.
+/// Offers these records for a selection address, and returns whether each is accepted.
 fn takes<A: Allocator>(
     control: &mut Control<A>,
     terminal: usize,
@@ -95,7 +95,7 @@ fn takes<A: Allocator>(
     true
 }
 
-/// Asks a terminal for the line, if there is such a terminal.
+/// Asks a terminal for the line, and returns whether there is such a terminal.
 fn asks_for_line<A: Allocator>(control: &mut Control<A>, terminal: usize) -> bool {
     let is_there = terminal < control.terminals();
     if is_there {
@@ -104,8 +104,8 @@ fn asks_for_line<A: Allocator>(control: &mut Control<A>, terminal: usize) -> boo
     is_there
 }
 
-/// Ends the doubt of the first selection address of terminal 0. None where there is no such
-/// address.
+/// Ends the doubt of the first selection address of terminal 0, and returns the answer; None if
+/// there is no such address.
 fn released<A: Allocator>(
     control: &mut Control<A>,
     count: usize,
@@ -116,8 +116,8 @@ fn released<A: Allocator>(
     Some(control.release(0, Way::ToTerminal(0), count))
 }
 
-/// How many records for the first selection address of terminal 0 are known to have arrived, and
-/// whether the last block is in doubt. None where there is no such address.
+/// The number of records for the first selection address of terminal 0 that are known to have
+/// arrived, and whether the last block is in doubt; None if there is no such address.
 fn known<A: Allocator>(control: &Control<A>) -> Option<(usize, bool)> {
     if !has_address(control, 0, 0) {
         return None;
@@ -131,13 +131,13 @@ fn has_spooled<A: Allocator>(control: &Control<A>, records: &[&[u8]]) -> bool {
     control.terminals() > 0 && are_records(control.spool(0).records(), records)
 }
 
-/// The terminal and the way whose address these codes are.
+/// The terminal and direction of the channel with this address.
 fn owner<A: Allocator>(control: &Control<A>, codes: &[u8]) -> Option<(usize, Way)> {
     let address = Address::read(codes).ok()?;
     control.find(&address)
 }
 
-/// Whether a step goes so.
+/// Plays a step, and returns whether its result is the expected one.
 fn goes<A: Allocator>(control: &mut Control<A>, step: &Step<'_>) -> bool {
     match step {
         Step::Hears(heard, sent) => sends(control, heard, sent),
@@ -151,7 +151,7 @@ fn goes<A: Allocator>(control: &mut Control<A>, step: &Step<'_>) -> bool {
     }
 }
 
-/// The place of the first step that goes otherwise.
+/// The place of the first step with another result.
 fn wrong_step<A: Allocator>(control: &mut Control<A>, steps: &[Step<'_>]) -> Option<usize> {
     for (place, step) in steps.iter().enumerate() {
         if !goes(control, step) {
@@ -161,7 +161,7 @@ fn wrong_step<A: Allocator>(control: &mut Control<A>, steps: &[Step<'_>]) -> Opt
     None
 }
 
-/// Plays an exchange: the place of the first step that goes otherwise.
+/// Plays an exchange on a new station, and returns the place of the first step with another result.
 pub(crate) fn play<A: Allocator + Copy>(
     alloc: A,
     setup: Setup,
@@ -172,7 +172,8 @@ pub(crate) fn play<A: Allocator + Copy>(
     Ok(wrong_step(&mut control, exchange.steps))
 }
 
-/// Plays these exchanges: what the first one that goes otherwise shows, and what its play gave.
+/// Plays these exchanges. Returns what the first one with another result shows, and what `play`
+/// returned.
 pub(crate) fn play_each<'a, A: Allocator + Copy>(
     alloc: A,
     setup: Setup,

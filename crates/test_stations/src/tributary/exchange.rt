@@ -12,43 +12,44 @@ use test_fixtures::records::are_records;
 
 /// A step of an exchange.
 pub(crate) enum Step<'a> {
-    /// These octets are heard, or a silence where there are none, and those are sent, or none.
+    /// The terminal hears the first octets, or a silence if there are none, and sends the second,
+    /// or nothing.
     Hears(&'a [u8], &'a [u8]),
 
-    /// The record HI is offered: whether it is taken, or comes back as it was.
+    /// The record HI is offered; true if it is accepted, false if it is returned unchanged.
     OfferHi(bool),
 
-    /// From here on the terminal takes selections, or does not.
+    /// The terminal accepts selections from now on, or refuses them.
     Ready(bool),
 
     /// The terminal asks for the line.
     AsksForLine,
 
-    /// Whether the terminal acts on a silence.
+    /// Whether the terminal sends after a silence.
     HoldsLine(bool),
 
-    /// The doubt is ended with this count, which is answered so.
+    /// The doubt is ended with this count, with this answer.
     Release(usize, Result<(), ReleaseError>),
 
-    /// How many of its records are known to have arrived, and whether its last block is in doubt.
+    /// The number of its records known to have arrived, and whether its last block is in doubt.
     Known(usize, bool),
 
-    /// Exactly these records arrived by selections of the address of this number.
+    /// Exactly these records arrived at the selection address of this number.
     Spooled(usize, &'a [&'a [u8]]),
 }
 
 /// An exchange of a new terminal, which is polled by A and selected by a and c, with a control
 /// station.
 pub(crate) struct Exchange<'a> {
-    /// What it shows.
+    /// What the exchange shows.
     pub(crate) shows: &'a str,
 
-    /// What happens, and what comes of it.
+    /// The steps with their results.
     pub(crate) steps: &'a [Step<'a>],
 }
 
-/// Offers the record HI: whether it is taken, or comes back as it was. None where another record
-/// comes back.
+/// Offers the record HI. Returns whether it is accepted or returned unchanged; None if another
+/// record is returned.
 fn offers_hi<A: Allocator>(tributary: &mut Tributary<A>) -> Option<bool>
     requires { tributary.old.queue.format.full ≡ 80 }
     ensures terminal { tributary.new.terminal ≡ tributary.old.terminal }
@@ -62,15 +63,14 @@ fn offers_hi<A: Allocator>(tributary: &mut Tributary<A>) -> Option<bool>
     }
 }
 
-/// Whether exactly these records arrived by selections of the address of this number, which is 0 or
-/// 1.
+/// Whether exactly these records arrived at the selection address of this number, 0 or 1.
 fn has_spooled<A: Allocator>(tributary: &Tributary<A>, select: usize, records: &[&[u8]]) -> bool
     requires { length tributary.now.terminal.selects ≡ 2 }
 {
     select < 2 && are_records(tributary.spool(select).records(), records)
 }
 
-/// Whether a step goes so.
+/// Plays a step, and returns whether its result is the expected one.
 fn goes<A: Allocator>(tributary: &mut Tributary<A>, step: &Step<'_>) -> bool
     requires selects { length tributary.old.terminal.selects ≡ 2 }
     requires full { tributary.old.queue.format.full ≡ 80 }
@@ -97,7 +97,7 @@ fn goes<A: Allocator>(tributary: &mut Tributary<A>, step: &Step<'_>) -> bool
     }
 }
 
-/// The place of the first step that goes otherwise.
+/// The place of the first step with another result.
 fn wrong_step<A: Allocator>(tributary: &mut Tributary<A>, steps: &[Step<'_>]) -> Option<usize>
     requires selects { length tributary.old.terminal.selects ≡ 2 }
     requires full { tributary.old.queue.format.full ≡ 80 }
@@ -110,7 +110,8 @@ fn wrong_step<A: Allocator>(tributary: &mut Tributary<A>, steps: &[Step<'_>]) ->
     None
 }
 
-/// Plays an exchange: the place of the first step that goes otherwise.
+/// Plays an exchange on a new terminal, and returns the place of the first step with another
+/// result.
 pub(crate) fn play<A: Allocator + Copy>(
     alloc: A,
     setup: Setup,
@@ -123,8 +124,8 @@ pub(crate) fn play<A: Allocator + Copy>(
     wrong_step(&mut tributary, exchange.steps)
 }
 
-/// Plays these exchanges: what the first one that goes otherwise shows, and the place of the first
-/// step that does.
+/// Plays these exchanges. Returns what the first one with another result shows, and the place of
+/// the step.
 pub(crate) fn play_each<'a, A: Allocator + Copy>(
     alloc: A,
     setup: Setup,

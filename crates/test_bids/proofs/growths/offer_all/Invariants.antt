@@ -1,3 +1,4 @@
+-- The format of the queue has not changed.
 use Rattle.std.proofs.Common.{◌≡◌}
 use Rattle.test_bids.proofs.growths.offer_all.Given as goal
 

@@ -1,3 +1,4 @@
+-- The full length of the queue's records is still at least 80.
 use Rattle.std.proofs.Common.{◌≤◌}
 use Rattle.test_bids.proofs.queues.wrong_step.Given as goal
 

@@ -1,4 +1,4 @@
--- This many records are those of the characters.
+-- The records before this place have the expected characters.
 use Rattle.std.proofs.Common.{◌≡◌, take}
 use Rattle.test_fixtures.specs.Records.{values}
 use Rattle.test_fixtures.proofs.records.are_front.Given as goal

@@ -1,3 +1,4 @@
+-- PAD is a body octet of a call, and is not one of a text.
 use Rattle.std.proofs.Common.{inl, inr}
 use Rattle.bsc_frame.specs.TurnedBits.{two_chars, IsBodyOctet}
 use Rattle.bsc_frame.proofs.DamagedCall.{pad_even}

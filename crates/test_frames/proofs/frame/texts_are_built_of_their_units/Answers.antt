@@ -1,4 +1,4 @@
--- H and I are record characters.
+-- H and I are record characters, so the units may be sent.
 use Rattle.std.proofs.Common.{arith, refl}
 use Rattle.bsc_octet.specs.Octet.{is_record_char}
 use Rattle.test_frames.proofs.frame.texts_are_built_of_their_units.Goals as goal

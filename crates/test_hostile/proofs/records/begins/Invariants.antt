@@ -1,4 +1,4 @@
--- This many records are the same.
+-- The records before this place are the same in both lists.
 use Rattle.std.proofs.Common.{◌≡◌, take}
 use Rattle.test_hostile.proofs.records.begins.Given as goal
 

@@ -1,4 +1,4 @@
--- The characters that are left go into the digest next.
+-- The digest of the whole record is the digest so far with the remaining characters added.
 use Rattle.std.proofs.Common.{◌≡◌, drop}
 use Rattle.test_hostile.specs.Histories.{with_record, with_numbers}
 use Rattle.test_hostile.proofs.records.with_record.Given as goal

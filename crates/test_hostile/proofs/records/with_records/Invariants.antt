@@ -1,4 +1,4 @@
--- The records that are left go into the digest next.
+-- The digest of all records is the digest so far with the remaining records added.
 use Rattle.std.proofs.Common.{◌≡◌, drop}
 use Rattle.test_hostile.specs.Histories.{with_records}
 use Rattle.test_hostile.proofs.records.with_records.Given as goal

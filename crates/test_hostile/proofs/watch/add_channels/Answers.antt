@@ -1,3 +1,4 @@
+-- `add_channels`: each step of the loop adds the channel of the next selection address.
 use Rattle.std.proofs.Common.{◌≡◌, ◌++◌, ◌∷◌, [], List, ℕ, ◌+◌, refl, ◌∙◌, ap, append_assoc, arith}
 use Rattle.std.proofs.Common.{add-one, Some, slice_index_or}
 use Rattle.std.proofs.lemmas.Grind.{common_steps}
@@ -9,7 +10,7 @@ use Rattle.test_hostile.specs.declared.channel.Channel.{Channel}
 use Rattle.test_hostile.specs.NewWatches.{new_channel, channels_of}
 use Rattle.test_hostile.proofs.watch.add_channels.Goals as goal
 
--- one more selection address has its channel
+-- The list with the channel of selection address n added is the list for n + 1 selection addresses.
 one_more : (old now : List Channel) (t : ℕ) (x : TerminalValue) (n : ℕ) (a : List ℕ) →
     now ≡ old ++ channels_of t x n → slice_get x.selects n ≡ Some a →
     now ++ new_channel t (ToTerminal n) a ∷ [] ≡ old ++ channels_of t x (n + 1)

@@ -1,4 +1,4 @@
--- The channel from the terminal and those to this many of its selection addresses were added.
+-- The channel from the terminal and the channels to the selection addresses so far were added.
 use Rattle.std.proofs.Common.{◌≡◌, ◌++◌}
 use Rattle.test_hostile.specs.NewWatches.{channels_of}
 use Rattle.test_hostile.proofs.watch.add_channels.Given as goal

@@ -1,5 +1,5 @@
--- A request that is refused is answered `Err`, and any other by the allocator below. Assumes
--- `Logic`.
+-- `allocate`: a refused request returns `Err`, and any other request is passed to the allocator below.
+-- Assumes `Logic`.
 use Rattle.std.proofs.Common.{◌≡◌, Bool, true, false, [], ◌∷◌, Ok, Err, refl, w64}
 use mir.Syntax.{Fn}
 use mir.Val.{Val, vbool, vint}

@@ -1,4 +1,4 @@
--- The block goes back to the allocator below. Assumes `Logic`.
+-- `deallocate`: the block is returned to the allocator below. Assumes `Logic`.
 use Rattle.std.proofs.Common.{◌≡◌, [], ◌∷◌, refl, w64}
 use mir.Syntax.{Fn}
 use mir.Val.{vunit, vint, vptr}

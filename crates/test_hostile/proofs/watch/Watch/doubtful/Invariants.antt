@@ -1,4 +1,4 @@
--- The first channel in doubt is the first of those that are left.
+-- The first channel in doubt is the first one in doubt among the remaining channels.
 use Rattle.std.proofs.Common.{◌≡◌, drop}
 use Rattle.test_hostile.specs.Watches.{first_in_doubt}
 use Rattle.test_hostile.proofs.watch.Watch.doubtful.Given as goal

@@ -1,4 +1,4 @@
--- The channels of this many terminals were added.
+-- The channels so far are those of the terminals before this number.
 use Rattle.std.proofs.Common.{◌≡◌}
 use Rattle.test_hostile.specs.NewWatches.{channels_to}
 use Rattle.test_hostile.proofs.watch.Watch.new.Given as goal

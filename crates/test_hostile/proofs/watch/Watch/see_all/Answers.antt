@@ -1,3 +1,4 @@
+-- `see_all`: each channel that the loop passes is as it was seen, and at the end all of them are.
 use Rattle.std.proofs.Common.{◌≡◌, ℕ, ◌+◌, ◌<◌, ◌≤◌, List, [], ◌∷◌, ◌++◌, length, take, get_or}
 use Rattle.std.proofs.Common.{refl, sym, ap, subst, add-one, take_all}
 use Rattle.std.proofs.Math.Seq.{take-suc}
@@ -7,7 +8,7 @@ use Rattle.test_hostile.specs.declared.channel.Channel.{Channel}
 use Rattle.test_hostile.specs.Histories.{IsAsSeen}
 use Rattle.test_hostile.proofs.watch.Watch.see_all.Goals as goal
 
--- one more channel is so
+-- If the first n channels have a property and channel n has it too, then the first n + 1 have it.
 all_more : (P : Channel → Type 0) (cs : List Channel) (n : ℕ) (c : Channel) → n < length cs →
     c ≡ get_or cs n c → All P (take n cs) → P c → All P (take (n + 1) cs)
 all_more P cs n c within is h one =

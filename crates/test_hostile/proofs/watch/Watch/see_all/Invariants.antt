@@ -1,4 +1,4 @@
--- This many channels are as they were seen.
+-- The channels before this index are as they were seen.
 use Rattle.std.proofs.Common.{take}
 use Rattle.std.specs.List.{All}
 use Rattle.test_hostile.specs.Histories.{IsAsSeen}

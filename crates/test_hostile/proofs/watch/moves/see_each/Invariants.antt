@@ -1,4 +1,4 @@
--- Only moves were counted.
+-- The counts of answers have not changed.
 use Rattle.test_hostile.specs.Tallies.{SameAnswers}
 use Rattle.test_hostile.proofs.watch.moves.see_each.Given as goal
 

@@ -1,4 +1,4 @@
--- The terminal is still one with two selection addresses, for records of up to 80 characters.
+-- The terminal still has two selection addresses, and records of up to 80 characters.
 use Rattle.std.proofs.Common.{◌≡◌, length}
 use Rattle.test_stations.proofs.tributary.exchange.wrong_step.Given as goal
 
