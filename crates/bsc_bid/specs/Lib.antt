@@ -2,7 +2,7 @@ pub mod Act
 pub mod Setup
 pub mod Terminal
 pub mod Station
-pub mod Reply
+pub mod Answer
 pub mod Sender
 pub mod Ready
 pub mod Receiver
