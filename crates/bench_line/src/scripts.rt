@@ -381,7 +381,7 @@ fn ways(choice: usize) -> usize {
     }
 }
 
-/// Other messages that may be heard: EOT, ENQ, NAK, ACK0, ACK1, WACK, RVI, and a text that fails
+/// Other messages that may be heard: EOT, ENQ, each reply, and a text that fails
 /// its check.
 const OTHERS: [&[u8]; 8] = [
     &[0x16, 0x04],

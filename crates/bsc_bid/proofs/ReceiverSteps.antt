@@ -8,7 +8,7 @@ use Rattle.bsc_frame.specs.declared.message.Heard.TheVariants.{Whole, Failed, No
 use Rattle.bsc_frame.specs.Texts.{TextValue}
 use Rattle.bsc_block.specs.Blocks.{records_in}
 use Rattle.bsc_spool.specs.Spool.{SpoolValue}
-use Rattle.bsc_bid.specs.Receiver.{ReceiverValue, ReceiverStep, Rooms, is_rvi, is_wack}
+use Rattle.bsc_bid.specs.Receiver.{ReceiverValue, ReceiverStep, Rooms, is_interrupt, is_wack}
 use Rattle.bsc_bid.specs.Receiver.{stored_text, taken_urgently, text_step, enq_step, heard_step}
 use Rattle.bsc_bid.proofs.Choice.{choose}
 
@@ -30,7 +30,7 @@ grows_text r s t urgent rooms =
     let urgently : P (taken_urgently r s t rooms) =
     inr (record { text = t; heard = refl; becomes = refl }) in
     choose P rooms.first _ _
-    (choose P urgent _ _ (choose P (is_rvi r.last) _ _ plain urgently) plain)
+    (choose P urgent _ _ (choose P (is_interrupt r.last) _ _ plain urgently) plain)
     (inl refl)
 
 grows_enq : (r : ReceiverValue) (s : SpoolValue) (rooms : Rooms)
@@ -56,7 +56,7 @@ pub silent_heard_step : (r : ReceiverValue) (s : SpoolValue) (h : Heard) (urgent
 silent_heard_step r s (Whole (m.Text t)) urgent rooms =
     choose (StaysSilent r) rooms.first _ _
     (choose (StaysSilent r) urgent _ _
-    (choose (StaysSilent r) (is_rvi r.last) _ _ (λ e. absurd (cc)) (λ e. absurd (cc)))
+    (choose (StaysSilent r) (is_interrupt r.last) _ _ (λ e. absurd (cc)) (λ e. absurd (cc)))
     (λ e. absurd (cc)))
     (λ e. absurd (cc))
 silent_heard_step r s (Whole m.Enq) urgent rooms =

@@ -43,9 +43,9 @@ abbrev pub stored : SpoolValue → List (List ℕ) → Bool → SpoolValue
 stored s rs room = record { records = s.records ++ rs; room = room; delays = s.delays }
 
 -- the reply is RVI
-abbrev pub is_rvi : Reply → Bool
-is_rvi Rvi = true
-is_rvi _ = false
+abbrev pub is_interrupt : Reply → Bool
+is_interrupt Rvi = true
+is_interrupt _ = false
 
 -- the reply is WACK
 abbrev pub is_wack : Reply → Bool
@@ -58,9 +58,9 @@ is_nak Nak = true
 is_nak _ = false
 
 -- whether RVI is sent
-abbrev pub sends_rvi : Option Reply → Bool
-sends_rvi None = false
-sends_rvi (Some r) = is_rvi r
+abbrev pub sends_interrupt : Option Reply → Bool
+sends_interrupt None = false
+sends_interrupt (Some r) = is_interrupt r
 
 -- a reply, which is the last one from now on
 abbrev pub replied : Alternation → SpoolValue → Reply → ReceiverStep
@@ -85,7 +85,7 @@ abbrev pub text_step : ReceiverValue → SpoolValue → TextValue → Bool → R
 text_step r s t urgent rooms =
     if rooms.first
     then (if urgent
-    then (if is_rvi r.last then stored_text r s t rooms else taken_urgently r s t rooms)
+    then (if is_interrupt r.last then stored_text r s t rooms else taken_urgently r s t rooms)
     else stored_text r s t rooms)
     else replied r.alternation (room_asked s false) Nak
 

@@ -1,4 +1,4 @@
--- The sender's table (GA27-3004: acknowledgements, NAK, WACK, RVI and time-outs; limits, doubt and
+-- The sender's table (GA27-3004: replies and time-outs; limits, doubt and
 -- release are own). Every counter is raised first and compared afterwards. What no line lists
 -- changes nothing.
 use Rattle.std.specs.Prelude.{◌≡◌, ℕ, ◌+◌, nat_lt, Bool, true, false, ◌==◌, ◌||◌, take, Option}

@@ -102,7 +102,7 @@ impl Sender {
     /// Hears a transmission. A reply is acted on; anything else changes nothing. The message to
     /// send is left in `sent`, or none. Condition: while a bid goes on, in the queue wait the
     /// records of the unanswered block, after ETB one more, and while held after ETB at least one.
-    /// (GA27-3004, ACK0, ACK1, NAK, WACK and RVI; the limits are own.)
+    /// (GA27-3004: the replies to a block. The limits are this project's.)
     pub fn reply<A: Allocator>(
         &mut self,
         heard: &Heard,

@@ -5,7 +5,7 @@ use Rattle.std.proofs.lemmas.List.{length-set}
 use Rattle.bsc_spool.specs.Queue.{waiting}
 use Rattle.bsc_bid.specs.declared.phase.Phase.TheVariants.{Idle}
 use Rattle.bsc_bid.specs.Ready.{IsGoing, IsAtRest}
-use Rattle.bsc_control.specs.declared.task.Replied.TheVariants.{Nothing, WithoutRvi, WithRvi}
+use Rattle.bsc_control.specs.declared.task.Replied.TheVariants.{Nothing, Uninterrupted, Interrupted}
 use Rattle.bsc_control.specs.declared.task.Task.{Task}
 use Rattle.bsc_control.specs.declared.task.Task.TheVariants.{AtRest, Selecting, Sending, Polling}
 use Rattle.bsc_control.specs.Control.{ControlValue, peer_at, peer, current, with_peer}
@@ -85,8 +85,8 @@ suits_following (Sending s) p q receiver lengths follows suits =
           (follows s).goes suits.going;
     }
 suits_following (Polling Nothing) p q receiver lengths follows suits = receiver ∙ suits
-suits_following (Polling WithoutRvi) p q receiver lengths follows suits = tt
-suits_following (Polling WithRvi) p q receiver lengths follows suits = tt
+suits_following (Polling Uninterrupted) p q receiver lengths follows suits = tt
+suits_following (Polling Interrupted) p q receiver lengths follows suits = tt
 
 -- the station stays in order if one sending side is replaced by one that follows it
 pub orderly_replaced : (c : ControlValue) (t s : ℕ) (o : OutboundValue) → t < length c.peers → s

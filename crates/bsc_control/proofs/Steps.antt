@@ -9,11 +9,11 @@ use Rattle.bsc_frame.specs.declared.message.Heard.TheVariants.{Whole, Failed, No
 use Rattle.bsc_bid.specs.Act as a
 use Rattle.bsc_frame.specs.declared.reply.Reply.{Reply}
 use Rattle.bsc_frame.specs.declared.reply.Reply.TheVariants.{Ack0, Ack1, Nak, Wack, Rvi}
-use Rattle.bsc_bid.specs.Receiver.{ReceiverStep, Rooms, new_receiver, heard_step, sends_rvi}
+use Rattle.bsc_bid.specs.Receiver.{ReceiverStep, Rooms, new_receiver, heard_step, sends_interrupt}
 use Rattle.bsc_frame.specs.Replies.{reply_in}
 use Rattle.bsc_bid.specs.Sender.{SenderStep, begin_step, reply_step, silence_step}
 use Rattle.bsc_control.specs.declared.task.Replied.{Replied}
-use Rattle.bsc_control.specs.declared.task.Replied.TheVariants.{Nothing, WithoutRvi, WithRvi}
+use Rattle.bsc_control.specs.declared.task.Replied.TheVariants.{Nothing, Uninterrupted, Interrupted}
 use Rattle.bsc_control.specs.declared.task.Task.{Task}
 use Rattle.bsc_control.specs.declared.task.Task.TheVariants.{AtRest, Selecting, Sending, Polling}
 use Rattle.std.specs.List.{slice_get}
@@ -27,7 +27,7 @@ use Rattle.bsc_control.specs.Kept.{IsCalled, IsRepeated, GrowsByText, after_hear
 use Rattle.bsc_control.specs.Kept.{way_of}
 use Rattle.bsc_control.specs.Peer.{PeerValue, no_peer}
 use Rattle.bsc_control.specs.Table.{poll_call_step, next_call_step, bid_step, after_bid}
-use Rattle.bsc_control.specs.Table.{selecting_step, receive_step, replied_after, has_rvi}
+use Rattle.bsc_control.specs.Table.{selecting_step, receive_step, replied_after, is_interrupted}
 use Rattle.bsc_control.specs.Table.{polling_step, task_step, repeated, silence_in, rooms_after}
 use Rattle.bsc_control.specs.Table.{Hears, ActsOnSilence, select_address}
 use Rattle.bsc_control.proofs.Bids.{OthersRest, keeps_spools_bid_step, calls_bid_step}
@@ -215,11 +215,7 @@ which_after_bid s None = inl refl
 no_call : (r : Option Reply) (address : List ℕ) → option_map m.Reply r ≡ Some (m.Call address)
     → ⊥
 no_call None address e = cc
-no_call (Some Ack0) address e = cc
-no_call (Some Ack1) address e = cc
-no_call (Some Nak) address e = cc
-no_call (Some Wack) address e = cc
-no_call (Some Rvi) address e = cc
+no_call (Some r) address e = cc
 
 -- while nothing was replied in a poll, the receiver is as new
 suits_after : (c : ControlValue) (p : PeerValue) (replied : Replied) (r : Option Reply)
@@ -229,23 +225,23 @@ suits_after : (c : ControlValue) (p : PeerValue) (replied : Replied) (r : Option
 suits_after c p Nothing None same suits =
     let is : p.receiver ≡ new_receiver true = same refl ∙ suits in
     value_at (λ (x : PeerValue). x.receiver) c.peers (current c) p no_peer (sym is) ∙ is
-suits_after c p WithoutRvi None same suits = tt
-suits_after c p WithRvi None same suits = tt
+suits_after c p Uninterrupted None same suits = tt
+suits_after c p Interrupted None same suits = tt
 suits_after c p Nothing (Some Ack0) same suits = tt
 suits_after c p Nothing (Some Ack1) same suits = tt
 suits_after c p Nothing (Some Nak) same suits = tt
 suits_after c p Nothing (Some Wack) same suits = tt
 suits_after c p Nothing (Some Rvi) same suits = tt
-suits_after c p WithoutRvi (Some Ack0) same suits = tt
-suits_after c p WithoutRvi (Some Ack1) same suits = tt
-suits_after c p WithoutRvi (Some Nak) same suits = tt
-suits_after c p WithoutRvi (Some Wack) same suits = tt
-suits_after c p WithoutRvi (Some Rvi) same suits = tt
-suits_after c p WithRvi (Some Ack0) same suits = tt
-suits_after c p WithRvi (Some Ack1) same suits = tt
-suits_after c p WithRvi (Some Nak) same suits = tt
-suits_after c p WithRvi (Some Wack) same suits = tt
-suits_after c p WithRvi (Some Rvi) same suits = tt
+suits_after c p Uninterrupted (Some Ack0) same suits = tt
+suits_after c p Uninterrupted (Some Ack1) same suits = tt
+suits_after c p Uninterrupted (Some Nak) same suits = tt
+suits_after c p Uninterrupted (Some Wack) same suits = tt
+suits_after c p Uninterrupted (Some Rvi) same suits = tt
+suits_after c p Interrupted (Some Ack0) same suits = tt
+suits_after c p Interrupted (Some Ack1) same suits = tt
+suits_after c p Interrupted (Some Nak) same suits = tt
+suits_after c p Interrupted (Some Wack) same suits = tt
+suits_after c p Interrupted (Some Rvi) same suits = tt
 
 stores : (c : ControlValue) (h : Heard) (replied : Replied) (old new : List (List ℕ)) → c.task
     ≡ Polling replied → (new ≡ old) ⊎ TakesText h old new → GrowsByText c h (current c) old new
@@ -273,7 +269,7 @@ hears_receiving_step c h replied step entries o calm e suits grows silent =
       receiver = step.receiver;
       spool = step.spool;
       urgent =
-          if sends_rvi step.reply then false else (peer c).urgent;
+          if sends_interrupt step.reply then false else (peer c).urgent;
     } in
     let same : IsSamePeer c t p = record { terminal = refl; outbounds = refl } in
     let task : Task = Polling (replied_after replied step.reply) in
@@ -309,7 +305,7 @@ hears_polling : (c : ControlValue) (h : Heard) (replied : Replied) (rooms : Room
     → IsOrderly c → IsCalm c → c.task ≡ Polling replied → SuitsTask (Polling replied) (peer c)
     → HearingKeeps c h (polling_step c replied h rooms)
 hears_polling c (Whole m.Eot) replied rooms entries o calm e suits =
-    hears_next c (Whole m.Eot) (Poll (has_rvi replied)) entries calm
+    hears_next c (Whole m.Eot) (Poll (is_interrupted replied)) entries calm
     (ap (λ (task : Task). after_hearing task (Whole m.Eot)) e)
 hears_polling c Noise replied rooms entries o calm e suits =
     hears_heard c Noise replied rooms entries o calm e suits
@@ -470,9 +466,9 @@ silent_task c (Polling Nothing) entries o e =
       calls =
           λ address sent. inr (repeats_poll c address entries e sent);
     })
-silent_task c (Polling WithoutRvi) entries o e =
+silent_task c (Polling Uninterrupted) entries o e =
     silent_next c (Poll false) entries (calm_while c o (λ k used. absurd (cc))) (ap after_silence e)
-silent_task c (Polling WithRvi) entries o e =
+silent_task c (Polling Interrupted) entries o e =
     silent_next c (Poll true) entries (calm_while c o (λ k used. absurd (cc))) (ap after_silence e)
 
 -- what a silence keeps, by the table

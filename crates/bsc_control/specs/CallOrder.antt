@@ -13,12 +13,12 @@ pub record Call : Type 0 where
   pub way : Way
 
 -- what a next call comes after: the start of the station; a selection of this address, or the bid
--- that it led to; a bid that RVI ended; a poll in which RVI was sent or not
+-- that it led to; a bid that was interrupted; a poll that was interrupted or not
 pub data After : Type 0 where
   Start : After
   Selection : (select : ℕ) → After
   Interruption : After
-  Poll : (rvi : Bool) → After
+  Poll : (interrupted : Bool) → After
 
 -- the selection address this many numbers after `from`, or the polling address
 abbrev pub way_at : ℕ → Option ℕ → Way

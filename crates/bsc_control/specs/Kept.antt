@@ -17,7 +17,7 @@ use Rattle.bsc_bid.specs.Setup.{SetupValue}
 use Rattle.bsc_bid.specs.Terminal.{TerminalValue}
 use Rattle.bsc_directory.specs.declared.limits.TheConstants.{MAX_TERMINALS, MAX_ENTRIES}
 use Rattle.bsc_control.specs.declared.task.Replied.{Replied}
-use Rattle.bsc_control.specs.declared.task.Replied.TheVariants.{Nothing, WithoutRvi, WithRvi}
+use Rattle.bsc_control.specs.declared.task.Replied.TheVariants.{Nothing, Uninterrupted, Interrupted}
 use Rattle.bsc_control.specs.declared.task.Task.{Task}
 use Rattle.bsc_control.specs.declared.task.Task.TheVariants.{AtRest, Selecting, Sending, Polling}
 use Rattle.bsc_directory.specs.declared.way.Way.{Way}
@@ -26,7 +26,7 @@ use Rattle.bsc_directory.specs.Addresses.{IsAddressOf, AreDistinct}
 use Rattle.bsc_control.specs.CallOrder.{Call, After, Start, Selection, Poll, next_call}
 use Rattle.bsc_control.specs.Peer.{OutboundValue, PeerValue, IsNewPeer, outbound_at}
 use Rattle.bsc_control.specs.Control.{ControlValue, HasEntries, terminals, peer_at, peer, current}
-use Rattle.bsc_control.specs.Table.{Hears, ActsOnSilence, after_bid, has_rvi}
+use Rattle.bsc_control.specs.Table.{Hears, ActsOnSilence, after_bid, is_interrupted}
 use Rattle.bsc_bid.specs.Station.{StaysQuiet}
 
 -- a selection address was called: records wait for it, and there is neither a doubt nor a bid
@@ -47,8 +47,8 @@ SuitsTask AtRest p = Unit {0}
 SuitsTask (Selecting s enquired) p = IsSelected p s
 SuitsTask (Sending s) p = IsInBid p s
 SuitsTask (Polling Nothing) p = p.receiver ≡ new_receiver true
-SuitsTask (Polling WithoutRvi) p = Unit {0}
-SuitsTask (Polling WithRvi) p = Unit {0}
+SuitsTask (Polling Uninterrupted) p = Unit {0}
+SuitsTask (Polling Interrupted) p = Unit {0}
 
 -- the sending side of this selection address of this terminal
 abbrev pub outbound_of : ControlValue → ℕ → ℕ → OutboundValue
@@ -123,14 +123,14 @@ abbrev pub after_hearing : Task → Heard → After
 after_hearing AtRest h = Start
 after_hearing (Selecting s enquired) h = Selection s
 after_hearing (Sending s) h = after_bid s (reply_in h)
-after_hearing (Polling replied) h = Poll (has_rvi replied)
+after_hearing (Polling replied) h = Poll (is_interrupted replied)
 
 -- what a next call comes after, if a silence passes during this task
 abbrev pub after_silence : Task → After
 after_silence AtRest = Start
 after_silence (Selecting s enquired) = Selection s
 after_silence (Sending s) = Selection s
-after_silence (Polling replied) = Poll (has_rvi replied)
+after_silence (Polling replied) = Poll (is_interrupted replied)
 
 -- a whole text was heard in a poll of terminal t, and its records were added to the old ones
 pub record Stores (c : ControlValue) (h : Heard) (t : ℕ) (old new : List (List ℕ)) : Type 0 where

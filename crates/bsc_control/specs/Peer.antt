@@ -7,7 +7,7 @@ use Rattle.bsc_spool.specs.Spool.{SpoolValue}
 use Rattle.bsc_bid.specs.declared.phase.Phase.TheVariants.{Idle}
 use Rattle.bsc_frame.specs.declared.reply.Reply.{Reply}
 use Rattle.bsc_bid.specs.Ready.{IsReady}
-use Rattle.bsc_bid.specs.Receiver.{ReceiverValue, Receives, new_receiver, sends_rvi}
+use Rattle.bsc_bid.specs.Receiver.{ReceiverValue, Receives, new_receiver, sends_interrupt}
 use Rattle.bsc_bid.specs.Sender.{SenderValue, SenderStep, is_in_doubt, release_step}
 use Rattle.bsc_bid.specs.Setup.{SetupValue}
 use Rattle.bsc_bid.specs.Terminal.{TerminalValue, IsTerminal}
@@ -108,7 +108,7 @@ pub record IsPeer (p : PeerValue) : Type 0 where
   pub outbounds : length p.outbounds ≡ length p.terminal.selects
   pub ready : All IsOutbound p.outbounds
 
--- the receiver hears a transmission; RVI clears the urgent flag
+-- the receiver hears a transmission; a reverse interrupt clears the urgent flag
 pub record PeerReceives (old : PeerValue) (h : Heard) (new : PeerValue) (reply : Option Reply)
     : Type 0 where
   pub receives : Receives old.receiver old.spool h old.urgent
@@ -116,5 +116,5 @@ pub record PeerReceives (old : PeerValue) (h : Heard) (new : PeerValue) (reply :
   pub becomes : new ≡ record old {
     receiver = new.receiver;
     spool = new.spool;
-    urgent = if sends_rvi reply then false else old.urgent;
+    urgent = if sends_interrupt reply then false else old.urgent;
   }

@@ -14,10 +14,10 @@ use Rattle.bsc_bid.specs.Act.{Act, message_for, outcome_of}
 use Rattle.bsc_bid.specs.Terminal.{TerminalValue}
 use Rattle.bsc_frame.specs.Replies.{reply_in}
 use Rattle.bsc_bid.specs.Receiver.{ReceiverStep, Rooms, new_receiver, heard_step, rooms_left}
-use Rattle.bsc_bid.specs.Receiver.{sends_rvi}
+use Rattle.bsc_bid.specs.Receiver.{sends_interrupt}
 use Rattle.bsc_bid.specs.Sender.{SenderStep, begin_step, reply_step, silence_step}
 use Rattle.bsc_control.specs.declared.task.Replied.{Replied}
-use Rattle.bsc_control.specs.declared.task.Replied.TheVariants.{Nothing, WithoutRvi, WithRvi}
+use Rattle.bsc_control.specs.declared.task.Replied.TheVariants.{Nothing, Uninterrupted, Interrupted}
 use Rattle.bsc_control.specs.declared.task.Task.{Task}
 use Rattle.bsc_control.specs.declared.task.Task.TheVariants.{AtRest, Selecting, Sending, Polling}
 use Rattle.bsc_directory.specs.declared.way.Way.{Way}
@@ -36,13 +36,13 @@ select_address t s = slice_index_or t.selects s t.poll
 -- what was replied in a poll once this reply, or none, is sent
 abbrev pub replied_after : Replied → Option Reply → Replied
 replied_after r None = r
-replied_after r (Some Rvi) = WithRvi
-replied_after WithRvi (Some _) = WithRvi
-replied_after _ (Some _) = WithoutRvi
+replied_after r (Some Rvi) = Interrupted
+replied_after Interrupted (Some _) = Interrupted
+replied_after _ (Some _) = Uninterrupted
 
-abbrev pub has_rvi : Replied → Bool
-has_rvi WithRvi = true
-has_rvi _ = false
+abbrev pub is_interrupted : Replied → Bool
+is_interrupted Interrupted = true
+is_interrupted _ = false
 
 -- the polling address of an entry is called, with this count of failures: the receiver begins anew
 abbrev pub poll_call_step : ControlValue → ℕ → ℕ → ControlStep
@@ -125,7 +125,7 @@ receive_step c replied step =
           record (with_current c (record p {
             receiver = step.receiver;
             spool = step.spool;
-            urgent = if sends_rvi step.reply then false else p.urgent;
+            urgent = if sends_interrupt step.reply then false else p.urgent;
           })) {
             task = Polling (replied_after replied step.reply);
           };
@@ -134,7 +134,7 @@ receive_step c replied step =
 
 -- a poll is answered
 abbrev pub polling_step : ControlValue → Replied → Heard → Rooms → ControlStep
-polling_step c replied (Whole m.Eot) rooms = next_call_step c (Poll (has_rvi replied))
+polling_step c replied (Whole m.Eot) rooms = next_call_step c (Poll (is_interrupted replied))
 polling_step c replied h rooms =
     receive_step c replied (heard_step (peer c).receiver (peer c).spool h (peer c).urgent rooms)
 
@@ -168,8 +168,8 @@ silence_in c (Sending s) =
 silence_in c (Polling Nothing) =
     if nat_lt c.setup.tries (c.failures + 1) then next_call_step c (Poll false)
     else poll_call_step c c.place (c.failures + 1)
-silence_in c (Polling WithoutRvi) = next_call_step c (Poll false)
-silence_in c (Polling WithRvi) = next_call_step c (Poll true)
+silence_in c (Polling Uninterrupted) = next_call_step c (Poll false)
+silence_in c (Polling Interrupted) = next_call_step c (Poll true)
 
 -- the outcomes of the attempts to get room, as the polled terminal's receiver and spool show them
 abbrev pub rooms_after : ControlValue → Heard → ControlValue → Rooms

@@ -139,9 +139,9 @@ impl<A: Allocator> Control<A> {
         outbound.offer(record)
     }
 
-    /// Asks a terminal for the line: the next text taken from it is answered by RVI, unless the
-    /// last reply was RVI too. A new selection of the terminal clears the request. Condition: the
-    /// terminal exists. (GA27-3004, RVI.)
+    /// Asks a terminal for the line: the next text taken from it is answered by a reverse
+    /// interrupt, unless the last reply was one too. A new selection of the terminal clears the
+    /// request. Condition: the terminal exists. (GA27-3004: reverse interrupt.)
     pub fn set_urgent(&mut self, terminal: usize)
         requires { terminal < length self.old.peers }
         ensures state { self.new

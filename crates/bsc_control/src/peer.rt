@@ -20,7 +20,7 @@ pub(crate) struct Peer<A: Allocator> {
     /// The polling address and the selection addresses of the terminal.
     pub(crate) terminal: Terminal,
 
-    /// Whether the next text that is taken from the terminal is answered by RVI.
+    /// Whether the next text that is taken from the terminal is answered by a reverse interrupt.
     pub(crate) urgent: bool,
 
     /// The receiver of the terminal's bids.
@@ -89,7 +89,7 @@ impl<A: Allocator> Peer<A> {
         }
     }
 
-    /// Lets the receiver hear a transmission, and returns its reply. A reply of RVI clears the
+    /// Lets the receiver hear a transmission, and returns its reply. A reverse interrupt clears the
     /// urgent flag.
     pub(crate) fn receive(&mut self, heard: &Heard) -> Option<Reply>
         ensures receives { PeerReceives self.old heard.now self.new result }

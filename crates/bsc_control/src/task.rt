@@ -1,7 +1,7 @@
 //! What the control station does with the terminal of its present entry.
 
 ghost use Rattle.std.specs.Prelude.{◌≡◌};
-ghost use Rattle.bsc_control.specs.Table.{replied_after, has_rvi};
+ghost use Rattle.bsc_control.specs.Table.{replied_after, is_interrupted};
 
 use bsc_frame::Reply;
 
@@ -12,10 +12,10 @@ pub enum Replied {
     Nothing,
 
     /// Replies, but no RVI among them.
-    WithoutRvi,
+    Uninterrupted,
 
     /// Replies, and RVI among them.
-    WithRvi,
+    Interrupted,
 }
 
 impl Replied {
@@ -25,16 +25,16 @@ impl Replied {
     {
         match (self, reply) {
             (_, None) => self,
-            (Replied::WithRvi, _) | (_, Some(Reply::Rvi)) => Replied::WithRvi,
-            _ => Replied::WithoutRvi,
+            (Replied::Interrupted, _) | (_, Some(Reply::Rvi)) => Replied::Interrupted,
+            _ => Replied::Uninterrupted,
         }
     }
 
     /// Whether RVI is among the replies.
-    pub(crate) fn has_rvi(self) -> bool
-        ensures { result ≡ has_rvi self }
+    pub(crate) fn is_interrupted(self) -> bool
+        ensures { result ≡ is_interrupted self }
     {
-        matches!(self, Replied::WithRvi)
+        matches!(self, Replied::Interrupted)
     }
 }
 

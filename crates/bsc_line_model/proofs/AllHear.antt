@@ -5,7 +5,6 @@ use Rattle.bsc_frame.specs.declared.message.Message.{Message}
 use Rattle.bsc_frame.specs.declared.message.Message.TheVariants as m
 use Rattle.bsc_frame.specs.declared.message.Heard.{Heard}
 use Rattle.bsc_frame.specs.declared.reply.Reply.{Reply}
-use Rattle.bsc_frame.specs.declared.reply.Reply.TheVariants.{Ack0, Ack1, Nak, Wack, Rvi}
 use Rattle.bsc_bid.specs.Agreement.{Flight, InBid}
 use Rattle.bsc_tributary.specs.Tributary.{TributaryValue, spool_at}
 use Rattle.bsc_control.specs.declared.task.Replied.{Replied}
@@ -40,11 +39,7 @@ bid_no_call m.Enq b = refl
 bid_no_call (m.Reply r) b = refl
 
 pub reply_is_no_call : (r : Reply) → is_call (m.Reply r) ≡ false
-reply_is_no_call Ack0 = refl
-reply_is_no_call Ack1 = refl
-reply_is_no_call Nak = refl
-reply_is_no_call Wack = refl
-reply_is_no_call Rvi = refl
+reply_is_no_call r = refl
 
 -- The terminals hear the control station: they and their answer fit together with it.
 pub hears_down : (names : NamesOwn) (laws : BidLaws) (c : ControlValue) (old : List TributaryValue)

@@ -13,7 +13,7 @@ use Rattle.bsc_frame.specs.declared.reply.Reply.TheVariants.{Ack0, Ack1, Nak, Wa
 use Rattle.bsc_bid.specs.declared.phase.Phase.{Phase}
 use Rattle.bsc_bid.specs.declared.phase.Phase.TheVariants.{Idle}
 use Rattle.bsc_frame.specs.Replies.{reply_in}
-use Rattle.bsc_bid.specs.Receiver.{ReceiverStep, Rooms, heard_step, sends_rvi}
+use Rattle.bsc_bid.specs.Receiver.{ReceiverStep, Rooms, heard_step, sends_interrupt}
 use Rattle.bsc_bid.specs.Sender.{SenderStep, begin_step}
 use Rattle.bsc_bid.specs.Fair.{IsFairlyHeard}
 use Rattle.bsc_bid.specs.Agreement.{Flight, Still, Outward, InBid, IsResting, Continues}
@@ -29,7 +29,7 @@ use Rattle.bsc_control.specs.Control.{ControlValue, ControlStep, peer, current, 
 use Rattle.bsc_control.specs.CallOrder.{After, Selection, Poll, next_call}
 use Rattle.bsc_control.specs.Kept.{IsSelected, SuitsTask, AfterHearing}
 use Rattle.bsc_control.specs.Table.{Hears, next_call_step, bid_step, selecting_step, polling_step}
-use Rattle.bsc_control.specs.Table.{task_step, receive_step, has_rvi, replied_after, rooms_after}
+use Rattle.bsc_control.specs.Table.{task_step, receive_step, is_interrupted, replied_after, rooms_after}
 use Rattle.bsc_line_model.specs.declared.transmission.Speaker.TheVariants as sp
 use Rattle.bsc_line_model.specs.declared.transmission.Transmission.{Transmission}
 use Rattle.bsc_line_model.specs.Transmission.{sent_by}
@@ -225,7 +225,7 @@ polling_received laws c ts t w h rooms replied stations others b fair =
       receiver = step.receiver;
       spool = step.spool;
       urgent =
-          if sends_rvi step.reply then false else p.urgent;
+          if sends_interrupt step.reply then false else p.urgent;
     } in
     let flying : InBid x.sender.phase x.queue p.receiver.alternation p.receiver.last p.spool.records
     (Outward w) =
@@ -266,7 +266,7 @@ pub polling_ended : (c : ControlValue) (ts : List TributaryValue) (rooms : Rooms
     InTask (polling_step c replied (Whole m.Eot) rooms).control.task
     (sent_by sp.Control (polling_step c replied (Whole m.Eot) rooms).sent)
     (polling_step c replied (Whole m.Eot) rooms).control ts
-polling_ended c ts rooms replied stations all = next_made c ts (Poll (has_rvi replied)) stations all
+polling_ended c ts rooms replied stations all = next_made c ts (Poll (is_interrupted replied)) stations all
 
 -- the control station after the step fits together with the terminals
 abbrev pub StepsTo : ControlStep → List TributaryValue → Type 0

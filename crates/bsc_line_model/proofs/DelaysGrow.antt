@@ -16,7 +16,7 @@ use Rattle.bsc_frame.specs.declared.reply.Reply.{Reply}
 use Rattle.bsc_frame.specs.declared.reply.Reply.TheVariants.{Ack0, Ack1, Nak, Wack, Rvi}
 use Rattle.bsc_frame.specs.Replies.{reply_in}
 use Rattle.bsc_bid.specs.Receiver.{ReceiverValue, ReceiverStep, Rooms, heard_step, text_step}
-use Rattle.bsc_bid.specs.Receiver.{stored_text, taken_urgently, replied, is_rvi, is_wack}
+use Rattle.bsc_bid.specs.Receiver.{stored_text, taken_urgently, replied, is_interrupt, is_wack}
 use Rattle.bsc_bid.specs.Receiver.{new_receiver}
 use Rattle.bsc_bid.specs.Sender.{SenderStep, begin_step, reply_step, is_in_doubt}
 use Rattle.bsc_bid.proofs.Choice.{choose}
@@ -42,7 +42,7 @@ use Rattle.bsc_control.specs.CallOrder.{After, Selection, Poll, next_call}
 use Rattle.bsc_control.specs.Table.{Hears as ControlHears, task_step, selecting_step, polling_step}
 use Rattle.bsc_control.specs.Table.{receive_step, bid_step, act_step as control_acts}
 use Rattle.bsc_control.specs.Table.{next_call_step}
-use Rattle.bsc_control.specs.Table.{way_call_step, after_bid, has_rvi, rooms_after as rooms_up}
+use Rattle.bsc_control.specs.Table.{way_call_step, after_bid, is_interrupted, rooms_after as rooms_up}
 use Rattle.bsc_line_model.proofs.Stations.{same_or_not}
 
 -- a count within 64 bits does not fall, and stays within them
@@ -82,9 +82,9 @@ text_grows r s t urgent rooms =
     let urgently : ReceiverStep = taken_urgently r s t rooms in
     let refused : ReceiverStep = replied r.alternation (room_asked s false) Nak in
     choose (ReceiverGrows s.delays) rooms.first
-    (if urgent then (if is_rvi r.last then plain else urgently) else plain) refused
-    (choose (ReceiverGrows s.delays) urgent (if is_rvi r.last then plain else urgently) plain
-    (choose (ReceiverGrows s.delays) (is_rvi r.last) plain urgently (taken_grows r s t rooms)
+    (if urgent then (if is_interrupt r.last then plain else urgently) else plain) refused
+    (choose (ReceiverGrows s.delays) urgent (if is_interrupt r.last then plain else urgently) plain
+    (choose (ReceiverGrows s.delays) (is_interrupt r.last) plain urgently (taken_grows r s t rooms)
     (grows_same s.delays)) (taken_grows r s t rooms))
     (asked_grows s false)
 
@@ -274,7 +274,7 @@ receives_grow c replied h rooms =
 
 polling_grows : (c : ControlValue) (replied : Replied) (h : Heard) (rooms : Rooms)
     → ControlGrows c (polling_step c replied h rooms).control
-polling_grows c replied (Whole m.Eot) rooms = next_grows c (Poll (has_rvi replied))
+polling_grows c replied (Whole m.Eot) rooms = next_grows c (Poll (is_interrupted replied))
 polling_grows c replied (Whole (m.Call x)) rooms = receives_grow c replied (Whole (m.Call x)) rooms
 polling_grows c replied (Whole (m.Text t)) rooms = receives_grow c replied (Whole (m.Text t)) rooms
 polling_grows c replied (Whole m.Enq) rooms = receives_grow c replied (Whole m.Enq) rooms

@@ -13,7 +13,7 @@ use Rattle.bsc_bid.specs.declared.alternation.Alternation.TheVariants.{Even, Odd
 use Rattle.bsc_frame.specs.declared.reply.Reply.{Reply}
 use Rattle.bsc_bid.specs.Ready.{IsAtRest}
 use Rattle.bsc_bid.specs.Answer.{ack, other}
-use Rattle.bsc_bid.specs.Receiver.{ReceiverValue, ReceiverStep, Rooms, text_step, sends_rvi}
+use Rattle.bsc_bid.specs.Receiver.{ReceiverValue, ReceiverStep, Rooms, text_step, sends_interrupt}
 use Rattle.bsc_bid.specs.Receiver.{new_receiver, first_reply}
 use Rattle.bsc_tributary.specs.declared.called.Called.{Called}
 use Rattle.bsc_tributary.specs.declared.called.Called.TheVariants.{Selection, Other}
@@ -53,7 +53,7 @@ receives_stays : (e : ℕ) (x : TributaryValue) (s : ℕ) (r : ReceiverStep)
 receives_stays e x s r =
     record {
       ready = refl;
-      urgent = λ k. calm (sends_rvi r.reply) x.urgent k;
+      urgent = λ k. calm (sends_interrupt r.reply) x.urgent k;
       down = λ k k_else.
           let differ : k ≢ s = λ same. k_else refl (ap (λ (n : ℕ). ToTerminal n) same) in
           ap (λ (z : SpoolValue). z.records)

@@ -13,10 +13,10 @@ use Rattle.bsc_bid.specs.Act as a
 use Rattle.bsc_frame.specs.declared.reply.Reply.{Reply}
 use Rattle.bsc_frame.specs.declared.reply.Reply.TheVariants.{Ack0, Ack1, Nak, Wack, Rvi}
 use Rattle.bsc_frame.specs.Replies.{reply_in}
-use Rattle.bsc_bid.specs.Receiver.{ReceiverStep, Rooms, new_receiver, heard_step, sends_rvi}
+use Rattle.bsc_bid.specs.Receiver.{ReceiverStep, Rooms, new_receiver, heard_step, sends_interrupt}
 use Rattle.bsc_bid.specs.Sender.{SenderStep, begin_step, reply_step, silence_step}
 use Rattle.bsc_control.specs.declared.task.Replied.{Replied}
-use Rattle.bsc_control.specs.declared.task.Replied.TheVariants.{Nothing, WithoutRvi, WithRvi}
+use Rattle.bsc_control.specs.declared.task.Replied.TheVariants.{Nothing, Uninterrupted, Interrupted}
 use Rattle.bsc_control.specs.declared.task.Task.{Task}
 use Rattle.bsc_control.specs.declared.task.Task.TheVariants.{AtRest, Selecting, Sending, Polling}
 use Rattle.bsc_directory.specs.declared.way.Way.{Way}
@@ -30,7 +30,7 @@ use Rattle.bsc_control.specs.Kept.{outbound_of, IsControl, IsSelected, IsInBid, 
 use Rattle.bsc_control.specs.Table.{Hears, ActsOnSilence, poll_call_step, way_call_step}
 use Rattle.bsc_control.specs.Table.{next_call_step, act_step, bid_step, after_bid}
 use Rattle.bsc_control.specs.Table.{selecting_step, receive_step, polling_step, task_step}
-use Rattle.bsc_control.specs.Table.{rooms_after, repeated, silence_in, has_rvi, after_step}
+use Rattle.bsc_control.specs.Table.{rooms_after, repeated, silence_in, is_interrupted, after_step}
 use Rattle.bsc_control.proofs.Calls.{HasPlaces, places, same_places, current_there, next_there}
 use Rattle.bsc_line_model.proofs.Stations.{same_or_not}
 use Rattle.bsc_line_model.proofs.QueueSteps.{begin_queue, silence_queue}
@@ -201,7 +201,7 @@ receives_queues c replied step t k places =
       receiver = step.receiver;
       spool = step.spool;
       urgent =
-          if sends_rvi step.reply then false else (peer c).urgent;
+          if sends_interrupt step.reply then false else (peer c).urgent;
     }) t k (current_there c places) refl
 
 polling_queues : (c : ControlValue) (replied : Replied) (h : Heard) (rooms : Rooms) (t k : ℕ)
@@ -211,7 +211,7 @@ polling_queues c replied h rooms t k places = by_heard h
   where
     by_heard : (g : Heard) → (outbound_of (polling_step c replied g rooms).control t k).queue
         ≡ (outbound_of c t k).queue
-    by_heard (Whole m.Eot) = next_queues c (Poll (has_rvi replied)) t k places
+    by_heard (Whole m.Eot) = next_queues c (Poll (is_interrupted replied)) t k places
     by_heard (Whole (m.Call z)) =
         receives_queues c replied (heard_step (peer c).receiver (peer c).spool (Whole (m.Call z))
         (peer c).urgent rooms) t k places
@@ -311,5 +311,5 @@ outbound_silent_queue c d out t k is row =
         (silence_queue (outbound_at (peer c) s).sender (outbound_at (peer c) s).queue)
     in_task (Polling Nothing) e =
         polls_again_queues c (nat_lt c.setup.tries (c.failures + 1)) t k listed
-    in_task (Polling WithoutRvi) e = next_queues c (Poll false) t k listed
-    in_task (Polling WithRvi) e = next_queues c (Poll true) t k listed
+    in_task (Polling Uninterrupted) e = next_queues c (Poll false) t k listed
+    in_task (Polling Interrupted) e = next_queues c (Poll true) t k listed

@@ -157,7 +157,7 @@ call_up laws l new n g task sure count is h =
     (g.line.stations.members t less).tributary.bid in
     let named : called_as x.terminal a ≡ Polling = (laws.names.polling x.terminal a).1 own in
     one_acts e (msg.Call a) l new c.place n there h
-    (record { place_is = refl; replied = Nothing; task = task; without_rvi = refl })
+    (record { place_is = refl; replied = Nothing; task = task; uninterrupted = refl })
     (λ t less differ.
     let quiet : (answer_of l.terminals (λ y. Whole (msg.Call a)) new.terminals t ≡ None)
     × TerminalStays e FromTerminal t (terminal_at l t) (terminal_at new t) =

@@ -48,11 +48,7 @@ use Rattle.bsc_line_model.proofs.CallsHeard.{with_others}
 use Rattle.bsc_bid.specs.Station.{StaysQuiet}
 
 reply_no_call : (r : Reply) → IsNoCall (Whole (m.Reply r))
-reply_no_call Ack0 = tt
-reply_no_call Ack1 = tt
-reply_no_call Nak = tt
-reply_no_call Wack = tt
-reply_no_call Rvi = tt
+reply_no_call r = tt
 
 pub reply_heard_whole : (r : Reply) (h : Heard) → IsFairlyHeard (m.Reply r) h → IsNoCall h
 reply_heard_whole r (Whole v) (inl e) =

@@ -14,7 +14,7 @@ use Rattle.bsc_tributary.specs.Tributary.{TributaryValue, TributaryStep}
 use Rattle.bsc_tributary.specs.Tributary.{silence_in as terminal_silence, act_step}
 use Rattle.bsc_tributary.specs.Tributary.{ActsOnSilence as TerminalActs}
 use Rattle.bsc_control.specs.declared.task.Replied.{Replied}
-use Rattle.bsc_control.specs.declared.task.Replied.TheVariants.{Nothing, WithoutRvi, WithRvi}
+use Rattle.bsc_control.specs.declared.task.Replied.TheVariants.{Nothing, Uninterrupted, Interrupted}
 use Rattle.bsc_control.specs.declared.task.Task.{Task}
 use Rattle.bsc_control.specs.declared.task.Task.TheVariants.{AtRest, Selecting, Sending, Polling}
 use Rattle.bsc_directory.specs.declared.way.Way.{Way}
@@ -104,11 +104,11 @@ silent_control laws c d ts out stations nobody together row = by_task c.task ref
     by_task (Polling Nothing) is k =
         by_row (Polling Nothing) is (polls_again c ts (nat_lt c.setup.tries (c.failures + 1))
         stations (no_bids Nothing k))
-    by_task (Polling WithoutRvi) is k =
-        by_row (Polling WithoutRvi) is (next_made c ts (Poll false) stations
-        (no_bids WithoutRvi k))
-    by_task (Polling WithRvi) is k =
-        by_row (Polling WithRvi) is (next_made c ts (Poll true) stations (no_bids WithRvi k))
+    by_task (Polling Uninterrupted) is k =
+        by_row (Polling Uninterrupted) is (next_made c ts (Poll false) stations
+        (no_bids Uninterrupted k))
+    by_task (Polling Interrupted) is k =
+        by_row (Polling Interrupted) is (next_made c ts (Poll true) stations (no_bids Interrupted k))
 
 -- the sending terminal, which is the polled one, acts on a silence
 times_out_up : (laws : BidLaws) (c : ControlValue) (ts : List TributaryValue)

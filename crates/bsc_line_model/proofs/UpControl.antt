@@ -11,9 +11,9 @@ use Rattle.bsc_bid.specs.declared.alternation.Alternation.{Alternation}
 use Rattle.bsc_bid.specs.declared.alternation.Alternation.TheVariants.{Even, Odd}
 use Rattle.bsc_frame.specs.declared.reply.Reply.{Reply}
 use Rattle.bsc_bid.specs.Answer.{ack, other}
-use Rattle.bsc_bid.specs.Receiver.{ReceiverStep, Rooms, text_step, sends_rvi}
+use Rattle.bsc_bid.specs.Receiver.{ReceiverStep, Rooms, text_step, sends_interrupt}
 use Rattle.bsc_control.specs.declared.task.Replied.{Replied}
-use Rattle.bsc_control.specs.declared.task.Replied.TheVariants.{Nothing, WithoutRvi, WithRvi}
+use Rattle.bsc_control.specs.declared.task.Replied.TheVariants.{Nothing, Uninterrupted, Interrupted}
 use Rattle.bsc_control.specs.declared.task.Task.{Task}
 use Rattle.bsc_control.specs.declared.task.Task.TheVariants.{Polling}
 use Rattle.bsc_directory.specs.declared.way.Way.{Way}
@@ -23,26 +23,26 @@ use Rattle.bsc_control.specs.Control.{ControlValue, ControlStep, peer_at, peer, 
 use Rattle.bsc_control.specs.Control.{terminal_of_entry}
 use Rattle.bsc_control.specs.CallOrder.{Poll, way_from, next_place}
 use Rattle.bsc_control.specs.Table.{Hears, task_step, receive_step, make_call_step}
-use Rattle.bsc_control.specs.Table.{next_call_step, replied_after, has_rvi, rooms_after}
+use Rattle.bsc_control.specs.Table.{next_call_step, replied_after, is_interrupted, rooms_after}
 use Rattle.bsc_line_model.proofs.Staying.{ControlStays, peer_written, call_stays}
 use Rattle.bsc_line_model.proofs.DownControl.{HasCalled, call_is, call_lists}
 use Rattle.bsc_line_model.proofs.DownTerminals.{calm, twice_other, taken_exact}
 
--- a poll in which RVI was not sent is in progress
+-- a poll that was not interrupted is in progress
 pub record IsPolled (c : ControlValue) (place : ℕ) : Type 0 where
   pub place_is : c.place ≡ place
   pub replied : Replied
   pub task : c.task ≡ Polling replied
-  pub without_rvi : has_rvi replied ≡ false
+  pub uninterrupted : is_interrupted replied ≡ false
 
--- an acknowledgement is not RVI
-without : (r : Replied) (p : Alternation) → has_rvi r ≡ false
-    → has_rvi (replied_after r (Some (ack p))) ≡ false
+-- an acknowledgement is no interrupt
+without : (r : Replied) (p : Alternation) → is_interrupted r ≡ false
+    → is_interrupted (replied_after r (Some (ack p))) ≡ false
 without Nothing Even e = refl
 without Nothing Odd e = refl
-without WithoutRvi Even e = refl
-without WithoutRvi Odd e = refl
-without WithRvi p e = absurd (cc)
+without Uninterrupted Even e = refl
+without Uninterrupted Odd e = refl
+without Interrupted p e = absurd (cc)
 
 -- a block is taken
 pub takes_up : (c d : ControlValue) (sent : Option Message) (t : TextValue)
@@ -62,7 +62,7 @@ takes_up c d sent t alternation place there i not_urgent counted same less h =
       receiver = r.receiver;
       spool = r.spool;
       urgent =
-          if sends_rvi r.reply then false else p.urgent;
+          if sends_interrupt r.reply then false else p.urgent;
     } in
     let row : record { control = d; sent = sent } ≡ receive_step c i.replied r =
     h.row ∙ ap (λ (k : Task). task_step c k w rooms) i.task
@@ -84,12 +84,12 @@ takes_up c d sent t alternation place there i not_urgent counted same less h =
         replied = replied_after i.replied (Some (ack alternation));
         task = ap (λ (o : ControlStep). o.control.task) row
             ∙ ap (λ (z : Option Reply). Polling (replied_after i.replied z)) reply;
-        without_rvi = without i.replied alternation i.without_rvi;
+        uninterrupted = without i.replied alternation i.uninterrupted;
       },
       peer_written e FromTerminal c d e q there
           (record {
             terminal = refl;
-            urgent = λ k. calm (sends_rvi r.reply) p.urgent k;
+            urgent = λ k. calm (sends_interrupt r.reply) p.urgent k;
             count =
                 refl;
             down = λ s k. refl;
@@ -114,7 +114,7 @@ polled_out c d sent place there i h =
     let r : ControlStep = make_call_step c (record { place = next_place c; way = way }) in
     let row : record { control = d; sent = sent } ≡ r =
     h.row ∙ ap (λ (k : Task). task_step c k (Whole m.Eot) (rooms_after c (Whole m.Eot) d)) i.task
-    ∙ ap (λ (b : Bool). next_call_step c (Poll b)) i.without_rvi in
+    ∙ ap (λ (b : Bool). next_call_step c (Poll b)) i.uninterrupted in
     let lists : (peer r.control).outbounds ≡ (peer_at c t).outbounds =
     call_lists c (next_place c) way there in
     let way_now : way ≡ way_from (peer r.control) 0 =

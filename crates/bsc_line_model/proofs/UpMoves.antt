@@ -12,7 +12,7 @@ use Rattle.bsc_spool.specs.Queue.{QueueValue}
 use Rattle.bsc_spool.specs.Spool.{SpoolValue}
 use Rattle.bsc_frame.specs.declared.reply.Reply.{Reply}
 use Rattle.bsc_frame.specs.Replies.{reply_in}
-use Rattle.bsc_bid.specs.Receiver.{ReceiverStep, Rooms, heard_step, sends_rvi}
+use Rattle.bsc_bid.specs.Receiver.{ReceiverStep, Rooms, heard_step, sends_interrupt}
 use Rattle.bsc_bid.specs.Sender.{SenderStep, reply_step}
 use Rattle.bsc_bid.specs.Channel.{channel}
 use Rattle.bsc_bid.specs.Fair.{IsFairlyHeard}
@@ -96,7 +96,7 @@ spool_after c d t out replied row task there =
       receiver = step.receiver;
       spool = step.spool;
       urgent =
-          if sends_rvi step.reply then false else p.urgent;
+          if sends_interrupt step.reply then false else p.urgent;
     }) no_peer there)
 
 -- the channel from a terminal

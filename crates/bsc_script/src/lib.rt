@@ -1,7 +1,7 @@
 //! Scripts: text that describes what happens on a line, one event on each line of text.
 //!
-//! A poll, a selection, RVI and a time-out are those of GA27-3004. The events and their text are
-//! this project's own.
+//! A poll, a selection, the reverse interrupt and a time-out are those of GA27-3004. The events and
+//! their text are this project's own.
 //!
 //! | line | event |
 //! |---|---|

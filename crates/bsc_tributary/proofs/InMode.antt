@@ -11,7 +11,7 @@ use Rattle.bsc_frame.specs.declared.reply.Reply.{Reply}
 use Rattle.bsc_bid.specs.Ready.{IsReady}
 use Rattle.bsc_frame.specs.Replies.{reply_in}
 use Rattle.bsc_bid.specs.Receiver.{ReceiverValue, ReceiverStep, Receives, Rooms, rooms_left}
-use Rattle.bsc_bid.specs.Receiver.{sends_rvi}
+use Rattle.bsc_bid.specs.Receiver.{sends_interrupt}
 use Rattle.bsc_bid.specs.Sender.{SenderStep, reply_step, silence_step}
 use Rattle.bsc_tributary.specs.declared.mode.Mode.{Mode}
 use Rattle.bsc_tributary.specs.declared.mode.Mode.TheVariants.{Control, Receiving, Sending}
@@ -57,7 +57,7 @@ pub hears_receiving : (t old : TributaryValue) (h : Heard) (s : ℕ) (urgent : B
     Receives t.receiver (spool_at t.spools s) h t.urgent
     (record { receiver = receiver; spool = spool_at spools s; reply = reply }) →
     spools ≡ slice_set t.spools s (spool_at spools s) →
-    urgent ≡ (if sends_rvi reply then false else t.urgent) → sent ≡ option_map m.Reply reply →
+    urgent ≡ (if sends_interrupt reply then false else t.urgent) → sent ≡ option_map m.Reply reply →
     Hears old h (with_receiver t urgent receiver spools) sent
 hears_receiving t old h s urgent receiver spools reply sent plain view mode r spools_is urgent_is
     sent_is =

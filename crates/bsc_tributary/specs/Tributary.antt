@@ -15,7 +15,7 @@ use Rattle.bsc_bid.specs.Act.{Act, message_for, outcome_of}
 use Rattle.bsc_bid.specs.Terminal.{TerminalValue}
 use Rattle.bsc_frame.specs.Replies.{reply_in}
 use Rattle.bsc_bid.specs.Receiver.{ReceiverValue, ReceiverStep, Rooms, new_receiver, first_reply}
-use Rattle.bsc_bid.specs.Receiver.{heard_step, rooms_left, sends_rvi}
+use Rattle.bsc_bid.specs.Receiver.{heard_step, rooms_left, sends_interrupt}
 use Rattle.bsc_bid.specs.Sender.{SenderValue, SenderStep, with_phase, begin_step, reply_step}
 use Rattle.bsc_bid.specs.Sender.{silence_step, cut_phase, is_in_doubt, release_step}
 use Rattle.bsc_tributary.specs.declared.called.Called.{Called}
@@ -107,14 +107,14 @@ act_step t step =
       sent = message_of_act step.act;
     }
 
--- the receiver replies, with the spool of this number; RVI clears the urgent flag
+-- the receiver replies, with the spool of this number; a reverse interrupt clears the urgent flag
 abbrev pub receive_step : TributaryValue → ℕ → ReceiverStep → TributaryStep
 receive_step t s step =
     record {
       tributary = record t {
         receiver = step.receiver;
         spools = slice_set t.spools s step.spool;
-        urgent = if sends_rvi step.reply then false else t.urgent;
+        urgent = if sends_interrupt step.reply then false else t.urgent;
       };
       sent = option_map m.Reply step.reply;
     }

@@ -3,7 +3,7 @@
 ghost use Rattle.std.specs.Prelude.{IsTrue, ◌≡◌, ◌≤◌, ◌<◌, true, false, if◌then◌else◌, None};
 ghost use Rattle.std.specs.Prelude.{length, OnOk, OnErr, IfErr, option_map};
 ghost use Rattle.bsc_spool.specs.Queue.{with_offered};
-ghost use Rattle.bsc_bid.specs.Receiver.{sends_rvi};
+ghost use Rattle.bsc_bid.specs.Receiver.{sends_interrupt};
 ghost use Rattle.bsc_bid.specs.Terminal.{HasDistinctAddresses};
 ghost use Rattle.bsc_bid.specs.Sender.{release_step, is_in_doubt};
 ghost use Rattle.bsc_tributary.specs.Tributary.{without_line, poll_step, selection_step};
@@ -34,7 +34,7 @@ pub struct Tributary<A: Allocator> {
     /// Whether the terminal accepts selections.
     ready: bool,
 
-    /// Whether the next text that the terminal takes is answered by RVI.
+    /// Whether the next text that the terminal takes is answered by a reverse interrupt.
     urgent: bool,
 
     /// The sender of the bids when the terminal is polled.
@@ -108,8 +108,9 @@ impl<A: Allocator> Tributary<A> {
         self.ready = ready;
     }
 
-    /// Asks for the line: the next text that the terminal takes is answered by RVI, unless its last
-    /// reply was RVI too. A poll of the terminal clears the request. (GA27-3004, RVI.)
+    /// Asks for the line: the next text that the terminal takes is answered by a reverse interrupt,
+    /// unless its last reply was one. A poll of the terminal clears the request. (GA27-3004:
+    /// reverse interrupt.)
     pub fn set_urgent(&mut self)
         ensures state { self.new ≡ record self.old { urgent = true } }
         ensures same { KeepsSetupAndMode self.old self.new }
@@ -329,9 +330,9 @@ impl<A: Allocator> Station for Tributary<A> {
     ghost ignores_noise = { λ old new sent hearing. hearing.after.noise refl };
 }
 
-/// Whether the urgent flag is still up after this reply: RVI clears it.
+/// Whether the urgent flag is still up after this reply: a reverse interrupt clears it.
 fn still_urgent(urgent: bool, reply: Option<Reply>) -> bool
-    ensures { result ≡ (if sends_rvi reply then false else urgent) }
+    ensures { result ≡ (if sends_interrupt reply then false else urgent) }
 {
     match reply {
         Some(Reply::Rvi) => false,

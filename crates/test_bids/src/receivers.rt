@@ -18,7 +18,7 @@ type Hearing<'a> = (usize, &'a [u8], bool, Option<Reply>, usize);
 
 /// A text that fails its check is answered with NAK, and so is one for which there is no room. If
 /// there is no room for a second text, the acknowledgement is delayed with WACK. An urgent receiver
-/// asks for the line with RVI, but not twice in a row.
+/// asks for the line by a reverse interrupt, but not twice in a row.
 const HEARINGS: &[Hearing<'static>] = &[
     (NEVER, BROKEN_TEXT, false, Some(Reply::Nak), 0),
     (1, TEXT_LAST_SEVEN, false, Some(Reply::Nak), 0),

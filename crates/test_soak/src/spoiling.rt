@@ -91,7 +91,7 @@ fn damage(random: &mut Random, octets: &mut Vec<u8>) -> Result<(), AllocError> {
     Ok(())
 }
 
-/// Messages that may be heard in place of others: EOT, ENQ, NAK, ACK0, ACK1, WACK, RVI, a text that
+/// Messages that may be heard in place of others: EOT, ENQ, each reply, a text that
 /// fails its check, one with a record, one without, and a call to an address that no terminal has.
 const OTHERS: [&[u8]; 11] = [
     b"\x16\x04",

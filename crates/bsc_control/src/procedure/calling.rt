@@ -93,14 +93,14 @@ impl<A: Allocator> Procedure<A> {
         self.call_from(self.place, select + 1, sent);
     }
 
-    /// Makes the call after a poll: that of the same entry if RVI was sent in the poll, else that
+    /// Makes the call after a poll: that of the same entry if the poll was interrupted, else that
     /// of the next entry.
-    pub(crate) fn call_after_poll(&mut self, rvi: bool, sent: &mut Option<Message>)
+    pub(crate) fn call_after_poll(&mut self, interrupted: bool, sent: &mut Option<Message>)
         ensures row { record { control = self.new; sent = sent.new }
-            ≡ next_call_step self.old (Poll rvi) }
+            ≡ next_call_step self.old (Poll interrupted) }
         ensures entries { HasEntries self.new }
     {
-        let place = if rvi {
+        let place = if interrupted {
             self.place
         } else if self.place + 1 == self.poll_list.len() {
             0

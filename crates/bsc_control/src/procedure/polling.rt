@@ -22,7 +22,7 @@ impl<A: Allocator> Procedure<A> {
         ensures entries { HasEntries self.new }
     {
         match heard {
-            Heard::Whole(Message::Eot) => self.call_after_poll(replied.has_rvi(), sent),
+            Heard::Whole(Message::Eot) => self.call_after_poll(replied.is_interrupted(), sent),
             _ => self.receive(replied, heard, sent),
         }
     }
@@ -59,7 +59,7 @@ impl<A: Allocator> Procedure<A> {
             Replied::Nothing if self.failures < self.setup.tries() => {
                 self.poll(self.place, self.failures + 1, sent)
             }
-            _ => self.call_after_poll(replied.has_rvi(), sent),
+            _ => self.call_after_poll(replied.is_interrupted(), sent),
         }
     }
 }

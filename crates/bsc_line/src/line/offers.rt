@@ -71,8 +71,8 @@ impl<A: Allocator> Line<A> {
     }
 
     /// Makes a terminal ask the control station for the line: the terminal answers the next text
-    /// that it takes by RVI, unless its last reply was RVI too. A poll of the terminal clears the
-    /// request. Error: `NoSuchTerminal`. (GA27-3004, RVI.)
+    /// that it takes by a reverse interrupt, unless its last reply was one. A poll of the terminal
+    /// clears the request. Error: `NoSuchTerminal`. (GA27-3004: reverse interrupt.)
     pub fn set_urgent_at(&mut self, terminal: usize) -> Result<(), LineError>
         ensures does { Does (event.UrgentAt terminal) self.old result self.new }
         ensures line { IsLine self.new }
@@ -87,8 +87,9 @@ impl<A: Allocator> Line<A> {
     }
 
     /// Makes the control station ask a terminal for the line: the control station answers the next
-    /// text that it takes from the terminal by RVI, unless its last reply was RVI too. A new
-    /// selection of the terminal clears the request. Error: `NoSuchTerminal`. (GA27-3004, RVI.)
+    /// text that it takes from the terminal by a reverse interrupt, unless its last reply was one.
+    /// A new selection of the terminal clears the request. Error: `NoSuchTerminal`. (GA27-3004:
+    /// reverse interrupt.)
     pub fn set_urgent_for(&mut self, terminal: usize) -> Result<(), LineError>
         ensures does { Does (event.UrgentFor terminal) self.old result self.new }
         ensures line { IsLine self.new }

@@ -50,8 +50,8 @@ pub(crate) const SELECTED_TWICE: Exchange = Exchange {
     transmissions: 7,
 };
 
-/// Terminal 0 asks for the line and then sends HI: the call of a, ACK0, the text, RVI, the call of
-/// A, the text of HI, ACK1, EOT, the call of B, EOT, and the call of a.
+/// Terminal 0 asks for the line and then sends HI: the call of a, ACK0, the text, a reverse
+/// interrupt, the call of A, the text of HI, ACK1, EOT, the call of B, EOT, and the call of a.
 pub(crate) const INTERRUPTED: Exchange = Exchange {
     offers: &[(8, EMPTY_FOR), (1, HI_AT), (1, URGENT_AT)],
     transmissions: 11,
