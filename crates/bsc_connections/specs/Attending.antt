@@ -15,7 +15,8 @@ use Rattle.bsc_connections.specs.declared.awaited.LiveError.{LiveError}
 use Rattle.bsc_connections.specs.declared.connection.Taken.{Taken}
 use Rattle.bsc_connections.specs.declared.connection.Taken.TheVariants.{Nothing, Whole}
 use Rattle.bsc_connections.specs.Connections.{ConnectionValue, Takes, Sends}
-use Rattle.bsc_connections.specs.Histories.{Happening, WasHeard, WasSilent, HasJoined, sent_where_some}
+use Rattle.bsc_connections.specs.Histories.{Happening, WasHeard, WasSilent, HasJoined}
+use Rattle.bsc_connections.specs.Histories.{sent_where_some}
 use Rattle.bsc_carrier.specs.Cable.{ChangesAt}
 
 -- A station, its connections, and the waiter.

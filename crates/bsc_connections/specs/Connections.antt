@@ -4,7 +4,8 @@ use Rattle.std.specs.Prelude.{Result, Ok}
 use Rattle.std.specs.Io.KnownBytes.{Appends, Consumes, Keeps}
 use Rattle.bsc_carrier.specs.declared.error.CarrierError.{CarrierError}
 use Rattle.bsc_connections.specs.declared.connection.Taken.{Taken}
-use Rattle.bsc_connections.specs.declared.connection.Taken.TheVariants.{Nothing, Interrupted, Part, Whole}
+use Rattle.bsc_connections.specs.declared.connection.Taken.TheVariants.{Nothing, Interrupted, Part}
+use Rattle.bsc_connections.specs.declared.connection.Taken.TheVariants.{Whole}
 use Rattle.bsc_connections.specs.declared.connection.Taken.TheVariants.{Closed}
 
 -- The two directions of a connection while it is open, and its framing.

@@ -6,7 +6,8 @@ ghost use Rattle.std.specs.List.{AllZip};
 ghost use Rattle.bsc_connections.specs.Connections.{Sends};
 ghost use Rattle.bsc_connections.specs.Histories.{Happening};
 ghost use Rattle.bsc_connections.specs.Attending.{Attends, StepsOrFails, Does, HearsLast, IsSilent};
-ghost use Rattle.bsc_connections.specs.Attending.{IsTakenAt, first_awaiting, first_closed, wait_for};
+ghost use Rattle.bsc_connections.specs.Attending.{IsTakenAt, first_awaiting, first_closed};
+ghost use Rattle.bsc_connections.specs.Attending.{wait_for};
 
 use crate::{Awaited, Connection, Framing, LiveError, Monitor, Note, Taken, Wait, Waiter};
 use bsc_bid::Station;

@@ -1,7 +1,8 @@
 //! One connection of a station.
 
 ghost use Rattle.std.specs.Prelude.{◌≡◌, ◌≤◌, None, Some, not, is_none, length};
-ghost use Rattle.bsc_connections.specs.Connections.{Takes, Sends, Reads, IsClosed, IsClosedOrNothing};
+ghost use Rattle.bsc_connections.specs.Connections.{Takes, Sends, Reads, IsClosed};
+ghost use Rattle.bsc_connections.specs.Connections.{IsClosedOrNothing};
 ghost use Rattle.bsc_connections.specs.Connections.{GivesNoOctets};
 
 use crate::Framing;

@@ -6,7 +6,8 @@ ghost use Rattle.std.specs.List.{concat};
 ghost use Rattle.bsc_connections.specs.Framings.{GapsValue, GathersAll, ArriveBetweenGaps, EndsAll};
 ghost use Rattle.bsc_connections.specs.Silences.{TellsEachSilence};
 ghost use Rattle.bsc_connections.specs.declared.socket_records.SocketRecords.{SocketRecords as RecordsValue};
-ghost use Rattle.bsc_connections.specs.Streams.{CarriesHistory, GivesRecords, GivesByGaps, SplitsAll};
+ghost use Rattle.bsc_connections.specs.Streams.{CarriesHistory, GivesRecords, GivesByGaps};
+ghost use Rattle.bsc_connections.specs.Streams.{SplitsAll};
 
 use crate::limits::MOST_WITHOUT_GAP;
 use crate::{Framing, Gaps, SocketRecords, Waiter};

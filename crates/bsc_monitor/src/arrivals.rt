@@ -5,7 +5,8 @@ ghost use Rattle.std.specs.List.{flat_map};
 ghost use Rattle.std.specs.Io.KnownBytes.{Appends};
 ghost use Rattle.bsc_report.specs.Channels.{channel_name, each_below};
 ghost use Rattle.bsc_monitor.specs.Printed.{arrival_line, record_shown};
-ghost use Rattle.bsc_monitor.specs.Arrivals.{AreCounted, AsManyArePrinted, MoreArePrinted, arrivals_of};
+ghost use Rattle.bsc_monitor.specs.Arrivals.{AreCounted, AsManyArePrinted, MoreArePrinted};
+ghost use Rattle.bsc_monitor.specs.Arrivals.{arrivals_of};
 ghost use Rattle.bsc_monitor.specs.Arrivals.{channel_arrivals, counted};
 
 use crate::{Party, Received};
