@@ -168,8 +168,8 @@ fn a_trace_has_a_line_for_each_note(rt: HostRuntime) -> Result<(), Fail> {
     Ok(())
 }
 
-/// The number of writes of the trace that may fail, each with an output fault, before all of them
-/// succeed.
+/// Lets each write of the trace fail in turn, until all of them succeed. Returns how many writes
+/// failed; each has to be reported as an output fault.
 fn failing_writes(alloc: Global, control: &Control<Global>) -> Result<usize, LiveError> {
     for left in 0..99usize {
         match tell(alloc, control, &mut Full { left }) {

@@ -9,8 +9,8 @@ use std::test::Fail;
 use test_fixtures::Full;
 use test_fixtures::configurations::TWO_TERMINALS;
 
-/// The number of writes of the report that may fail, each with an output fault, before all of them
-/// succeed.
+/// Lets each write of the report fail in turn, until all of them succeed. Returns how many writes
+/// failed; each has to be reported as an output fault.
 fn failing_writes(alloc: Global, control: &Control<Global>) -> Result<usize, PrintError> {
     for left in 0..99usize {
         match write_report(alloc, control, &mut Full { left }) {
