@@ -1,4 +1,5 @@
--- What the sender does keeps that both ends agree, and at most learns of what was spooled.
+-- The steps of the sender keep the agreement of both ends, and at most learn which records were
+-- spooled.
 use Rattle.std.proofs.Common.{◌≡◌, ◌⊎◌, inl, inr, ℕ, ◌+◌, ◌≤◌, List, length, take, Option, None}
 use Rattle.std.proofs.Common.{Some, refl, sym, ◌∙◌, ap, subst, arith}
 use Rattle.std.proofs.lemmas.List.{length-take-le}
@@ -35,7 +36,7 @@ use Rattle.bsc_bid.proofs.Landing.{NextLaw, Leaves, LeavesQueue, at_rest, next_k
 use Rattle.bsc_bid.proofs.Landing.{accepted_keeps, delayed_keeps, other_twice, landed_keeps}
 use Rattle.std.proofs.lemmas.Option.{none-some}
 
--- a reply to a block that has not landed: it is sent again
+-- a reply that refuses a block that has not landed: the block is sent again
 refused_keeps : (s : SenderValue) (b : SentBlock) (q : QueueValue) (alternation : Alternation)
     (last : Reply) (spooled : List (List ℕ)) → s.phase ≡ Unanswered b
     → InBid (Unanswered b) q alternation last spooled (Back last)
@@ -126,7 +127,7 @@ answered_keeps law s (Unanswered b) q alternation last spooled e i =
       | inr h ↦ landed_keeps law s b q alternation last spooled i h
     ]
 
--- a silence comes, and nothing is on its way
+-- an unanswered block with nothing on its way may be put in doubt
 in_doubt : (b : SentBlock) (q : QueueValue) (alternation : Alternation) (last : Reply)
     (spooled : List (List ℕ)) → InBid (Unanswered b) q alternation last spooled Still
     → IsResting (InDoubt b.count) q spooled × (Still ≡ Still)
@@ -242,7 +243,7 @@ still_on phase q alternation last spooled f i =
           agree_still phase q alternation last spooled f i.agree;
     }
 
--- the reply is heard, or not
+-- the reply is heard, or nothing is
 pub sender_keeps : NextLaw
     → (s : SenderValue) (q : QueueValue) (alternation : Alternation) (last : Reply)
     (spooled : List (List ℕ)) (r : Option Reply) (h : Option Heard)
@@ -289,7 +290,7 @@ silence_keeps s (Held end x) q alternation last spooled e h =
 silence_keeps s (Unanswered b) q alternation last spooled e h =
     silent_keeps s (Unanswered b) q alternation last spooled e h
 
--- where nothing was sent a silence comes
+-- if nothing was sent, a silence comes
 pub settled_keeps : (q : QueueValue) (alternation : Alternation) (last : Reply)
     (spooled : List (List ℕ))
     (t : SenderStep) (x : Act) → t.act ≡ x → Leaves q alternation last spooled t

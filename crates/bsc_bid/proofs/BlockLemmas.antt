@@ -1,4 +1,5 @@
--- Each text of a bid is the unanswered block, and a bid that ended knows of all that was spooled.
+-- Each text of a bid is the unanswered block, and when a bid has ended without doubt, all records
+-- that were spooled are known.
 use Rattle.std.proofs.Common.{◌≡◌, ◌⊎◌, inl, inr, ℕ, ◌+◌, Bool, true, false, ◌||◌, ◌==◌, List}
 use Rattle.std.proofs.Common.{length, take, Option, refl, sym, ◌∙◌, ap, subst, arith, if◌then◌else◌}
 use Rattle.std.proofs.lemmas.Bool.Decides.{nat_tests}
@@ -85,7 +86,7 @@ hears_its_blocks law b es c turn t h fair e =
           fair.sent i.agree) short)
     ]
 
--- a sender at rest without doubt is idle, and all that was spooled is known
+-- a sender at rest without doubt is idle, and all records that were spooled are known
 known_by : (p : Phase) (q : QueueValue) (spooled : List (List ℕ)) → IsAtRest p
     → is_in_doubt p ≡ false → IsSound p (channel q spooled)
     → (p ≡ Idle) × (q.known ≡ length spooled)
@@ -108,7 +109,7 @@ pick : (v : Bool) (x y : ReleaseStep) → v ≡ true → (if v then x else y) �
 pick true x y e = refl
 pick false x y e = absurd (cc e)
 
--- a release of the spooled count
+-- a release with the spooled count
 pub released_by : (s : SenderValue) (q : QueueValue) (p : Phase) (n : ℕ) → is_in_doubt p ≡ true
     → IsSpooled p q.known n →
     release_in s q p n ≡ released s q n

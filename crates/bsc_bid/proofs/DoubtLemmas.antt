@@ -1,4 +1,4 @@
--- Doubt begins exactly where the sender gives up on a silence with a block unanswered.
+-- Doubt begins exactly if the sender gives up on a silence with a block unanswered.
 use Rattle.std.proofs.Common.{◌≡◌, ℕ, ◌+◌, ◌<◌, Bool, true, false, nat_lt, List, Option, None, Some}
 use Rattle.std.proofs.Common.{refl, sym, subst, arith, if◌then◌else◌}
 use Rattle.std.proofs.lemmas.Bool.Decides.{nat_tests}
@@ -85,7 +85,7 @@ certain_heard s q None (Some h) d = refl
 certain_heard s q (Some r) None d = refl
 certain_heard s q (Some r) (Some h) d = certain_reply s q (reply_in h) d
 
--- a bid that goes on is not in doubt
+-- a bid in progress is not in doubt
 certain_going : (p : Phase) (q : QueueValue) (x : Alternation) (last : Reply)
     (spooled : List (List ℕ)) (f : Flight) → InBid p q x last spooled f → is_in_doubt p ≡ false
 certain_going Idle q x last spooled f i = refl
@@ -93,7 +93,7 @@ certain_going (InDoubt k) q x last spooled f i = absurd i.agree
 certain_going (Unanswered b) q x last spooled f i = refl
 certain_going (Held e y) q x last spooled f i = refl
 
--- of two steps, by a test
+-- if the chosen one of two steps leaves a doubt and the second does not, the first was chosen
 first_of_two : (v : Bool) (x y : SenderStep) → is_in_doubt y.sender.phase ≡ false
     → is_in_doubt (if v then x else y).sender.phase ≡ true
     → (v ≡ true) × (is_in_doubt x.sender.phase ≡ true)
@@ -145,7 +145,7 @@ doubt_by s t a.Quiet e c d k = (
       k),
 )
 
--- and back
+-- if the sender gives up in this way, there is doubt
 gives_up : (s : SenderValue) (t : SenderStep) (x : Act) (b : SentBlock) → x ≡ a.Quiet
     → IsCertainBy x s t → s.phase ≡ Unanswered b → s.setup.tries < s.failures + 1
     → is_in_doubt (unless_quiet t x).sender.phase ≡ true

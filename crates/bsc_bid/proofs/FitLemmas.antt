@@ -1,4 +1,4 @@
--- Each step of a sender leaves the phase that its act says.
+-- Each step of a sender leaves the phase that fits its act.
 use Rattle.std.proofs.Common.{◌≡◌, ◌+◌, nat_lt, Option, None, Some, refl, sym, subst}
 use Rattle.bsc_frame.specs.declared.message.Heard.{Heard}
 use Rattle.bsc_frame.specs.declared.text.End.{End}
@@ -40,7 +40,7 @@ not_quiet : (s : SenderValue) (q : QueueValue) (x : Alternation) (n : Option Nex
 not_quiet s q x None e = cc
 not_quiet s q x (Some n) e = cc
 
--- a bid begins by a block, or is over at once
+-- a bid begins with a block, or is over at once
 pub begin_not_quiet : (s : SenderValue) (q : QueueValue) → (begin_step s q).act ≡ a.Quiet → ⊥
 begin_not_quiet s q = not_quiet s q _ (next_block q)
 

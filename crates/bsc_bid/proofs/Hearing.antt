@@ -1,4 +1,5 @@
--- What the receiver hears keeps that both ends agree, and at most lands the unanswered block.
+-- What the receiver does with what it hears keeps the agreement of both ends, and at most lands the
+-- unanswered block.
 use Rattle.std.proofs.Common.{◌≡◌, inl, inr, ℕ, ◌+◌, ◌≤◌, Bool, true, false, List, ◌++◌, length}
 use Rattle.std.proofs.Common.{take, drop, map, Option, None, Some, refl, sym, ◌∙◌, ap, subst, arith}
 use Rattle.std.proofs.Common.{length-drop}
@@ -154,7 +155,7 @@ ack_after Odd Even e = absurd (cc)
 ack_after Even Odd e = absurd (cc)
 ack_after Even Even e = tt
 
--- and after it landed
+-- ENQ is heard after the block landed
 enq_after : (b : SentBlock) (q : QueueValue) (alternation : Alternation) (last : Reply)
     (s : SpoolValue)
     (first after : Bool) → HasLanded b q alternation last s.records (Outward m.Enq) →
@@ -191,7 +192,7 @@ ack_held Odd Even e = absurd (cc)
 ack_held Even Odd e = absurd (cc)
 ack_held Even Even e = tt
 
--- and while the sender is held
+-- ENQ is heard while the sender is held
 enq_held : (end_phase : Phase) (expected : Alternation) (q : QueueValue) (alternation : Alternation)
     (last : Reply) (s : SpoolValue) (first after : Bool)
     → IsHeld expected q alternation last s.records (Outward m.Enq) →
@@ -232,7 +233,7 @@ agree_still (Unanswered b) q alternation last spooled f (inl h) =
 agree_still (Unanswered b) q alternation last spooled f (inr h) =
     inr (record { front = h.front; counted = h.counted; reply = h.reply; flight = tt })
 
--- what a sender sends
+-- a message that a sender sends: a text or ENQ
 abbrev pub IsSenders : Message → Type 0
 IsSenders (m.Text t) = Unit {0}
 IsSenders m.Enq = Unit {0}
@@ -249,7 +250,7 @@ flight_after last (m.Text t) h = tt
 flight_after last m.Enq h = tt
 flight_after last _ h = absurd h
 
--- in a bid nothing but a text or ENQ goes out
+-- in a bid the sender sends only texts and ENQ
 pub senders : (phase : Phase) (q : QueueValue) (alternation : Alternation) (last : Reply)
     (spooled : List (List ℕ)) (w : Message) → Agree phase q alternation last spooled (Outward w)
     → IsSenders w
@@ -259,7 +260,7 @@ senders (Held e x) q alternation last spooled w h = flight_after last w h.flight
 senders (Unanswered b) q alternation last spooled w (inl h) = flight_before q b last w h.flight
 senders (Unanswered b) q alternation last spooled w (inr h) = flight_after last w h.flight
 
--- of a text or ENQ no EOT is heard
+-- a text or ENQ is not heard as EOT
 pub no_call : (w v : Message) → IsSenders w → IsCallCutShort w v → ⊥
 no_call (m.Text t) v s e = e
 no_call m.Enq v s e = e
@@ -297,7 +298,7 @@ whole_keeps law (Unanswered b) q alternation last s w urgent first after queue b
 whole_keeps law (Held e x) q alternation last s w urgent first after queue block counts h =
     absurd (senders (Held e x) q alternation last s.records w h)
 
--- a spoiled text is heard
+-- a damaged text is heard
 spoiled_keeps : (phase : Phase) (q : QueueValue) (alternation : Alternation) (last : Reply)
     (s : SpoolValue) (w : Message) → IsTextMessage w
     → Agree phase q alternation last s.records (Outward w) →
@@ -328,7 +329,7 @@ heard_keeps law phase q alternation last s w (Whole v) urgent first after b (inl
 heard_keeps law phase q alternation last s w (Whole v) urgent first after b (inr e) =
     absurd (no_call w v (senders phase q alternation last s.records w b.agree) e)
 
--- the sender's transmission is heard at the receiver, or not
+-- the transmission of the sender is heard at the receiver, or nothing is
 pub receiver_keeps : RecordsBack
     → (phase : Phase) (q : QueueValue) (r : ReceiverValue) (s : SpoolValue) (w : Message)
     (h : Option Heard) (urgent : Bool) (rooms : Rooms)

@@ -39,23 +39,23 @@ next_by : NextLaw → (q : QueueValue) → IsQueue q → 1 ≤ length (waiting q
 next_by law q h some None e = absurd (omega (arith, ap length (law.none q e)))
 next_by law q h some (Some n) e = record { next = n; is = e; fit = law.some q n h e }
 
--- where records wait there is a next block
+-- if records wait, there is a next block
 pub has_next : NextLaw → (q : QueueValue) → IsQueue q → 1 ≤ length (waiting q) → HasNext q
 has_next law q h some = next_by law q h some (next_block q) refl
 
--- what a step of the sender leaves: the bid goes on or is over, and the channel moved as it may
+-- what a step of the sender leaves: the bid continues or is over, and the channel moved as it may
 abbrev pub Leaves : QueueValue → Alternation → Reply → List (List ℕ) → SenderStep → Type 0
 Leaves q alternation last spooled t =
     Continues t.sender.phase t.queue alternation last spooled (sent_flight t.act)
     × MovesAtSender (channel q spooled)
     (channel t.queue spooled)
 
--- what a step of the sender leaves that does not change the queue
+-- what a step of the sender leaves if it does not change the queue
 abbrev pub LeavesQueue : QueueValue → Alternation → Reply → List (List ℕ) → SenderStep → Type 0
 LeavesQueue q alternation last spooled t =
     Continues t.sender.phase t.queue alternation last spooled (sent_flight t.act) × (t.queue ≡ q)
 
--- all is known, and the bid is over
+-- all spooled records are known, and the bid is over
 pub at_rest : (q : QueueValue) (spooled : List (List ℕ)) → IsQueue q
     → spooled ≡ take q.known q.offered → IsResting Idle q spooled × (Still ≡ Still)
 at_rest q spooled h e =
@@ -88,7 +88,7 @@ next_keeps law s q expected alternation last spooled h front some counted reply 
       refl,
     )
 
--- what was spooled is learnt
+-- the sender learns which records were spooled
 learns : (q : QueueValue) (k : ℕ) (spooled : List (List ℕ)) → q.known + k ≤ length q.offered
     → spooled ≡ take (q.known + k) q.offered
     → MovesAtSender (channel q spooled) (channel (with_known q k) spooled)
@@ -114,7 +114,7 @@ at_learnt q k alternation last spooled t within front h = (
       (learns q k spooled within front),
 )
 
--- the expected acknowledgement came, at a queue that counts the block
+-- the expected acknowledgement came, and the queue counts the block as known
 pub accepted_keeps : NextLaw → (s : SenderValue) (q : QueueValue) (e : End)
     (expected alternation : Alternation) (last : Reply) (spooled : List (List ℕ)) → IsQueue q
     → spooled ≡ take q.known q.offered → AreWaiting 0 e (length (waiting q))
@@ -149,7 +149,7 @@ pub other_twice : (x y : Alternation) → x ≡ y → x ≡ other (other y)
 other_twice x Odd e = e
 other_twice x Even e = e
 
--- A reply to a block that has landed. The queue then counts the block.
+-- A reply to a block that has landed. The queue then counts the block as known.
 record Marked (b : SentBlock) (q : QueueValue) (spooled : List (List ℕ)) : Type 0 where
   pub within : q.known + b.count ≤ length q.offered
   pub front : spooled ≡ take (q.known + b.count) q.offered

@@ -1,4 +1,4 @@
--- An offer keeps all that a bid counts on.
+-- An offer keeps everything that a bid counts on.
 use Rattle.std.proofs.Common.{◌≡◌, inl, inr, ℕ, ◌+◌, ◌≤◌, List, [], ◌∷◌, ◌++◌, length, take, drop}
 use Rattle.std.proofs.Common.{map, min, sym, ◌∙◌, ap, arith, length-drop, length-append}
 use Rattle.std.proofs.lemmas.List.{take-append-le, drop-append-le, length-take}
@@ -21,7 +21,7 @@ use Rattle.bsc_bid.specs.Agreement.{IsResting, Continues}
 use Rattle.bsc_bid.proofs.ReadyLemmas.{within_offered}
 use Rattle.bsc_bid.proofs.Hearing.{fits}
 
--- an offered record makes a queue of a queue
+-- a queue with one more offered record is a queue
 abbrev pub OffersQueue : Type 0
 OffersQueue = (q : QueueValue) (r : List ℕ) → IsQueue q → length r ≤ q.format.full
     → IsQueue (with_offered q r)
@@ -121,7 +121,7 @@ agree_offered (Unanswered b) q r alternation last spooled f queue counts (inr h)
       flight = h.flight;
     })
 
--- a bid that goes on
+-- a bid in progress keeps its agreement after an offer
 pub bid_offered : OffersQueue
     → (p : Phase) (q : QueueValue) (r : List ℕ) (alternation : Alternation) (last : Reply)
     (spooled : List (List ℕ)) (f : Flight) → length r ≤ q.format.full
@@ -134,7 +134,7 @@ bid_offered law p q r alternation last spooled f short i =
       agree = agree_offered p q r alternation last spooled f i.queue i.counts i.agree;
     }
 
--- what begins a list is not longer
+-- a list that is the beginning of another is not longer
 pub not_longer : (xs ys : List (List ℕ)) → xs ≡ take (length xs) ys → length xs ≤ length ys
 not_longer xs ys e =
     let k : length xs ≡ min (length xs) (length ys) = ap length e ∙ length-take (length xs) ys in
@@ -150,7 +150,7 @@ sound_offered p q r spooled h =
       spooled = h.spooled;
     }
 
--- and one that is over
+-- a bid that is over stays at rest after an offer
 pub resting_offered : OffersQueue
     → (p : Phase) (q : QueueValue) (r : List ℕ) (spooled : List (List ℕ))
     → length r ≤ q.format.full → IsResting p q spooled → IsResting p (with_offered q r) spooled

@@ -1,4 +1,4 @@
--- What a sender counts on in its queue stays true.
+-- What a sender counts on in its queue remains true.
 use Rattle.std.proofs.Common.{◌≡◌, ℕ, ◌+◌, ◌<◌, ◌≤◌, List, [], ◌∷◌, length, refl, sym, subst, arith}
 use Rattle.std.proofs.Common.{length-drop}
 use Rattle.bsc_frame.specs.declared.text.End.{End}
@@ -15,7 +15,7 @@ waiting_by : (k n : ℕ) (e : End) → k ≤ n → (e ≡ Etb → k < n) → Are
 waiting_by k n Etb there more = omega (arith, more refl)
 waiting_by k n Etx there more = there
 
--- a block that is sent next is counted on
+-- what a sender counts on for the block that it sends next
 pub counts_next : (q : QueueValue) (n : Next) → IsNext q n
     → AreWaiting n.count n.end (length (waiting q))
 counts_next q n next = waiting_by n.count (length (waiting q)) n.end next.there next.more
@@ -52,12 +52,12 @@ going_next : (s : SenderValue) (q : QueueValue) (x : Alternation) (f : FormatVal
 going_next s q x f [] h = absurd (omega arith)
 going_next s q x f (r ∷ rs) h = tt
 
--- where records wait, begin starts a bid
+-- if records wait, `begin` starts a bid
 pub going_begin : (s : SenderValue) (q : QueueValue) (t : SenderStep) → t ≡ begin_step s q
     → 1 ≤ length (waiting q) → IsGoing t.sender.phase
 going_begin s q t e h =
     subst (λ (u : SenderStep). IsGoing u.sender.phase) (sym e)
     (going_next s q Odd q.format (waiting q) h)
 
--- what a reply to an unanswered block uses
+-- the steps of a reply to an unanswered block
 pub ruleset reply_steps = (is_queue_marked, still_waiting, all_waiting)

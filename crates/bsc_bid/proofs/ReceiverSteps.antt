@@ -1,6 +1,5 @@
 -- What a receiver does with what it hears, for both stations: how the records of its spool grow,
--- and
--- that it stays as it is where it replies nothing.
+-- and that the receiver does not change if it does not reply.
 use Rattle.std.proofs.Common.{◌≡◌, ◌⊎◌, inl, inr, ℕ, Bool, List, ◌++◌, None, refl}
 use Rattle.bsc_frame.specs.declared.message.Message.TheVariants as m
 use Rattle.bsc_frame.specs.declared.message.Heard.{Heard}
@@ -47,7 +46,7 @@ grows_heard_step r s (Whole m.Eot) urgent rooms = inl refl
 grows_heard_step r s (Whole (m.Call x)) urgent rooms = inl refl
 grows_heard_step r s (Whole (m.Reply reply)) urgent rooms = inl refl
 
--- where nothing is replied the receiver stays as it is
+-- if there is no reply, the receiver does not change
 abbrev pub StaysSilent : ReceiverValue → ReceiverStep → Type 0
 StaysSilent r step = step.reply ≡ None → step.receiver ≡ r
 

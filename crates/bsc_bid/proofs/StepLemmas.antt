@@ -1,4 +1,4 @@
--- Each single step of a bid keeps that its ends agree.
+-- Each single step of a bid keeps the agreement of its ends.
 use Rattle.std.proofs.Common.{◌≡◌, ◌⊎◌, inl, inr, ℕ, ◌≤◌, List, length, take, refl, sym, subst}
 use Rattle.std.proofs.Common.{arith}
 use Rattle.bsc_frame.specs.declared.message.Message.{Message}
@@ -70,7 +70,7 @@ pub offer_keeps_rest : LawsBelow → OfferKeepsRest
 offer_keeps_rest law phase q spooled r short h =
     resting_offered law.offers phase q r spooled short h
 
--- all that was spooled is known
+-- all records that were spooled are known
 known_all : (q : QueueValue) (spooled : List (List ℕ)) → IsQueue q
     → spooled ≡ take (length spooled) q.offered → length spooled ≤ length q.offered →
     IsResting Idle (queue_of q.format q.offered (length spooled)) spooled

@@ -1,4 +1,4 @@
--- What a call of a sender tells is the step that it makes.
+-- What a call of a sender reports is the step that it makes.
 use Rattle.std.proofs.Common.{◌≡◌, Option, ap}
 use Rattle.bsc_frame.specs.declared.message.Message.{Message}
 use Rattle.bsc_spool.specs.Queue.{QueueValue}

@@ -1,4 +1,4 @@
--- Each turn of a bid begins a block, ends the bid, or comes nearer to the limits of the block.
+-- Each turn of a bid begins a block, ends the bid, or comes closer to the limits of the block.
 use Rattle.std.proofs.Common.{◌≡◌, ◌⊎◌, inl, inr, ℕ, ◌+◌, ◌*◌, ◌≤◌, Bool, true, false, nat_lt, List}
 use Rattle.std.proofs.Common.{[], ◌∷◌, length, Option, None, Some, refl, sym, ◌∙◌, ap, subst, arith}
 use Rattle.std.proofs.Common.{if◌then◌else◌}
@@ -34,7 +34,7 @@ use Rattle.bsc_bid.specs.OneBid.{turn_count, is_begun, begun_in, most_turns, End
 use Rattle.bsc_bid.proofs.Landing.{has_next}
 use Rattle.bsc_bid.proofs.Turning.{LawsBelow}
 
--- no counter is over its limit
+-- no counter exceeds its limit
 pub record IsWithin (s : SenderValue) : Type 0 where
   pub failures : s.failures ≤ s.setup.tries
   pub wacks : s.wacks ≤ s.setup.waits
@@ -43,7 +43,7 @@ pub record IsWithin (s : SenderValue) : Type 0 where
 abbrev pub rank : SenderValue → ℕ
 rank s = s.wacks * (s.setup.tries + 1) + s.failures
 
--- nearer to the limits
+-- the counters of a block came closer to the limits
 pub record IsNearer (s u : SenderValue) : Type 0 where
   pub within : IsWithin u
   pub nearer : rank s + 1 ≤ rank u

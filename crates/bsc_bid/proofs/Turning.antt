@@ -1,4 +1,4 @@
--- Every event of a bid keeps that its two ends agree.
+-- Every event of a bid keeps the agreement of its two ends.
 use Rattle.std.proofs.Common.{◌≡◌, inl, inr, ℕ, ◌+◌, ◌≤◌, List, [], ◌∷◌, length, Some, refl, sym}
 use Rattle.std.proofs.Common.{◌∙◌, ap, subst, arith}
 use Rattle.std.proofs.lemmas.List.{length-take-le}
@@ -38,7 +38,7 @@ pub record LawsBelow : Type 0 where
   pub next : NextLaw
   pub offers : OffersQueue
 
--- the two ends agree, and a bid that is over left the sender at rest
+-- the two ends agree, and if the bid is over, the sender is at rest
 pub record Holds (b : Bid) : Type 0 where
   pub ends : Continues b.sender.phase b.queue b.receiver.alternation b.receiver.last b.spool.records
       (sent_flight b.act)
@@ -83,7 +83,7 @@ pub record Turned (b : Bid) (t : Turn) : Type 0 where
   pub sound : IsSound b.sender.phase (channel_within b t)
   pub moves : MovesInTurn b t
 
--- a bid that goes on continues
+-- a bid in progress continues
 pub bid_continues : (phase : Phase) (q : QueueValue) (alternation : Alternation) (last : Reply)
     (spooled : List (List ℕ)) (f : Flight) → InBid phase q alternation last spooled f
     → Continues phase q alternation last spooled f
@@ -92,7 +92,7 @@ bid_continues (InDoubt k) q alternation last spooled f i = absurd i.agree
 bid_continues (Held e x) q alternation last spooled f i = i
 bid_continues (Unanswered b) q alternation last spooled f i = i
 
--- what goes out while a bid goes on
+-- what is sent while a bid is in progress
 outward : (x : Act) (sent : Message) → message_for x ≡ Some sent → sent_flight x ≡ Outward sent
 outward (a.Send t) sent e = cc
 outward a.Enq sent e = cc

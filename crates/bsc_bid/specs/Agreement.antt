@@ -1,5 +1,5 @@
--- How the two ends of a bid agree from step to step (own). What is said here is kept by every step;
--- the laws of one bid and of the line rest on it.
+-- How the two ends of a bid agree from step to step. Every step keeps what is stated here; the laws
+-- of one bid and of the line rest on it. A block has landed once its records are spooled.
 use Rattle.std.specs.Prelude.{◌≡◌, ◌⊎◌, ℕ, ◌+◌, List, length, take, Option, None, Some}
 use Rattle.bsc_frame.specs.declared.message.Message.{Message}
 use Rattle.bsc_frame.specs.declared.message.Message.TheVariants as m
@@ -18,7 +18,7 @@ use Rattle.bsc_bid.specs.Sender.{text_of}
 use Rattle.bsc_bid.specs.Ready.{HasBlock, CountsOn}
 use Rattle.bsc_bid.specs.Channel.{channel, IsSound}
 
--- what is on its way: nothing, a transmission of the sender, or a reply to it
+-- What is on its way: nothing, a transmission of the sender, or a reply to it.
 pub data Flight : Type 0 where
   Still : Flight
   Outward : (message : Message) → Flight
@@ -32,7 +32,7 @@ IsReplyBefore Ack1 Even = Unit {0}
 IsReplyBefore Nak alternation = Unit {0}
 IsReplyBefore _ _ = ⊥
 
--- on its way before the block has landed: nothing, the block, ENQ, or the last reply
+-- What may be on its way before the block has landed: nothing, the block, ENQ, or the last reply.
 abbrev pub IsFlightBefore : QueueValue → SentBlock → Reply → Flight → Type 0
 IsFlightBefore q b last Still = Unit {0}
 IsFlightBefore q b last (Outward (m.Text t)) = t ≡ text_of q b
@@ -48,7 +48,7 @@ IsReplyAfter Wack alternation = Unit {0}
 IsReplyAfter Rvi alternation = Unit {0}
 IsReplyAfter _ _ = ⊥
 
--- on its way after the block has landed: nothing, ENQ, or the last reply
+-- What may be on its way after the block has landed: nothing, ENQ, or the last reply.
 abbrev pub IsFlightAfter : Reply → Flight → Type 0
 IsFlightAfter last Still = Unit {0}
 IsFlightAfter last (Outward m.Enq) = Unit {0}
@@ -62,7 +62,7 @@ IsReplyHeld Ack0 Even = Unit {0}
 IsReplyHeld Wack alternation = Unit {0}
 IsReplyHeld _ _ = ⊥
 
--- an unanswered block has not landed
+-- An unanswered block that has not landed.
 pub record NotLanded (b : SentBlock) (q : QueueValue) (alternation : Alternation) (last : Reply)
     (spooled : List (List ℕ)) (f : Flight) : Type 0 where
   pub front : spooled ≡ take q.known q.offered
@@ -70,7 +70,7 @@ pub record NotLanded (b : SentBlock) (q : QueueValue) (alternation : Alternation
   pub reply : IsReplyBefore last b.alternation
   pub flight : IsFlightBefore q b last f
 
--- an unanswered block has landed
+-- An unanswered block that has landed.
 pub record HasLanded (b : SentBlock) (q : QueueValue) (alternation : Alternation) (last : Reply)
     (spooled : List (List ℕ)) (f : Flight) : Type 0 where
   pub front : spooled ≡ take (q.known + b.count) q.offered
@@ -78,7 +78,7 @@ pub record HasLanded (b : SentBlock) (q : QueueValue) (alternation : Alternation
   pub reply : IsReplyAfter last b.alternation
   pub flight : IsFlightAfter last f
 
--- the sender is held: all that landed is known
+-- The sender is held: all records that landed are known.
 pub record IsHeld (expected : Alternation) (q : QueueValue) (alternation : Alternation)
     (last : Reply) (spooled : List (List ℕ)) (f : Flight) : Type 0 where
   pub front : spooled ≡ take q.known q.offered
@@ -86,8 +86,8 @@ pub record IsHeld (expected : Alternation) (q : QueueValue) (alternation : Alter
   pub reply : IsReplyHeld last expected
   pub flight : IsFlightAfter last f
 
--- the sender's phase and queue agree with the receiver's alternation and last reply, the spooled
--- records, and what is on its way
+-- The phase and queue of the sender agree with the alternation and last reply of the receiver, the
+-- spooled records, and what is on its way.
 abbrev pub Agree : Phase → QueueValue → Alternation → Reply → List (List ℕ) → Flight → Type 0
 Agree Idle q alternation last spooled f = ⊥
 Agree (InDoubt k) q alternation last spooled f = ⊥
@@ -96,7 +96,7 @@ Agree (Unanswered b) q alternation last spooled f =
 Agree (Held end expected) q alternation last spooled f =
     IsHeld expected q alternation last spooled f
 
--- a bid goes on
+-- A bid continues, and its ends agree.
 pub record InBid (phase : Phase) (q : QueueValue) (alternation : Alternation) (last : Reply)
     (spooled : List (List ℕ)) (f : Flight) : Type 0 where
   pub queue : IsQueue q
@@ -104,13 +104,13 @@ pub record InBid (phase : Phase) (q : QueueValue) (alternation : Alternation) (l
   pub counts : CountsOn phase (length (waiting q))
   pub agree : Agree phase q alternation last spooled f
 
--- no bid goes on, and the channel is sound
+-- No bid continues, and the channel is sound.
 pub record IsResting (phase : Phase) (q : QueueValue) (spooled : List (List ℕ)) : Type 0 where
   pub queue : IsQueue q
   pub counts : CountsOn phase (length (waiting q))
   pub sound : IsSound phase (channel q spooled)
 
--- the bid goes on, or it is over
+-- The bid continues, or it is over and nothing is on its way.
 abbrev pub Continues : Phase → QueueValue → Alternation → Reply → List (List ℕ) → Flight → Type 0
 Continues Idle q alternation last spooled f = IsResting Idle q spooled × (f ≡ Still)
 Continues (InDoubt k) q alternation last spooled f = IsResting (InDoubt k) q spooled × (f ≡ Still)
@@ -119,12 +119,12 @@ Continues (Unanswered b) q alternation last spooled f =
 Continues (Held end x) q alternation last spooled f =
     InBid (Held end x) q alternation last spooled f
 
--- a reply is on its way
+-- A reply, if there is one, is on its way.
 abbrev pub reply_flight : Option Reply → Flight
 reply_flight None = Still
 reply_flight (Some r) = Back r
 
--- what an act sends is on its way
+-- What an act sends is on its way.
 abbrev pub sent_flight : Act → Flight
 sent_flight (a.Send t) = Outward (m.Text t)
 sent_flight a.Enq = Outward m.Enq

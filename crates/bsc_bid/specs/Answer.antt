@@ -1,5 +1,5 @@
--- What a reply is to a block that waits for one (GA27-3004: alternating acknowledgements, WACK and
--- RVI).
+-- The meaning of a reply to a block that waits for one (GA27-3004: alternating acknowledgements,
+-- WACK and RVI).
 use Rattle.bsc_frame.specs.declared.reply.Reply.{Reply}
 use Rattle.bsc_frame.specs.declared.reply.Reply.TheVariants.{Ack0, Ack1, Nak, Wack, Rvi}
 use Rattle.bsc_bid.specs.declared.alternation.Alternation.{Alternation}
@@ -18,8 +18,8 @@ abbrev pub ack : Alternation → Reply
 ack Even = Ack0
 ack Odd = Ack1
 
--- What a reply is to a block: the acknowledgement that it expects, the other one or NAK, WACK, or
--- RVI. The alternation is that of the number of blocks taken once the block is taken.
+-- The meaning of a reply to a block: the acknowledgement that the block expects, the other one or
+-- NAK, WACK, or RVI. The alternation is that of the number of blocks taken once the block is taken.
 abbrev pub answer_of : Alternation → Reply → Answer
 answer_of Odd Ack1 = Accepted
 answer_of Odd Ack0 = Refused

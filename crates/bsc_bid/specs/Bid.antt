@@ -1,4 +1,4 @@
--- One bid: a sender and a receiver with one channel, turn by turn (own).
+-- One bid: a sender and a receiver with one channel, turn by turn.
 use Rattle.std.specs.Prelude.{◌≡◌, ◌≤◌, ℕ, Bool, List, [], ◌∷◌, length, Option, None, Some}
 use Rattle.bsc_frame.specs.declared.message.Message.TheVariants as m
 use Rattle.bsc_frame.specs.declared.message.Message.{Message}
@@ -18,7 +18,7 @@ use Rattle.bsc_bid.specs.Channel.{Channel, channel, IsSound}
 use Rattle.bsc_bid.specs.Fair.{IsFair}
 use Rattle.std.specs.Prelude.{true}
 
--- the two ends of a bid, and what the sender did last
+-- The two ends of a bid, and the last act of the sender.
 pub record Bid : Type 0 where
   pub sender : SenderValue
   pub queue : QueueValue
@@ -26,43 +26,43 @@ pub record Bid : Type 0 where
   pub spool : SpoolValue
   pub act : Act
 
--- the channel of a bid
+-- The channel of a bid.
 abbrev pub channel_of : Bid → Channel
 channel_of b = channel b.queue b.spool.records
 
--- what one exchange meets: how the sender's transmission is heard, the urgent flag and the room at
--- the receiver, and how the reply is heard
+-- The circumstances of one exchange: how the sender's transmission is heard, the urgent flag and
+-- the room at the receiver, and how the reply is heard.
 pub record Turn : Type 0 where
   pub heard : Option Heard
   pub urgent : Bool
   pub rooms : Rooms
   pub answer : Option Heard
 
--- the receiver hears the transmission, or nothing
+-- The receiver hears the transmission, or nothing.
 abbrev pub received : ReceiverValue → SpoolValue → Option Heard → Bool → Rooms → ReceiverStep
 received r s None urgent rooms = record { receiver = r; spool = s; reply = None }
 received r s (Some h) urgent rooms = heard_step r s h urgent rooms
 
--- the sender hears the reply, or nothing
+-- The sender hears the reply, or nothing.
 abbrev pub answered : SenderValue → QueueValue → Option Reply → Option Heard → SenderStep
 answered s q (Some r) (Some h) = reply_step s q (reply_in h)
 answered s q (Some r) None = unmoved s q
 answered s q None h = unmoved s q
 
--- where the sender then has sent nothing, a silence comes to it
+-- If the sender did nothing on the reply, a silence comes to it.
 abbrev pub unless_quiet : SenderStep → Act → SenderStep
 unless_quiet t a.Quiet = silence_step t.sender t.queue
 unless_quiet t _ = t
 
--- what the receiver does in a turn
+-- What the receiver does in a turn.
 abbrev pub receiver_in : Bid → Turn → ReceiverStep
 receiver_in b t = received b.receiver b.spool t.heard t.urgent t.rooms
 
--- what the sender does on the reply, before any silence
+-- What the sender does on the reply, before any silence.
 abbrev pub sender_in : Bid → Turn → SenderStep
 sender_in b t = answered b.sender b.queue (receiver_in b t).reply t.answer
 
--- the two ends after a turn
+-- The two ends after a turn.
 abbrev pub after_turn : Bid → Turn → Bid
 after_turn b t =
     let r = receiver_in b t in
@@ -75,46 +75,46 @@ after_turn b t =
       act = s.act;
     }
 
--- what may be heard of what was sent, and nothing where nothing was
+-- What may be heard of what was sent; if nothing was sent, nothing is heard.
 abbrev pub IsFairTo : Option Message → Option Heard → Type 0
 IsFairTo (Some w) h = IsFair w h
 IsFairTo None None = Unit {0}
 IsFairTo None (Some h) = ⊥
 
--- the message of the reply, if there is one
+-- The message of the reply, if there is one.
 abbrev pub reply_message : Option Reply → Option Message
 reply_message None = None
 reply_message (Some r) = Some (m.Reply r)
 
--- a turn is taken while the bid goes on, and every spoiled transmission of it fails its check
+-- A turn is taken while the bid continues, and every damaged transmission of it fails its check.
 pub record IsFairTurn (b : Bid) (t : Turn) : Type 0 where
   pub sent : Message
   pub goes_on : message_for b.act ≡ Some sent
   pub fair_heard : IsFair sent t.heard
   pub fair_answer : IsFairTo (reply_message (receiver_in b t).reply) t.answer
 
--- between turns records may be offered
+-- An event of a bid: a turn, or a record that is offered between turns.
 pub data BidEvent : Type 0 where
   Exchange : (turn : Turn) → BidEvent
   Offering : (offered_record : List ℕ) → BidEvent
 
--- the two ends after an event
+-- The two ends after an event.
 abbrev pub after_event : Bid → BidEvent → Bid
 after_event b (Exchange t) = after_turn b t
 after_event b (Offering r) = record b { queue = with_offered b.queue r }
 
--- a turn is fair, and an offered record is not longer than the full length
+-- A turn is fair, and an offered record is not longer than the full length.
 abbrev pub MayCome : Bid → BidEvent → Type 0
 MayCome b (Exchange t) = IsFairTurn b t
 MayCome b (Offering r) = length r ≤ b.queue.format.full
 
--- events, one after another
+-- Events, one after another.
 abbrev pub AreEvents : Bid → List BidEvent → Bid → Type 0
 AreEvents b [] c = c ≡ b
 AreEvents b (e ∷ es) c = MayCome b e × AreEvents (after_event b e) es c
 
--- A bid begins: the sender is idle and not in doubt, records wait, all that was spooled is known,
--- and the receiver begins with ACK0.
+-- A bid begins: the sender is idle and not in doubt, records wait, all records that were spooled
+-- are known, and the receiver begins with ACK0.
 pub record IsNewBid (b : Bid) : Type 0 where
   pub sender : SenderValue
   pub idle : sender.phase ≡ Idle
@@ -124,7 +124,7 @@ pub record IsNewBid (b : Bid) : Type 0 where
   pub receiver : b.receiver ≡ new_receiver true
   pub first : record { sender = b.sender; queue = b.queue; act = b.act } ≡ begin_step sender b.queue
 
--- a bid as it stands after some events
+-- A bid after some events.
 pub record Reaches (b : Bid) (es : List BidEvent) (c : Bid) : Type 0 where
   pub new_bid : IsNewBid b
   pub events : AreEvents b es c

@@ -1,5 +1,5 @@
-//! Whether the number of blocks taken in a bid is even or odd: the two acknowledgements alternate
-//! by it.
+//! Whether the number of blocks taken in a bid is even or odd, by which the two acknowledgements
+//! alternate.
 
 ghost use Rattle.std.specs.Prelude.{◌≡◌};
 ghost use Rattle.bsc_bid.specs.Answer.{ack, other};
@@ -9,15 +9,15 @@ use bsc_frame::Reply;
 /// Whether a number of blocks is even or odd (GA27-3004: alternating acknowledgements).
 #[derive(Clone, Copy, Debug, PartialEq, Eq)]
 pub enum Alternation {
-    /// The number is even: its acknowledgement is ACK0.
+    /// The number is even and acknowledged by ACK0.
     Even,
 
-    /// The number is odd: its acknowledgement is ACK1.
+    /// The number is odd and acknowledged by ACK1.
     Odd,
 }
 
 impl Alternation {
-    /// Whether the number is even or odd once one more block is taken.
+    /// Returns whether the number is even or odd once one more block is taken.
     pub fn other(self) -> Alternation
         ensures { result ≡ other self }
     {
@@ -27,7 +27,7 @@ impl Alternation {
         }
     }
 
-    /// The acknowledgement of the number of blocks.
+    /// Returns the acknowledgement of this number of blocks.
     pub fn ack(self) -> Reply
         ensures { result ≡ ack self }
     {

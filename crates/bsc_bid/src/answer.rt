@@ -1,14 +1,14 @@
-//! What a reply is to the block that waits for one.
+//! The meaning of a reply to the block that waits for one.
 ghost use Rattle.std.specs.Prelude.{◌≡◌};
 ghost use Rattle.bsc_bid.specs.Answer.{answer_of};
 
 use crate::alternation::Alternation;
 use bsc_frame::Reply;
 
-/// What a reply is to a block (GA27-3004: alternating acknowledgements, WACK and RVI).
+/// The meaning of a reply to a block (GA27-3004: alternating acknowledgements, WACK and RVI).
 #[derive(Clone, Copy, Debug, PartialEq, Eq)]
 pub(crate) enum Answer {
-    /// The acknowledgement that it expects.
+    /// The acknowledgement that the block expects.
     Accepted,
 
     /// The other acknowledgement, or NAK.
@@ -22,7 +22,8 @@ pub(crate) enum Answer {
 }
 
 impl Answer {
-    /// What the reply is to a block; with the block the number of blocks taken is even or odd.
+    /// Returns the meaning of the reply to a block. The alternation is that of the number of blocks
+    /// taken once the block is taken.
     pub(crate) fn of(reply: Reply, alternation: Alternation) -> Answer
         ensures { result ≡ answer_of alternation reply }
     {

@@ -1,4 +1,4 @@
-//! Laws over the definitions: what holds of every bid, whatever is lost or spoiled.
+//! Laws about the definitions: what holds of every bid, whatever is lost or damaged.
 
 ghost use Rattle.bsc_bid.specs.OneBid.{SendsTextsAndEnq, SendsItsBlocks, HearsItsBlocks};
 ghost use Rattle.bsc_bid.specs.OneBid.{OnlyMoves, OffersMove, StaysReady, StaysSound};
@@ -13,19 +13,18 @@ ghost use Rattle.bsc_bid.specs.EachStep.{ReplyIsLast, ActsFit, StepsKeep};
 use bsc_block::laws::records_back;
 use bsc_spool::laws::next_blocks;
 
-/// One bid, end to end. For every bid that begins while the spooled records are the known ones, and
-/// every list of turns in which each spoiled transmission fails its check, with offers between the
-/// turns:
+/// One bid, end to end. For every bid that begins while all spooled records are known, and every
+/// list of turns in which each damaged transmission fails its check, with offers between the turns:
 ///
 /// - the sender sends only texts and ENQ, and each text, sent or heard, has exactly the records of
 ///   its block;
-/// - a block lands at most once, and is learnt only after it landed; an offer adds only its
-///   record;
+/// - the records of a block are spooled at most once, and the sender learns of it only afterwards;
+///   an offer adds only its record;
 /// - at each moment the conditions of the sender's calls are met;
-/// - at each moment the channel is sound, and a bid that ended without doubt knows of all that was
-///   spooled;
-/// - doubt begins exactly where the sender gives up on a silence with a block unanswered, and a
-///   release of the spooled count ends it;
+/// - at each moment the channel is sound, and at the end of a bid without doubt all records that
+///   were spooled are known;
+/// - doubt begins exactly if the sender gives up on a silence with a block unanswered, and a
+///   release with the spooled count ends it;
 /// - with b blocks begun there are at most b · (tries + 1) · (waits + 1) turns.
 pub fn one_bid()
     ensures sends { SendsTextsAndEnq }
@@ -45,15 +44,17 @@ pub fn one_bid()
     next_blocks();
 }
 
-/// One step of a bid, for those who interleave bids with other traffic. Where the ends agree before
-/// it they agree after it, whatever is lost or spoiled by failing its check:
+/// One step of a bid, for users that interleave bids with other traffic. If the ends agree before
+/// the step, they agree after it, whatever is lost or fails its check because it was damaged. The
+/// steps are:
 ///
 /// - the receiver hears what the sender sent, or nothing; the sender hears the reply, or nothing;
-/// - a silence comes to the sender, a bid begins, or a record is offered;
-/// - what was on its way is lost;
-/// - a sender whose bid is over is at rest, one that keeps quiet stays in its phase, and while the
-///   ends agree the channel is sound;
-/// - no step of a sender changes its settings, or the format and the offered records of its queue.
+/// - a silence comes to the sender, a bid begins, a record is offered, or a doubt is released;
+/// - what was on its way is lost.
+///
+/// In addition, a sender whose bid is over is at rest, a sender that stays quiet stays in its
+/// phase, and the channel is sound while the ends agree. No step of a sender changes its settings,
+/// or the format and the offered records of its queue.
 pub fn each_step()
     ensures hearing { HearingAgrees }
     ensures answering { AnsweringAgrees }

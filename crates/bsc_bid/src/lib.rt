@@ -1,8 +1,13 @@
-//! One bid: the sender of blocks, the receiver of blocks, and what both ends together keep.
+//! One bid: the sender of blocks, the receiver of blocks, and what both ends together guarantee.
 //!
 //! A control station and a terminal each have a sender for what they transmit and a receiver for
-//! what they take; a point-to-point user can drive a pair of them. Beside them stand what both
-//! stations share: their settings, a terminal's addresses, and the trait of a station of the line.
+//! what they take; a point-to-point user can drive a pair of them. This crate also has what both
+//! kinds of station share: their settings, the addresses of a terminal, and the trait of a station
+//! of the line.
+//!
+//! Alternating acknowledgements, NAK, WACK, RVI, ENQ, time-outs, polling and selection are those of
+//! GA27-3004. The limits, the urgent flag by which RVI is sent, several selection addresses to a
+//! terminal, doubt and its release, and the laws of a bid are this project's own.
 #![tactic(auto)]
 
 mod alternation;

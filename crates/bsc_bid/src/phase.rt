@@ -1,4 +1,4 @@
-//! How far a sender is with its bid.
+//! The phase of a sender: how far it is with its bid.
 
 use crate::alternation::Alternation;
 use bsc_frame::End;
@@ -6,7 +6,7 @@ use bsc_frame::End;
 /// A block that was sent.
 #[derive(Clone, Copy, Debug, PartialEq, Eq)]
 pub struct SentBlock {
-    /// How many records it has: 1 to 7.
+    /// The number of its records, 1 to 7.
     pub count: usize,
 
     /// The character that ends it.
@@ -19,16 +19,16 @@ pub struct SentBlock {
 /// How far a sender is with its bid.
 #[derive(Clone, Copy, Debug, PartialEq, Eq)]
 pub enum Phase {
-    /// There is no bid, and no doubt.
+    /// There is no bid and no doubt.
     Idle,
 
     /// A block was sent, and no reply to it was understood.
     Unanswered { block: SentBlock },
 
-    /// WACK was the reply to a block with this end. The acknowledgement is awaited: ACK0 or ACK1,
-    /// as the number of blocks taken is even or odd.
+    /// WACK was the reply to a block with this end. The sender waits for the acknowledgement: ACK0
+    /// or ACK1, depending on whether the number of blocks taken is even or odd.
     Held { end: End, alternation: Alternation },
 
-    /// There is no bid. It is not known whether the next `count` records arrived.
+    /// There is no bid, and it is not known whether the next `count` records arrived.
     InDoubt { count: usize },
 }

@@ -10,14 +10,14 @@ use bsc_spool::Spool;
 use std::alloc::Allocator;
 use std::marker::Model;
 
-/// The receiver of one bid: it stores the records of the texts that it takes, and replies.
-/// (GA27-3004, replies to text and to ENQ.)
+/// The receiver of one bid: it stores the records of the texts that it takes, and replies
+/// (GA27-3004, replies to text and to ENQ).
 #[derive(Drop)]
 pub struct Receiver {
     /// Whether the number of blocks taken in this bid is even or odd.
     alternation: Alternation,
 
-    /// The last reply, which ENQ asks for again.
+    /// The last reply, which is sent again on ENQ.
     last: Reply,
 }
 
@@ -38,7 +38,7 @@ impl Default for Receiver {
 }
 
 impl Receiver {
-    /// A receiver as after a begin with room.
+    /// Returns a receiver in the state that [`Receiver::begin`] leaves if there is room.
     pub fn new() -> Self
         ensures { result ≡ new_receiver true }
     {
@@ -48,8 +48,8 @@ impl Receiver {
         }
     }
 
-    /// Begins a bid, and gives the reply that says so: ACK0, or WACK where there is no room for a
-    /// block. (GA27-3004, replies to a selection.)
+    /// Begins a bid and returns the first reply: ACK0, or WACK if there is no room for a block
+    /// (GA27-3004, replies to a selection).
     pub fn begin(&mut self, room: bool) -> Reply
         ensures reply { result ≡ first_reply room }
         ensures state { self.new ≡ new_receiver room }
@@ -59,12 +59,15 @@ impl Receiver {
         self.last
     }
 
-    /// Hears a transmission, and gives the reply to it; None where it is neither a text, also one
-    /// that failed, nor ENQ.
-    /// With `urgent` a text that is taken is answered by RVI, but not twice in a row. It may try to
-    /// reserve memory; a refusal changes only the reply: NAK where a text then finds no room, WACK
-    /// where the next one would not. (GA27-3004, replies to text and to ENQ; the urgent flag is
-    /// own.)
+    /// Hears a transmission and returns the reply to it, or `None` if it is neither ENQ nor a text,
+    /// whole or failed. A failed text is answered with NAK.
+    ///
+    /// With `urgent` a text that is taken is answered with RVI, but not twice in a row. RVI is the
+    /// standard's; that a flag decides it is this project's own.
+    ///
+    /// The call may try to reserve memory. If that fails, only the reply changes: NAK if there is
+    /// no room for this text, WACK if there would be none for the next one. (GA27-3004, replies to
+    /// text and to ENQ.)
     pub fn heard<A: Allocator>(
         &mut self,
         heard: &Heard,
@@ -85,7 +88,7 @@ impl Receiver {
         }
     }
 
-    /// Takes a text where there is room for it.
+    /// Takes a text if there is room for it, and returns the reply.
     fn take_text<A: Allocator>(&mut self, text: &Text, urgent: bool, spool: &mut Spool<A>) -> Reply
         ensures { Receives self.old spool.old (Heard.Whole (Message.Text text.now)) urgent
             (record { receiver = self.new; spool = spool.new; reply = Some result }) }
@@ -109,7 +112,8 @@ impl Receiver {
         reply
     }
 
-    /// Gives the last reply again, or the acknowledgement that a WACK put off.
+    /// Returns the last reply again; after WACK, the acknowledgement that it put off, if there is
+    /// room now.
     fn repeat<A: Allocator>(&mut self, urgent: bool, spool: &mut Spool<A>) -> Reply
         ensures { Receives self.old spool.old (Heard.Whole Message.Enq) urgent
             (record { receiver = self.new; spool = spool.new; reply = Some result }) }

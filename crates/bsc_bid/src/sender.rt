@@ -25,20 +25,20 @@ use std::marker::Model;
 use thiserror::Error;
 
 /// The sender of one bid: it sends the waiting records of a queue, block by block, and marks in the
-/// queue which are known to have arrived. (GA27-3004, acknowledgements and time-outs; the limits
-/// and the doubt are own.)
+/// queue which records are known to have arrived (GA27-3004, acknowledgements and time-outs). Its
+/// limits and the doubt about a block are this project's own.
 #[derive(Drop)]
 pub struct Sender {
-    /// The limits of its counters, and how records become blocks.
+    /// The limits of the counters, and how records become blocks.
     setup: Setup,
 
-    /// How far it is with its bid. An unanswered block has 1 to 7 records.
+    /// How far the sender is with its bid. An unanswered block has 1 to 7 records.
     phase: Phase,
 
     /// The failures in a row.
     failures: u8,
 
-    /// The WACKs since the last acknowledgement. At a limit of 255 the bid is over at 256.
+    /// The WACKs since the last acknowledgement. With a limit of 255 the bid is over at 256.
     wacks: u16,
 }
 
@@ -66,13 +66,13 @@ pub enum ReleaseError {
     #[error("not in doubt")]
     NotInDoubt,
 
-    /// The count is neither that of the known records nor that with the doubtful block.
+    /// The count is neither the number of known records nor that number plus the doubtful block.
     #[error("count mismatch")]
     CountMismatch,
 }
 
 impl Sender {
-    /// A sender without a bid and without a doubt.
+    /// Returns a sender without a bid and without a doubt.
     pub fn new(setup: Setup) -> Self
         ensures { result ≡ record { setup = setup; phase = Phase.Idle; failures = 0; wacks = 0 } }
     {
@@ -85,8 +85,8 @@ impl Sender {
     }
 
     /// Begins a bid: leaves the text of the first block of the waiting records in `sent`.
-    /// Condition: the sender is idle, without a doubt, and records wait. (GA27-3004, transmission
-    /// of blocks.)
+    /// Condition: the sender is idle, so there is no doubt, and records wait. (GA27-3004,
+    /// transmission of blocks.)
     #[tactic(auto, using(crate::proofs::ReadyLemmas::going_begin))]
     pub fn begin<A: Allocator>(&mut self, queue: &Queue<A>, sent: &mut Option<Message>) -> Outcome
         requires idle { self.old.phase ≡ Phase.Idle }
@@ -99,10 +99,11 @@ impl Sender {
         self.send_next(queue, Alternation::Odd, sent)
     }
 
-    /// Hears a transmission. A reply is acted on; anything else changes nothing. The message to
-    /// send is left in `sent`, or none. Condition: while a bid goes on, in the queue wait the
-    /// records of the unanswered block, after ETB one more, and while held after ETB at least one.
-    /// (GA27-3004: the replies to a block. The limits are this project's.)
+    /// Hears a transmission. A reply is acted on while a bid continues; anything else changes
+    /// nothing. The message to send, if any, is left in `sent`. Condition: while a block is
+    /// unanswered, its records wait in the queue, and one more if the block ends with ETB; while
+    /// the sender is held after ETB, at least one record waits. (GA27-3004: the replies to a block.
+    /// The limits are this project's own.)
     pub fn reply<A: Allocator>(
         &mut self,
         heard: &Heard,
@@ -132,8 +133,10 @@ impl Sender {
         }
     }
 
-    /// Nothing was heard for the time of a time-out. The message to send is left in `sent`, or
-    /// none. (GA27-3004, time-outs; the limit and the doubt are own.)
+    /// Reports that nothing was heard for the time of a time-out. The message to send, if any, is
+    /// left in `sent`. While a bid continues, a silence is one more failure: the sender asks for
+    /// the last reply again with ENQ, or the bid is over, and then an unanswered block is in doubt.
+    /// (GA27-3004, time-outs. The limit and the doubt are this project's own.)
     #[tactic(auto, using(crate::proofs::ReadyLemmas::all_waiting))]
     pub fn silence(&mut self, sent: &mut Option<Message>) -> Outcome
         ensures row { (q : QueueValue)
@@ -151,8 +154,8 @@ impl Sender {
         }
     }
 
-    /// The line was taken from the sender: an unanswered block is in doubt from now on, and a held
-    /// sender is idle. (Own.)
+    /// Reports that the line was taken from the sender: an unanswered block is in doubt from now
+    /// on, and a held sender is idle.
     pub fn cut_off(&mut self)
         ensures state { self.new ≡ with_phase self.old (cut_phase self.old.phase) }
         ensures rests { IsAtRest self.new.phase }
@@ -165,16 +168,17 @@ impl Sender {
         }
     }
 
-    /// Whether it is not known if a block arrived. (Own.)
+    /// Returns whether there is a block of which it is not known whether it arrived.
     pub fn in_doubt(&self) -> bool
         ensures { result ≡ is_in_doubt self.now.phase }
     {
         matches!(self.phase, Phase::InDoubt { .. })
     }
 
-    /// Ends the doubt: the other end has `count` records. `NotInDoubt`, then `CountMismatch` where
-    /// the count is neither that of the known records nor that with the doubtful block; both change
-    /// nothing. Condition: in doubt, the records of the doubtful block wait in the queue. (Own.)
+    /// Ends the doubt: the other end has `count` records. The errors are `NotInDoubt` if there is
+    /// no doubt, and then `CountMismatch` if the count is neither the number of known records nor
+    /// that number plus the doubtful block; both leave everything unchanged. Condition: while in
+    /// doubt, the records of the doubtful block wait in the queue.
     pub fn release<A: Allocator>(
         &mut self,
         count: usize,
@@ -200,7 +204,7 @@ impl Sender {
         Ok(())
     }
 
-    /// Ends the bid, with no doubt.
+    /// Ends the bid without a doubt.
     fn end(&mut self, sent: &mut Option<Message>) -> Outcome
         ensures state { self.new ≡ with_phase self.old Phase.Idle }
         ensures over { result ≡ Outcome.Over }
@@ -211,7 +215,7 @@ impl Sender {
         Outcome::Over
     }
 
-    /// Sends the next block.
+    /// Sends the next block, with both counters at 0, or ends the bid if no record waits.
     #[tactic(auto, using(crate::proofs::ReadyLemmas::counts_next))]
     fn send_next<A: Allocator>(
         &mut self,
@@ -239,7 +243,8 @@ impl Sender {
         Outcome::Sends
     }
 
-    /// The expected acknowledgement of a block with this end came.
+    /// Acts on the expected acknowledgement of a block with this end: after ETX the bid is over,
+    /// after ETB the next block is sent.
     fn accept<A: Allocator>(
         &mut self,
         queue: &Queue<A>,
@@ -261,8 +266,8 @@ impl Sender {
         }
     }
 
-    /// One more failure in a row. True where the limit is passed: the bid is over, and `left` is
-    /// its phase.
+    /// Counts one more failure in a row. Returns true if the limit is exceeded; then the bid is
+    /// over, and `left` is the phase.
     fn fail(&mut self, left: Phase) -> bool
         requires going { IsGoing self.old.phase }
         requires left { IsAtRest left }
@@ -282,8 +287,7 @@ impl Sender {
         false
     }
 
-    /// One more failure in a row, on which the last reply is asked for again, unless the bid is
-    /// over.
+    /// Counts one more failure in a row and asks for the last reply again, unless the bid is over.
     fn ask_again(&mut self, left: Phase, sent: &mut Option<Message>) -> Outcome
         requires going { IsGoing self.old.phase }
         requires left { IsAtRest left }
@@ -302,7 +306,8 @@ impl Sender {
         Outcome::Sends
     }
 
-    /// One more WACK, to a block with this end.
+    /// Counts one more WACK, to a block with this end, and asks again with ENQ, unless the bid is
+    /// over.
     fn delay(&mut self, end: End, alternation: Alternation, sent: &mut Option<Message>) -> Outcome
         requires { IsGoing self.old.phase }
         ensures row { (q : QueueValue)
@@ -323,7 +328,7 @@ impl Sender {
         Outcome::Sends
     }
 
-    /// A reply while a block is unanswered.
+    /// Acts on a reply while a block is unanswered.
     #[tactic(auto, using(crate::proofs::ReadyLemmas::reply_steps))]
     fn answer_unanswered<A: Allocator>(
         &mut self,
@@ -364,7 +369,7 @@ impl Sender {
         }
     }
 
-    /// A reply while the sender is held.
+    /// Acts on a reply while the sender is held.
     fn answer_held<A: Allocator>(
         &mut self,
         queue: &Queue<A>,

@@ -1,4 +1,4 @@
-//! The settings that a station is made with.
+//! The settings with which a station is created.
 
 ghost use Rattle.std.specs.Prelude.{◌≡◌, ◌≤◌, IfOk};
 ghost use Rattle.bsc_bid.specs.Setup.{IsSetup, setup_of, setting_error};
@@ -8,16 +8,17 @@ use bsc_block::{Format, FormatError};
 use std::marker::Model;
 use thiserror::Error;
 
-/// How records become blocks, and how much a station bears before it gives up (own).
+/// How records become blocks, and how many failures and WACKs a station accepts before it gives up.
+/// These settings and their limits are this project's own.
 #[derive(Clone, Copy, Debug, PartialEq, Eq)]
 pub struct Setup {
     /// How records become blocks.
     format: Format,
 
-    /// How many failures in a row are borne: 1 to 15.
+    /// The limit of failures in a row, 1 to 15. One failure more ends the bid.
     tries: u8,
 
-    /// How many WACKs since the last acknowledgement are borne: 1 to 255.
+    /// The limit of WACKs since the last acknowledgement, 1 to 255. One WACK more ends the bid.
     waits: u8,
 }
 
@@ -37,19 +38,19 @@ impl Model for Setup {
 /// The first setting that is outside its limits.
 #[derive(Clone, Copy, Debug, PartialEq, Eq, Error)]
 pub enum SettingError {
-    /// The full length is not 1 to 144.
+    /// The full length of a record is not 1 to 144.
     #[error("the full length is not 1 to 144")]
     Full,
 
-    /// The greatest count of a block is not 146 to 400.
+    /// The number of characters that a block may count is not 146 to 400.
     #[error("the characters of a block are not 146 to 400")]
     BlockChars,
 
-    /// The tries are not 1 to 15.
+    /// The limit of failures is not 1 to 15.
     #[error("the tries are not 1 to 15")]
     Tries,
 
-    /// The waits are 0.
+    /// The limit of WACKs is 0.
     #[error("the waits are not 1 to 255")]
     Waits,
 }
@@ -66,10 +67,10 @@ impl From<FormatError> for SettingError {
 }
 
 impl Setup {
-    /// The settings: the full length of a record (1 to 144), the most characters that a block
-    /// counts (146 to 400), how many failures in a row are borne (1 to 15), and how many WACKs
-    /// since the last acknowledgement (1 to 255). The error names the first number that is outside
-    /// its limits. All own.
+    /// Returns the settings: the full length of a record (1 to 144), the number of characters that
+    /// a block may count (146 to 400), the limit of failures in a row (1 to 15), and the limit of
+    /// WACKs since the last acknowledgement (1 to 255). The error names the first number that is
+    /// outside its limits.
     pub fn new(full: u8, block_chars: u16, tries: u8, waits: u8) -> Result<Setup, SettingError>
         ensures value { result ≡ setup_of full block_chars tries waits }
         ensures limits { IfOk result IsSetup }
@@ -88,7 +89,7 @@ impl Setup {
         })
     }
 
-    /// How records become blocks.
+    /// Returns how records become blocks.
     pub fn format(&self) -> Format
         ensures value { result ≡ self.now.format }
         ensures limits { IsSetup self.now }
@@ -96,7 +97,7 @@ impl Setup {
         self.format
     }
 
-    /// How many failures in a row are borne: 1 to 15.
+    /// Returns the limit of failures in a row, 1 to 15.
     pub fn tries(&self) -> u8
         ensures value { result ≡ self.now.tries }
         ensures limits { IsSetup self.now }
@@ -104,7 +105,7 @@ impl Setup {
         self.tries
     }
 
-    /// How many WACKs since the last acknowledgement are borne: 1 to 255.
+    /// Returns the limit of WACKs since the last acknowledgement, 1 to 255.
     pub fn waits(&self) -> u8
         ensures value { result ≡ self.now.waits }
         ensures limits { IsSetup self.now }

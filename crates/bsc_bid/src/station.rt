@@ -1,4 +1,4 @@
-//! What a station of the line is: it hears transmissions, and it answers or keeps still.
+//! What a station of the line does: it hears transmissions, and it answers or stays quiet.
 
 ghost use Rattle.std.specs.Prelude.{◌≡◌, Option, Bool};
 ghost use Rattle.bsc_frame.specs.declared.message.Message.{Message as MessageValue};
@@ -11,29 +11,30 @@ use bsc_frame::{Heard, Message, Wire, decode, encode};
 
 /// A station of the line (GA27-3004, centralised multipoint operation).
 pub trait Station {
-    /// What it does with what is heard: the station before, what is heard, the station after, and
-    /// the message that it sends.
+    /// What the station does with what it hears: the station before, what is heard, the station
+    /// after, and the message that it sends.
     ghost hears: { Self → HeardValue → Self → Option MessageValue → Type 0 };
 
-    /// What it does at a silence: the station before, the station after, and the message that it
-    /// sends.
+    /// What the station does on a silence: the station before, the station after, and the message
+    /// that it sends.
     ghost acts: { Self → Self → Option MessageValue → Type 0 };
 
-    /// Whether it acts on a silence before the control station does.
+    /// Whether the station acts on a silence before the control station does.
     ghost holds: { Self → Bool };
 
-    /// Hears what octets were decoded as, and leaves the message to send, or none, in `sent`,
-    /// whatever that had. It may try to reserve memory; a refusal changes only a reply.
+    /// Hears what octets were decoded as, and replaces `sent` by the message to send, or by `None`.
+    /// The call may try to reserve memory; if that fails, only a reply changes.
     fn answer(&mut self, heard: &Heard, sent: &mut Option<Message>)
         ensures { hears self.old heard.now self.new sent.new };
 
-    /// Nothing was heard for the time of a time-out; leaves the message to send, or none, in
-    /// `sent`, whatever that had.
+    /// Reports that nothing was heard for the time of a time-out, and replaces `sent` by the
+    /// message to send, or by `None`.
     fn act(&mut self, sent: &mut Option<Message>)
         ensures { acts self.old self.new sent.new };
 
-    /// Hears what octets were decoded as. True: the wire holds the one message to send. False: the
-    /// wire is empty. It may try to reserve memory; a refusal changes only a reply.
+    /// Hears what octets were decoded as. Returns true if the wire now holds the message to send;
+    /// otherwise the wire is empty. The call may try to reserve memory; if that fails, only a reply
+    /// changes.
     fn hear_message(&mut self, heard: &Heard, wire: &mut Wire) -> bool
         ensures { (sent : Option MessageValue) × hears self.old heard.now self.new sent
             × IsSent sent result wire.new.items }
@@ -43,8 +44,8 @@ pub trait Station {
         transmit(&sent, wire)
     }
 
-    /// Hears octets. True: the wire holds the one message to send. False: the wire is empty. It may
-    /// try to reserve memory; a refusal changes only a reply.
+    /// Hears octets. Returns true if the wire now holds the message to send; otherwise the wire is
+    /// empty. The call may try to reserve memory; if that fails, only a reply changes.
     fn hear(&mut self, octets: &[u8], wire: &mut Wire) -> bool
         ensures { (heard : HeardValue) × (IsHeardAs octets.now heard
             × ((sent : Option MessageValue) × hears self.old heard self.new sent
@@ -53,8 +54,8 @@ pub trait Station {
         self.hear_message(&decode(octets), wire)
     }
 
-    /// Nothing was heard for the time of a time-out. True: the wire holds the one message to send.
-    /// False: the wire is empty.
+    /// Reports that nothing was heard for the time of a time-out. Returns true if the wire now
+    /// holds the message to send; otherwise the wire is empty.
     fn silence(&mut self, wire: &mut Wire) -> bool
         ensures { (sent : Option MessageValue) × acts self.old self.new sent
             × IsSent sent result wire.new.items }
@@ -64,7 +65,7 @@ pub trait Station {
         transmit(&sent, wire)
     }
 
-    /// Whether it acts on a silence before the control station does.
+    /// Returns whether the station acts on a silence before the control station does.
     fn holds_line(&self) -> bool
         ensures { result ≡ holds self.now };
 
@@ -73,8 +74,8 @@ pub trait Station {
         → hears old Noise new sent → StaysQuiet old new sent };
 }
 
-/// Puts the octets of the message into the wire, in place of what it had, and nothing where there
-/// is no message. True where there is one.
+/// Replaces the contents of the wire by the octets of the message, or clears the wire if there is
+/// no message. Returns true if there is one.
 pub fn transmit(message: &Option<Message>, wire: &mut Wire) -> bool
     ensures { IsSent message.now result wire.new.items }
 {

@@ -8,17 +8,17 @@ use bsc_frame::Address;
 use std::marker::Model;
 use thiserror::Error;
 
-/// The address that a terminal is polled by, and the one to four addresses that it is selected by
-/// (GA27-3004, polling and selection; several selection addresses are own).
+/// The address by which a terminal is polled, and the one to four addresses by which it is selected
+/// (GA27-3004, polling and selection). Several selection addresses are this project's own.
 #[derive(Clone, Copy, Debug, PartialEq, Eq)]
 pub struct Terminal {
-    /// The address that it is polled by.
+    /// The polling address.
     poll: Address,
 
-    /// The addresses that it is selected by, in the first places.
+    /// The selection addresses, in the first places.
     selects: [Address; MAX_SELECTS],
 
-    /// How many of them there are: 1 to 4.
+    /// The number of selection addresses, 1 to 4.
     count: usize,
 }
 
@@ -45,15 +45,15 @@ impl Model for Terminal {
 /// Why addresses are not those of a terminal.
 #[derive(Clone, Copy, Debug, PartialEq, Eq, Error)]
 pub enum TerminalError {
-    /// There are not one to four selection addresses.
+    /// There are no selection addresses, or more than four.
     #[error("a terminal has one to four selection addresses")]
     Count,
 }
 
 impl Terminal {
-    /// The terminal with this polling address and these selection addresses. `Count` where there
-    /// are not one to four of them. Whether the addresses differ is not looked at. (GA27-3004,
-    /// polling and selection; several selection addresses are own.)
+    /// Returns the terminal with this polling address and these selection addresses, or the error
+    /// `Count` if there are not one to four of them. Whether the addresses differ is not tested.
+    /// (GA27-3004, polling and selection.)
     pub fn new(poll: Address, selects: &[Address]) -> Result<Terminal, TerminalError>
         ensures value { result ≡ terminal_of poll selects.now }
     {
@@ -70,14 +70,14 @@ impl Terminal {
         })
     }
 
-    /// The address that it is polled by.
+    /// Returns the polling address.
     pub fn poll(&self) -> Address
         ensures { result ≡ self.now.poll }
     {
         self.poll
     }
 
-    /// How many addresses it is selected by: 1 to 4.
+    /// Returns the number of selection addresses, 1 to 4.
     pub fn selects(&self) -> usize
         ensures count { result ≡ length self.now.selects }
         ensures limits { IsTerminal self.now }
@@ -85,7 +85,8 @@ impl Terminal {
         self.count
     }
 
-    /// The selection address number `place`, counted from 0.
+    /// Returns the selection address at `place`, counted from 0, which must be less than their
+    /// number.
     pub fn select(&self, place: usize) -> Address
         requires { place < length self.now.selects }
         ensures { slice_get self.now.selects place ≡ Some result }

@@ -9,7 +9,7 @@ use Rattle.bsc_frame.specs.Addresses.{is_address_code, IsAddress, HoldsAddress}
 use Rattle.bsc_frame.specs.declared.limits.TheConstants.{MAX_ADDRESS}
 use Rattle.bsc_octet.proofs.Elements.{none_fails}
 
--- of a buffer of zeros, what is left after n of them
+-- what is left of a buffer of zeros after n of them
 zeros_left : (n : ℕ) → drop {A = ℕ} n (0 ∷ 0 ∷ 0 ∷ 0 ∷ 0 ∷ 0 ∷ 0 ∷ [])
     ≡ replicate (MAX_ADDRESS - n) 0
 zeros_left n = drop-replicate n MAX_ADDRESS 0
@@ -28,7 +28,7 @@ holds_address codes h =
       zeros = rw front (ap (λ z. codes ++ z) (sym (zeros_left (length codes))));
     }
 
--- what the tests of `read` found
+-- codes that pass the tests of `read` are an address
 pub is_address : (codes : List ℕ) → (length codes ≡ 0 → ⊥) → length codes ≤ MAX_ADDRESS
     → position (λ c. not (is_address_code c)) codes ≡ None → IsAddress codes
 is_address codes some most none =

@@ -39,7 +39,7 @@ pub heard_no_front : (s : List ℕ) (syn pad : Bool) → syn ≡ begins (is_octe
 heard_no_front s syn pad b f p g =
     heard_no_syn s s syn (sym (skip_none is_pad_octet s (sym p ∙ g))) b f
 
--- other octets are heard as what stands between their SYN and the PAD at their end
+-- all other octets are heard as what stands between their SYN and the PAD at their end
 pub heard_after_syn : (s rest body : List ℕ) (syn : Bool) → length s ≤ MAX_HEARD
     → rest ≡ skip is_pad_octet s → syn ≡ begins (is_octet SYN) rest → syn ≡ true
     → body ≡ trimmed (skip (is_octet SYN) rest) → heard s ≡ heard_body body
@@ -47,5 +47,5 @@ unfolding heard
 heard_after_syn s rest body syn l e b t c =
     rw (within (length s) l, ← e, ← b, t) (ap heard_body (sym c))
 
--- where nothing is cut out
+-- the cases without a body
 pub ruleset empty_body = (heard_too_many, heard_no_front)

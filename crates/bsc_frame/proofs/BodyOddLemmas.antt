@@ -1,4 +1,4 @@
--- Each octet of a body has odd parity, but for the PAD of a call.
+-- Each octet of a body has odd parity, except the PAD of a call.
 use Rattle.std.proofs.Common.{◌∙◌, inl, inr, ℕ, false, refl, arith, List, [], ◌∷◌, ◌++◌, map, IsTrue}
 use Rattle.std.specs.List.{AllByRecursion}
 use Rattle.std.specs.Int.Count.{ones}
@@ -44,7 +44,7 @@ address_odd [] h = tt
 address_odd (c ∷ a) h = let k = plain c h.0 in
     (is_odd_odd_octet c (omega (arith, k.high)), address_odd a h.1)
 
--- the octets of a call after its EOT and PAD
+-- the octets of a call after its EOT and PAD have odd parity
 pub called_odd : (syns a : List ℕ) → AreAll SYN syns
     → AllByRecursion (λ c. IsTrue (is_address_code c)) a
     → AllByRecursion IsOdd (syns ++ map odd_octet a ++ ENQ ∷ [])
@@ -60,7 +60,7 @@ odd_fits : (m : Message) (octets : List ℕ) → AllByRecursion IsOdd octets
 odd_fits m [] h = tt
 odd_fits m (x ∷ octets) h = (inl h.0, odd_fits m octets h.1)
 
--- so may PAD in the body of a call
+-- PAD may stand in the body of a call
 pads_fit : (a pads : List ℕ) → AreAll PAD pads → AllByRecursion (IsBodyOctet (Call a)) pads
 pads_fit a [] h = tt
 pads_fit a (x ∷ pads) h = (inr ((a, refl), h.0), pads_fit a pads h.1)

@@ -22,9 +22,8 @@ use Rattle.bsc_frame.proofs.ReadLemmas.{called_wrong}
 use Rattle.bsc_frame.proofs.ReadLemmas.{called_more, called_none}
 use Rattle.bsc_octet.proofs.Elements.{all_append}
 
--- What the loop keeps: the codes before the place stand at the front of the buffer, may all stand
--- in
--- an address, and zeros follow.
+-- The loop invariant: the codes before the place stand at the front of the buffer, all of them may
+-- stand in an address, and zeros follow.
 pub record Called (buffer : List ℕ) (i : ℕ) (s : List ℕ) : Type 0 where
   pub within : i ≤ MAX_ADDRESS
   pub whole : length buffer ≡ MAX_ADDRESS
@@ -32,7 +31,7 @@ pub record Called (buffer : List ℕ) (i : ℕ) (s : List ℕ) : Type 0 where
   pub zeros : drop i buffer ≡ replicate (MAX_ADDRESS - i) 0
   pub reads : Reads (take i buffer) i s
 
--- the codes are as many as the octets before the place
+-- there are as many codes as octets before the place
 called_front_length : (b : List ℕ) (i : ℕ) (s : List ℕ) → Called b i s → length (take i b) ≡ i
 called_front_length b i s c = omega (arith, length-take i b, c.within, c.whole)
 
@@ -42,7 +41,7 @@ front_is b i s c h =
     let long = called_front_length b i s c in
     record { some = omega (arith, long); most = omega (arith, long, c.within); each = c.codes }
 
--- what is called decides the message
+-- the codes that are read up to ENQ decide the message
 message : (s : List ℕ) (o : Option (List ℕ)) → o ≡ called MAX_ADDRESS s
     → option_and_then (λ codes. call_to (read_address codes)) o ≡ call_of s
 message s o e = ap (option_and_then (λ codes. call_to (read_address codes))) e
@@ -55,13 +54,13 @@ call_ends b i s c l e some last =
     sym (ap call_to (address_read (take i b) (front_is b i s c some)))
     ∙ message s (Some (take i b)) (called_end (take i b) i s c.reads l e last)
 
--- before the end it ends none
+-- an ENQ before the end is no call
 pub call_early : (b : List ℕ) (i : ℕ) (s : List ℕ) → Called b i s → i < length s → get_or s i 0
     ≡ ENQ
     → (i + 1 ≡ length s → ⊥) → None ≡ call_of s
 call_early b i s c l e more = message s None (called_early (take i b) i s c.reads l e more)
 
--- nor does it before any code
+-- an ENQ before any code is no call
 pub call_empty : (b : List ℕ) (i : ℕ) (s : List ℕ) (last : Bool) → (i + 1 == length s) ≡ last
     → Called b i s
     → i < length s → get_or s i 0 ≡ ENQ → i ≡ 0 → None ≡ call_of s
@@ -78,7 +77,7 @@ pub call_full : (b : List ℕ) (i : ℕ) (s : List ℕ) → Called b i s → i <
 call_full b i s c l e full =
     message s None (called_full (take i b) i s c.reads l e (called_front_length b i s c ∙ full))
 
--- nor is an octet of even parity in one
+-- an octet of even parity is in no address
 pub call_wrong : (b : List ℕ) (i : ℕ) (s : List ℕ) → Called b i s → i < length s
     → (get_or s i 0 ≡ ENQ → ⊥)
     → (i ≡ MAX_ADDRESS → ⊥) → code_of (get_or s i 0) ≡ None → None ≡ call_of s
@@ -86,13 +85,13 @@ call_wrong b i s c l e less k =
     message s None (called_wrong (take i b) i s c.reads l e
     (omega (arith, called_front_length b i s c, c.within)) k)
 
--- and there is no call without ENQ
+-- octets without ENQ are no call
 pub call_none : (b : List ℕ) (i : ℕ) (s : List ℕ) → Called b i s → length s ≤ i → None ≡ call_of s
 call_none b i s c l = message s None (called_none (take i b) i s c.reads l)
 
 -- ---- a code that may not stand in an address
 
--- codes with a wrong one among them are not all right
+-- codes with a wrong one among them are not all allowed
 not_all : (front rest : List ℕ) (c : ℕ) → is_address_code c ≡ false
     → AllByRecursion (λ c. IsTrue (is_address_code c)) (front ++ c ∷ rest) → ⊥
 not_all [] rest c e h = let k : true ≡ false = sym h.0 ∙ e in cc
@@ -123,14 +122,14 @@ code_more b i s k c l e less h =
     called_more (take i b) i s k c.reads l e
     (omega (arith, called_front_length b i s c, c.within)) h
 
--- where it may not stand in an address, there is no call
+-- if the code may not stand in an address, there is no call
 pub call_wrong_code : (b : List ℕ) (i : ℕ) (s : List ℕ) (k : ℕ) → Called b i s → i < length s
     → (get_or s i 0 ≡ ENQ → ⊥) → (i ≡ MAX_ADDRESS → ⊥) → code_of (get_or s i 0) ≡ Some k
     → is_address_code k ≡ false → None ≡ call_of s
 call_wrong_code b i s k c l e less h wrong =
     sym (with_wrong (take i b) k _ wrong) ∙ message s _ (code_more b i s k c l e less h).rest
 
--- and where it may, the loop goes on
+-- if the code may stand in an address, the loop goes on
 pub call_goes_on : (b : List ℕ) (i : ℕ) (s : List ℕ) (k : ℕ) → Called b i s → i < length s
     → (get_or s i 0 ≡ ENQ → ⊥) → (i ≡ MAX_ADDRESS → ⊥) → code_of (get_or s i 0) ≡ Some k
     → is_address_code k ≡ true → Called (set b i k) (i + 1) s

@@ -24,7 +24,8 @@ carried_by : (s : List ℕ) → AllByRecursion IsOdd s → AllByRecursion (λ x.
 carried_by [] o f = tt
 carried_by (x ∷ s) o f = (code_of_odd x f.0 o.0, carried_by s o.1 f.1)
 
--- octets of odd parity are carried, also where each is known to be an octet by its place
+-- octets of odd parity carry their low seven bits, also if each is known to be an octet by its
+-- place
 pub carried : (s : List ℕ) → All IsOdd s → ((i : ℕ) → Fits w8 (get_or s i 0)) → AreCarried s
 carried s o f =
     carried_by s (recursion_from_All IsOdd s o)
@@ -33,11 +34,11 @@ carried s o f =
 
 -- ---- one octet
 
--- two comparisons agree where each one follows from the other
+-- two comparisons agree if each one follows from the other
 same_test : (a b c d : ℕ) → (a ≡ b → c ≡ d) → (c ≡ d → a ≡ b) → (a == b) ≡ (c == d)
 same_test a b c d f g = grind (arith, nat_tests, f, g)
 
--- an octet is the one of a code where its low bits are the code
+-- an octet is the one of a code if its low bits are the code
 low_test : (x k o : ℕ) → code_of x ≡ Some (low_bits x) → odd_octet k ≡ o → o % 128 ≡ k
     → (low_bits x == k) ≡ (x == o)
 low_test x k o c e l =
@@ -48,7 +49,7 @@ low_test x k o c e l =
 pub low_is : (x k o : ℕ) → code_of x ≡ Some (low_bits x) → odd_octet k ≡ o → low_bits x ≡ k → x ≡ o
 low_is x k o c e h = sym (code_of_some x (low_bits x) c).1 ∙ ap odd_octet h ∙ e
 
--- an octet of odd parity carries an ending character where it is one of the three octets
+-- an octet of odd parity carries an ending character if it is one of the three octets
 pub ending_same : (x : ℕ) → code_of x ≡ Some (low_bits x) → is_ending_code (low_bits x)
     ≡ is_ending_octet x
 unfolding odd_octet ones
@@ -59,19 +60,19 @@ ending_same x c =
       low_test x ETX_CODE ETX c refl refl,
     ) refl
 
--- and STX where it is the octet of STX
+-- an octet of odd parity carries STX if it is the octet of STX
 pub stx_same : (x : ℕ) → code_of x ≡ Some (low_bits x) → (low_bits x == STX) ≡ (x == STX)
 unfolding odd_octet ones
 stx_same x c = low_test x STX STX c refl refl
 
--- and EM only where it is the octet of EM
+-- an octet of odd parity carries EM only if it is the octet of EM
 pub em_is : (x : ℕ) → code_of x ≡ Some (low_bits x) → low_bits x ≡ EM_CODE → x ≡ EM_CODE
 unfolding odd_octet ones
 em_is x c h = low_is x EM_CODE EM_CODE c refl h
 
 -- ---- sums
 
--- a bit that the low bits keep is in as many low bits as octets
+-- a bit that the low bits keep is set in as many low bits as octets
 with_bit_low : (i : ℕ) → ((x : ℕ) → bit_at (low_bits x) i ≡ bit_at x i) → (s : List ℕ)
     → with_bit i (map low_bits s) ≡ with_bit i s
 with_bit_low i e [] = refl
@@ -80,7 +81,7 @@ with_bit_low i e (x ∷ s) =
     ∙ rw (e x) (ap (λ n. cond (bit_at x i == 1) 1 0 + n) (with_bit_low i e s))
     ∙ sym (sum_by-cons (λ y. cond (bit_at y i == 1) 1 0) x s)
 
--- the eighth bit is in no sum
+-- the eighth bit is not summed
 pub sum_low : (s : List ℕ) → longitudinal_sum (map low_bits s) ≡ longitudinal_sum s
 unfolding longitudinal_sum
 sum_low s =
@@ -94,14 +95,14 @@ sum_low s =
       with_bit_low 6 (λ x. omega arith) s,
     ) refl
 
--- a check is the same of octets and of their low bits, since no sum has parity bits
+-- the check is the same for octets and for their low bits, since no sum has parity bits
 pub check_low : (s octets : List ℕ) → after_check (map low_bits s) octets ≡ after_check s octets
 check_low s [] = refl
 check_low s (k ∷ rest) = rw (sum_low s) refl
 
 -- ---- an STX after a check
 
--- a first octet is left out of the low bits where it is left out of the octets
+-- a first octet is left out of the low bits if it is left out of the octets
 by_stx : (b : Bool) (x : ℕ) (s : List ℕ)
     → cond b (map low_bits s) (low_bits x ∷ map low_bits s) ≡ map low_bits (cond b s (x ∷ s))
 by_stx true x s = refl

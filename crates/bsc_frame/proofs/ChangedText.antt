@@ -1,4 +1,4 @@
--- A text of which one octet is another with odd parity, neither of which is SYN or ends a unit.
+-- A text with one octet replaced by another of odd parity, neither of which is SYN or ends a unit.
 use Rattle.std.proofs.Common.{◌≡◌, inl, inr, ℕ, zero, suc, ◌<◌, false, refl, sym, ap, subst, ◌∙◌}
 use Rattle.std.proofs.Common.{arith, List}
 use Rattle.std.proofs.Common.{[], ◌∷◌, ◌++◌, length, get_or, set, append_assoc, Some, None}
@@ -23,7 +23,7 @@ use Rattle.bsc_frame.proofs.ChangedUnits.{changed_units}
 use Rattle.bsc_frame.specs.declared.limits.TheConstants.{MAX_UNITS}
 use Rattle.bsc_frame.specs.declared.octets.TheConstants.{PAD, STX, SYN}
 
--- octets with odd parity and the PAD after them part in one way
+-- octets with odd parity and the PAD after them can be split in only one way
 same_fronts : (xs ys p q : List ℕ) → AllByRecursion IsOdd xs → AllByRecursion IsOdd ys
     → AreAll PAD p
     → AreAll PAD q → xs ++ p ≡ ys ++ q → xs ≡ ys
@@ -36,7 +36,7 @@ same_fronts (x ∷ xs) [] p (z ∷ q) h k a b e = absurd (pad_even (subst IsOdd 
 same_fronts (x ∷ xs) (y ∷ ys) p q h k a b e =
     ap (λ z. z ∷ xs) (heads e) ∙ ap (λ z. y ∷ z) (same_fronts xs ys p q h.1 k.1 a b (tails e))
 
--- a text with one octet after its STX changed to another of odd parity is in no transmission
+-- no transmission has a text with one octet after its STX replaced in this way
 changed_text : (t : TextValue) (n : Message) (before : List ℕ) (old : ℕ) (after : List ℕ) (new : ℕ)
     → IsText t
     → IsOtherOctet old new
@@ -85,7 +85,7 @@ changed_text t n before old after new h o whole i =
       ]
     ]
 
--- what is sent for a text, with one octet after its STX changed so, spells no message
+-- what is sent for a text, with one octet after its STX replaced in this way, spells no message
 pub other_octet_lost : (t : TextValue) (n : Message) (place new : ℕ) → IsText t → 2 < place
     → place < length (wire (Text t)) → IsOtherOctet (get_or (wire (Text t)) place 0) new
     → Spells (set (wire (Text t)) place new) n → ⊥

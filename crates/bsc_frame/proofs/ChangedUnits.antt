@@ -1,4 +1,4 @@
--- Units of which one octet is another with odd parity, neither of which is SYN or ends a unit.
+-- Units with one octet replaced by another of odd parity, neither of which is SYN or ends a unit.
 use Rattle.std.proofs.Common.{◌≡◌, ◌≢◌, inl, inr, ℕ, zero, suc, ◌%◌, ◌<◌, ◌≤◌, Bool, true, false}
 use Rattle.std.proofs.Common.{refl, sym}
 use Rattle.std.proofs.Common.{ap, subst, ◌∙◌, arith, List, [], ◌∷◌, ◌++◌, length, map, Some, None}
@@ -39,7 +39,7 @@ run_member (b ∷ d ∷ front) c back r = run_member (d ∷ front) c back r.2
 not_true : (b : Bool) → b ≡ false → b ≡ true → ⊥
 not_true b e f = let k : false ≡ true = sym e ∙ f in cc
 
--- codes of a unit stay such where one that does not end it is changed to another such code
+-- codes of a unit remain such if one that does not end it is replaced by another such code
 run_changed : (front : List ℕ) (c d : ℕ) (back : List ℕ) → is_ending_code c ≡ false → IsOther d
     → is_ending_code d ≡ false → IsRun (front ++ c ∷ back) → IsRun (front ++ d ∷ back)
 run_changed [] c d [] was o e r = absurd (not_true (is_ending_code c) was r.1)
@@ -52,7 +52,7 @@ run_changed (b ∷ k ∷ front) c d back was o e r =
 same_odd : (c d : ℕ) → c < 128 → d < 128 → odd_octet c ≡ odd_octet d → c ≡ d
 same_odd c d l k e = sym (odd_octet_low c l) ∙ ap (λ o. o % 128) e ∙ odd_octet_low d k
 
--- after codes with another check there is no rest
+-- if the check differs, nothing follows the codes
 after_check_wrong : (codes : List ℕ) (k : ℕ) (rest : List ℕ)
     → (odd_octet (longitudinal_sum codes) ≡ k → ⊥)
     → after_check codes (k ∷ rest) ≡ None
@@ -70,7 +70,7 @@ unchecked after_us codes k rest r l h =
       after_check_wrong codes k rest h,
     ) refl
 
--- a unit with one code changed, and the check of the old codes, is no unit
+-- a unit with one code replaced, and the check of the old codes, is no unit
 changed_code : (after_us : Bool) (front : List ℕ) (c d : ℕ) (back rest : List ℕ)
     → IsRun (front ++ c ∷ back)
     → length (front ++ c ∷ back) ≤ MAX_UNIT_CODES
@@ -89,7 +89,7 @@ changed_code after_us front c d back rest r l differs was o e =
 
 -- ---- octets by the codes that they carry
 
--- the code that an octet in the line stands for, and the codes before and after it
+-- the code that an octet in the list stands for, and the codes before and after it
 record Mapped (codes before : List ℕ) (o : ℕ) (after : List ℕ) : Type 0 where
   front : List ℕ
   code : ℕ
@@ -99,7 +99,7 @@ record Mapped (codes before : List ℕ) (o : ℕ) (after : List ℕ) : Type 0 wh
   octet_is : odd_octet code ≡ o
   after_is : map odd_octet back ≡ after
 
--- each octet of a line of codes stands for one of them
+-- each octet of a list of codes stands for one of them
 mapped : (codes before : List ℕ) (o : ℕ) (after : List ℕ) → map odd_octet codes ≡ before ++ o
     ∷ after
     → Mapped codes before o after
@@ -143,7 +143,7 @@ record NewCode (new : ℕ) : Type 0 where
   other : IsOther code
   no_end : is_ending_code code ≡ false
 
--- the code of the octet that another one is changed to
+-- the code of the octet that replaces another
 new_code : (old new : ℕ) → IsOtherOctet old new → NewCode new
 new_code old new h =
     let carries : odd_octet (new % 128) ≡ new = odd_of_low new h.octet h.odd in
@@ -207,7 +207,7 @@ in_codes after_us u e before old new after rest h k o w =
     ∙ append_assoc before (new ∷ after) (odd_octet (longitudinal_sum (unit_codes u e)) ∷ rest) in
     ap (unit_at after_us) (sym all) ∙ none
 
--- nor does a change of its check
+-- a change of its check leaves no unit
 in_check : (after_us : Bool) (u : TextUnit) (e : ℕ) (new : ℕ) (rest : List ℕ) → IsUnit u
     → is_ending_code e ≡ true → new ≢ odd_octet (longitudinal_sum (unit_codes u e))
     → unit_at after_us (map odd_octet (unit_codes u e) ++ new ∷ rest) ≡ None

@@ -1,4 +1,5 @@
--- Bodies that are no text: what is read is such a body, and such a body is read.
+-- Bodies that are not texts: what is read from left to right is such a body, and such a body is
+-- read.
 use Rattle.std.proofs.Common.{◌≡◌, ◌⊎◌, inl, inr, ℕ, ◌-◌, ◌<◌, ◌≤◌, ◌==◌, Bool, true, false}
 use Rattle.std.proofs.Common.{not, cond}
 use Rattle.std.proofs.Common.{refl, sym, ap, subst, ◌∙◌, arith, List, [], ◌∷◌, ◌++◌, length, drop}
@@ -36,7 +37,7 @@ pub record IsPlain (c : ℕ) : Type 0 where
   pub low : 33 ≤ c
   pub high : c ≤ 126
 
--- a code of the range of addresses is plain: from 21 to 7E
+-- a code from 0x21 to 0x7e is plain
 plain_from : (c : ℕ) (b : Bool) → nat_le 33 c ≡ b → (b && nat_le c 126) ≡ true → IsPlain c
 plain_from c true e h = record { low = grind (arith, nat_tests); high = grind (arith, nat_tests) }
 plain_from c false e h = cc
@@ -76,7 +77,7 @@ called_wire room (c ∷ a) h p =
     called_wire (room - 1) a (omega arith) p.1 in
     rw (no, some, code, rest) refl
 
--- where no octet is left, no code is read
+-- if no octet is left, no code is read
 ended : (s codes : List ℕ) → at_end s ≡ Some codes → (s ≡ []) × (codes ≡ [])
 ended [] codes e = (refl, cc)
 ended (x ∷ s) codes e = cc
@@ -207,7 +208,7 @@ call_reads rest m e =
       },
     )
 
--- what stands after the fills begins with neither
+-- an address begins with neither SYN nor PAD
 begins_address : (o : ℕ) (a : List ℕ) → (o ≡ SYN) ⊎ (o ≡ PAD) → IsAddress a
     → begins (is_octet o) (map odd_octet a ++ ENQ ∷ []) ≡ false
 begins_address o [] h p = absurd (omega (arith, p.some))
@@ -244,7 +245,7 @@ call_read rest a c =
 
 -- ---- all
 
--- what two options that are the same hold is the same
+-- two options that are the same hold the same value
 pub some_is : {A : Type 0} (x y : A) → Some x ≡ Some y → x ≡ y
 some_is x y e = cc
 
@@ -278,7 +279,7 @@ control_reads body m e = elim (chosen (bytes_eq body (EOT ∷ [])) _ _ _ e) [
   ]
 ]
 
--- a call is longer than EOT
+-- a call is longer than EOT, so it is not read as EOT
 call_control : (a rest : List ℕ) → IsCall a (EOT ∷ rest) → control (EOT ∷ rest) ≡ Some (Call a)
 unfolding control
 call_control a [] c =
@@ -289,14 +290,14 @@ call_control a [] c =
     ))
 call_control a (x ∷ xs) c = call_read (x ∷ xs) a c
 
--- the body of a call is read as it
+-- the body of a call is read as that call
 call_body : (a body : List ℕ) → IsCall a body → control body ≡ Some (Call a)
 call_body a [] c = absurd (let h = c.whole in cc)
 call_body a (o ∷ rest) c =
     let eot : o ≡ EOT = let h = c.whole in cc in
     rw eot (call_control a rest (rw eot at c))
 
--- a message that is no text
+-- a message that is not a text
 abbrev pub IsControl : Message → Type 0
 IsControl Eot = Unit {0}
 IsControl (Call a) = Unit {0}
@@ -304,7 +305,7 @@ IsControl Enq = Unit {0}
 IsControl (Reply r) = Unit {0}
 IsControl (Text t) = ⊥
 
--- the body of each message without a text is read as it
+-- the body of each message without a text is read as that message
 pub control_read : (body : List ℕ) (m : Message) → IsControl m → IsBody m body → control body
     ≡ Some m
 unfolding control

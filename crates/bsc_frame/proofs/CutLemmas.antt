@@ -12,7 +12,7 @@ use Rattle.bsc_frame.specs.Reading.{gathered}
 use Rattle.bsc_frame.specs.declared.octets.TheConstants.{SYN}
 use Rattle.bsc_frame.proofs.CarriedLemmas.{AreCarried, ending_same}
 
--- gathering goes by three tests: fill, room, an ending octet
+-- gathering depends on three tests: fill, room, an ending octet
 gather_step : (room x : ℕ) (s : List ℕ) → code_of x ≡ Some (low_bits x)
     → gathered room (x ∷ s) ≡ cond (x == SYN) (gathered room s)
     (cond (room == 0) None (cond (is_ending_octet x) (Some (low_bits x ∷ [], s))
@@ -20,19 +20,19 @@ gather_step : (room x : ℕ) (s : List ℕ) → code_of x ≡ Some (low_bits x)
 unfolding gathered
 gather_step room x s c = rw (c, ← ending_same x c) refl
 
--- where nothing is read of the rest and the octet ends no unit, nothing is read
+-- if nothing is read from the rest and the octet ends no unit, nothing is read
 no_ending : (x : ℕ) (s : List ℕ) (fill full ending : Bool) (more : List ℕ × List ℕ) → ending ≡ false
     → cond fill None (cond full None (cond ending (Some more) (before_gathered x None))) ≡ None
 no_ending x s true full ending more e = refl
 no_ending x s false true ending more e = refl
 no_ending x s false false ending more e = rw e refl
 
--- a front that is longer than the first octet has an octet that passes there
+-- if the front is longer than the first octet, that octet passes the test
 goes_on : (x n : ℕ) (l : ℕ) (b : Bool) → cond (not b) (1 + n) 0 ≡ suc l → (b ≡ false) × (n ≡ l)
 goes_on x n l true e = absurd (omega arith)
 goes_on x n l false e = (refl, omega arith)
 
--- no codes are read where no octet carries an ending character
+-- no codes are read if no octet carries an ending character
 pub gathered_none : (room : ℕ) (s : List ℕ) → AreCarried s → prefix_len is_before_ending s
     ≡ length s
     → gathered room s ≡ None
@@ -44,7 +44,8 @@ gathered_none room (x ∷ s) c e =
     (no_ending (low_bits x) s (x == SYN) (room == 0) (is_ending_octet x) (low_bits x ∷ [], s)
     k.0)
 
--- one more in front of what is cut
+-- a cut after the first m octets: gathering gives their codes without fill if there is room for
+-- these, otherwise nothing
 pub record CutTo (m room : ℕ) (s : List ℕ) : Type 0 where
   pub fits : length (filter is_other (take m s)) ≤ room → gathered room s
       ≡ Some (map low_bits (filter is_other (take m s)), drop m s)
@@ -55,7 +56,7 @@ cut_fill : (m room : ℕ) (s : List ℕ) → CutTo m room s → CutTo (suc m) ro
 unfolding gathered
 cut_fill m room s c = record { fits = c.fits; full = c.full }
 
--- with room for one code what is read is given, else nothing
+-- with room for one code the code is read, otherwise nothing is
 last_room : (room : ℕ) (r : List ℕ × List ℕ) (b : Bool) → (room == 0) ≡ b
     → (1 ≤ room → cond b None (Some r) ≡ Some r) × (room < 1 → cond b None (Some r) ≡ None)
 last_room room r true e =
@@ -72,7 +73,7 @@ cut_last room x s c f e =
     let r = last_room room (low_bits x ∷ [], s) (room == 0) refl in
     record { fits = rw f (λ l. step ∙ r.0 l); full = rw f (λ l. step ∙ r.1 l) }
 
--- one code more is read where there is room for it, else nothing
+-- one code more is read if there is room for it, otherwise nothing is
 more_room : (x room : ℕ) (n : ℕ) (o : Option (List ℕ × List ℕ)) (r : List ℕ × List ℕ) (b : Bool)
     → (room == 0) ≡ b
     → (n ≤ room - 1 → o ≡ Some r) → (room - 1 < n → o ≡ None)

@@ -1,4 +1,4 @@
--- Damage that is not found.
+-- Damage that is not detected: two examples.
 use Rattle.std.proofs.Common.{◌≡◌, refl, subst, arith, lit<, List, ℕ}
 use Rattle.std.specs.Int.Count.{ones}
 use Rattle.bsc_octet.specs.Octet.{odd_octet, longitudinal_sum, is_record_char}
@@ -10,7 +10,7 @@ use Rattle.bsc_frame.specs.declared.message.Message.TheVariants as m
 use Rattle.bsc_frame.specs.declared.reply.Reply.TheVariants.{Ack0, Ack1}
 use Rattle.bsc_frame.proofs.HeardLemmas.{wire_spells}
 
--- HI and IH are texts, of which the same is sent but for two octets
+-- HI and IH are texts whose transmissions differ in two octets
 is_text : IsMessage (two_chars 0x49 0x48)
 unfolding is_record_char
 is_text =
@@ -21,19 +21,20 @@ is_text =
           (record { most = omega arith; each = (refl, (refl, tt)) }, tt);
     }
 
--- what is sent for IH is what is sent for HI with the two ends of both octets turned
+-- what is sent for IH is what is sent for HI with the lowest and the highest bit of both octets
+-- turned
 same_wire : wire (two_chars 0x49 0x48)
     ≡ with_ends_turned 3 (with_ends_turned 4 (wire (two_chars 0x48 0x49)))
 unfolding odd_octet ones longitudinal_sum
 same_wire = refl
 
--- so the one is read where the other was sent
+-- IH is spelled if HI was sent and damaged in this way
 pub other_text : Spells (with_ends_turned 3 (with_ends_turned 4 (wire (two_chars 0x48 0x49))))
     (two_chars 0x49 0x48)
 other_text =
     subst (λ (octets : List ℕ). Spells octets (two_chars 0x49 0x48)) same_wire
     (wire_spells (two_chars 0x49 0x48) is_text)
 
--- ACK1 is read where ACK0 was sent with both ends of its second octet turned
+-- ACK1 is spelled if ACK0 was sent with the lowest and the highest bit of its second octet turned
 pub other_reply : Spells (with_ends_turned 3 (wire (m.Reply Ack0))) (m.Reply Ack1)
 other_reply = wire_spells (m.Reply Ack1) tt

@@ -1,5 +1,5 @@
--- A call of which one octet after its EOT has the other parity is no message, unless that octet is
--- fill.
+-- A call with one octet after its EOT replaced by one of the other parity is no message, unless the
+-- new octet is fill.
 use Rattle.std.proofs.Common.{◌≡◌, ◌⊎◌, inl, inr, ℕ, suc, refl, sym, ap, subst, ◌∙◌, arith, List}
 use Rattle.std.proofs.Common.{[], ◌∷◌}
 use Rattle.std.proofs.Common.{◌++◌, length, length-append, append_assoc, append-nil, map}
@@ -23,7 +23,7 @@ use Rattle.bsc_frame.proofs.InsideLemmas.{AfterFirst}
 use Rattle.bsc_frame.proofs.DamagedText.{heads, tails, not_both_odd, not_same}
 use Rattle.bsc_octet.proofs.Elements.{all_append}
 
--- PAD has no odd parity
+-- PAD has even parity
 pub pad_even : IsOdd PAD → ⊥
 pad_even h = let eight : count_ones PAD ≡ 8 = ones-ones 8 in omega (arith, eight, h)
 
@@ -45,7 +45,7 @@ record Called (rest : List ℕ) : Type 0 where
   is_address : IsAddress address
   are_trail : AreAll PAD trail
 
--- after EOT a message goes on as a call, or there is only PAD
+-- after EOT a message continues as a call, or there is only PAD
 called_or_end : (n : Message) (rest : List ℕ) → AfterFirst EOT rest n → Called rest
     ⊎ AreAll PAD rest
 called_or_end n rest b = by_message n b.is_body
@@ -91,7 +91,7 @@ no_enq [] h = tt
 no_enq (c ∷ a) h =
     (eqb-false (odd_octet c) ENQ (plain_odd c ENQ (plain c h.0) (inl refl)), no_enq a h.1)
 
--- nor among SYN
+-- there is no ENQ among octets that are all SYN
 syns_no_enq : (syns : List ℕ) → AreAll SYN syns → NoEnq syns
 syns_no_enq [] h = tt
 syns_no_enq (s ∷ syns) h = ((λ e. absurd (omega (arith, h.0, e))), syns_no_enq syns h.1)
@@ -116,7 +116,7 @@ third_syn [] (c ∷ d ∷ a) trail o rest k h e =
     absurd (eqb-false (odd_octet d) SYN (plain_odd d SYN (plain d h.each.1.0) (inr (inl refl)))
     (sym (heads (tails e))))
 
--- the octet after EOT, of other parity than PAD, is SYN where a SYN follows and it is a call
+-- the octet after EOT, of the other parity than PAD, is SYN if a SYN follows and it is a call
 third_pads : (pads syns a trail : List ℕ) (o : ℕ) (rest : List ℕ) → AreAll PAD pads
     → AreAll SYN syns
     → IsAddress a → HaveOtherParity o PAD
@@ -125,7 +125,7 @@ third_pads [] syns a trail o rest p k h other e = third_syn syns a trail o rest 
 third_pads (x ∷ pads) syns a trail o rest p k h other e =
     absurd (not_same o PAD other (heads e ∙ p.0))
 
--- the octet after EOT is SYN whatever message is read
+-- the octet after EOT is SYN, whatever message is read
 third : (new : ℕ) (rest : List ℕ) (n : Message) → HaveOtherParity new PAD
     → AfterFirst EOT (new ∷ SYN ∷ rest) n → new ≡ SYN
 third new rest n other b = elim (called_or_end n (new ∷ SYN ∷ rest) b) [
@@ -136,7 +136,7 @@ third new rest n other b = elim (called_or_end n (new ∷ SYN ∷ rest) b) [
 
 -- ---- in place of the SYN after that
 
--- the octet after PAD, of other parity than SYN, is PAD where it is a call
+-- the octet after PAD, of the other parity than SYN, is PAD if it is a call
 fourth_pads : (pads syns a trail : List ℕ) (new : ℕ) (rest : List ℕ) → AreAll PAD pads
     → AreAll SYN syns
     → IsAddress a → HaveOtherParity new SYN
@@ -147,7 +147,7 @@ fourth_pads (x ∷ []) syns a trail new rest p k h other e =
     absurd (not_both_odd new SYN other (first_odd syns a trail new rest k h (tails e)) syn_odd)
 fourth_pads (x ∷ y ∷ pads) syns a trail new rest p k h other e = heads (tails e) ∙ p.1.0
 
--- the octet after the pad is a pad whatever message is read
+-- the octet after the PAD is PAD, whatever message is read
 fourth : (new : ℕ) (rest : List ℕ) (n : Message) → HaveOtherParity new SYN
     → AfterFirst EOT (PAD ∷ new ∷ SYN ∷ rest) n → new ≡ PAD
 fourth new rest n other b = elim (called_or_end n (PAD ∷ new ∷ SYN ∷ rest) b) [
@@ -168,7 +168,7 @@ one_pad [] syns a trail rest p k h e =
 one_pad (x ∷ []) syns a trail rest p k h e = tails e
 one_pad (x ∷ y ∷ pads) syns a trail rest p k h e = absurd (omega (arith, heads (tails e), p.1.0))
 
--- the octets of a call after the first SYN of it, as they were sent and as they are heard
+-- the octets of a call after its first SYN, as they were sent and as they are heard
 record Later (a front : List ℕ) (o : ℕ) (after : List ℕ) (new : ℕ) : Type 0 where
   sent : SYN ∷ map odd_octet a ++ ENQ ∷ PAD ∷ [] ≡ front ++ o ∷ after
   is_address : IsAddress a
@@ -180,7 +180,7 @@ record Later (a front : List ℕ) (o : ℕ) (after : List ℕ) (new : ℕ) : Typ
   is_other : IsAddress other_address
   are_trail : AreAll PAD trail
 
--- the octet stood in the address, or was the SYN before it
+-- the changed octet stood in the address, or was the SYN before it
 later_address : (a front : List ℕ) (o : ℕ) (after : List ℕ) (new : ℕ) (more : List ℕ)
     → Later a front o after new → HaveOtherParity new o
     → SYN ∷ map odd_octet a ≡ front ++ o ∷ more → after ≡ more ++ ENQ ∷ PAD ∷ [] → ⊥
@@ -205,7 +205,7 @@ line_no_enq : (syns a : List ℕ) → AreAll SYN syns → IsAddress a → NoEnq 
 line_no_enq syns a k h =
     all_append (λ x. x ≡ ENQ → ⊥) syns (map odd_octet a) (syns_no_enq syns k) (no_enq a h.each)
 
--- the octet was the ENQ
+-- the changed octet was the ENQ
 later_enq : (a front : List ℕ) (after : List ℕ) (new : ℕ) → Later a front ENQ after new
     → HaveOtherParity new ENQ → front ≡ SYN ∷ map odd_octet a → ⊥
 later_enq a front after new l other first =
@@ -224,7 +224,7 @@ later_enq a front after new l other first =
           (subst (λ z. NoEnq z) there none) refl
     ]
 
--- the octet was the PAD at the end
+-- the changed octet was the PAD at the end
 later_pad : (a front : List ℕ) (after : List ℕ) (new : ℕ) → Later a front PAD after new
     → HaveOtherParity new PAD → front ≡ SYN ∷ map odd_octet a ++ ENQ ∷ [] → ⊥
 later_pad a front after new l other first =
@@ -257,7 +257,7 @@ later_end a front o after new (x ∷ []) l other first rest =
 later_end a front o after new (x ∷ y ∷ more) l other first rest =
     omega (arith, ap length rest, length-append more (o ∷ after))
 
--- a change after the fourth octet of a call leaves no call
+-- a change after the first SYN of a call leaves no call
 later : (a front : List ℕ) (o : ℕ) (after : List ℕ) (new : ℕ) → Later a front o after new
     → HaveOtherParity new o → ⊥
 later a front o after new l other =
@@ -272,7 +272,7 @@ later a front o after new l other =
 abbrev pub call_tail : List ℕ → List ℕ
 call_tail a = PAD ∷ SYN ∷ SYN ∷ (map odd_octet a ++ ENQ ∷ []) ++ PAD ∷ []
 
--- where a call with one octet of other parity is read as a message, the octet is fill
+-- if a call with one octet of the other parity is read as a message, the octet is fill
 pub spared_call : (a : List ℕ) (n : Message) (before : List ℕ) (o : ℕ) (after : List ℕ) (new : ℕ)
     → IsAddress a
     → call_tail a ≡ before ++ o ∷ after → HaveOtherParity new o

@@ -1,4 +1,4 @@
--- What is heard of a message of which one octet has the other parity.
+-- What is heard of a message with one octet replaced by one of the other parity.
 use Rattle.std.proofs.Common.{◌≡◌, ◌⊎◌, ◌↔◌, inl, inr, ℕ, zero, suc, ◌<◌, ◌≤◌, ◌==◌, false, refl}
 use Rattle.std.proofs.Common.{sym, ap, subst, ◌∙◌, arith, List, [], ◌∷◌, ◌++◌, length, get_or, set}
 use Rattle.std.proofs.Common.{length-set, map, append-nil}
@@ -71,7 +71,7 @@ sent_of (Text t) h = record {
 }
 
 -- what follows the first octet of a body, heard with one octet of the other parity, is no message,
--- or that octet is fill
+-- unless that octet is fill
 abbrev LostBehind : Message → ℕ → List ℕ → Type 0
 LostBehind m x tail =
     (n : Message) (before : List ℕ) (o : ℕ) (after : List ℕ) (new : ℕ) → tail ≡ before ++ o ∷ after
@@ -79,7 +79,7 @@ LostBehind m x tail =
     → Inside (x ∷ before ++ new ∷ after) n → IsSomeCall m
     × IsCallFill (suc (suc (suc (length before)))) new
 
--- the octets of a message from its first on, and what they are worth with one octet changed
+-- the octets of a message from its first one on, and what they are heard as with one octet changed
 record Shape (m : Message) : Type 0 where
   x : ℕ
   tail : List ℕ
@@ -119,7 +119,7 @@ shape_pair r k = record {
   starts_text = λ e. absurd (omega (arith, e));
 }
 
--- each message has its first octet, of odd parity and no SYN, and what is left of it
+-- each message has its first octet, of odd parity and not SYN, and the rest
 shape : (m : Message) → IsMessage m → Shape m
 shape Eot h = record {
   x = EOT;
@@ -169,7 +169,7 @@ shape (Text t) h = record {
   starts_text = λ e. (t, refl);
 }
 
--- ---- where a message is spelled still
+-- ---- the changes after which a message is still spelled
 
 -- a change that leaves a message is fill, by the place where it stands
 by_place : (m : Message) (s : Shape m) (place new : ℕ) (n : Message)
@@ -202,7 +202,7 @@ by_place m s (suc (suc (suc place))) new n l p h =
     let k = s.lost n r.before r.here r.after new r.whole (rw r.is_here at p) i in
     inr (rw r.long at k)
 
--- where a message is spelled after one octet was changed to the other parity, the octet is fill
+-- if a message is spelled after one octet was changed to the other parity, the octet is fill
 pub spelled_fill : (m : Message) → IsMessage m → (place new : ℕ) (n : Message) → place
     < length (wire m)
     → HaveOtherParity new (get_or (wire m) place 0)
@@ -211,7 +211,7 @@ spelled_fill m h place new n l p k =
     let s = shape m h in
     by_place m s place new n (rw s.whole at l) (rw s.whole at p) (rw s.whole at k)
 
--- a change makes a transmission no longer, so it is heard
+-- a change does not make a transmission longer, so it is not too long to be heard
 small : (m : Message) → IsMessage m → (place new : ℕ) → length (set (wire m) place new) ≤ MAX_HEARD
 small m h place new = omega (arith, length-set (wire m) place new, length_wire m h)
 
@@ -296,7 +296,7 @@ fill_spells m h place new (inr k) =
     subst (λ (w : Message). Spells (set (wire w) place new) w) (sym call)
     (fill_in_call k.0.0 (subst (λ (w : Message). IsMessage w) call h) place new k.1)
 
--- ---- where a text has failed
+-- ---- the changes after which a text has failed
 
 -- a text with one octet after its STX changed to the other parity fails
 text_fails : (t : TextValue) → IsText t → (place new : ℕ) → 2 < place → place
@@ -325,7 +325,7 @@ text_fails t h (suc (suc (suc place))) new u l p = record {
   ];
 }
 
--- what fails begins as a text, so the change stands after the STX, by the place where it stands
+-- what fails begins as a text, so the change stands after the STX
 by_failed_place : (m : Message) (s : Shape m) (place new : ℕ) → (IsLeadingPad place new → ⊥)
     → place < length (SYN ∷ SYN ∷ s.x ∷ s.tail)
     → HaveOtherParity new (get_or (SYN ∷ SYN ∷ s.x ∷ s.tail) place 0)
@@ -354,7 +354,7 @@ by_failed_place m s (suc (suc (suc place))) new q l p f =
     s.other f in
     (omega arith, s.starts_text (heads k.1))
 
--- a change makes a transmission fail exactly where it stands after the STX of a text
+-- a change makes a transmission fail exactly if it stands after the STX of a text
 pub failed_place : (m : Message) → IsMessage m → (place new : ℕ) → place < length (wire m)
     → HaveOtherParity new (get_or (wire m) place 0)
     → IsFailed (set (wire m) place new) ↔ ((2 < place) × IsSomeText m)
@@ -376,7 +376,7 @@ failed_place m h place new l p = (there, back)
 
 -- ---- the laws
 
--- after a change a message is spelled exactly where it is that message and the octet is fill
+-- after a change a message is spelled exactly if it is that message and the octet is fill
 pub spelled_where : (m n : Message) (place new : ℕ) → IsMessage m → place < length (wire m)
     → HaveOtherParity new (get_or (wire m) place 0)
     → Spells (set (wire m) place new) n ↔ ((n ≡ m) × IsFillIn m place new)

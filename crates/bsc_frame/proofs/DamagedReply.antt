@@ -1,4 +1,4 @@
--- Bodies of one and of two octets of which one has the other parity.
+-- Bodies of one and of two octets with one octet replaced by one of the other parity.
 use Rattle.std.proofs.Common.{◌≡◌, ◌≢◌, inl, inr, ℕ, ◌<◌, sym, ap, subst, ◌∙◌, arith, List, [], ◌∷◌, ◌++◌}
 use Rattle.std.proofs.Common.{length, map, length-append}
 use Rattle.bsc_octet.specs.Octet.{IsOdd, odd_octet}
@@ -11,7 +11,7 @@ use Rattle.bsc_frame.proofs.ReplyLemmas.{reply_form}
 use Rattle.bsc_frame.proofs.InsideLemmas.{AfterFirst}
 use Rattle.bsc_frame.proofs.DamagedText.{heads, tails, not_both_odd, not_same}
 
--- the rest of a body is empty that begins with the octet of a control character
+-- a body of two octets begins with DLE or STX
 no_more : (x : ℕ) (n : Message) (y : ℕ) → x ≢ DLE → x ≢ STX → IsBody n (x ∷ y ∷ []) → ⊥
 no_more x Eot y p q h = omega (arith, ap length h)
 no_more x (Call a) y p q h =
@@ -34,7 +34,7 @@ no_more x (Reply r) y p q h = elim (reply_form r) [
 ]
 no_more x (Text t) y p q h = q (heads h.whole)
 
--- a message of one octet is lost where the PAD after it is changed to the other parity
+-- a message of one octet is lost if the PAD after it is changed to the other parity
 pub lost_single : (x : ℕ) (n : Message) (before : List ℕ) (o : ℕ) (after : List ℕ) (new : ℕ)
     → x ≢ DLE → x ≢ STX
     → PAD ∷ [] ≡ before ++ o ∷ after → HaveOtherParity new o
@@ -70,7 +70,7 @@ reply_body (Reply r) body h = elim (reply_form r) [
 ]
 reply_body (Text t) body h = absurd (omega (arith, heads h.whole))
 
--- a reply of two octets is lost where one octet after its DLE is changed to the other parity
+-- a reply of two octets is lost if one octet after its DLE is changed to the other parity
 pub lost_reply : (y : ℕ) (n : Message) (before : List ℕ) (o : ℕ) (after : List ℕ) (new : ℕ)
     → IsOdd y → y ∷ PAD ∷ [] ≡ before ++ o ∷ after → HaveOtherParity new o
     → AfterFirst DLE (before ++ new ∷ after) n

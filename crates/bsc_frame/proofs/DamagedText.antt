@@ -1,4 +1,4 @@
--- A text of which one octet after its STX has the other parity is no message.
+-- A text with one octet after its STX replaced by one of the other parity is no message.
 use Rattle.std.proofs.Common.{◌≡◌, inl, inr, ℕ, ◌%◌, ◌<◌, false, refl, sym, ap, subst, ◌∙◌, arith}
 use Rattle.std.proofs.Common.{List, []}
 use Rattle.std.proofs.Common.{◌∷◌, ◌++◌, length, length-append, append_assoc, count_ones}
@@ -22,15 +22,15 @@ use Rattle.bsc_frame.proofs.LongerLemmas.{no_longer_units}
 pub heads : {x y : ℕ} {xs ys : List ℕ} → x ∷ xs ≡ y ∷ ys → x ≡ y
 heads e = cc
 
--- and the same rest
+-- lists that are the same have the same rest
 pub tails : {x y : ℕ} {xs ys : List ℕ} → x ∷ xs ≡ y ∷ ys → xs ≡ ys
 tails e = cc
 
--- of two octets of different parity not both are odd
+-- two octets of different parity are not both odd
 pub not_both_odd : (a b : ℕ) → HaveOtherParity a b → IsOdd a → IsOdd b → ⊥
 not_both_odd a b h p q = h (p ∙ sym q)
 
--- and they are not the same
+-- two octets of different parity are not the same
 pub not_same : (a b : ℕ) → HaveOtherParity a b → a ≡ b → ⊥
 not_same a b h e = h (ap (λ x. count_ones x % 2) e)
 
@@ -50,7 +50,7 @@ text_body (Text s) body h = (s, rw (tails h.whole) h.units, h.text)
 pub some_after : (front back : List ℕ) (o : ℕ) → 0 < length (front ++ o ∷ back)
 some_after front back o = omega (arith, length-append front (o ∷ back))
 
--- a text with one octet after its STX changed to the other parity is in no transmission
+-- no transmission has a text with one octet after its STX changed to the other parity
 pub lost_text : (t : TextValue) (n : Message) (before : List ℕ) (o : ℕ) (after : List ℕ) (new : ℕ)
     → IsText t
     → units_wire t.units t.end ++ PAD ∷ [] ≡ before ++ o ∷ after → HaveOtherParity new o

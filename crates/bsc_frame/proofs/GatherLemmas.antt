@@ -71,7 +71,7 @@ same_gathers : (octets codes codes' rest rest' : List ℕ) → codes ≡ codes' 
     → Gathers octets codes' rest' → Gathers octets codes rest
 same_gathers octets codes codes' rest rest' e f g = rw (e, f) g
 
--- one octet more that is no SYN, by the code that it carries
+-- one octet more that is not SYN, by the code that it carries
 gathers_code : (x : ℕ) (xs : List ℕ) (o : Option ℕ) (more : Option (List ℕ × List ℕ))
     (g : List ℕ × List ℕ)
     → code_of x ≡ o
@@ -120,7 +120,7 @@ gathered_reads room (x ∷ xs) g e =
 
 -- ---- back
 
--- a code that is no SYN
+-- a code that is not SYN
 pub record IsOther (c : ℕ) : Type 0 where
   pub code : c < 128
   pub other : c ≢ SYN
@@ -131,13 +131,13 @@ IsRun [] = ⊥
 IsRun (c ∷ []) = IsOther c × (is_ending_code c ≡ true)
 IsRun (c ∷ d ∷ cs) = IsOther c × (is_ending_code c ≡ false) × IsRun (d ∷ cs)
 
--- the octet of a code that is no SYN is no SYN
+-- the octet of a code that is not SYN is not SYN
 odd_other : (c : ℕ) → IsOther c → (odd_octet c == SYN) ≡ false
 odd_other c o =
     test_false (odd_octet c) SYN (λ e. elim (odd_cases c)
     [ inl k ↦ absurd (o.other (sym k.0 ∙ e)) | inr k ↦ absurd (omega arith) ])
 
--- fill before the octets changes nothing of what is read
+-- fill before the octets does not change what is read
 after_fill : (room : ℕ) (fill rest : List ℕ) → AreAll SYN fill
     → gathered room (fill ++ rest) ≡ gathered room rest
 unfolding gathered

@@ -1,4 +1,4 @@
--- What is heard is what is spelled.
+-- What is heard is exactly what is spelled.
 use Rattle.std.proofs.Common.{◌≡◌, ◌≢◌, ◌⊎◌, inl, inr, ℕ, ◌≤◌, ◌==◌, true, false, refl, sym, ap}
 use Rattle.std.proofs.Common.{subst, ◌∙◌}
 use Rattle.std.proofs.Common.{arith, List, [], ◌∷◌, ◌++◌, length, drop, map, Option, Some, None}
@@ -78,7 +78,7 @@ short x a c body e =
           record { front = []; last = x; whole = e; other = c };
     }
 
--- nor has one of DLE and an octet that is no PAD
+-- a body of DLE and one octet that is not PAD has no SYN first and no PAD last
 pair : (y : ℕ) → ((y == PAD) ≡ false) → (body : List ℕ) → body ≡ DLE ∷ y ∷ [] → Plain body
 pair y c body e =
     record {
@@ -121,7 +121,7 @@ plain_body body (Text t) h = record {
   ends = rw h.whole (ends_text h.rest (units_end false t.units t.end h.rest h.units h.text.some));
 }
 
--- the body of a message without a text is heard as it
+-- the body of a message without a text is heard as that message
 control_body : (x : ℕ) (rest : List ℕ) (m : Message) → (x == STX) ≡ false → IsControl m
     → (body : List ℕ)
     → body ≡ x ∷ rest → IsBody m body → heard_body body ≡ Whole m
@@ -130,7 +130,7 @@ control_body x rest m n k body e h =
     let other : begins (is_octet STX) body ≡ false = ap (begins (is_octet STX)) e ∙ n in
     rw (other, control_read body m k h) refl
 
--- the body of each message is heard as it
+-- the body of each message is heard as that message
 pub body_read : (body : List ℕ) (m : Message) → IsBody m body → heard_body body ≡ Whole m
 unfolding heard_body
 body_read body Eot h = control_body EOT [] Eot refl tt body h h
@@ -158,7 +158,7 @@ heard_spelled octets m s =
     ∙ ap heard_body (trimmed_body s.body s.carried.trail p.ends s.carried.are_trail)
     ∙ body_read s.body m s.is_body
 
--- a message is no noise
+-- a message is not noise
 loud_whole : (h : Heard) (m : Message) → h ≡ Whole m → h ≢ Noise
 loud_whole h m e n = cc
 
@@ -201,7 +201,7 @@ text_loud rest = by_units (units_at MAX_UNITS false rest)
     by_units None = inl refl
     by_units (Some t) = inr (Text t, refl)
 
--- a failed text is no noise
+-- a failed text is not noise
 loud_failed : (h : Heard) → h ≡ Failed → h ≢ Noise
 loud_failed h e n = cc
 

@@ -1,4 +1,4 @@
--- What octets that spell a message, or failed, have after their SYN.
+-- What follows the SYN in octets that spell a message, or failed.
 use Rattle.std.proofs.Common.{◌≡◌, ◌≢◌, ◌⊎◌, inl, inr, ℕ, ◌≤◌, ◌==◌, Bool, true, false, cond, refl}
 use Rattle.std.proofs.Common.{sym, ap}
 use Rattle.std.proofs.Common.{subst, ◌∙◌, List, [], ◌∷◌, ◌++◌, length, append-nil, map, nat_lt}
@@ -131,7 +131,7 @@ first_is_odd o rest n i =
 
 -- ---- no pad and no SYN at the front
 
--- noise by both branches is noise
+-- if both branches are noise, the whole is noise
 either_noise : (b : Bool) (h : Heard) → h ≡ Noise → cond b Noise h ≡ Noise
 either_noise true h e = refl
 either_noise false h e = e
@@ -142,7 +142,7 @@ pub starts_wrong : (o : ℕ) (rest : List ℕ) → is_pad_octet o ≡ false → 
 unfolding heard skip
 starts_wrong o rest p s = rw p (either_noise (nat_lt MAX_HEARD (length (o ∷ rest))) _ (rw s refl))
 
--- an octet is one of the two leading pads, or none
+-- an octet is one of the two leading pads, or is not a leading pad
 pub pad_or_not : (o : ℕ) → ((o ≡ 0x55) ⊎ (o ≡ 0xaa)) ⊎ (is_pad_octet o ≡ false)
 pad_or_not o = by_tests (o == 0x55) (o == 0xaa) refl refl
   where

@@ -40,7 +40,7 @@ top_or false true false = refl
 top_or false false true = refl
 top_or false false false = refl
 
--- the highest bit of a lane that is set where neither of two tests passes
+-- the highest bit of a lane is set if neither of two tests passes
 pub top_and : (a b : Bool) → top 7 (bit_and (cond (not a) 255 0) (cond (not b) 255 0))
     ≡ not (a || b)
 top_and true true = refl
@@ -54,7 +54,7 @@ pub prefix_len_same : (p q : ℕ → Bool) → ((x : ℕ) → p x ≡ q x) → (
 prefix_len_same p q e [] = refl
 prefix_len_same p q e (x ∷ xs) = rw (e x, prefix_len_same p q e xs) refl
 
--- not of not
+-- a double negation has no effect
 pub not_twice : (b : Bool) → not (not b) ≡ b
 not_twice true = refl
 not_twice false = refl

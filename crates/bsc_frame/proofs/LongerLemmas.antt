@@ -1,4 +1,4 @@
--- A text body is no front of another.
+-- The body of a text is not the beginning of another.
 use Rattle.std.proofs.Common.{◌≡◌, inl, inr, ℕ, zero, suc, ◌<◌, ◌==◌, true, false, refl, ap, ◌∙◌}
 use Rattle.std.proofs.Common.{arith}
 use Rattle.std.proofs.Common.{length, List, [], ◌∷◌, ◌++◌, Some, None, append_assoc, Bool}

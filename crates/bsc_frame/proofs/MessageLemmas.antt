@@ -1,4 +1,4 @@
--- The test of two messages tells exactly whether they are the same.
+-- The comparison of two messages decides whether they are the same.
 use Rattle.std.proofs.Common.{◌≡◌, true, false, refl, sym, ap, subst}
 use Rattle.std.specs.Bool.{Decides}
 use lib.Pointwise.{bytes_decides}
@@ -49,6 +49,6 @@ itself Enq = refl
 itself (Reply r) = (reply_decides r r).1 refl
 itself (Text t) = (text_decides t t).1 refl
 
--- so the comparison tells exactly whether two messages are the same
+-- the comparison decides whether two messages are the same
 pub message_decides : (m n : Message) → Decides (eq-value.it m n) (m ≡ n)
 message_decides m n = (told m n, λ e. subst (λ (k : Message). eq-value.it m k ≡ true) e (itself m))

@@ -59,7 +59,7 @@ units_odd after_us (u ∷ us) end octets a h =
       units_odd true us end a.2 a.6 h.1,
     ))
 
--- where an octet is even no units are read
+-- if an octet is even, no units are read
 pub not_odd_fails : (octets : List ℕ) → (All IsOdd octets → ⊥)
     → Failed ≡ whole_or_failed (units_at MAX_UNITS false octets)
 not_odd_fails octets n = by_units (units_at MAX_UNITS false octets) refl

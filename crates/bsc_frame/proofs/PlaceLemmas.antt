@@ -1,4 +1,4 @@
--- Lists around a place, and two ways to part one list.
+-- Lists around a place, and two ways to split one list.
 use Rattle.std.proofs.Common.{◌≡◌, ◌⊎◌, inl, inr, ℕ, zero, suc, ◌<◌, refl, sym, ap, ◌∙◌, arith}
 use Rattle.std.proofs.Common.{List, [], ◌∷◌}
 use Rattle.std.proofs.Common.{◌++◌, length, get_or, set}
@@ -14,7 +14,7 @@ pub record Around (xs : List ℕ) (place : ℕ) : Type 0 where
   pub is_here : get_or xs place 0 ≡ here
   pub changed : (o : ℕ) → set xs place o ≡ before ++ o ∷ after
 
--- a place in a list parts it
+-- a place in a list splits it
 pub around : (xs : List ℕ) (place : ℕ) → place < length xs → Around xs place
 around [] place l = absurd (omega arith)
 around (x ∷ xs) zero l =
@@ -40,7 +40,7 @@ around (x ∷ xs) (suc place) l =
       changed = λ o. ap (λ z. x ∷ z) (r.changed o);
     }
 
--- where the octet after a front stands in a list of two parts
+-- the octet after a front stands in the first of two lists
 pub record InFirst (xs ys front : List ℕ) (o : ℕ) (back : List ℕ) : Type 0 where
   pub more : List ℕ
   pub first : xs ≡ front ++ o ∷ more
@@ -78,7 +78,7 @@ parted (x ∷ xs) ys (y ∷ front) o back e =
       })
     ]
 
--- what holds of each member
+-- what holds of all elements of a list holds of the one at the place
 pub all_here : (P : ℕ → Type 0) (front : List ℕ) (o : ℕ) (back : List ℕ)
     → AllByRecursion P (front ++ o ∷ back) → P o
 all_here P [] o back h = h.0

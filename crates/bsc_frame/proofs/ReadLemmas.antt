@@ -1,4 +1,4 @@
--- The steps of reading.
+-- The steps of reading from left to right.
 use Rattle.std.proofs.Common.{◌≡◌, ◌≢◌, ◌⊎◌, inl, inr, ℕ, zero, suc, ◌+◌, ◌-◌, ◌<◌, ◌≤◌, ◌==◌, Bool, true, false}
 use Rattle.std.proofs.Common.{cond, refl}
 use Rattle.std.proofs.Common.{sym, ap, ◌∙◌, arith, List, [], ◌∷◌, ◌++◌, length, take, drop, get_or}
@@ -32,7 +32,7 @@ unfolding trimmed
 trimmed_push_pad [] = refl
 trimmed_push_pad (x ∷ xs) = ap (before_rest x) (trimmed_push_pad xs)
 
--- an octet that is no PAD stays
+-- an octet that is not PAD stays
 other_stays : (x : ℕ) (b : Bool) → (x == PAD) ≡ b → x ≢ PAD → cond b [] (x ∷ []) ≡ x ∷ []
 other_stays x true e h = absurd (h (eqb-true x PAD e))
 other_stays x false e h = refl
@@ -53,7 +53,7 @@ trimmed_less s n p l e =
     ap (λ k. take k s) back ∙ take_more s (n - 1) 0 (omega arith) ∙ rw e refl in
     rw split (sym (trimmed_push_pad (take (n - 1) s)))
 
--- and one that does not is what is left
+-- if a front does not end with PAD, it is what is left
 pub trimmed_done : (s : List ℕ) (n : ℕ) → trimmed (take n s) ≡ trimmed s → 0 < n → n ≤ length s
     → get_or s (n - 1) 0 ≢ PAD → take n s ≡ trimmed s
 trimmed_done s n same p l e =
@@ -64,7 +64,7 @@ trimmed_done s n same p l e =
     rw split (trimmed_push_other (take (n - 1) s) (get_or s (n - 1) 0) e) in
     sym stays ∙ same
 
--- and of PAD only nothing is left
+-- of octets that are all PAD nothing is left
 pub trimmed_none : (s : List ℕ) (n : ℕ) → trimmed (take n s) ≡ trimmed s → n ≤ 0 → take 0 s
     ≡ trimmed s
 unfolding trimmed
@@ -86,18 +86,18 @@ pub called_at : (room : ℕ) (s : List ℕ) (i : ℕ) → i < length s
 unfolding called
 called_at room s i l = rw (add-one i, drop-cons s i 0 l) refl
 
--- something follows the ENQ
+-- if something follows the ENQ, there is no address
 at_end_none : (s : List ℕ) → 0 < length s → at_end s ≡ None
 at_end_none [] h = absurd (omega arith)
 at_end_none (x ∷ xs) h = refl
 
--- what the loop keeps
+-- the loop invariant of reading an address
 pub record Reads (front : List ℕ) (i : ℕ) (s : List ℕ) : Type 0 where
   pub room : length front ≤ MAX_ADDRESS
   pub rest : with_codes front (called (MAX_ADDRESS - length front) (drop i s))
       ≡ called MAX_ADDRESS s
 
--- where there is room for one more, room is not 0
+-- if there is room for one more, the room is not 0
 pub has_room : (n room : ℕ) → suc n ≤ room → room ≡ 0 → ⊥
 has_room n room h e = omega arith
 
@@ -185,7 +185,7 @@ called_none front i s r l = from_rest front i s None r (rw (drop_all i s l) refl
 -- what a loop from the end back uses
 pub ruleset trim_steps = (trimmed_less, trimmed_done, trimmed_none)
 
--- which way a test went
+-- which branch a test took
 pub chosen : {A : Type 0} (b : Bool) (x y z : A) → cond b x y ≡ z
     → ((b ≡ true) × (x ≡ z)) ⊎ ((b ≡ false) × (y ≡ z))
 chosen true x y z h = inl (refl, h)

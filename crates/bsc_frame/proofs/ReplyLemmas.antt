@@ -1,5 +1,5 @@
--- The replies: the form that their octets have, that each is read from its octets, and that the test
--- of two replies tells exactly whether they are the same.
+-- The replies: the form that their octets have, that each is read from its octets, and that the
+-- comparison of two replies decides whether they are the same.
 use Rattle.std.proofs.Common.{◌≡◌, ◌⊎◌, inl, inr, ℕ, ◌==◌, true, false, refl, sym, subst, ◌∙◌}
 use Rattle.std.proofs.Common.{arith, List, [], ◌∷◌, Some}
 use Rattle.std.specs.Bool.{Decides}
@@ -63,7 +63,7 @@ reply_read Nak = refl
 reply_read Wack = refl
 reply_read Rvi = refl
 
--- what two options that are the same hold is the same
+-- two options that are the same hold the same reply
 same_reply : {x y : Reply} → Some x ≡ Some y → x ≡ y
 same_reply e = cc
 
@@ -135,6 +135,6 @@ itself Nak = refl
 itself Wack = refl
 itself Rvi = refl
 
--- so the comparison tells exactly whether two replies are the same
+-- the comparison decides whether two replies are the same
 pub reply_decides : (r s : Reply) → Decides (eq-value.it r s) (r ≡ s)
 reply_decides r s = (told r s, λ e. subst (λ (k : Reply). eq-value.it r k ≡ true) e (itself r))

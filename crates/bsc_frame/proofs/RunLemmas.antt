@@ -14,7 +14,7 @@ use Rattle.bsc_frame.proofs.ReadLemmas.{rest_is, trimmed_push_pad}
 use Rattle.bsc_frame.specs.declared.front.TheConstants.{LANES}
 use Rattle.bsc_frame.specs.declared.octets.TheConstants.{PAD}
 
--- what a loop over the octets keeps: at of them were counted
+-- the loop invariant: `at` octets were counted, and all of them pass
 pub record CountedTo (p : ℕ → Bool) (at : ℕ) (s : List ℕ) : Type 0 where
   pub within : at ≤ length s
   pub rest : at + prefix_len p (drop at s) ≡ prefix_len p s
@@ -48,7 +48,8 @@ run_none p (x ∷ s) h = rw h refl
 
 -- ---- many at a time
 
--- the front that passes, by that of the first n: the same where it stops there, else it goes on
+-- the front that passes, from that of the first n octets: it is the same if it stops there,
+-- otherwise it goes on
 record Cuts (p : ℕ → Bool) (n : ℕ) (s : List ℕ) : Type 0 where
   stops : prefix_len p (take n s) < n → prefix_len p s ≡ prefix_len p (take n s)
   goes_on : n ≤ prefix_len p (take n s) → prefix_len p s ≡ n + prefix_len p (drop n s)
@@ -63,7 +64,7 @@ cuts_head p n x s true e c = record {
 cuts_head p n x s false e c =
     record { stops = rw e (λ l. refl); goes_on = rw e (λ l. absurd (omega arith)) }
 
--- so it is of every list
+-- this holds of every list
 cuts : (p : ℕ → Bool) (n : ℕ) (s : List ℕ) → n ≤ length s → Cuts p n s
 cuts p zero s l = record { stops = λ h. absurd (omega arith); goes_on = λ h. omega arith }
 cuts p (suc n) [] l = absurd (omega arith)
@@ -116,7 +117,7 @@ unfolding skip
 skip_same p q e [] = refl
 skip_same p q e (x ∷ s) = rw (e x, skip_same p q e s) refl
 
--- a test or itself
+-- a test or itself is that test
 twice : (b : Bool) → (b || b) ≡ b
 twice true = refl
 twice false = refl
@@ -135,7 +136,7 @@ skip_all s n octet e =
 
 -- ---- what is trimmed
 
--- one PAD more at the end changes nothing, and so on for all of them
+-- one PAD more at the end changes nothing, and so for all of them
 pad_head : (front : List ℕ) (x : ℕ) (pads : List ℕ) (b : Bool) → (x == PAD) ≡ b
     → (length pads ≤ prefix_len (is_either PAD PAD) pads → trimmed ((front ++ x ∷ []) ++ pads)
     ≡ trimmed (front ++ x ∷ []))

@@ -1,6 +1,5 @@
--- A buffer with its marks is read off the units that it holds, so two texts are the same where
--- their marks,
--- characters and ends are.
+-- A buffer and its marks are determined by the units that they hold, so two texts are the same
+-- exactly if their marks, characters and ends are.
 use Rattle.std.proofs.Common.{◌≡◌, ℕ, ◌+◌, ◌-◌, ◌≤◌, Bool, true, false, ◌&&◌, ◌==◌, refl, sym, ap}
 use Rattle.std.proofs.Common.{◌∙◌, subst}
 use Rattle.std.proofs.Common.{arith, List, [], ◌∷◌, ◌++◌, length, drop, length-take, length-drop}
@@ -40,7 +39,7 @@ unit_first start end xs h =
     ∙ ap (λ (zs : List ℕ). slice_range xs start end ++ zs)
     (drop-drop (end - start) start xs ∙ ap (λ (k : ℕ). drop k xs) to)
 
--- the first unit, or this one where there is none
+-- the first unit, or this one if there is none
 abbrev first_or : TextUnit → List TextUnit → TextUnit
 first_or d [] = d
 first_or d (u ∷ us) = u
@@ -127,14 +126,14 @@ mark_decides a b =
     (λ end em i. record { end = end i; em = em i }) (ap (λ (m : Mark). m.end))
     (ap (λ (m : Mark). m.em))
 
--- and that of ends
+-- the comparison of ends decides whether they are the same
 ends_decides : (e f : End) → Decides (sameb the_type e f) (e ≡ f)
 ends_decides Etb Etb = (λ t. refl, λ t. refl)
 ends_decides Etb Etx = (λ t. absurd (cc), λ t. absurd (cc))
 ends_decides Etx Etb = (λ t. absurd (cc), λ t. absurd (cc))
 ends_decides Etx Etx = (λ t. refl, λ t. refl)
 
--- and that of what two texts keep
+-- the comparison of all that two texts keep decides whether it is the same
 kept_decides : (ms ns : List Mark) (xs ys : List ℕ) (e f : End)
     → Decides (is_kept_alike ms ns xs ys e f) (IsKeptAlike ms ns xs ys e f)
 kept_decides ms ns xs ys e f =
@@ -144,7 +143,7 @@ kept_decides ms ns xs ys e f =
     (λ a b. (a, b)) (λ a. a.0) (λ a. a.1))
     (λ a b. record { marks = a; end = b.0; chars = b.1 }) (λ a. a.marks) (λ a. (a.end, a.chars))
 
--- a test of what is kept is one of the texts
+-- the comparison of what is kept decides whether the texts are the same
 pub tells_text : (ms ns : List Mark) (xs ys : List ℕ) (e f : End) (a b : TextValue) (r : Bool)
     → HoldsText ms xs e → HoldsText ns ys f →
     marked_text ms xs e ≡ a → marked_text ns ys f ≡ b → r ≡ is_kept_alike ms ns xs ys e f → r
@@ -161,11 +160,11 @@ tells_text ms ns xs ys e f a b r h k is_a is_b tests =
 pub third_tells : (p q r s : Bool) → p ≡ true → q ≡ true → s ≡ r → s ≡ (p && (q && r))
 third_tells p q r s a b e = rw (a, b) e
 
--- where the first of three comparisons fails, the texts differ
+-- if the first of three comparisons fails, so do all three together
 pub first_fails : (p q r s : Bool) → p ≡ false → s ≡ false → s ≡ (p && (q && r))
 first_fails p q r s a e = rw a e
 
--- and where the second fails
+-- if the second of three comparisons fails, so do all three together
 pub second_fails : (p q r s : Bool) → q ≡ false → s ≡ false → s ≡ (p && (q && r))
 second_fails true q r s b e = rw b e
 second_fails false q r s b e = e

@@ -1,4 +1,4 @@
--- What is told without a text is what is heard.
+-- What `decode_short` decodes without a text is what is heard.
 use Rattle.std.proofs.Common.{◌≡◌, inl, inr, ℕ, true, false, refl, sym, ◌∙◌, List, drop, Option}
 use Rattle.std.proofs.Common.{Some, None}
 use Rattle.bsc_frame.specs.Texts.{TextValue}
@@ -20,7 +20,7 @@ is_heard octets h e = record {
   noise = (λ k. noise_heard octets (e ∙ k), λ n. sym e ∙ heard_noise octets n);
 }
 
--- a body that is no text is heard as what it reads as
+-- a body that is not a text is heard as what it reads as
 pub short_is_heard : (octets body : List ℕ) (h : Heard) → heard octets ≡ heard_body body
     → false ≡ begins (is_octet STX) body → h ≡ whole_or_noise (control body) → IsHeard octets h
 unfolding heard_body

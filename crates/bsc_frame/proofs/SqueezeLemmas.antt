@@ -17,7 +17,7 @@ use Rattle.bsc_frame.specs.declared.octets.TheConstants.{SYN}
 
 -- ---- fill
 
--- one octet more is looked at for fill
+-- one octet more is tested for fill
 pub fill_more : (found : Bool) (i : ℕ) (s : List ℕ) → found ≡ list_any (is_octet SYN) (take i s)
     → i < length s
     → (found || (get_or s i 0 == SYN)) ≡ list_any (is_octet SYN) (take (i + 1) s)
@@ -26,7 +26,7 @@ fill_more found i s e l = ap (λ b. b || (get_or s i 0 == SYN)) e
 
 -- ---- squeezing
 
--- after the first ones stand those of the first i octets that are no fill
+-- the octets other than SYN among the first i octets stand after the first ones
 pub record SqueezedTo (first : List ℕ) (start count : ℕ) (buffer : List ℕ) (i : ℕ)
     (s : List ℕ) : Type 0 where
   pub long : length buffer ≡ UNIT_ROOM
@@ -39,7 +39,7 @@ pub squeeze_start : (buffer : List ℕ) (start : ℕ) (s : List ℕ) → length 
 squeeze_start buffer start s l =
     record { long = l; room = omega arith; front = sym (append-nil (take start buffer)) }
 
--- an octet is stored, and counted where it is no fill
+-- an octet is stored, and counted if it is not SYN
 stored : (first : List ℕ) (start count : ℕ) (buffer : List ℕ) (x : ℕ) (i : ℕ) (s : List ℕ)
     → SqueezedTo first start count buffer i s → count < UNIT_ROOM → (b : Bool)
     → filter is_other (take (i + 1) s) ≡ filter is_other (take i s) ++ cond b (x ∷ []) []
@@ -169,8 +169,8 @@ codes_all chars buffer i s k l u =
     let same : length s ≡ i = omega arith in
     ap (λ n. take n buffer) same ∙ k.front ∙ ap (map low_bits) (take_all i s l)
 
--- what a squeeze of a part uses
+-- the steps of squeezing a part
 pub ruleset part_steps = (part_start, part_more, part_full, part_last)
 
--- what a loop over codes uses
+-- the steps of a loop over codes
 pub ruleset code_steps = (codes_more, codes_all)

@@ -1,4 +1,4 @@
--- What changed members do to a longitudinal sum.
+-- What a change of members does to a longitudinal sum.
 use Rattle.std.proofs.Common.{◌≡◌, ℕ, ◌+◌, ◌*◌, ◌/◌, ◌%◌, ◌<◌, ◌==◌, cond, refl, sym, ap}
 use Rattle.std.proofs.Common.{◌∙◌}
 use Rattle.std.proofs.Common.{arith, List, ◌∷◌, ◌++◌, bit_xor}
@@ -22,7 +22,7 @@ same_sum : (s t : List ℕ) → ((i : ℕ) → with_bit i s % 2 ≡ with_bit i t
 unfolding longitudinal_sum
 same_sum s t h = rw (h 0, h 1, h 2, h 3, h 4, h 5, h 6) refl
 
--- where the bits of one mask are turned in two members, the sum stays as it was
+-- if the bits of one mask are turned in two members, the sum does not change
 pub two_turned : (front middle back : List ℕ) (c d mask : ℕ)
     → longitudinal_sum (front ++ bit_xor c mask ∷ middle ++ bit_xor d mask ∷ back)
     ≡ longitudinal_sum (front ++ c ∷ middle ++ d ∷ back)
@@ -86,7 +86,7 @@ record SameBits (c d : ℕ) : Type 0 where
   b5 : bit_at c 5 ≡ bit_at d 5
   b6 : bit_at c 6 ≡ bit_at d 6
 
--- where one member is changed and the parity of a bit is not, the member has the bit as before
+-- if one member is changed and the parity of a bit is not, the bit of the member is as before
 same_bit : (i : ℕ) (front : List ℕ) (c d : ℕ) (back : List ℕ)
     → with_bit i (front ++ c ∷ back) % 2 ≡ with_bit i (front ++ d ∷ back) % 2 → bit_at c i
     ≡ bit_at d i
@@ -100,7 +100,7 @@ same_bit i front c d back h =
       bit_at-lt d i,
     )
 
--- so where the sum is not changed, it has all bits as before
+-- if the sum is not changed, all bits of the member are as before
 same_bits : (front : List ℕ) (c d : ℕ) (back : List ℕ)
     → longitudinal_sum (front ++ c ∷ back) ≡ longitudinal_sum (front ++ d ∷ back) → SameBits c d
 same_bits front c d back h = record {

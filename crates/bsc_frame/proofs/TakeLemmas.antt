@@ -37,7 +37,7 @@ length_after_start true (x ∷ codes) = by_test (x == STX)
     by_test true = omega arith
     by_test false = omega arith
 
--- where each way on gives nothing, all gives nothing
+-- if every continuation gives nothing, the whole gives nothing
 none_after : {A B : Type 0} (o : Option A) (f : A → Option B) → ((x : A) → f x ≡ None) → (o >>= f)
     ≡ None
 none_after None f h = refl
@@ -63,7 +63,7 @@ long_unit after_us codes octets l =
           length_after_start after_us codes,
         ))
 
--- where no octet ends a unit, no unit is read
+-- if no octet ends a unit, no unit is read
 pub at_end : (after_us : Bool) (s : List ℕ) (place : ℕ) → AreCarried s → place
     ≡ prefix_len is_before_ending s
     → place ≡ length s → unit_at after_us s ≡ None
@@ -98,7 +98,7 @@ filter_no_fill (x ∷ s) h = by_test (x == SYN) refl h (filter_no_fill s)
     by_test true e h f = cc
     by_test false e h f = ap (λ t. x ∷ t) (f h)
 
--- an octet that carries an ending character is no SYN
+-- an octet that carries an ending character is not SYN
 ending_octet_other : (x : ℕ) → is_ending_octet x ≡ true → is_other x ≡ true
 ending_octet_other x e = by_test (x == SYN) refl
   where
@@ -107,12 +107,12 @@ ending_octet_other x e = by_test (x == SYN) refl
         rw z refl in cc
     by_test false f = refl
 
--- an octet that is not before an ending one is one
+-- an octet that is not before an ending one is an ending one
 not_before : (x : ℕ) (b : Bool) → is_ending_octet x ≡ b → not b ≡ false → b ≡ true
 not_before x true e h = refl
 not_before x false e h = cc
 
--- the octets up to the first ending one are a front of a unit
+-- the octets up to the first ending one are a front
 pub front_ends : (s : List ℕ) (place : ℕ) → place ≡ prefix_len is_before_ending s → place < length s
     → IsFront (take (place + 1) s)
 front_ends s place e l =
@@ -127,7 +127,7 @@ front_ends s place e l =
           (is_ending_octet (get_or s (prefix_len is_before_ending s) 0)) refl stops);
     }
 
--- a front without its fill is one
+-- a front without its fill is a front
 pub ends_filtered : (s : List ℕ) → IsFront s → IsFront (filter is_other s)
 ends_filtered s e = record {
   front = filter is_other e.front;
@@ -137,7 +137,7 @@ ends_filtered s e = record {
   ends = e.ends;
 }
 
--- a front without an STX before it is one
+-- a front without an STX before it is a front
 pub ends_start : (after_us : Bool) (s : List ℕ) → IsFront s → IsFront (after_start after_us s)
 ends_start false s e = e
 ends_start true [] e = e
@@ -156,7 +156,7 @@ ends_start true (x ∷ s) e = by_test (x == STX) refl
 
 -- ---- the unit of the front
 
--- a front of characters, EM where it is marked, and an ending octet
+-- two lists that are the same have the same front and the same last element
 snoc_same : (xs ys : List ℕ) (a b : ℕ) → xs ++ a ∷ [] ≡ ys ++ b ∷ [] → (xs ≡ ys) × (a ≡ b)
 snoc_same [] [] a b e = (refl, cc)
 snoc_same [] (y ∷ []) a b e = absurd cc
@@ -249,7 +249,7 @@ parts_read octets chars em last c e p l h =
 
 -- ---- no other characters are
 
--- where all are record characters, the last one is
+-- if all codes are record characters, the last one is
 all_last : (xs : List ℕ) (x : ℕ) → AllByRecursion (λ c. IsTrue (is_record_char c)) (xs ++ x ∷ [])
     → is_record_char x ≡ true
 all_last [] x h = h.0
@@ -260,7 +260,7 @@ em_no_char : is_record_char EM_CODE ≡ false
 unfolding is_record_char
 em_no_char = refl
 
--- characters and EM after them are cut in one way
+-- characters and EM after them can be split in only one way
 same_chars : (chars : List ℕ) (em : Bool) (more : List ℕ) (marked : Bool)
     → chars ++ cond em (EM_CODE ∷ []) [] ≡ more ++ cond marked (EM_CODE ∷ []) []
     → AllByRecursion (λ c. IsTrue (is_record_char c)) more
@@ -286,7 +286,7 @@ last_em (x ∷ xs) (y ∷ front) c e =
     let k = last_em xs front c.1 (let w : map low_bits xs ≡ front ++ EM_CODE ∷ [] = cc in w) in
     (x ∷ k.0, ap (λ t. x ∷ t) k.1)
 
--- parts of which the characters are too many, or no record characters, are no unit
+-- parts with too many characters, or with one that is not a record character, are no unit
 pub parts_none : (octets chars : List ℕ) (em : Bool) (last : ℕ) → AreCarried octets
     → AreParts octets chars em last
     → (length chars ≤ MAX_CHARS → list_all is_char_octet chars ≡ true → ⊥)
@@ -346,7 +346,7 @@ odd_start after_us s h = by_test (after_us && begins (is_octet STX) s)
 
 -- ---- the front and what stands after it
 
--- where there is no fill, the unit is read from the front
+-- if there is no fill, the unit is read from the front
 pub front_without_fill : (after_us : Bool) (s : List ℕ) (place : ℕ) → AreCarried s
     → place ≡ prefix_len is_before_ending s → place < length s
     → list_any (is_octet SYN) (take (place + 1) s) ≡ false
@@ -357,7 +357,7 @@ front_without_fill after_us s place c e l n =
     (sym (filter_no_fill (take (place + 1) s) n))
     ∙ sym (at_front after_us s (place + 1) c (omega arith) (omega arith))
 
--- where fill was squeezed out, the unit is read from the octets that are left
+-- if fill was squeezed out, the unit is read from the octets that are left
 pub front_squeezed : (after_us : Bool) (s : List ℕ) (place : ℕ) (unit : List ℕ) → AreCarried s
     → place ≡ prefix_len is_before_ending s → place < length s → unit
     ≡ filter is_other (take (place + 1) s)

@@ -176,7 +176,7 @@ wire_units after_us (u ∷ us) end = (
   wire_units true us end,
 )
 
--- and at most three octets more
+-- what is sent for a unit is at most three octets more than its characters
 pub length_unit_wire : (u : TextUnit) (e : ℕ) → length (unit_wire u e) ≤ length u.chars + 3
 length_unit_wire u e =
     omega (
@@ -187,7 +187,7 @@ length_unit_wire u e =
       length-map (unit_codes u e) odd_octet,
     )
 
--- what is sent for units within their limits is at most this long
+-- what is sent for units within their limits has at most this many octets
 pub length_units_wire : (us : List TextUnit) (end : End) → AllByRecursion IsUnit us
     → length (units_wire us end) ≤ MAX_UNIT_SENT * length us
 length_units_wire [] end h = omega arith
@@ -210,7 +210,7 @@ odd_no_pad c h = test_false (odd_octet c) PAD (λ e. elim (odd_cases c) [
       ∙ ones-ones 7 in absurd (omega arith)
 ])
 
--- what ends so does with more octets before it
+-- octets that do not end with PAD do not if more octets stand before them
 ends_after : (front octets : List ℕ) → Ends octets → Ends (front ++ octets)
 ends_after front octets e =
     record {
@@ -221,7 +221,7 @@ ends_after front octets e =
       other = e.other;
     }
 
--- octets that are units end so that no PAD is taken from them
+-- octets that are units do not end with PAD
 pub units_end : (after_us : Bool) (us : List TextUnit) (end : End) (octets : List ℕ)
     → AreUnits after_us us end octets → 0 < length us → Ends octets
 units_end after_us [] end octets a h = absurd (omega arith)

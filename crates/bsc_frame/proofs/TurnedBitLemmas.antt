@@ -1,4 +1,4 @@
--- What is heard of a message of which one bit is turned.
+-- What is heard of a message with one bit turned.
 use Rattle.std.proofs.Common.{◌≡◌, ◌↔◌, inl, inr, ℕ, ◌<◌, sym, ap, subst, ◌∙◌, length, get_or}
 use Rattle.bsc_frame.specs.Message.{IsMessage}
 use Rattle.bsc_frame.specs.Wire.{wire}
@@ -10,7 +10,7 @@ use Rattle.bsc_frame.specs.declared.octets.TheConstants.{PAD, SYN}
 use Rattle.bsc_frame.proofs.TurnedLemmas.{turned_other, syn_no_pad, syn_no_fill, pad_no_fill}
 use Rattle.bsc_frame.proofs.DamagedLemmas.{spelled_where, failed_place, sent_of}
 
--- the first octet is SYN
+-- the first octet of what is sent is SYN
 first_syn : (m : Message) → IsMessage m → get_or (wire m) 0 0 ≡ SYN
 first_syn m h = let s = sent_of m h in ap (λ w. get_or w 0 0) s.whole
 
@@ -42,14 +42,14 @@ turned_spells m n place bit h l b k =
     ((spelled_where m n place (turned bit (get_or (wire m) place 0)) h l
     (turned_other bit (get_or (wire m) place 0))).0 k).1
 
--- it failed exactly where the bit stands after the STX of a text
+-- the octets failed exactly if the bit stands after the STX of a text
 pub turned_failed : (m : Message) (place bit : ℕ) → IsMessage m → place < length (wire m) → bit < 8
     → IsFailed (with_turned_bit place bit (wire m)) ↔ ((2 < place) × IsSomeText m)
 turned_failed m place bit h l b =
     failed_place m h place (turned bit (get_or (wire m) place 0)) l
     (turned_other bit (get_or (wire m) place 0))
 
--- and else it is noise
+-- in all other cases the octets are noise
 pub turned_noise : (m : Message) (place bit : ℕ) → IsMessage m → place < length (wire m) → bit < 8
     → ((2 < place) × IsSomeText m → ⊥) → IsNoise (with_turned_bit place bit (wire m))
 turned_noise m place bit h l b q =

@@ -42,7 +42,7 @@ record Digit (r s : ℕ) : Type 0 where
   small : bit_xor r s < 2 ^ 1
   counts : count_ones (bit_xor r s) % 2 ≡ (count_ones r + count_ones s) % 2
 
--- so it is of all bits
+-- this holds for all bits
 digit : (r s : ℕ) → r < 2 → s < 2 → Digit r s
 digit zero zero l k = record { small = omega arith; counts = omega (arith, ones_zero) }
 digit zero (suc zero) l k = record { small = omega arith; counts = omega (arith, ones_zero) }
@@ -52,7 +52,7 @@ digit (suc zero) (suc zero) l k =
 digit (suc (suc r)) s l k = absurd (omega arith)
 digit r (suc (suc s)) l k = absurd (omega arith)
 
--- the ones of an exclusive or, as they are odd or even
+-- whether an exclusive or has an odd or an even number of ones
 xor_by : (n a b : ℕ) → a ≤ n → count_ones (bit_xor a b) % 2 ≡ (count_ones a + count_ones b) % 2
 xor_by zero a b l =
     let none : a ≡ 0 = omega arith in
@@ -79,7 +79,7 @@ turned_other bit octet e =
 
 -- ---- the turned bits of what may be fill
 
--- no turned bit makes SYN a leading pad or PAD
+-- SYN with one bit turned is neither a leading pad nor PAD
 turned_syn : (bit : ℕ) → bit < 8
     → ((turned bit SYN ≡ 0x55) ⊎ (turned bit SYN ≡ 0xaa)) ⊎ (turned bit SYN ≡ PAD) → ⊥
 turned_syn zero l e =
@@ -100,7 +100,7 @@ turned_syn (suc (suc (suc (suc (suc (suc (suc zero))))))) l e =
     elim e [ inl k ↦ elim k [ inl w ↦ omega arith | inr w ↦ omega arith ] | inr w ↦ omega arith ]
 turned_syn (suc (suc (suc (suc (suc (suc (suc (suc bit)))))))) l e = omega arith
 
--- no turned bit makes PAD SYN
+-- PAD with one bit turned is not SYN
 pub pad_no_fill : (bit : ℕ) → bit < 8 → turned bit PAD ≡ SYN → ⊥
 pad_no_fill zero l e = omega arith
 pad_no_fill (suc zero) l e = omega arith
@@ -112,10 +112,10 @@ pad_no_fill (suc (suc (suc (suc (suc (suc zero)))))) l e = omega arith
 pad_no_fill (suc (suc (suc (suc (suc (suc (suc zero))))))) l e = omega arith
 pad_no_fill (suc (suc (suc (suc (suc (suc (suc (suc bit)))))))) l e = omega arith
 
--- a SYN with one bit turned is no leading pad, and no PAD
+-- SYN with one bit turned is not a leading pad in place of the first SYN
 pub syn_no_pad : (bit place : ℕ) → bit < 8 → IsLeadingPad place (turned bit SYN) → ⊥
 syn_no_pad bit place l h = turned_syn bit l (inl h.1)
 
--- no turned bit makes SYN PAD
+-- SYN with one bit turned is not PAD
 pub syn_no_fill : (bit : ℕ) → bit < 8 → turned bit SYN ≡ PAD → ⊥
 syn_no_fill bit l h = turned_syn bit l (inr h)

@@ -19,7 +19,7 @@ use Rattle.bsc_frame.proofs.ReadLemmas.{chosen}
 use Rattle.bsc_frame.specs.declared.limits.TheConstants.{MAX_CHARS}
 use Rattle.bsc_frame.specs.declared.octets.TheConstants.{EM_CODE, ETB_CODE, ETX_CODE, STX, US_CODE}
 
--- one code more: the front of record characters has record characters only
+-- one code more: the front of record characters has only record characters
 pass_head : (c : ℕ) (cs : List ℕ) (b : Bool) → is_record_char c ≡ b
     → AllByRecursion (λ c. IsTrue (is_record_char c)) (take (prefix_len is_record_char cs) cs)
     → AllByRecursion (λ c. IsTrue (is_record_char c))
@@ -32,7 +32,7 @@ pass_head c cs false e h =
     let k : prefix_len is_record_char (c ∷ cs) ≡ 0 = rw e refl in
     rw k tt
 
--- the characters at the front
+-- the front of record characters, and what follows it
 pass_front : (codes : List ℕ)
     → AllByRecursion (λ c. IsTrue (is_record_char c)) (take (prefix_len is_record_char codes) codes)
 pass_front [] = tt
@@ -116,7 +116,7 @@ ending_no_char e h =
           [ inl k ↦ rw k refl | inr k ↦ rw k refl ]
     ]
 
--- where a code comes after record characters that is none, these are the front
+-- record characters that are followed by another code are the front of record characters
 prefix_stop : (chars : List ℕ) (x : ℕ) (rest : List ℕ)
     → AllByRecursion (λ c. IsTrue (is_record_char c)) chars
     → is_record_char x ≡ false
@@ -124,7 +124,7 @@ prefix_stop : (chars : List ℕ) (x : ℕ) (rest : List ℕ)
 prefix_stop [] x rest h e = rw e refl
 prefix_stop (c ∷ chars) x rest h e = rw (h.0, prefix_stop chars x rest h.1 e) (omega arith)
 
--- the front of record characters is what a unit has
+-- the front of record characters is the characters of the unit
 unit_of_at : (chars : List ℕ) (x : ℕ) (rest : List ℕ)
     → AllByRecursion (λ c. IsTrue (is_record_char c)) chars
     → length chars ≤ MAX_CHARS → is_record_char x ≡ false
@@ -134,7 +134,7 @@ unit_of_at chars x rest h l e =
     rw (prefix_stop chars x rest h e, not_many (length chars) l, take-append_seam, drop-append_seam)
     refl
 
--- characters, EM where it is marked, and an ending code read as that unit
+-- characters, EM if the unit has it, and an ending code read as that unit
 unit_read : (chars : List ℕ) (em : Bool) (e : ℕ)
     → AllByRecursion (λ c. IsTrue (is_record_char c)) chars
     → length chars ≤ MAX_CHARS → is_ending_code e ≡ true
@@ -154,7 +154,7 @@ unit_of_read u e h k = unit_read u.chars u.em e h.each h.most k
 
 -- ---- an STX after a check
 
--- an STX at the front after a check is parted from the codes
+-- an STX at the front after a check is separated from the codes
 start_by : (c : ℕ) (cs : List ℕ) (b : Bool) → (c == STX) ≡ b
     → (start : List ℕ) × IsStart true start × (c ∷ cs ≡ start ++ cond b cs (c ∷ cs))
 start_by c cs true e = (STX ∷ [], inr (refl, refl), ap (λ z. z ∷ cs) (eqb-true c STX e))
@@ -167,7 +167,7 @@ start_of false codes = ([], inl refl, refl)
 start_of true [] = ([], inl refl, refl)
 start_of true (c ∷ cs) = start_by c cs (c == STX) refl
 
--- an STX after a check is dropped, and no other is there
+-- an STX after a check is dropped, and nothing else is
 pub start_read : (after_us : Bool) (start codes : List ℕ) → IsStart after_us start
     → begins (is_octet STX) codes ≡ false → after_start after_us (start ++ codes) ≡ codes
 start_read after_us start codes (inl e) other = rw e (stays after_us)
@@ -177,7 +177,7 @@ start_read after_us start codes (inl e) other = rw e (stays after_us)
     stays false = refl
 start_read after_us start codes (inr e) other = rw (e.0, e.1) refl
 
--- what a record character is not
+-- two codes differ if only one of them is a record character
 pub char_not : (c k : ℕ) → is_record_char c ≡ true → is_record_char k ≡ false → c ≡ k → ⊥
 char_not c k h n e =
     let w : is_record_char c ≡ is_record_char k = ap is_record_char e in let z : true ≡ false =

@@ -20,7 +20,7 @@ use Rattle.bsc_frame.specs.declared.octets.TheConstants.{EM_CODE, STX, SYN}
 use Rattle.bsc_frame.proofs.UnitCodes.{unit_of_reads, ending_cases, ending_no_char, unit_of_read}
 use Rattle.bsc_frame.proofs.UnitCodes.{start_of, start_read, char_not, not_stx}
 
--- what stands after a step that succeeded
+-- what follows a step that succeeded
 pub bind_some : {A B : Type 0} (o : Option A) (f : A → Option B) (y : B) → (o >>= f) ≡ Some y
     → (x : A) × (o ≡ Some x) × (f x ≡ Some y)
 bind_some None f y e = cc
@@ -105,7 +105,7 @@ syn_no_char : is_record_char SYN ≡ false
 unfolding is_record_char
 syn_no_char = refl
 
--- a record character is no SYN and below 128
+-- a record character is not SYN and is below 128
 char_other : (c : ℕ) → is_record_char c ≡ true → IsOther c
 char_other c h = record { code = char_lt c h; other = char_not c SYN h syn_no_char }
 
@@ -115,7 +115,7 @@ char_no_end : (c : ℕ) (b : Bool) → is_ending_code c ≡ b → is_record_char
 char_no_end c true e h = let w : true ≡ false = sym h ∙ ending_no_char c e in cc
 char_no_end c false e h = e
 
--- an ending character is no SYN and below 128
+-- an ending character is not SYN and is below 128
 pub ending_code_other : (e : ℕ) → is_ending_code e ≡ true → IsOther e
 ending_code_other e h = elim (ending_cases e h) [
   | inl k ↦ record { code = omega arith; other = λ z. omega arith }
@@ -135,7 +135,7 @@ run_chars (c ∷ chars) codes h r =
     is_run_cons c (chars ++ codes) (char_other c h.0) (char_no_end c (is_ending_code c) refl h.0)
     (run_chars chars codes h.1 r)
 
--- so are EM, where it is marked, and the ending character
+-- EM, if the unit has it, and the ending character are codes of a unit too
 run_em : (em : Bool) (e : ℕ) → is_ending_code e ≡ true → IsRun (cond em (EM_CODE ∷ []) [] ++ e ∷ [])
 run_em true e h =
     (record { code = lit< tt; other = λ z. omega arith }, refl, (ending_code_other e h, h))

@@ -39,14 +39,14 @@ pub check_is : (s : List ℕ) (k : ℕ)
     → k ≡ odd_octet (longitudinal_sum s)
 check_is s k e = let h : Some (odd_octet (longitudinal_sum s)) ≡ Some k = rw (is_code s) at e in cc
 
--- another octet than the check leaves nothing
+-- if the first octet is not the check, nothing is left
 pub check_wrong : (s octets : List ℕ) → (get_or octets 0 0 ≡ odd_octet (longitudinal_sum s) → ⊥)
     → None ≡ after_check s octets
 check_wrong s [] h = refl
 check_wrong s (x ∷ octets) h =
     rw (test_false (odd_octet (longitudinal_sum s)) x (λ w. h (sym w))) refl
 
--- the check leaves the octets after it
+-- the octets after the check are left
 pub check_right : (s octets : List ℕ) → get_or octets 0 0 ≡ odd_octet (longitudinal_sum s)
     → (length octets ≡ 0 → ⊥)
     → Some (take (length octets - 1) (drop 1 octets)) ≡ after_check s octets
@@ -56,12 +56,12 @@ check_right s (x ∷ octets) h p =
 
 -- ---- all units
 
--- units that were read before
+-- the units that were read before are put before the rest
 abbrev pub before_all : List TextUnit → Option TextValue → Option TextValue
 before_all us None = None
 before_all us (Some t) = Some (record { units = us ++ t.units; end = t.end })
 
--- what the loop keeps
+-- the loop invariant of reading units
 pub record ReadTo (d : Draft) (n : ℕ) (rest s : List ℕ) : Type 0 where
   pub draft : IsDraft d
   pub count : length (draft_units d) ≡ n
@@ -76,7 +76,7 @@ before_more us u None = refl
 before_more us u (Some t) =
     ap (λ z. Some (record { units = z; end = t.end })) (append_assoc us (u ∷ []) t.units)
 
--- what is read where a first unit is read, by its ending character
+-- what is read if a first unit is read, by its ending character
 units_next : (n : ℕ) (after_us : Bool) (s : List ℕ) (u : TextUnit) (e : ℕ) (rest : List ℕ) → 0 < n
     → unit_at after_us s ≡ Some (u, e, rest)
     → units_at n after_us s ≡ cond (e == US_CODE) (before_units u (units_at (n - 1) true rest))
@@ -86,14 +86,14 @@ units_next zero after_us s u e rest p h = absurd (omega arith)
 units_next (suc n) after_us s u e rest p h = let less : suc n - 1 ≡ n = omega arith in
     rw (less, h) refl
 
--- without a first unit there is no text
+-- if there is no first unit, there is no text
 pub units_stop : (n : ℕ) (after_us : Bool) (s : List ℕ) → unit_at after_us s ≡ None
     → units_at n after_us s ≡ None
 unfolding units_at
 units_stop zero after_us s h = refl
 units_stop (suc n) after_us s h = rw h refl
 
--- without a next unit the whole is no text
+-- if there is no next unit, the whole is no text
 pub read_stop : (d : Draft) (count : ℕ) (rest s : List ℕ) → ReadTo d count rest s
     → unit_at (nat_lt 0 count) rest ≡ None → None ≡ units_at MAX_UNITS false s
 read_stop d count rest s r h =
@@ -133,7 +133,7 @@ read_last d new count e rest more s r l t us =
     ∙ rw (test_false e US_CODE us) refl in
     ap (before_all (draft_units d)) (sym next) ∙ r.same
 
--- octets after the last unit leave no text
+-- if octets follow the last unit, there is no text
 pub read_extra : (d new : Draft) (count e : ℕ) (rest more s : List ℕ) → ReadTo d count rest s
     → count < MAX_UNITS → TakesUnit d new (unit_at (nat_lt 0 count) rest) e more → (e ≡ US_CODE → ⊥)
     → (length more ≡ 0 → ⊥) → None ≡ units_at MAX_UNITS false s
@@ -156,7 +156,7 @@ read_whole d new count e rest [] s end r l t us p q = record {
   some = omega (arith, ap length t.units, length-append (draft_units d) (t.unit ∷ []));
 }
 
--- what stands after a unit is odd as it was
+-- what follows a unit has odd parity too
 pub rest_odd : (after_us : Bool) (s : List ℕ) (u : TextUnit) (e : ℕ) (rest : List ℕ) → All IsOdd s
     → unit_at after_us s ≡ Some (u, e, rest) → All IsOdd rest
 rest_odd after_us s u e rest h r =

@@ -29,12 +29,12 @@ all_small : (chars : List ℕ) → AllByRecursion (λ c. IsTrue (is_record_char 
 all_small [] h = tt
 all_small (c ∷ chars) h = (char_lt c h.0, all_small chars h.1)
 
--- so is EM
+-- EM is a code of seven bits
 em_small : (b : Bool) → All (λ c. c < 128) (cond b (EM_CODE ∷ []) [])
 em_small true = All-cons (λ c. c < 128) EM_CODE [] (lit< tt) (All-nil (λ c. c < 128))
 em_small false = All-nil (λ c. c < 128)
 
--- so are all codes of a unit
+-- all codes of a unit are codes of seven bits
 codes_small : (u : TextUnit) (e : ℕ) → IsUnit u → e < 128 → All (λ c. c < 128) (unit_codes u e)
 codes_small u e h l =
     All-append (λ c. c < 128) (u.chars ++ cond u.em (EM_CODE ∷ []) []) (e ∷ [])
@@ -137,7 +137,7 @@ drop_get [] i u e = cc
 drop_get (v ∷ us) zero u e = let h : v ≡ u = cc in ap (λ z. z ∷ us) h
 drop_get (v ∷ us) (suc i) u e = drop_get us i u e
 
--- and so are the octets that are sent for it
+-- the octets that are sent from a place on are those of the unit there and of what is left after it
 wire_split : (us : List TextUnit) (i : ℕ) (u : TextUnit) (end : End) → slice_get us i ≡ Some u
     → units_wire (drop i us) end ≡ unit_wire u (ending (drop (i + 1) us) end)
     ++ units_wire (drop (i + 1) us) end
@@ -158,7 +158,7 @@ wire_long : (us : List TextUnit) (end : End) → length us ≤ MAX_UNITS → All
     → length (units_wire us end) ≤ MAX_UNITS * MAX_UNIT_SENT
 wire_long us end l h = omega (arith, length_units_wire us end h)
 
--- so there is room for one more of them
+-- there is room for one unit more
 pub wire_room : (w first : List ℕ) (us : List TextUnit) (i : ℕ) (u : TextUnit) (end : End)
     → slice_get us i ≡ Some u → length first ≤ 3 → length us ≤ MAX_UNITS → AllByRecursion IsUnit us
     → w ++ units_wire (drop i us) end ≡ first ++ units_wire us end
@@ -174,7 +174,7 @@ wire_room w first us i u end e short few all h =
       length-append (unit_wire u (ending (drop (i + 1) us) end)) (units_wire (drop (i + 1) us) end),
     )
 
--- and for one octet after all of them
+-- there is room for one octet after all units
 pub wire_short : (w first : List ℕ) (us : List TextUnit) (i : ℕ) (end : End) → length first ≤ 3
     → length us ≤ MAX_UNITS → AllByRecursion IsUnit us
     → w ++ units_wire (drop i us) end ≡ first ++ units_wire us end → length w < MAX_SENT

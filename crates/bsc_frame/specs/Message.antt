@@ -14,14 +14,15 @@ abbrev pub first_wrong : Option ℕ → List ℕ → Result (List ℕ) AddressEr
 first_wrong None codes = Ok codes
 first_wrong (Some place) codes = Err (BadChar place)
 
--- The address that codes are, or why they are none: no code, more than seven, a wrong one (own).
+-- The address that the codes are, or why they are none: there is no code, there are more than
+-- seven, or one is wrong.
 abbrev pub read_address : List ℕ → Result (List ℕ) AddressError
 read_address codes =
     if length codes == 0 then Err Empty
     else if nat_lt MAX_ADDRESS (length codes) then Err TooLong
     else first_wrong (position (λ c. not (is_address_code c)) codes) codes
 
--- A message within its limits: a call has an address, a text is one of 1 to 7 units.
+-- A message within its limits: a call has an address, and a text has 1 to 7 units.
 abbrev pub IsMessage : Message → Type 0
 IsMessage Eot = Unit {0}
 IsMessage (Call a) = IsAddress a

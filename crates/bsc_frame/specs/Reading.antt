@@ -1,4 +1,4 @@
--- What octets read as, found from left to right.
+-- What octets are read as, from left to right.
 use Rattle.std.specs.Prelude.{ℕ, ◌-◌, ◌%◌, ◌==◌, ◌||◌, ◌&&◌, not, Bool, true, false, zero, suc}
 use Rattle.std.specs.Prelude.{nat_lt, take, if◌then◌else◌, List, [], ◌∷◌, ◌++◌, ◌≡◌, length, drop}
 use Rattle.std.specs.Prelude.{Option, Some, None, Result, Ok, Err, option_and_then}
@@ -20,7 +20,7 @@ use Rattle.bsc_frame.specs.declared.message.Heard.TheVariants.{Whole, Failed, No
 use Rattle.bsc_frame.specs.declared.octets.TheConstants.{EM_CODE, ENQ, EOT, ETB, ETB_CODE, ETX}
 use Rattle.bsc_frame.specs.declared.octets.TheConstants.{ETX_CODE, PAD, STX, SYN, US, US_CODE}
 
--- what stands after the front of octets that pass the test
+-- What follows the octets at the front that pass the test.
 unfoldable pub skip : (ℕ → Bool) → List ℕ → List ℕ
 skip test [] = []
 skip test (x ∷ xs) = if test x then skip test xs else x ∷ xs
@@ -31,21 +31,21 @@ is_pad_octet x = (x == 0x55) || (x == 0xaa)
 abbrev pub is_octet : ℕ → ℕ → Bool
 is_octet octet x = x == octet
 
--- one of two octets
+-- Whether an octet is one of two.
 abbrev pub is_either : ℕ → ℕ → ℕ → Bool
 is_either one other x = (x == one) || (x == other)
 
--- x before what is left of the rest
+-- An octet in front of the rest; it is dropped if it is a PAD and the rest is empty.
 abbrev pub before_rest : ℕ → List ℕ → List ℕ
 before_rest x [] = if x == PAD then [] else x ∷ []
 before_rest x (y ∷ ys) = x ∷ y ∷ ys
 
--- without the PAD at the end
+-- The octets without PAD at their end.
 unfoldable pub trimmed : List ℕ → List ℕ
 trimmed [] = []
 trimmed (x ∷ xs) = before_rest x (trimmed xs)
 
--- nothing may follow the ENQ
+-- Nothing may follow the ENQ.
 abbrev pub at_end : List ℕ → Option (List ℕ)
 at_end [] = Some []
 at_end (x ∷ xs) = None
@@ -55,7 +55,7 @@ with_code None codes = None
 with_code (Some c) None = None
 with_code (Some c) (Some codes) = Some (c ∷ codes)
 
--- the codes up to an ENQ at the end, at most as many as there is room for
+-- The codes up to an ENQ that ends the octets, at most as many as there is room for.
 unfoldable pub called : ℕ → List ℕ → Option (List ℕ)
 called room [] = None
 called room (x ∷ xs) =
@@ -67,26 +67,26 @@ abbrev pub call_to : Result (List ℕ) AddressError → Option Message
 call_to (Ok a) = Some (Call a)
 call_to (Err e) = None
 
--- the call of the address that octets carry, up to their ENQ
+-- The call of the address that the octets carry, up to their ENQ.
 abbrev pub call_of : List ℕ → Option Message
 call_of octets =
     option_and_then (λ codes. call_to (read_address codes)) (called MAX_ADDRESS octets)
 
--- a call, after its EOT
+-- The call, from the octets after its EOT.
 unfoldable pub call : List ℕ → Option Message
 call rest = call_of (skip (is_octet SYN) (skip (is_octet PAD) rest))
 
--- whether the first octet is there and passes
+-- Whether there is a first octet and it passes the test.
 abbrev pub begins : (ℕ → Bool) → List ℕ → Bool
 begins test [] = false
 begins test (x ∷ xs) = test x
 
--- the reply that a body spells, or else the call that it is
+-- The reply that a body spells, or else the call that it is.
 abbrev pub reply_or_call : Option ReplyValue → List ℕ → Option Message
 reply_or_call (Some r) body = Some (Reply r)
 reply_or_call None body = if begins (is_octet EOT) body then call (drop 1 body) else None
 
--- a body that is no text
+-- The message of a body that is not a text.
 unfoldable pub control : List ℕ → Option Message
 control body =
     if bytes_eq body (EOT ∷ []) then Some Eot
@@ -104,27 +104,27 @@ abbrev pub ◌>>=◌ : {A B : Type 0} → Option A → (A → Option B) → Opti
 None >>= f = None
 (Some x) >>= f = f x
 
--- US, ETB or ETX
+-- Whether a code is US, ETB or ETX.
 abbrev pub is_ending_code : ℕ → Bool
 is_ending_code c = (c == US_CODE) || ((c == ETB_CODE) || (c == ETX_CODE))
 
--- the octets that carry US, ETB and ETX
+-- Whether an octet carries US, ETB or ETX.
 abbrev pub is_ending_octet : ℕ → Bool
 is_ending_octet x = (x == US) || ((x == ETB) || (x == ETX))
 
--- any other octet
+-- Whether an octet carries none of these.
 abbrev pub is_before_ending : ℕ → Bool
 is_before_ending x = not (is_ending_octet x)
 
--- the code of an octet with odd parity
+-- The code of an octet with odd parity.
 abbrev pub low_bits : ℕ → ℕ
 low_bits x = x % 128
 
--- any octet but SYN
+-- Whether an octet is not SYN.
 abbrev pub is_other : ℕ → Bool
 is_other x = not (x == SYN)
 
--- an octet that carries a record character
+-- Whether an octet carries a record character.
 abbrev pub is_char_octet : ℕ → Bool
 is_char_octet x = is_record_char (low_bits x)
 
@@ -137,8 +137,8 @@ gather_code None rest more = None
 gather_code (Some c) rest more =
     if is_ending_code c then Some (c ∷ [], rest) else before_gathered c more
 
--- The codes up to the first ending character, without SYN, and the octets after it: at most as many
--- codes as there is room for.
+-- The codes up to the first ending character, without SYN, and the octets after it. There are at
+-- most as many codes as there is room for.
 unfoldable pub gathered : ℕ → List ℕ → Option (List ℕ × List ℕ)
 gathered room [] = None
 gathered room (x ∷ xs) =
@@ -146,17 +146,17 @@ gathered room (x ∷ xs) =
     else if room == 0 then None
     else gather_code (code_of x) xs (gathered (room - 1) xs)
 
--- the octets after the check of the codes
+-- The octets after the check of the codes, if the check is right.
 abbrev pub after_check : List ℕ → List ℕ → Option (List ℕ)
 after_check codes [] = None
 after_check codes (k ∷ rest) = if odd_octet (longitudinal_sum codes) == k then Some rest else None
 
--- the codes without an STX after a check
+-- The codes without an STX at their front, if they follow the check of a unit with US.
 abbrev pub after_start : Bool → List ℕ → List ℕ
 after_start after_us codes =
     if after_us && begins (is_octet STX) codes then drop 1 codes else codes
 
--- the unit of these characters with its ending character, by what stands after the characters
+-- The unit of these characters and its ending character, by the codes that follow the characters.
 abbrev pub unit_of_tail : List ℕ → List ℕ → Option (TextUnit × ℕ)
 unit_of_tail chars [] = None
 unit_of_tail chars (e ∷ []) = Some (record { chars = chars; em = false }, e)
@@ -171,26 +171,27 @@ read_unit codes =
     unit_of_tail (take (prefix_len is_record_char codes) codes)
     (drop (prefix_len is_record_char codes) codes)
 
--- octets of which the last carries an ending character
+-- Octets of which the last carries an ending character.
 pub record IsFront (octets : List ℕ) : Type 0 where
   pub front : List ℕ
   pub last : ℕ
   pub whole : octets ≡ front ++ last ∷ []
   pub ends : is_ending_octet last ≡ true
 
--- characters, EM where it is marked, and one octet more
+-- The octets are the characters, EM if the unit has it, and one octet more.
 pub record AreParts (octets chars : List ℕ) (em : Bool) (last : ℕ) : Type 0 where
   pub whole : octets ≡ chars ++ (if em then EM_CODE ∷ [] else []) ++ last ∷ []
   pub no_em : em ≡ false → (front : List ℕ) → chars ≡ front ++ EM_CODE ∷ [] → ⊥
 
--- the unit of the codes before these octets, its ending character, and the octets after its check
+-- The unit of these codes, its ending character, and the octets after its check, which comes first
+-- in the octets.
 abbrev pub unit_before : Bool → List ℕ → List ℕ → Option (TextUnit × ℕ × List ℕ)
 unit_before after_us codes octets = do
   rest ← after_check codes octets
   u ← read_unit (after_start after_us codes)
   Some (u.0, u.1, rest)
 
--- the first unit, its ending character, and the octets after its check
+-- The first unit, its ending character, and the octets after its check.
 unfoldable pub unit_at : Bool → List ℕ → Option (TextUnit × ℕ × List ℕ)
 unit_at after_us octets = do
   g ← gathered MAX_UNIT_CODES octets
@@ -200,12 +201,12 @@ abbrev pub before_units : TextUnit → Option TextValue → Option TextValue
 before_units u None = None
 before_units u (Some t) = Some (record { units = u ∷ t.units; end = t.end })
 
--- nothing may follow the last unit
+-- Nothing may follow the last unit.
 abbrev pub last_unit : TextUnit → ℕ → List ℕ → Option TextValue
 last_unit u e [] = Some (record { units = u ∷ []; end = if e == ETB_CODE then Etb else Etx })
 last_unit u e (x ∷ xs) = None
 
--- at most this many units
+-- The text of at most this many units.
 unfoldable pub units_at : ℕ → Bool → List ℕ → Option TextValue
 units_at zero after_us octets = None
 units_at (suc n) after_us octets = do
@@ -216,13 +217,13 @@ abbrev pub whole_or_failed : Option TextValue → Heard
 whole_or_failed (Some t) = Whole (Text t)
 whole_or_failed None = Failed
 
--- what a body is heard as
+-- What a body is heard as.
 unfoldable pub heard_body : List ℕ → Heard
 heard_body body =
     if begins (is_octet STX) body then whole_or_failed (units_at MAX_UNITS false (drop 1 body))
     else whole_or_noise (control body)
 
--- what is heard of what stands after the leading pads
+-- What is heard, from the octets after the leading pads.
 abbrev pub heard_from_syn : List ℕ → Heard
 heard_from_syn rest =
     if begins (is_octet SYN) rest then heard_body (trimmed (skip (is_octet SYN) rest)) else Noise

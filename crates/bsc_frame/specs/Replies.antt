@@ -1,5 +1,5 @@
--- The replies of a receiver, a line each: the octets that carry one, between SYN and PAD, and its
--- name (GA27-3004: control characters and sequences in USASCII).
+-- The replies of a receiver, one on each line: the octets that carry it, between SYN and PAD, and
+-- its name (GA27-3004: control characters and sequences in USASCII).
 use Rattle.std.specs.Prelude.{ℕ, List, [], ◌∷◌, Option, Some, None, if◌then◌else◌, codes}
 use Rattle.std.specs.Str.{bytes_eq}
 use Rattle.bsc_frame.specs.declared.octets.TheConstants.{ACK0, ACK1, NAK, WACK, RVI}

@@ -1,4 +1,4 @@
--- What is heard that does not begin as a text (own).
+-- What octets that do not begin as a text are heard as.
 use Rattle.std.specs.Prelude.{◌≡◌, ◌⊎◌, ◌↔◌, List, ℕ}
 use Rattle.bsc_frame.specs.Texts.{TextValue}
 use Rattle.bsc_frame.specs.Spells.{Spells, IsFailed, IsNoise}
@@ -9,7 +9,7 @@ use Rattle.bsc_frame.specs.declared.message.Heard.TheVariants.{Whole, Failed, No
 use Rattle.bsc_frame.specs.declared.short.Short.{Short}
 use Rattle.bsc_frame.specs.declared.short.Short.TheVariants as short
 
--- what is heard, where it was told as a short message or noise
+-- What is heard, from the short message or noise that was decoded.
 abbrev pub heard_as : Short → Heard
 heard_as short.Eot = Whole Eot
 heard_as (short.Call a) = Whole (Call a)
@@ -17,12 +17,12 @@ heard_as short.Enq = Whole Enq
 heard_as (short.Reply r) = Whole (Reply r)
 heard_as short.Noise = Noise
 
--- the octets are heard as this, by what they spell
+-- The octets are heard as this, by what they spell.
 pub record IsHeard (octets : List ℕ) (h : Heard) : Type 0 where
   pub whole : (m : Message) → (h ≡ Whole m) ↔ Spells octets m
   pub failed : (h ≡ Failed) ↔ IsFailed octets
   pub noise : (h ≡ Noise) ↔ IsNoise octets
 
--- the octets spell a text, or begin as one and spell nothing
+-- The octets spell a text, or begin as one and spell nothing.
 abbrev pub BeginsText : List ℕ → Type 0
 BeginsText octets = ((t : TextValue) × Spells octets (Text t)) ⊎ IsFailed octets

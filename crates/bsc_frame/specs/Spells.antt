@@ -1,6 +1,6 @@
--- Which octets spell a message: what is sent for it, and what other equipment may send in its
--- place, with other pads and fills (GA27-3004: synchronization, pads and SYN time fill; how far
--- each is accepted is own).
+-- The octets that spell a message: those that are sent for it, and those that other equipment may
+-- send in their place, with other pads and fill (GA27-3004: synchronization, pads and SYN time
+-- fill). How far each is accepted is this project's own.
 use Rattle.std.specs.Prelude.{◌≡◌, ◌≢◌, ◌⊎◌, ℕ, ◌≤◌, Bool, true, false, List, [], ◌∷◌, ◌++◌, length}
 use Rattle.std.specs.Prelude.{map}
 use Rattle.std.specs.List.{AllByRecursion}
@@ -17,7 +17,7 @@ use Rattle.bsc_frame.specs.declared.message.Heard.{Heard}
 use Rattle.bsc_frame.specs.declared.message.Heard.TheVariants.{Whole, Failed, Noise}
 use Rattle.bsc_frame.specs.declared.octets.TheConstants.{ENQ, EOT, PAD, STX, SYN}
 
--- Leading pads: only octets 55 and AA (GA27-3004: pad format).
+-- Leading pads: any number of octets 0x55 and 0xaa (GA27-3004: pad format).
 abbrev pub ArePads : List ℕ → Type 0
 ArePads = AllByRecursion (λ x. (x ≡ 0x55) ⊎ (x ≡ 0xaa))
 
@@ -25,8 +25,8 @@ ArePads = AllByRecursion (λ x. (x ≡ 0x55) ⊎ (x ≡ 0xaa))
 abbrev pub AreAll : ℕ → List ℕ → Type 0
 AreAll octet = AllByRecursion (λ x. x ≡ octet)
 
--- The body of a call: EOT, any PAD, any SYN, the address with odd parity, ENQ (GA27-3004: polling
--- and selection).
+-- The body of a call: EOT, any number of PAD, any number of SYN, the address with odd parity, ENQ
+-- (GA27-3004: polling and selection).
 pub record IsCall (a body : List ℕ) : Type 0 where
   pub pads : List ℕ
   pub syns : List ℕ
@@ -35,22 +35,22 @@ pub record IsCall (a body : List ℕ) : Type 0 where
   pub are_syns : AreAll SYN syns
   pub address : IsAddress a
 
--- Codes with odd parity, each preceded by any SYN, which are fill and in no sum (GA27-3004: SYN
--- time fill).
+-- Codes with odd parity, each preceded by any number of SYN, which are fill and are not summed
+-- (GA27-3004: SYN time fill).
 abbrev pub AreFilled : List ℕ → List ℕ → Type 0
 AreFilled [] octets = octets ≡ []
 AreFilled (c ∷ cs) octets =
     (fill rest : List ℕ) × AreAll SYN fill × (octets ≡ fill ++ odd_octet c ∷ rest)
     × AreFilled cs rest
 
--- What may stand before the codes of a unit and in its sum: nothing, and after the check of a US
--- one STX.
+-- What may stand before the codes of a unit and is summed with them: nothing, or one STX after the
+-- check of a unit with US.
 abbrev pub IsStart : Bool → List ℕ → Type 0
 IsStart after_us start = (start ≡ []) ⊎ ((after_us ≡ true) × (start ≡ STX ∷ []))
 
--- The units of a text: for each its codes with fills, and at once, without fill, the check of these
--- codes. An STX after the check of a US is the first code of the next sum (GA27-3004: intermediate
--- text blocks).
+-- The units of a text: the codes of each with fill, followed immediately by their check. An STX
+-- after the check of a unit with US is the first code of the next sum (GA27-3004: intermediate text
+-- blocks).
 abbrev pub AreUnits : Bool → List TextUnit → End → List ℕ → Type 0
 AreUnits after_us [] end octets = octets ≡ []
 AreUnits after_us (u ∷ us) end octets =
@@ -67,7 +67,7 @@ pub record IsTextBody (t : TextValue) (body : List ℕ) : Type 0 where
   pub units : AreUnits false t.units t.end rest
   pub text : IsText t
 
--- The body of a message, a line each.
+-- The body of each message, one on each line.
 abbrev pub IsBody : Message → List ℕ → Type 0
 IsBody Eot body = body ≡ EOT ∷ []
 IsBody (Call a) body = IsCall a body
@@ -75,7 +75,7 @@ IsBody Enq body = body ≡ ENQ ∷ []
 IsBody (Reply r) body = body ≡ reply_octets r
 IsBody (Text t) body = IsTextBody t body
 
--- A transmission that carries a body: leading pads, at least one SYN, the body, any PAD.
+-- A transmission that carries a body: leading pads, at least one SYN, the body, any number of PAD.
 pub record Carries (octets body : List ℕ) : Type 0 where
   pub pads : List ℕ
   pub syns : List ℕ
@@ -86,27 +86,27 @@ pub record Carries (octets body : List ℕ) : Type 0 where
   pub some_syn : syns ≢ []
   pub are_trail : AreAll PAD trail
 
--- The octets spell the message: they carry its body, and are at most MAX_HEARD (the limit is own).
+-- The octets spell the message: they carry its body, and they are at most MAX_HEARD.
 pub record Spells (octets : List ℕ) (m : Message) : Type 0 where
   pub small : length octets ≤ MAX_HEARD
   pub body : List ℕ
   pub carried : Carries octets body
   pub is_body : IsBody m body
 
--- The octets failed as a text: they begin with STX after SYN, and spell no message (GA27-3004: a
--- text whose check or form failed is answered by NAK).
+-- The octets failed as a text: they begin with STX after SYN, and spell no message. GA27-3004
+-- answers a text whose check or form failed with NAK.
 pub record IsFailed (octets : List ℕ) : Type 0 where
   pub small : length octets ≤ MAX_HEARD
   pub rest : List ℕ
   pub carried : Carries octets (STX ∷ rest)
   pub none : (m : Message) → Spells octets m → ⊥
 
--- Noise: the octets spell no message and have not failed as a text.
+-- Noise: the octets spell no message and did not fail as a text.
 abbrev pub IsNoise : List ℕ → Type 0
 IsNoise octets = ((m : Message) → Spells octets m → ⊥) × (IsFailed octets → ⊥)
 
 -- What octets are heard as: the message that they spell, a text whose check or form failed, or
--- noise. One of them holds of all octets, and no octets spell two messages.
+-- noise. Exactly one of these holds for any octets, and no octets spell two messages.
 abbrev pub IsHeardAs : List ℕ → Heard → Type 0
 IsHeardAs octets (Whole m) = Spells octets m
 IsHeardAs octets Failed = IsFailed octets

@@ -1,5 +1,5 @@
--- Proofs that the comparison of two texts tells exactly whether they are the same. They stand in
--- specs since the laws of `==` cite them, and these cite nothing of proofs.
+-- Proofs that the comparison of two texts decides whether they are the same. They stand in specs
+-- because the laws of `==` cite them, and those laws cite nothing in proofs.
 use Rattle.std.specs.Prelude.{◌≡◌, Bool, true, false, ◌&&◌, ◌==◌, refl}
 use Rattle.std.proofs.Common.{sym, ap}
 use Rattle.std.specs.Bool.{Decides, one_answer, beq}
@@ -11,7 +11,7 @@ use Rattle.bsc_frame.specs.Same.{is_same_unit, is_same_text}
 use Rattle.bsc_frame.specs.declared.text.End.{End}
 use Rattle.bsc_frame.specs.declared.text.End.TheVariants.{Etb, Etx}
 
--- a test that tells exactly whether two values are the same is an equivalence
+-- A test that decides whether two values are the same is an equivalence.
 pub equivalence : {K : Type 0} (E : K → K → Bool) → ((x y : K) → Decides (E x y) (x ≡ y))
     → IsEquivalence E
 equivalence E d =
@@ -23,13 +23,13 @@ equivalence E d =
       congr = λ x y z e. ap (λ k. E k z) ((d x y).0 e);
     }
 
--- two tests together tell what follows from both and gives both
+-- Two tests together decide a statement that follows from both of theirs and implies both.
 pub both_true : {P Q R : Type 0} (s t : Bool) → Decides s P → Decides t Q
     → (P → Q → R) → (R → P) → (R → Q) → Decides (s && t) R
 both_true true t p q join first second = (λ e. join (p.0 refl) (q.0 e), λ r. q.1 (second r))
 both_true false t p q join first second = (λ e. absurd (cc), λ r. p.1 (first r))
 
--- the comparison of units, of ends and of texts tells exactly whether they are the same
+-- The comparison of units, of ends and of texts decides whether they are the same.
 unit_decides : (a b : TextUnit) → Decides (is_same_unit a b) (a ≡ b)
 unit_decides a b =
     both_true (pointwise ◌==◌ a.chars b.chars) (beq a.em b.em) (bytes_decides a.chars b.chars)

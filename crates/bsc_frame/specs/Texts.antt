@@ -1,4 +1,4 @@
--- Texts, by the list of their units.
+-- Texts, as lists of units.
 use Rattle.std.specs.Prelude.{◌≡◌, ℕ, zero, suc, ◌<◌, ◌≤◌, Bool, IsTrue, List, [], ◌∷◌, length}
 use Rattle.std.specs.Prelude.{slice_range}
 use Rattle.std.specs.List.{AllByRecursion}
@@ -7,40 +7,40 @@ use Rattle.bsc_frame.specs.declared.limits.TheConstants.{MAX_UNITS, MAX_CHARS}
 use Rattle.bsc_frame.specs.declared.text.End.{End}
 use Rattle.bsc_frame.specs.declared.text.Mark.{Mark}
 
--- a unit of a text: its characters, and whether EM follows them
+-- A unit of a text: its characters, and whether EM follows them.
 pub record TextUnit : Type 0 where
   pub chars : List ℕ
   pub em : Bool
 
--- the units of a text, and the character that ends the last of them
+-- A text: its units, and the character that ends the last of them.
 pub record TextValue : Type 0 where
   pub units : List TextUnit
   pub end : End
 
--- at most 144 record characters
+-- A unit within its limits: at most 144 record characters.
 pub record IsUnit (u : TextUnit) : Type 0 where
   pub most : length u.chars ≤ MAX_CHARS
   pub each : AllByRecursion (λ c. IsTrue (is_record_char c)) u.chars
 
--- 1 to 7 units
+-- A text within its limits: 1 to 7 units.
 pub record IsText (t : TextValue) : Type 0 where
   pub some : 0 < length t.units
   pub most : length t.units ≤ MAX_UNITS
   pub each : AllByRecursion IsUnit t.units
 
--- the units of a buffer of characters, by the marks at their ends
+-- The units of a buffer of characters, by the marks at their ends.
 abbrev pub units_from : ℕ → List Mark → List ℕ → List TextUnit
 units_from start [] chars = []
 units_from start (m ∷ ms) chars =
     record { chars = slice_range chars start m.end; em = m.em } ∷ units_from m.end ms chars
 
--- where a unit begins: at the end of the one before it
+-- Where a unit begins: at the end of the unit before it.
 abbrev pub start_before : ℕ → List Mark → ℕ → ℕ
 start_before start ms zero = start
 start_before start [] (suc place) = start
 start_before start (m ∷ ms) (suc place) = start_before m.end ms place
 
--- the marks go up to the end of the characters
+-- The marks are in order and end at the end of the characters.
 abbrev pub AreMarked : ℕ → List Mark → List ℕ → Type 0
 AreMarked start [] chars = start ≡ length chars
 AreMarked start (m ∷ ms) chars = (start ≤ m.end) × (m.end ≤ length chars) × AreMarked m.end ms chars
@@ -48,7 +48,7 @@ AreMarked start (m ∷ ms) chars = (start ≤ m.end) × (m.end ≤ length chars)
 abbrev pub marked_text : List Mark → List ℕ → End → TextValue
 marked_text marks chars end = record { units = units_from 0 marks chars; end = end }
 
--- a buffer that holds a whole text
+-- A buffer that holds a whole text.
 pub record HoldsText (marks : List Mark) (chars : List ℕ) (end : End) : Type 0 where
   pub marked : AreMarked 0 marks chars
   pub text : IsText (marked_text marks chars end)

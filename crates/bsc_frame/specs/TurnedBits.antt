@@ -1,5 +1,5 @@
--- Octets of which one was changed on the line, as noise does it (GA27-3004: VRC and LRC checking;
--- which changes are found is own).
+-- Octets of which one was changed on the line, as noise does (GA27-3004: VRC and LRC checking). The
+-- cases, and which changes are detected, are this project's own.
 use Rattle.std.specs.Prelude.{◌≡◌, ◌≢◌, ◌⊎◌, ℕ, ◌^◌, ◌%◌, ◌<◌, true, false, List, [], ◌∷◌}
 use Rattle.std.specs.Prelude.{slice_index, slice_set, bit_xor, count_ones}
 use Rattle.bsc_octet.specs.Octet.{IsOdd}
@@ -10,11 +10,11 @@ use Rattle.bsc_frame.specs.declared.message.Message.TheVariants.{Call, Text}
 use Rattle.bsc_frame.specs.declared.text.End.TheVariants.{Etx}
 use Rattle.bsc_frame.specs.declared.octets.TheConstants.{PAD, SYN}
 
--- The octets with another octet at the place.
+-- The octets with the octet at the place replaced.
 abbrev pub with_octet : ℕ → ℕ → List ℕ → List ℕ
 with_octet place octet octets = slice_set octets place octet
 
--- An octet with this bit turned, 0 for the lowest: 0 becomes 1, and 1 becomes 0.
+-- An octet with this bit turned, from 0 for the lowest: 0 becomes 1, and 1 becomes 0.
 abbrev pub turned : ℕ → ℕ → ℕ
 turned bit octet = bit_xor octet (2 ^ bit)
 
@@ -22,7 +22,7 @@ turned bit octet = bit_xor octet (2 ^ bit)
 abbrev pub with_turned_bit : ℕ → ℕ → List ℕ → List ℕ
 with_turned_bit place bit octets = with_octet place (turned bit (slice_index octets place)) octets
 
--- One of two octets has an odd number of ones, and the other an even number.
+-- One of the two octets has an odd number of ones, and the other an even number.
 abbrev pub HaveOtherParity : ℕ → ℕ → Type 0
 HaveOtherParity a b = count_ones a % 2 ≢ count_ones b % 2
 
@@ -34,7 +34,7 @@ IsSomeCall m = (a : List ℕ) × (m ≡ Call a)
 abbrev pub IsSomeText : Message → Type 0
 IsSomeText m = (t : TextValue) × (m ≡ Text t)
 
--- An octet that may stand in the body of a message: one of odd parity, and in a call also PAD.
+-- An octet that may stand in the body of a message: one of odd parity, or PAD in a call.
 abbrev pub IsBodyOctet : Message → ℕ → Type 0
 IsBodyOctet m octet = IsOdd octet ⊎ (IsSomeCall m × (octet ≡ PAD))
 
@@ -42,7 +42,7 @@ IsBodyOctet m octet = IsOdd octet ⊎ (IsSomeCall m × (octet ≡ PAD))
 abbrev pub IsLeadingPad : ℕ → ℕ → Type 0
 IsLeadingPad place octet = (place ≡ 0) × ((octet ≡ 0x55) ⊎ (octet ≡ 0xaa))
 
--- In a call, SYN in place of the PAD after EOT, or PAD in place of the SYN after that.
+-- In a call, SYN in place of the PAD after EOT, or PAD in place of the SYN after that PAD.
 abbrev pub IsCallFill : ℕ → ℕ → Type 0
 IsCallFill place octet = ((place ≡ 3) × (octet ≡ SYN)) ⊎ ((place ≡ 4) × (octet ≡ PAD))
 
@@ -50,7 +50,7 @@ IsCallFill place octet = ((place ≡ 3) × (octet ≡ SYN)) ⊎ ((place ≡ 4) �
 abbrev pub IsFillIn : Message → ℕ → ℕ → Type 0
 IsFillIn m place octet = IsLeadingPad place octet ⊎ (IsSomeCall m × IsCallFill place octet)
 
--- A text of one unit of two characters with its mark.
+-- A text of one unit of two characters and EM.
 abbrev pub two_chars : ℕ → ℕ → Message
 two_chars c d = Text (record { units = record { chars = c ∷ d ∷ []; em = true } ∷ []; end = Etx })
 
@@ -58,7 +58,7 @@ two_chars c d = Text (record { units = record { chars = c ∷ d ∷ []; em = tru
 abbrev pub with_ends_turned : ℕ → List ℕ → List ℕ
 with_ends_turned place octets = with_turned_bit place 0 (with_turned_bit place 7 octets)
 
--- Another octet with odd parity in place of one: neither ends a unit, and the new one is not SYN.
+-- An octet of odd parity that replaces another: neither ends a unit, and the new one is not SYN.
 pub record IsOtherOctet (old new : ℕ) : Type 0 where
   pub octet : new < 256
   pub odd : IsOdd new

@@ -8,27 +8,27 @@ use Rattle.bsc_frame.specs.declared.text.End.TheVariants.{Etb, Etx}
 use Rattle.bsc_frame.specs.declared.text.Unit.{Unit as Lent}
 use Rattle.bsc_frame.specs.declared.octets.TheConstants.{EM_CODE, ETB_CODE, ETX_CODE, US_CODE}
 
--- A lent unit, by its characters and mark.
+-- A lent unit, as its characters and whether EM follows them.
 abbrev pub text_unit : Lent → TextUnit
 text_unit u = record { chars = u.chars.now; em = u.em }
 
--- The ending character of a text: ETB where more blocks follow, else ETX.
+-- The ending character of a text: ETB if more blocks follow, else ETX.
 abbrev pub end_code : End → ℕ
 end_code Etb = ETB_CODE
 end_code Etx = ETX_CODE
 
--- The ending character of a unit that stands before these: US for each unit but the last.
+-- The ending character of a unit that stands before these: US for every unit but the last.
 abbrev pub ending : List TextUnit → End → ℕ
 ending [] end = end_code end
 ending (u ∷ us) end = US_CODE
 
--- The codes of a unit: its characters, EM where it is marked, its ending character. These are in
--- its check.
+-- The codes of a unit, which its check covers: its characters, EM if the unit has it, its ending
+-- character.
 abbrev pub unit_codes : TextUnit → ℕ → List ℕ
 unit_codes u e = u.chars ++ (if u.em then EM_CODE ∷ [] else []) ++ e ∷ []
 
 -- What is sent for a unit: each of its codes with odd parity, then the check octet, which is the
--- longitudinal sum of the codes, itself with odd parity.
+-- longitudinal sum of the codes with odd parity.
 abbrev pub unit_wire : TextUnit → ℕ → List ℕ
 unit_wire u e = map odd_octet (unit_codes u e) ++ odd_octet (longitudinal_sum (unit_codes u e)) ∷ []
 

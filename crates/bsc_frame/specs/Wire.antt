@@ -12,8 +12,8 @@ use Rattle.bsc_frame.specs.declared.octets.TheConstants.{ENQ, EOT, PAD, STX, SYN
 abbrev pub framed : List ℕ → List ℕ
 framed body = SYN ∷ SYN ∷ [] ++ body ++ PAD ∷ []
 
--- What is sent for a message, a line each. A call is EOT with its PAD, two SYN, the address and
--- ENQ.
+-- What is sent for each message, one on each line. A call is EOT with its PAD, two SYN, the address
+-- and ENQ.
 abbrev pub wire : Message → List ℕ
 wire Eot = framed (EOT ∷ [])
 wire (Call a) = framed (EOT ∷ PAD ∷ SYN ∷ SYN ∷ [] ++ map odd_octet a ++ ENQ ∷ [])

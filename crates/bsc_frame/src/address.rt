@@ -17,10 +17,10 @@ use std::hash::{Hash, Hasher};
 use std::marker::Model;
 use thiserror::Error;
 
-/// Why codes are no address.
+/// Why codes are not an address.
 #[derive(Clone, Copy, Debug, PartialEq, Eq, Error)]
 pub enum AddressError {
-    /// There is no code.
+    /// There are no codes.
     #[error("the address is empty")]
     Empty,
 
@@ -28,13 +28,13 @@ pub enum AddressError {
     #[error("the address has more than seven characters")]
     TooLong,
 
-    /// The place, from 0, of the first code that is not 0x21 to 0x7e.
+    /// The first code that is not 0x21 to 0x7e is at this place, counted from 0.
     #[error("wrong character at {0}")]
     BadChar(usize),
 }
 
-/// One to seven codes from 0x21 to 0x7e (own; GA27-3004 leaves the addresses of a line to its
-/// owner).
+/// An address: one to seven codes from 0x21 to 0x7e. GA27-3004 leaves the addresses of a line to
+/// its owner; these limits are this project's.
 ///
 /// Equality, order and hash are those of the list of its codes.
 #[derive(Clone, Copy, Debug)]
@@ -107,14 +107,14 @@ impl Hash for Address {
     }
 }
 
-/// Whether the code may stand in an address.
+/// Returns whether the code may stand in an address.
 fn is_address_code(code: u8) -> bool
     ensures { result ≡ is_address_code code }
 {
     (0x21..=0x7e).contains(&code)
 }
 
-/// The place of the first code that may not stand in an address.
+/// Returns the place of the first code that may not stand in an address.
 fn wrong_place(codes: &[u8]) -> Option<usize>
     ensures { result ≡ position (λ c. not (is_address_code c)) codes.now }
 {
@@ -126,9 +126,9 @@ impl Address {
     ghost use Rattle.bsc_frame.specs.Reading.{call_of};
     ghost use Rattle.bsc_frame.specs.declared.message.Message.TheVariants.{Call};
 
-    /// The address with these codes, each of seven bits and without parity. In this order: `Empty`
-    /// where there is none, `TooLong` where there are more than seven, `BadChar` with the place of
-    /// the first that is not 0x21 to 0x7e.
+    /// Returns the address with these codes, which have seven bits and no parity. The errors, in
+    /// the order in which they are tested: `Empty` if there are no codes, `TooLong` if there are
+    /// more than seven, `BadChar` with the place of the first code that is not 0x21 to 0x7e.
     pub fn read(codes: &[u8]) -> Result<Address, AddressError>
         ensures value { result ≡ read_address codes.now }
         ensures address { IfOk result (λ a. IsAddress a) }
@@ -150,8 +150,9 @@ impl Address {
         })
     }
 
-    /// The address that the octets of a call carry, up to the ENQ at their end. Each octet is told
-    /// and stored in one turn, since an address that is moved as it grows costs more than its call.
+    /// Returns the address that these octets of a call carry, up to the ENQ that ends them; `None`
+    /// if they are not an address and ENQ. Each octet is tested and stored in one pass: moving an
+    /// address as it grows would cost more than reading the whole call.
     pub(crate) fn called(octets: &[u8]) -> Option<Address>
         ensures { option_map Call result ≡ call_of octets.now }
     {
@@ -178,7 +179,7 @@ impl Address {
         None
     }
 
-    /// The codes, 1 to 7 of them, each 0x21 to 0x7e.
+    /// Returns the codes of the address, 1 to 7 of them, each 0x21 to 0x7e.
     pub fn codes(&self) -> &[u8]
         ensures value { result.now ≡ self.now }
         ensures address { IsAddress self.now }

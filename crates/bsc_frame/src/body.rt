@@ -1,4 +1,4 @@
-//! The body of a transmission: what stands between its pads and SYN and its PAD.
+//! The body of a transmission: the octets between the SYN at its front and the PAD at its end.
 ghost use Rattle.std.specs.Prelude.{◌≡◌, ◌<◌, length};
 ghost use Rattle.bsc_frame.specs.Reading.{skip, is_pad_octet, is_octet, trimmed, begins};
 ghost use Rattle.bsc_frame.specs.Reading.{heard_body, heard};
@@ -7,7 +7,7 @@ use crate::front::{LANES, either_front, either_in, either_rest};
 use crate::limits::MAX_HEARD;
 use crate::octets::{LEADING_PADS, PAD, SYN};
 
-/// What stands after the leading pads, 0x55 or 0xaa.
+/// Returns the octets after the leading pads (`LEADING_PADS`).
 #[tactic(auto, using(crate::proofs::RunLemmas::skip_pads))]
 fn after_pads(octets: &[u8]) -> &[u8]
     ensures { result.now ≡ skip is_pad_octet octets.now }
@@ -16,8 +16,8 @@ fn after_pads(octets: &[u8]) -> &[u8]
     &octets[start..]
 }
 
-/// What stands after the octets at the front that are this one. Few octets are taken one at a
-/// time.
+/// Returns what follows the octets at the front that equal `octet`. Fewer than 32 octets are tested
+/// one at a time.
 #[tactic(auto, using(crate::proofs::RunLemmas::skip_all))]
 #[inline(always)]
 pub(crate) fn after_all(octets: &[u8], octet: u8) -> &[u8]
@@ -31,7 +31,7 @@ pub(crate) fn after_all(octets: &[u8], octet: u8) -> &[u8]
     &octets[start..]
 }
 
-/// The octets without PAD at their end, dropped 32 at a time.
+/// Returns the octets without PAD at their end, as far as PAD can be dropped 32 octets at a time.
 fn trim_lanes(octets: &[u8]) -> &[u8]
     ensures { trimmed result.now ≡ trimmed octets.now }
 {
@@ -45,7 +45,7 @@ fn trim_lanes(octets: &[u8]) -> &[u8]
     &octets[..end]
 }
 
-/// The octets without PAD at their end, dropped one at a time.
+/// Returns the octets without PAD at their end, which is dropped one octet at a time.
 #[tactic(auto, using(crate::proofs::ReadLemmas::trim_steps))]
 fn trim_rest(octets: &[u8]) -> &[u8]
     ensures { result.now ≡ trimmed octets.now }
@@ -60,21 +60,22 @@ fn trim_rest(octets: &[u8]) -> &[u8]
     &octets[..0]
 }
 
-/// The octets without PAD at their end.
+/// Returns the octets without PAD at their end.
 fn trim(octets: &[u8]) -> &[u8]
     ensures { result.now ≡ trimmed octets.now }
 {
     trim_rest(trim_lanes(octets))
 }
 
-/// Whether this octet is the first one.
+/// Returns whether `octet` is the first of the octets.
 pub(crate) fn starts_with(octets: &[u8], octet: u8) -> bool
     ensures { result ≡ begins (is_octet octet) octets.now }
 {
     !octets.is_empty() && octets[0] == octet
 }
 
-/// The body of fewer than 32 octets, taken one at a time.
+/// Returns the body of fewer than 32 octets, which are tested one at a time. It is empty if they
+/// carry none.
 #[inline(always)]
 fn body_of_few(octets: &[u8]) -> &[u8]
     requires { length octets.now < LANES }
@@ -89,15 +90,15 @@ fn body_of_few(octets: &[u8]) -> &[u8]
     trim_rest(&rest[syns..])
 }
 
-/// Whether the first octet is a leading pad.
+/// Returns whether the first octet is a leading pad.
 fn starts_with_pad(octets: &[u8]) -> bool
     ensures { result ≡ begins is_pad_octet octets.now }
 {
     !octets.is_empty() && (octets[0] == LEADING_PADS[0] || octets[0] == LEADING_PADS[1])
 }
 
-/// The body of any octets, taken 32 at a time. What begins with neither a leading pad nor SYN is
-/// passed by at its first octet.
+/// Returns the body of any number of octets, which are tested 32 at a time. It is empty if they
+/// carry none, which is known at once if the first octet is neither a leading pad nor SYN.
 #[tactic(auto, using(crate::proofs::BodyLemmas::empty_body))]
 #[inline(always)]
 fn body_of_many(octets: &[u8]) -> &[u8]
@@ -113,8 +114,8 @@ fn body_of_many(octets: &[u8]) -> &[u8]
     trim(after_all(rest, SYN))
 }
 
-/// The body that the octets carry; the empty one where they carry none. Few octets, which most
-/// transmissions are, cost less where they are taken one at a time.
+/// Returns the body that the octets carry, or an empty slice if they carry none. Most transmissions
+/// have few octets, and these cost less if they are tested one at a time.
 #[inline(always)]
 pub(crate) fn body_of(octets: &[u8]) -> &[u8]
     ensures { heard octets.now ≡ heard_body result.now }

@@ -1,5 +1,5 @@
-//! From octets to what they are heard as. Whatever a line brings in is read here and nowhere else,
-//! so that the layers above act only on messages.
+//! From octets to what they are heard as. Whatever comes in from the line is decoded in this crate
+//! and nowhere else, so that the layers above act only on messages.
 ghost use Rattle.std.specs.Prelude.{◌≡◌, ◌↔◌, false};
 ghost use Rattle.bsc_frame.specs.Spells.{Spells, IsFailed, IsNoise};
 ghost use Rattle.bsc_frame.specs.declared.message.Message.{Message};
@@ -14,7 +14,7 @@ use crate::unit_decoder::read_units;
 use crate::{Heard, Message, Short, Text};
 use bsc_octet::all_odd;
 
-/// What a text is heard as, after its STX.
+/// Returns what a text is heard as, from the octets after its STX.
 #[tactic(auto, using(crate::proofs::OddLemmas::not_odd_fails))]
 fn text_heard(units: &[u8]) -> Heard
     ensures { result ≡ whole_or_failed (units_at MAX_UNITS false units.now) }
@@ -29,11 +29,11 @@ fn text_heard(units: &[u8]) -> Heard
     Heard::Whole(Message::Text(Text::from_draft(draft, end)))
 }
 
-/// What the octets of one transmission are heard as, whatever they are: `Whole` where they spell a
-/// message, with the pads and fills that the profile accepts, `Failed` where they begin as a text
-/// and spell none, else `Noise`. More than 2,048 octets are `Noise` (GA27-3004: control sequences,
-/// polling and selection, text blocks, VRC and LRC checking; how far pads and fills are accepted is
-/// own).
+/// Decodes the octets of one transmission, whatever they are. The result is `Whole` if they spell a
+/// message, with any pads and fill that are accepted, `Failed` if they begin as a text and spell no
+/// message, and `Noise` otherwise. More than 2,048 octets are `Noise`. (GA27-3004: control
+/// sequences, polling and selection, text blocks, VRC and LRC checking. How far pads and fill are
+/// accepted is this project's own.)
 pub fn decode(octets: &[u8]) -> Heard
     ensures reading { result ≡ heard octets.now }
     ensures whole { (m : Message) → (result ≡ Heard.Whole m) ↔ Spells octets.now m }
@@ -43,8 +43,8 @@ pub fn decode(octets: &[u8]) -> Heard
     octets_heard(octets)
 }
 
-/// What the octets are heard as, found from left to right. A `Heard` has room for a text, so each
-/// one is made where it is returned.
+/// Decodes the octets from left to right. A `Heard` has room for a text, so each one is built where
+/// it is returned.
 #[tactic(auto, unfolding(crate::specs::Reading::heard_body))]
 fn octets_heard(octets: &[u8]) -> Heard
     ensures { result ≡ heard octets.now }

@@ -17,11 +17,11 @@ use arrayvec::ArrayVec;
 /// The octets of one transmission that is sent.
 pub type Wire = ArrayVec<u8, MAX_SENT>;
 
-/// The octets of a unit.
+/// A buffer for the octets of a unit.
 type UnitOctets = [u8; MAX_UNIT_SENT];
 
-/// The octet that carries the code. It is found by folding bits, for a compiler makes lanes of
-/// that, and of a count of ones with a test it does not.
+/// Returns the octet that carries the code. The parity is found by folding bits because a compiler
+/// vectorizes that; it does not vectorize a count of ones with a test.
 fn carried(code: u8) -> u8
     requires { code < 128 }
     ensures { result ≡ odd_octet code }
@@ -32,8 +32,8 @@ fn carried(code: u8) -> u8
     code | ((!ones & 1) << 7)
 }
 
-/// Puts the octets that carry the codes to the front. The loop has no branch, so a compiler makes
-/// lanes of it.
+/// Writes the octets that carry the codes to the front of the buffer. The loop has no branch, so a
+/// compiler vectorizes it.
 #[tactic(auto, using(crate::proofs::WireSteps::put_more, crate::proofs::WireSteps::put_all))]
 fn put_codes(octets: &mut UnitOctets, codes: &[u8])
     requires room { length codes.now ≤ MAX_UNIT_SENT }
@@ -45,7 +45,7 @@ fn put_codes(octets: &mut UnitOctets, codes: &[u8])
     }
 }
 
-/// Puts the octet after the first ones, and gives how many there are then.
+/// Writes the octet after the first `count` octets and returns the new count.
 #[tactic(auto, using(std::proofs::lemmas::List::take_more_set))]
 fn put(octets: &mut UnitOctets, count: usize, octet: u8) -> usize
     requires { count < MAX_UNIT_SENT }
@@ -56,7 +56,7 @@ fn put(octets: &mut UnitOctets, count: usize, octet: u8) -> usize
     count + 1
 }
 
-/// Puts EM after the first octets where the unit is marked, and gives how many there are then.
+/// Writes EM after the first `count` octets if the unit has EM, and returns the new count.
 fn put_em(octets: &mut UnitOctets, count: usize, em: bool) -> usize
     requires { count < MAX_UNIT_SENT }
     ensures octets { take result octets.new
@@ -69,7 +69,7 @@ fn put_em(octets: &mut UnitOctets, count: usize, em: bool) -> usize
     count
 }
 
-/// Puts the octets of the unit with its check, and gives how many there are.
+/// Writes the octets of the unit and its check, and returns how many they are.
 fn put_unit(octets: &mut UnitOctets, unit: Unit<'_>, ending: u8) -> usize
     requires unit { IsUnit (text_unit unit) }
     requires ending { ending < 128 }
@@ -94,7 +94,7 @@ fn append_codes(wire: &mut Wire, codes: &[u8])
     }
 }
 
-/// The character that ends the last unit.
+/// Returns the code of the character that ends the last unit.
 fn end_char(end: End) -> u8
     ensures { result ≡ end_code end }
 {
@@ -104,7 +104,7 @@ fn end_char(end: End) -> u8
     }
 }
 
-/// Appends the unit with its check.
+/// Appends the unit and its check.
 fn append_unit(wire: &mut Wire, unit: Unit<'_>, ending: u8)
     requires unit { IsUnit (text_unit unit) }
     requires ending { ending < 128 }
@@ -116,7 +116,7 @@ fn append_unit(wire: &mut Wire, unit: Unit<'_>, ending: u8)
     append(wire, &octets[..count]);
 }
 
-/// The character that ends the unit at the place.
+/// Returns the code of the character that ends the unit at `place`: US for every unit but the last.
 #[tactic(auto, using(crate::proofs::WireSteps::ending_more, crate::proofs::WireSteps::ending_last))]
 fn ending_at(text: &Text, place: usize) -> u8
     requires { place < length text.now.units }
@@ -131,8 +131,8 @@ fn ending_at(text: &Text, place: usize) -> u8
     }
 }
 
-/// Appends the units of the text. Its own function, since only here there must be room for the
-/// octets of a unit.
+/// Appends the units of the text. This is a function of its own because only a text needs a buffer
+/// for the octets of a unit.
 #[inline(never)]
 #[tactic(auto, using(crate::proofs::WireSteps::wire_next))]
 fn append_units(wire: &mut Wire, text: &Text)
@@ -146,9 +146,9 @@ fn append_units(wire: &mut Wire, text: &Text)
     }
 }
 
-/// Puts the octets of the message into the wire, in place of what it had: two SYN, the body, one
-/// PAD. They are at most 1,033, so there is always room (GA27-3004: control sequences, polling and
-/// selection, text blocks, VRC and LRC checking).
+/// Replaces the contents of the wire by the octets of the message: two SYN, the body, one PAD. They
+/// are at most 1,033, so there is always room. (GA27-3004: control sequences, polling and
+/// selection, text blocks, VRC and LRC checking.)
 pub fn encode(message: &Message, wire: &mut Wire)
     ensures wire { wire.new.items ≡ wire_of message.now }
     ensures message { IsMessage message.now }

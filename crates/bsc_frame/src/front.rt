@@ -1,4 +1,4 @@
-//! How many octets at the front pass a test, 32 at a time.
+//! The number of octets at the front that pass a test, counted 32 at a time.
 ghost use Rattle.std.specs.Prelude.{◌≡◌, ◌+◌, ◌≤◌, ◌==◌, length, take, drop, if◌then◌else◌};
 ghost use Rattle.std.specs.Int.{w64, trailing_zeros};
 ghost use Rattle.std.specs.List.{prefix_len};
@@ -7,10 +7,10 @@ ghost use Rattle.bsc_frame.specs.Reading.{is_either, is_before_ending};
 use crate::octets::{ETB, ETX, US};
 use std::simd::prelude::*;
 
-/// How many octets are looked at together.
+/// The number of octets that are tested together.
 pub(crate) const LANES: usize = 32;
 
-/// The first lane of the 32 that is set in the mask; 32 where none is.
+/// Returns the first of the 32 lanes that is set in the mask, or 32 if none is.
 fn first_lane(mask: u64) -> usize
     ensures { result ≡ (if mask == 0 then LANES else trailing_zeros w64 mask) }
 {
@@ -21,7 +21,8 @@ fn first_lane(mask: u64) -> usize
     }
 }
 
-/// How many of the 32 octets from the place on come before the first that is neither of the two.
+/// Returns how many of the 32 octets from `at` on come before the first that is neither `one` nor
+/// `other`; 32 if there is no such octet.
 pub(crate) fn either_in(octets: &[u8], at: usize, one: u8, other: u8) -> usize
     requires { at + LANES ≤ length octets.now }
     ensures { result ≡ prefix_len (is_either one other) (take LANES (drop at octets.now)) }
@@ -31,7 +32,8 @@ pub(crate) fn either_in(octets: &[u8], at: usize, one: u8, other: u8) -> usize
     first_lane(stops.to_bitmask())
 }
 
-/// How many of the 32 octets from the place on come before the first US, ETB or ETX.
+/// Returns how many of the 32 octets from `at` on come before the first US, ETB or ETX; 32 if there
+/// is no such octet.
 fn before_ending_in(octets: &[u8], at: usize) -> usize
     requires { at + LANES ≤ length octets.now }
     ensures { result ≡ prefix_len is_before_ending (take LANES (drop at octets.now)) }
@@ -43,7 +45,7 @@ fn before_ending_in(octets: &[u8], at: usize) -> usize
     first_lane(ends.to_bitmask())
 }
 
-/// How many octets at the front are one of the two, taken one at a time.
+/// Returns how many octets at the front are `one` or `other`, testing one octet at a time.
 pub(crate) fn either_rest(octets: &[u8], one: u8, other: u8) -> usize
     ensures count { result ≡ prefix_len (is_either one other) octets.now }
     ensures within { result ≤ length octets.now }
@@ -56,7 +58,7 @@ pub(crate) fn either_rest(octets: &[u8], one: u8, other: u8) -> usize
     octets.len()
 }
 
-/// How many octets come before the first US, ETB or ETX, taken one at a time.
+/// Returns how many octets come before the first US, ETB or ETX, testing one octet at a time.
 fn before_ending_rest(octets: &[u8]) -> usize
     ensures count { result ≡ prefix_len is_before_ending octets.now }
     ensures within { result ≤ length octets.now }
@@ -69,8 +71,8 @@ fn before_ending_rest(octets: &[u8]) -> usize
     octets.len()
 }
 
-/// How many octets at the front are one of the two. Mostly there is none: most transmissions have
-/// no pads.
+/// Returns how many octets at the front are `one` or `other`. Usually there are none, since most
+/// transmissions have no leading pads.
 pub(crate) fn either_front(octets: &[u8], one: u8, other: u8) -> usize
     ensures count { result ≡ prefix_len (is_either one other) octets.now }
     ensures within { result ≤ length octets.now }
@@ -92,7 +94,7 @@ pub(crate) fn either_front(octets: &[u8], one: u8, other: u8) -> usize
     at + either_rest(&octets[at..], one, other)
 }
 
-/// How many octets come before the first US, ETB or ETX.
+/// Returns how many octets come before the first US, ETB or ETX.
 pub(crate) fn before_ending(octets: &[u8]) -> usize
     ensures count { result ≡ prefix_len is_before_ending octets.now }
     ensures within { result ≤ length octets.now }

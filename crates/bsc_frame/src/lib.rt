@@ -1,9 +1,15 @@
 //! The messages of a line in octets: what is sent for each, and what is heard.
 //!
-//! [`encode`] leaves exactly the octets of a message. [`decode`] reads octets as the message that
-//! they spell, whatever pads and SYN fill the other maker's equipment uses, and tells a text that
-//! failed from noise; [`decode_short`] tells the same of octets that do not begin as a text, at
-//! less cost. Nothing here waits, allocates or keeps state between transmissions.
+//! [`encode`] produces exactly the octets of a message. [`decode`] reads octets as the message that
+//! they spell, whatever leading pads and SYN fill the equipment at the other end uses, and
+//! distinguishes a text that failed from noise. [`decode_short`] does the same at less cost for
+//! octets that do not begin as a text. Nothing here waits, allocates or keeps state between
+//! transmissions.
+//!
+//! Control characters and sequences, calls, text and intermediate text blocks, odd parity (VRC),
+//! the check characters (LRC), pads and SYN time fill are those of GA27-3004. The limits of
+//! messages and transmissions, the codes that an address may have, and how far pads and fill are
+//! accepted are this project's own; EM in a unit is used in the manner of the IBM 2780.
 #![tactic(auto)]
 
 mod address;

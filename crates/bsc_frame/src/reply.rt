@@ -1,5 +1,5 @@
-//! The replies of a receiver: the octets of each and its name stand here, and whatever is the same
-//! for all replies is said once, of a [`Reply`].
+//! The replies of a receiver: the octets and the name of each. Other modules treat all replies
+//! alike, as a [`Reply`].
 ghost use Rattle.std.specs.Prelude.{◌≡◌, ◌≤◌, length};
 ghost use Rattle.bsc_frame.specs.Replies.{reply_octets, reply_name, reply_spelled};
 
@@ -15,12 +15,11 @@ pub enum Reply {
     /// ACK1: positive acknowledgement of the blocks with an odd number.
     Ack1,
 
-    /// NAK: the block is asked for again, or a selection is refused (GA27-3004: negative
-    /// acknowledgement).
+    /// NAK: asks for the block again, or refuses a selection (GA27-3004: negative acknowledgement).
     Nak,
 
-    /// WACK: positive acknowledgement of a station that can't receive more for now (GA27-3004: wait
-    /// before transmit).
+    /// WACK: positive acknowledgement from a station that cannot receive more for now (GA27-3004:
+    /// wait before transmit).
     Wack,
 
     /// RVI: positive acknowledgement that asks the sender to end its transmission (GA27-3004:
@@ -29,7 +28,8 @@ pub enum Reply {
 }
 
 impl Reply {
-    /// The octets that carry the reply, one or two, as they are sent after SYN and before PAD.
+    /// Returns the octets that carry the reply, one or two, as they are sent after SYN and before
+    /// PAD.
     pub fn octets(self) -> &'static [u8]
         ensures octets { result.now ≡ reply_octets self }
         ensures short { length result.now ≤ 2 }
@@ -43,7 +43,7 @@ impl Reply {
         }
     }
 
-    /// The name of the reply, in capital letters.
+    /// Returns the name of the reply, in capital letters.
     pub fn name(self) -> &'static str
         ensures { result.now ≡ reply_name self }
     {
@@ -56,7 +56,7 @@ impl Reply {
         }
     }
 
-    /// The reply whose octets these are, if they are those of one.
+    /// Returns the reply whose octets these are, or `None` if they are not those of a reply.
     #[inline(always)]
     pub(crate) fn spelled(body: &[u8]) -> Option<Reply>
         ensures { result ≡ reply_spelled body.now }

@@ -1,4 +1,5 @@
-//! Short messages: all but texts. They are told without room for a text, which a `Heard` has.
+//! Short messages: all messages except texts. They are decoded without the room for a text that a
+//! `Heard` has.
 ghost use Rattle.std.specs.Prelude.{◌≡◌, IfSome, IfNone};
 ghost use Rattle.bsc_frame.specs.Short.{heard_as, IsHeard, BeginsText};
 ghost use Rattle.bsc_frame.specs.Reading.{call, control, reply_or_call, whole_or_noise};
@@ -8,7 +9,7 @@ use crate::body::{after_all, body_of, starts_with};
 use crate::octets::{ENQ, EOT, PAD, STX, SYN};
 use crate::{Address, Reply};
 
-/// What octets are heard as that do not begin as a text: a message without a text, or noise.
+/// What octets that do not begin as a text are heard as: a message without a text, or noise.
 #[derive(Clone, Copy, Debug, PartialEq, Eq)]
 pub enum Short {
     Eot,
@@ -16,11 +17,11 @@ pub enum Short {
     Enq,
     Reply(Reply),
 
-    /// They spell nothing.
+    /// The octets spell nothing.
     Noise,
 }
 
-/// What a call is, after its EOT.
+/// Returns what a call is heard as, from the octets after its EOT.
 #[tactic(auto, unfolding(crate::specs::Reading::call))]
 fn short_call(octets: &[u8]) -> Short
     ensures { heard_as result ≡ whole_or_noise (call octets.now) }
@@ -31,7 +32,7 @@ fn short_call(octets: &[u8]) -> Short
     }
 }
 
-/// What a body is that is no text.
+/// Returns what a body that does not begin as a text is heard as.
 #[tactic(auto, unfolding(crate::specs::Reading::control))]
 #[inline(always)]
 pub(crate) fn short_of(body: &[u8]) -> Short
@@ -49,7 +50,8 @@ pub(crate) fn short_of(body: &[u8]) -> Short
     }
 }
 
-/// The reply or the call that a body is which is neither EOT nor ENQ nor a text.
+/// Returns what a body is heard as that is neither EOT nor ENQ nor a text: a reply, a call, or
+/// noise.
 #[inline(always)]
 fn reply_or_call_of(body: &[u8]) -> Short
     ensures { heard_as result ≡ whole_or_noise (reply_or_call (reply_spelled body.now) body.now) }
@@ -63,9 +65,9 @@ fn reply_or_call_of(body: &[u8]) -> Short
     Short::Noise
 }
 
-/// What the octets are heard as where they do not begin as a text; `None` where they do, and then
-/// [`crate::decode`] tells the text or that it failed. It is for a caller to whom the size of a
-/// `Heard` is too much: most transmissions on a line are short (GA27-3004: control sequences,
+/// Returns what the octets are heard as if they do not begin as a text. If they do, it returns
+/// `None`, and [`crate::decode`] returns the text or that it failed. This is for callers for whom a
+/// `Heard` is too large: most transmissions on a line are short (GA27-3004: control sequences,
 /// polling and selection).
 #[inline(always)]
 pub fn decode_short(octets: &[u8]) -> Option<Short>

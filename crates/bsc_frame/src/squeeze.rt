@@ -1,5 +1,5 @@
-//! Loops over the octets of a unit that go to their end, so that a compiler makes lanes or moves of
-//! them: a branch that depends on the octet costs more than the work that it saves.
+//! Loops over the octets of a unit. They always run to the end, so that a compiler vectorizes them
+//! or uses block moves: a branch that depends on the octet costs more than the work that it saves.
 ghost use Rattle.std.specs.Prelude.{◌≡◌, ◌<◌, ◌≤◌, ◌+◌, ◌++◌, length, take, map, filter, IfSome};
 ghost use Rattle.std.specs.Prelude.{IfNone};
 ghost use Rattle.std.specs.List.{list_any, list_all};
@@ -10,19 +10,19 @@ use crate::limits::{MAX_CHARS, MAX_UNIT_CODES};
 use crate::octets::SYN;
 use bsc_octet::is_record_char;
 
-/// With this many octets without fill there are more than a unit has.
+/// One octet more, without fill, than a unit has before its check.
 const TOO_MANY: usize = MAX_UNIT_CODES + 1;
 
-/// How many octets are squeezed before their count is tested.
+/// The number of octets that are squeezed before their count is tested.
 const PART: usize = 16;
 
-/// Room for the octets of a unit without fill, and for a part more.
+/// Room for one octet more than a unit has, and for one part more.
 pub(crate) const UNIT_ROOM: usize = TOO_MANY + PART;
 
 /// A buffer for the octets of a unit without fill.
 pub(crate) type UnitBuffer = [u8; UNIT_ROOM];
 
-/// Whether there is fill among the octets.
+/// Returns whether there is a SYN among the octets.
 #[tactic(auto, using(crate::proofs::SqueezeLemmas::fill_more))]
 pub(crate) fn has_fill(octets: &[u8]) -> bool
     ensures { result ≡ list_any (is_octet SYN) octets.now }
@@ -34,8 +34,8 @@ pub(crate) fn has_fill(octets: &[u8]) -> bool
     found
 }
 
-/// Puts the octets without fill after the first ones of the buffer, and gives how many there are
-/// then. Each octet is stored, and the next one is stored in its place where it is fill.
+/// Writes the octets other than SYN after the first `start` octets of the buffer, and returns the
+/// new count. Each octet is stored; a SYN is overwritten by the next octet.
 #[inline(always)]
 #[tactic(auto, using(crate::proofs::SqueezeLemmas::squeeze_more))]
 fn squeeze_part(octets: &[u8], buffer: &mut UnitBuffer, start: usize) -> usize
@@ -52,8 +52,8 @@ fn squeeze_part(octets: &[u8], buffer: &mut UnitBuffer, start: usize) -> usize
     count
 }
 
-/// Puts the octets without fill to the front of the buffer, and gives their count. `None` where
-/// they are more than a unit has.
+/// Writes the octets other than SYN to the front of the buffer and returns their count, which may
+/// be up to `UNIT_ROOM`. `None` means that there are more than a unit has before its check.
 #[tactic(auto, using(crate::proofs::SqueezeLemmas::part_steps))]
 pub(crate) fn squeeze(octets: &[u8], buffer: &mut UnitBuffer) -> Option<usize>
     ensures some { IfSome result (λ n. (n ≤ UNIT_ROOM)
@@ -75,8 +75,8 @@ pub(crate) fn squeeze(octets: &[u8], buffer: &mut UnitBuffer) -> Option<usize>
     Some(squeeze_part(&octets[at..], buffer, count))
 }
 
-/// Puts the codes of the octets to the front of the buffer, and says whether they all are record
-/// characters.
+/// Writes the codes of the octets to the front of the buffer, and returns whether all of them are
+/// record characters.
 #[tactic(auto, using(crate::proofs::SqueezeLemmas::code_steps))]
 pub(crate) fn copy_codes(octets: &[u8], buffer: &mut [u8; MAX_CHARS]) -> bool
     requires { length octets.now ≤ MAX_CHARS }

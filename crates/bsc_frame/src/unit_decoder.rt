@@ -14,7 +14,7 @@ use crate::text::Draft;
 use crate::{End, Unit};
 use bsc_octet::{sum, to_line};
 
-/// The check of the codes: the octet that carries their sum.
+/// Returns the check of the codes: the octet that carries their sum.
 #[tactic(auto, using(crate::proofs::UnitSteps::check_no, crate::proofs::UnitSteps::check_is))]
 pub(crate) fn check_of(codes: &[u8]) -> u8
     ensures { result ≡ odd_octet (longitudinal_sum codes.now) }
@@ -25,7 +25,7 @@ pub(crate) fn check_of(codes: &[u8]) -> u8
     check
 }
 
-/// The octets after the check of the unit.
+/// Returns the octets after the check of `unit`; `None` if the first octet is not that check.
 #[tactic(auto, using(crate::proofs::UnitSteps::check_wrong, crate::proofs::UnitSteps::check_right))]
 fn checked<'a>(unit: &[u8], octets: &'a [u8]) -> Option<&'a [u8]>
     ensures { option_copied result ≡ after_check unit.now octets.entry.now }
@@ -39,7 +39,7 @@ fn checked<'a>(unit: &[u8], octets: &'a [u8]) -> Option<&'a [u8]>
     Some(&octets[1..])
 }
 
-/// The octets without an STX after a check.
+/// Returns the octets without an STX at their front, if they follow the check of a unit with US.
 fn without_start(after_us: bool, octets: &[u8]) -> &[u8]
     ensures { result.now ≡ after_start after_us octets.now }
 {
@@ -50,14 +50,14 @@ fn without_start(after_us: bool, octets: &[u8]) -> &[u8]
     }
 }
 
-/// The octets of a unit by what they are for.
+/// The octets of a unit, by their purpose.
 struct Parts<'a> {
     chars: &'a [u8],
     em: bool,
     last: u8,
 }
 
-/// The characters, whether EM follows them, and the last octet.
+/// Splits the octets of a unit into the characters, whether EM follows them, and the last octet.
 fn parts_of(octets: &[u8]) -> Parts<'_>
     requires { 0 < length octets.now }
     ensures { AreParts octets.now result.chars.now result.em result.last }
@@ -78,7 +78,8 @@ fn parts_of(octets: &[u8]) -> Parts<'_>
     }
 }
 
-/// Adds the unit of these octets to the draft, and gives its ending character.
+/// Adds the unit of these octets to the draft and returns the code of its ending character; `None`
+/// if they are not a unit.
 fn take_chars(octets: &[u8], draft: &mut Draft) -> Option<u8>
     requires draft { IsDraft draft.old }
     requires room { length (draft_units draft.old) < MAX_UNITS }
@@ -103,8 +104,9 @@ fn take_chars(octets: &[u8], draft: &mut Draft) -> Option<u8>
     Some(last % 0x80)
 }
 
-/// Reads the unit of these octets without fill, adds it to the draft, and gives its ending
-/// character and the octets after its check.
+/// Reads the unit of the octets `front`, which have no fill, adds it to the draft, and returns the
+/// code of its ending character and the octets after its check. Returns `None` if the check is
+/// wrong or they are not a unit.
 fn take_front<'a>(
     after_us: bool,
     front: &[u8],
@@ -128,8 +130,8 @@ fn take_front<'a>(
     Some((ending, rest))
 }
 
-/// Reads the first unit, adds it to the draft, and gives its ending character and the octets after
-/// its check.
+/// Reads the first unit, adds it to the draft, and returns the code of its ending character and the
+/// octets after its check. Returns `None` if there is no such unit.
 fn take_unit<'a>(after_us: bool, octets: &'a [u8], draft: &mut Draft) -> Option<(u8, &'a [u8])>
     requires draft { IsDraft draft.old }
     requires room { length (draft_units draft.old) < MAX_UNITS }
@@ -153,7 +155,9 @@ fn take_unit<'a>(after_us: bool, octets: &'a [u8], draft: &mut Draft) -> Option<
     take_front(after_us, &unit[..count], rest, draft)
 }
 
-/// Reads the units of a text, after its STX, into an empty draft, and gives the end of the text.
+/// Reads the units of a text, after its STX, into an empty draft and returns the end of the text.
+/// Returns `None` if the octets are not 1 to 7 units, of which the last ends with ETB or ETX and is
+/// followed by nothing.
 pub(crate) fn read_units(octets: &[u8], draft: &mut Draft) -> Option<End>
     requires draft { IsDraft draft.old }
     requires empty { draft_units draft.old ≡ [] }

@@ -1,3 +1,4 @@
+-- What each step of a bid keeps, from the lemmas about its steps and the laws of blocks and queues.
 use Rattle.bsc_bid.proofs.StepLemmas.{hearing_agrees, answering_agrees, silence_agrees}
 use Rattle.bsc_bid.proofs.StepLemmas.{begin_agrees, offer_agrees, offer_keeps_rest}
 use Rattle.bsc_bid.proofs.StepLemmas.{release_keeps_rest, agreement_is_sound, loss_agrees}

@@ -1,3 +1,4 @@
+-- What holds of every bid, from the lemmas about its turns and the laws of blocks and queues.
 use Rattle.bsc_bid.proofs.BlockLemmas.{sends_its_blocks, hears_its_blocks, ends_knowing}
 use Rattle.bsc_bid.proofs.BlockLemmas.{release_ends_doubt}
 use Rattle.bsc_bid.proofs.DoubtLemmas.{doubts_at_silence}

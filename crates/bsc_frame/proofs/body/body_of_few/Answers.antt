@@ -1,3 +1,4 @@
+-- `body_of_few` returns a body that is heard as the octets are.
 use Rattle.std.proofs.Common.{◌∙◌, ap, arith}
 use Rattle.bsc_frame.specs.Reading.{trimmed}
 use Rattle.bsc_frame.specs.declared.octets.TheConstants.{SYN}

@@ -1,3 +1,4 @@
+-- `body_of_many` returns a body that is heard as the octets are.
 use Rattle.std.proofs.Common.{◌∙◌, ap}
 use Rattle.bsc_frame.specs.Reading.{trimmed}
 use Rattle.bsc_frame.proofs.BodyLemmas.{heard_no_syn, heard_after_syn}

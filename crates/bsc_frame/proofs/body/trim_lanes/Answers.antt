@@ -1,3 +1,4 @@
+-- The loop of `trim_lanes` drops only PAD.
 use Rattle.std.proofs.Common.{arith}
 use Rattle.bsc_frame.proofs.RunLemmas.{trim_more}
 use Rattle.bsc_frame.proofs.body.trim_lanes.Goals as goal

@@ -1,3 +1,4 @@
+-- The loop invariant of `trim_rest`, and the number that its loop decreases.
 use Rattle.std.proofs.Common.{◌≡◌, ◌≤◌, length, take}
 use Rattle.bsc_frame.specs.Reading.{trimmed}
 use Rattle.bsc_frame.proofs.body.trim_rest.Given as goal

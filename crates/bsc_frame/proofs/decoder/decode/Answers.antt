@@ -1,3 +1,4 @@
+-- What `decode` returns by reading from left to right, stated by the relations on whole lists.
 use Rattle.std.proofs.Common.{◌∙◌, sym}
 use Rattle.bsc_frame.proofs.HeardLemmas.{spelled_heard, heard_spelled, failed_heard, heard_failed}
 use Rattle.bsc_frame.proofs.HeardLemmas.{noise_heard, heard_noise}

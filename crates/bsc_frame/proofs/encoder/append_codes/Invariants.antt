@@ -1,3 +1,4 @@
+-- The loop invariant of `append_codes`.
 use Rattle.std.proofs.Common.{◌≡◌, ◌++◌, take, map}
 use Rattle.bsc_octet.specs.Octet.{odd_octet}
 use Rattle.bsc_frame.proofs.encoder.append_codes.Given as goal

@@ -1,3 +1,4 @@
+-- The loop of `append_units` has room for each unit and appends all of them.
 use Rattle.bsc_frame.specs.Units.{text_unit}
 use Rattle.bsc_frame.proofs.WireSteps.{wire_room, wire_next, wire_short}
 use Rattle.bsc_frame.proofs.encoder.append_units.Goals as goal

@@ -1,3 +1,4 @@
+-- The loop invariant of `append_units`.
 use Rattle.std.proofs.Common.{◌≡◌, ◌++◌, drop}
 use Rattle.bsc_frame.specs.Units.{units_wire}
 use Rattle.bsc_frame.proofs.encoder.append_units.Given as goal

@@ -1,3 +1,4 @@
+-- `carried` computes the octet of each of the 128 codes.
 use Rattle.std.proofs.Common.{◌≡◌, ℕ, ◌-◌, ◌*◌, ◌/◌, ◌%◌, ◌==◌, true, refl, bit_and, bit_or}
 use Rattle.std.proofs.Common.{bit_xor}
 use Rattle.std.specs.Int.Count.{ones}
@@ -9,7 +10,7 @@ use Rattle.bsc_frame.proofs.encoder.carried.Goals as goal
 fours : ℕ → ℕ
 fours x = bit_xor x (x / 16)
 
--- and of the two halves of that, in its lowest two bits
+-- the exclusive or of the two halves of that, in its lowest two bits
 twos : ℕ → ℕ
 unfolding fours
 twos x = bit_xor (fours x) (fours x / 4)
@@ -19,7 +20,7 @@ folded : ℕ → ℕ
 unfolding fours twos
 folded x = bit_or x (bit_and (255 - bit_xor (twos x) (twos x / 2)) 1 * 128 % 256)
 
--- by all 128 codes
+-- the computed octet is right for all 128 codes
 folds : agree_below (λ x. folded x == odd_octet x) (λ _. true) 128 ≡ true
 unfolding fours twos folded odd_octet ones
 folds = refl

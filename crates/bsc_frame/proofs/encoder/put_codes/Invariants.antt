@@ -1,3 +1,4 @@
+-- The loop invariant of `put_codes`.
 use Rattle.bsc_frame.proofs.WireSteps.{PutTo}
 use Rattle.bsc_frame.proofs.encoder.put_codes.Given as goal
 

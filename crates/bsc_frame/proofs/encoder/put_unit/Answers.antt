@@ -1,3 +1,4 @@
+-- `put_unit` writes the octets of the codes of the unit and their check.
 use Rattle.std.proofs.Common.{◌≡◌, ◌∙◌, ℕ, List, ◌++◌, [], ◌∷◌, refl, ap, take, map, cond}
 use Rattle.bsc_octet.specs.Octet.{odd_octet}
 use Rattle.bsc_frame.specs.Units.{text_unit}

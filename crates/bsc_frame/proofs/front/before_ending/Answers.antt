@@ -1,3 +1,4 @@
+-- `before_ending` counts the octets before the first US, ETB or ETX, 32 at a time.
 use Rattle.bsc_frame.specs.Reading.{is_before_ending}
 use Rattle.bsc_frame.proofs.RunLemmas.{run_stops, run_goes_on, run_rest}
 use Rattle.bsc_frame.proofs.front.before_ending.Goals as goal

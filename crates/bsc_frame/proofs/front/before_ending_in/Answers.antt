@@ -1,3 +1,4 @@
+-- The first lane that is set in the mask is the first US, ETB or ETX.
 use Rattle.std.proofs.Common.{◌==◌, take, drop, bit_or}
 use Rattle.std.proofs.lemmas.Simd.{zip2_splat, zip2_of_maps, length-chunk}
 use Rattle.bsc_frame.specs.Reading.{is_ending_octet}

@@ -1,3 +1,4 @@
+-- The loop of `before_ending_rest` stops at the first US, ETB or ETX.
 use Rattle.std.proofs.Common.{refl}
 use Rattle.bsc_frame.proofs.ReadLemmas.{test_false}
 use Rattle.bsc_frame.specs.Reading.{is_before_ending}

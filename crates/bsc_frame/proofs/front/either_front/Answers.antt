@@ -1,3 +1,4 @@
+-- `either_front` counts the octets at the front that are one of the two, 32 at a time.
 use Rattle.bsc_frame.specs.Reading.{is_either}
 use Rattle.std.proofs.Common.{refl}
 use Rattle.bsc_frame.proofs.ReadLemmas.{test_false}

@@ -1,3 +1,4 @@
+-- The loop invariant of `either_front`, and the number that its loop decreases.
 use Rattle.std.proofs.Common.{◌-◌, length}
 use Rattle.bsc_frame.specs.Reading.{is_either}
 use Rattle.bsc_frame.proofs.RunLemmas.{CountedTo}

@@ -1,3 +1,4 @@
+-- The first lane that is set in the mask is the first octet that is neither of the two.
 use Rattle.std.proofs.Common.{◌==◌, take, drop, not, bit_and, ◌∙◌}
 use Rattle.std.proofs.lemmas.Simd.{zip2_splat, zip2_of_maps, length-chunk}
 use Rattle.bsc_frame.specs.Reading.{is_either}

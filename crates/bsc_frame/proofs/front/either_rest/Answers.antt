@@ -1,3 +1,4 @@
+-- The loop of `either_rest` stops at the first octet that is neither of the two.
 use Rattle.std.proofs.Common.{refl}
 use Rattle.std.proofs.lemmas.Bool.{eq-eqb}
 use Rattle.bsc_frame.proofs.ReadLemmas.{test_false}

@@ -1,3 +1,4 @@
+-- Damage that is not detected, from the lemmas about sums and two examples.
 use Rattle.bsc_frame.proofs.SumChanges.{two_turned}
 use Rattle.bsc_frame.proofs.DamageNotFound.{other_text, other_reply}
 use Rattle.bsc_frame.proofs.laws.damage_not_found.Goals as goal

@@ -1,3 +1,4 @@
+-- Each octet of a body has odd parity, except the PAD of a call.
 use Rattle.bsc_frame.proofs.BodyOddLemmas.{body_fits}
 use Rattle.bsc_frame.proofs.laws.odd_parity.Goals as goal
 

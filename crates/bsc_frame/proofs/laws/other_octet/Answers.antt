@@ -1,3 +1,4 @@
+-- A text with one octet replaced by another of odd parity spells no message.
 use Rattle.bsc_frame.proofs.ChangedText.{other_octet_lost}
 use Rattle.bsc_frame.proofs.laws.other_octet.Goals as goal
 

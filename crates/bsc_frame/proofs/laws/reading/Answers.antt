@@ -1,3 +1,5 @@
+-- Reading from left to right agrees with the relations on whole lists, from the lemmas about what
+-- is heard.
 use Rattle.bsc_frame.proofs.HeardLemmas.{spelled_heard, heard_spelled, failed_heard, heard_failed}
 use Rattle.bsc_frame.proofs.HeardLemmas.{noise_heard, heard_noise}
 use Rattle.bsc_frame.proofs.laws.reading.Goals as goal

@@ -1,3 +1,4 @@
+-- The comparison of two messages decides whether they are the same.
 use Rattle.bsc_frame.proofs.MessageLemmas.{message_decides}
 use Rattle.bsc_frame.proofs.laws.same_messages.Goals as goal
 

@@ -1,3 +1,4 @@
+-- `decode_short` returns what is heard, or `None` for octets that begin as a text.
 use Rattle.bsc_frame.proofs.ShortLemmas.{short_is_heard, text_begins}
 use Rattle.bsc_frame.proofs.short.decode_short.Goals as goal
 

@@ -1,3 +1,4 @@
+-- The loop invariant of `copy_codes`.
 use Rattle.bsc_frame.proofs.SqueezeLemmas.{CopiedTo}
 use Rattle.bsc_frame.proofs.squeeze.copy_codes.Given as goal
 

@@ -1,3 +1,4 @@
+-- The loop invariant of `has_fill`.
 use Rattle.std.proofs.Common.{◌≡◌, take}
 use Rattle.std.specs.List.{list_any}
 use Rattle.bsc_frame.specs.Reading.{is_octet}

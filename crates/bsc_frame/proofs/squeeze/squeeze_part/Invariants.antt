@@ -1,3 +1,4 @@
+-- The loop invariant of `squeeze_part`.
 use Rattle.bsc_frame.proofs.SqueezeLemmas.{SqueezedTo}
 use Rattle.bsc_frame.proofs.squeeze.squeeze_part.Given as goal
 

@@ -1,3 +1,4 @@
+-- `read_units` reads the units of a text one after another.
 use Rattle.std.proofs.Common.{nat_lt, refl, sym}
 use Rattle.std.proofs.lemmas.Bool.{eqb-true, eqb-false, eq-eqb}
 use Rattle.bsc_frame.specs.declared.text.End.TheVariants.{Etb, Etx}

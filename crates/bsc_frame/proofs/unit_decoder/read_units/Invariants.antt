@@ -1,3 +1,4 @@
+-- The loop invariant of `read_units`.
 use Rattle.std.proofs.Common.{All}
 use Rattle.bsc_octet.specs.Octet.{IsOdd}
 use Rattle.bsc_frame.proofs.UnitSteps.{ReadTo}

@@ -1,3 +1,4 @@
+-- `take_chars` adds the unit that the codes of the octets are read as.
 use Rattle.std.proofs.Common.{arith, map, ◌∙◌, sym}
 use Rattle.bsc_frame.specs.Reading.{low_bits}
 use Rattle.bsc_frame.proofs.CarriedLemmas.{carried}

@@ -1,3 +1,4 @@
+-- `take_front` adds the unit of a front without fill if its check is right.
 use Rattle.std.proofs.Common.{map}
 use Rattle.bsc_frame.specs.Drafts.{AddsUnit}
 use Rattle.bsc_frame.specs.Reading.{low_bits, read_unit, after_start}

@@ -1,3 +1,4 @@
+-- `take_unit` adds the first unit, with or without fill.
 use Rattle.std.proofs.Common.{arith, subst, sym, ◌∙◌, ◌≡◌, ◌+◌, take, map, None, IfSome, IfNone}
 use Rattle.std.proofs.lemmas.List.Elements.{All-take, All-filter}
 use Rattle.bsc_octet.specs.Octet.{IsOdd}

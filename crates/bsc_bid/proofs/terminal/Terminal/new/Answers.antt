@@ -1,3 +1,4 @@
+-- The addresses that `new` accepts are those of a terminal, and the table holds them.
 use Rattle.std.proofs.Common.{arith}
 use Rattle.bsc_bid.proofs.SelectLemmas.{holds_selects}
 use Rattle.bsc_bid.proofs.terminal.Terminal.new.Goals as goal

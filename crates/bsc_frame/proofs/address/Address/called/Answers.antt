@@ -1,3 +1,4 @@
+-- `called` returns the address of the call that the octets carry, or `None` if there is no call.
 use Rattle.std.proofs.Common.{refl, sym, ◌∙◌, arith}
 use Rattle.bsc_frame.proofs.CallLemmas.{call_ends, call_early, call_empty, call_full, call_wrong}
 use Rattle.bsc_frame.proofs.CallLemmas.{call_wrong_code, call_goes_on, call_none}

@@ -1,3 +1,4 @@
+-- The loop invariant of `called`.
 use Rattle.bsc_frame.proofs.CallLemmas.{Called}
 use Rattle.bsc_frame.proofs.address.Address.called.Given as goal
 

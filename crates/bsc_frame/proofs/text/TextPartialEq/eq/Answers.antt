@@ -1,3 +1,4 @@
+-- The three comparisons of `eq` together decide whether two texts are the same.
 use Rattle.std.proofs.Common.{◌==◌, ◌∙◌, sym}
 use lib.Pointwise.{pointwise}
 use denote.Enum.Bare.{sameb}
