@@ -3,7 +3,7 @@ use Rattle.std.proofs.Common.{◌==◌, take, drop, bit_or}
 use Rattle.std.proofs.lemmas.Simd.{zip2_splat, zip2_of_maps, length-chunk}
 use Rattle.bsc_frame.specs.Reading.{is_ending_octet}
 use Rattle.bsc_frame.specs.declared.front.TheConstants.{LANES}
-use Rattle.bsc_frame.specs.declared.octets.TheConstants.{ETB, ETX, US, US_CODE}
+use Rattle.bsc_frame.specs.declared.octets.TheConstants.{ETB, ETX, US}
 use Rattle.bsc_frame.proofs.LaneLemmas.{first_lane_is, top_or}
 use Rattle.bsc_frame.proofs.front.before_ending_in.Goals as goal
 
@@ -14,6 +14,6 @@ returns c =
     first_lane_is is_ending_octet _ octets _ _ (λ x. top_or (x == US) (x == ETB) (x == ETX))
     long
     (zip2_of_maps bit_or _ _ octets (zip2_of_maps bit_or _ _ octets
-    (zip2_splat _ octets LANES US_CODE long) (zip2_splat _ octets LANES ETB long))
+    (zip2_splat _ octets LANES US long) (zip2_splat _ octets LANES ETB long))
     (zip2_splat _ octets LANES ETX long))
     c.first_lane.ensures
