@@ -3,6 +3,7 @@
 ghost use Rattle.std.specs.Prelude.{IsTrue, ◌≡◌, ◌≤◌, ◌<◌, true, false, if◌then◌else◌, None};
 ghost use Rattle.std.specs.Prelude.{length, OnOk, OnErr, IfErr, option_map};
 ghost use Rattle.bsc_spool.specs.Queue.{with_offered};
+ghost use Rattle.bsc_frame.specs.declared.message.Message.TheVariants as m;
 ghost use Rattle.bsc_bid.specs.Receiver.{sends_interrupt};
 ghost use Rattle.bsc_bid.specs.Terminal.{HasDistinctAddresses};
 ghost use Rattle.bsc_bid.specs.Sender.{release_step, is_in_doubt};

@@ -1,6 +1,7 @@
 -- `receive` is the row of a transmission in a poll.
-use Rattle.std.proofs.Common.{◌≡◌, refl, sym, ap, ◌∙◌, Some}
+use Rattle.std.proofs.Common.{◌≡◌, refl, sym, ap, ◌∙◌}
 use Rattle.std.specs.Prelude.{option_map}
+use Rattle.bsc_frame.specs.declared.message.Message.TheVariants as m
 use Rattle.bsc_control.proofs.Entries.{entries_with_peer}
 use Rattle.bsc_control.proofs.Reached.{peer_reached}
 use Rattle.bsc_control.proofs.Receiving.{received_row, received_room}
@@ -20,8 +21,7 @@ returns-clause-row g c =
     peer_reached c.self.view_is terminal.there refl c.index_mut-peer.ensures.value in
     let sent : c.match-reply.sent ≡ option_map m.Reply c.receive-reply.result =
     elim c.match-reply.branch [
-      | in-Some w ↦ w.sent-is ∙ ap Some w.message.ensures
-          ∙ sym (ap (option_map m.Reply) w.in-Some.is)
+      | in-Some w ↦ w.sent-is ∙ sym (ap (option_map m.Reply) w.in-Some.is)
       | in-None w ↦ w.sent-is ∙ sym (ap (option_map m.Reply) w.in-None.is)
     ] in
     received_row _ _ _ _ _ c.args.heard.now c.args.replied _ _ _ reached terminal.value
