@@ -174,7 +174,7 @@ fn offer_for<R: Read, F: Files>(
     } = offer;
     if terminal >= control.terminals() || select >= control.addresses(terminal) {
         return Err(WrongValue {
-            why: "--offer names a channel that CONFIG has not",
+            why: "--offer names a channel that is not in CONFIG",
         });
     }
     let records = records_at(alloc, path, control.setup(), input, files)?;
