@@ -1,7 +1,6 @@
 //! Plays workloads against a line, for the comparison with plain Rust: bench/line runs it.
 #![tactic(auto)]
 
-mod random;
 mod report;
 mod scripts;
 mod workload;

@@ -1,11 +1,11 @@
 //! Random events of a line, made without the line.
 
-use crate::random::Random;
 use crate::spoiling::{Spoiling, any_spoiling, change};
 use bsc_control::Way;
 use bsc_line::{Event, Speaker};
 use std::alloc::{AllocError, Global};
 use std::mem;
+use test_fixtures::Random;
 
 /// What was pending: nothing, a call, or something else that this station sent.
 #[derive(Clone, Copy, PartialEq, Eq)]

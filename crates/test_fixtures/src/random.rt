@@ -1,14 +1,15 @@
-//! The numbers that lines and events are made of.
+//! The numbers that random lines and events are made of: the same here and in bench/line_plain.
 
-ghost use Rattle.std.specs.Prelude.{◌<◌};
+ghost use Rattle.std.specs.Prelude.{◌≡◌, ◌<◌, ◌≤◌, ◌×◌};
 
-/// The generator xorshift64*.
+/// Numbers that follow from a seed: the generator xorshift64*.
 #[derive(Drop)]
 pub struct Random {
     state: u64,
 }
 
 impl Random {
+    /// The numbers of this seed.
     pub fn new(seed: u64) -> Random {
         Random {
             state: seed.wrapping_mul(0x9e37_79b9_7f4a_7c15) | 1,
@@ -24,7 +25,8 @@ impl Random {
 
     /// A number below the bound; 0 where that is 0.
     pub fn below(&mut self, bound: usize) -> usize
-        ensures { 0 < bound → result < bound }
+        ensures below { 0 < bound → result < bound }
+        ensures nothing { bound ≡ 0 → result ≡ 0 }
     {
         let number = (self.word() >> 32) as usize;
         if bound == 0 { 0 } else { number % bound }
@@ -35,8 +37,10 @@ impl Random {
         self.below(many) == 0
     }
 
-    /// One of these numbers, or one from 1 to the last of them.
-    pub fn setting(&mut self, least: usize, middle: usize, most: usize) -> usize {
+    /// One of these numbers, or one from the first to the last of them.
+    pub fn setting(&mut self, least: usize, middle: usize, most: usize) -> usize
+        ensures { least ≤ middle → middle ≤ most → (least ≤ result) × (result ≤ most) }
+    {
         match self.below(4) {
             0 => least,
             1 => middle,
@@ -45,6 +49,7 @@ impl Random {
         }
     }
 
+    /// Any octet.
     pub fn octet(&mut self) -> u8 {
         self.below(256) as u8
     }
