@@ -1,6 +1,6 @@
 //! The numbers that random lines and events are made of: the same here and in bench/line_plain.
 
-ghost use Rattle.std.specs.Prelude.{◌≡◌, ◌<◌, ◌≤◌, ◌×◌};
+ghost use Rattle.std.specs.Prelude.{◌≡◌, ◌<◌, ◌≤◌};
 
 /// Numbers that follow from a seed: the generator xorshift64*.
 #[derive(Drop)]
