@@ -4,7 +4,6 @@
 //! own.
 #![tactic(auto)]
 
-mod random;
 mod report;
 mod scripts;
 mod workload;

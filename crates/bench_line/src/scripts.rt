@@ -2,7 +2,6 @@
 
 ghost use Rattle.std.specs.Prelude.{◌<◌};
 
-use crate::random::Random;
 use crate::report;
 use crate::report::Digest;
 use bsc_bid::{Setup, Terminal};
@@ -12,6 +11,7 @@ use bsc_line::{Line, LineError, Speaker};
 use std::alloc::{AllocError, Global};
 use std::io::Write;
 use std::mem;
+use test_fixtures::Random;
 
 /// A script that is being played.
 #[derive(Drop)]

@@ -39,10 +39,19 @@ fn channel_of(text: &str) -> Option<(usize, usize)> {
     }
 }
 
+/// The text of the channel, where there is one, and the path of what is offered at the control
+/// station.
+fn channel_and_path(text: &str) -> (Option<&str>, &str) {
+    match text.split_once('=') {
+        Some((channel, path)) => (Some(channel), path),
+        None => (None, text),
+    }
+}
+
 /// What a text offers at the control station: `T.S=PATH` or `T=PATH`.
 fn offer_of(text: &str) -> Option<Offer<'_>> {
-    let (channel, path) = text.split_once('=')?;
-    let (terminal, select) = channel_of(channel)?;
+    let (channel, path) = channel_and_path(text);
+    let (terminal, select) = channel_of(channel?)?;
     Some(Offer {
         terminal,
         select,
@@ -54,10 +63,10 @@ fn offer_of(text: &str) -> Option<Offer<'_>> {
 fn path_of(text: &str, role: Role) -> &str {
     match role {
         Role::Terminal { .. } => text,
-        Role::Control => match text.split_once('=') {
-            Some((_, path)) => path,
-            None => text,
-        },
+        Role::Control => {
+            let (_, path) = channel_and_path(text);
+            path
+        }
     }
 }
 
@@ -165,7 +174,7 @@ fn offer_for<R: Read, F: Files>(
     } = offer;
     if terminal >= control.terminals() || select >= control.addresses(terminal) {
         return Err(WrongValue {
-            why: "--offer names a channel that CONFIG has not",
+            why: "--offer names a channel that is not in CONFIG",
         });
     }
     let records = records_at(alloc, path, control.setup(), input, files)?;

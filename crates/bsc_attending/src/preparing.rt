@@ -75,7 +75,7 @@ fn terminal<R: Read, F: Files>(
     ensures { IfErr result IsPreparingError }
 {
     if number >= config.terminals() {
-        let why = "CONFIG has no such terminal";
+        let why = "--terminal names a terminal that is not in CONFIG";
         return Err(WrongValue { why });
     }
     let mut terminal = new_terminal(alloc, config, number);

@@ -94,7 +94,7 @@ fn read_role(words: &StationWords) -> Result<Role, AttendingError>
             }),
         },
         _ => Err(WrongTogether {
-            why: "either --control or --terminal says which station it is",
+            why: "either --control or --terminal must say which station it is",
         }),
     }
 }
@@ -107,7 +107,7 @@ fn read_place(words: &StationWords) -> Result<Place<'_>, AttendingError>
         (Some(address), None) => Ok(Place::Listen { address }),
         (None, Some(address)) => Ok(Place::Connect { address }),
         _ => Err(WrongTogether {
-            why: "either --listen or --connect says where its connections are",
+            why: "either --listen or --connect must say where its connections are",
         }),
     }
 }

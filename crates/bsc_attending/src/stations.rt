@@ -19,6 +19,14 @@ use bsc_monitor::{
 use std::alloc::Global;
 use std::io::{Read, Write};
 
+/// What a station is watched with: the time, and what takes its records and its trace.
+#[derive(Drop)]
+struct Watching<'a, T: Drop, O, D> {
+    timer: T,
+    out: &'a mut O,
+    trace: &'a mut D,
+}
+
 /// Runs the station that the words ask for. The configuration and all records are read and checked
 /// before a connection is made. Records are printed when they arrive, and the report when the
 /// station ends. `InDoubt` and `Undelivered` are returned after the report is printed, and so is
@@ -114,15 +122,12 @@ fn open_for_control<H: Network, W: Write>(
     let wanted = wanted_by_control(settings, control.terminals());
     let mut connections = connect(alloc, settings.raw, &wanted, machine)?;
     let (timer, mut trace) = (machine.timer(), machine.trace());
-    attend_control(
-        alloc,
-        settings,
-        control,
-        &mut connections,
+    let watching = Watching {
         timer,
         out,
-        &mut trace,
-    )
+        trace: &mut trace,
+    };
+    attend_control(alloc, settings, control, &mut connections, watching)
 }
 
 /// Attends the control station until it ends.
@@ -138,12 +143,11 @@ fn attend_control<
     settings: &StationSettings<'_>,
     control: &mut Control<Global>,
     connections: &mut Connections<R, W, Q>,
-    timer: T,
-    out: &mut O,
-    trace: &mut D,
+    watching: Watching<'_, T, O, D>,
 ) -> Result<(), AttendingError>
     ensures { IfErr result IsLate }
 {
+    let Watching { timer, out, trace } = watching;
     let watch = Watch::new(alloc, control, settings.printing, timer, out, trace)?;
     let watch = ControlWatch::new(control, watch, settings.limits, listens(settings.place));
     Ok(attend_until_answered(control, connections, watch)?)
@@ -202,15 +206,12 @@ fn open_for_terminal<H: Network, W: Write>(
     let wanted = wanted_by_terminal(settings);
     let mut connections = connect(alloc, settings.raw, &wanted, machine)?;
     let (timer, mut trace) = (machine.timer(), machine.trace());
-    attend_terminal(
-        alloc,
-        settings,
-        terminal,
-        &mut connections,
+    let watching = Watching {
         timer,
         out,
-        &mut trace,
-    )
+        trace: &mut trace,
+    };
+    attend_terminal(alloc, settings, terminal, &mut connections, watching)
 }
 
 /// Attends a terminal until its connection is closed, and returns the fault that closed it, if any.
@@ -226,12 +227,11 @@ fn attend_terminal<
     settings: &StationSettings<'_>,
     terminal: &mut LineTerminal<Global>,
     connections: &mut Connections<R, W, Q>,
-    timer: T,
-    out: &mut O,
-    trace: &mut D,
+    watching: Watching<'_, T, O, D>,
 ) -> Result<Option<CarrierError>, AttendingError>
     ensures { IfErr result IsLate }
 {
+    let Watching { timer, out, trace } = watching;
     let watch = Watch::new(alloc, terminal, settings.printing, timer, out, trace)?;
     let mut watch = TerminalWatch::new(watch);
     connections.attend(terminal, &mut watch)?;

@@ -11,7 +11,7 @@ use bsc_asked::Asked;
 use bsc_attending::{Network, station};
 use bsc_input::{Files, read_input};
 use bsc_naming::{name, names, show};
-use bsc_running::{Cables, run};
+use bsc_running::{Cables, RunWords, run};
 use std::alloc::Global;
 use std::io::{Read, Write};
 
@@ -48,8 +48,12 @@ pub fn perform<R: Read, H: Files + Cables + Network, W: Write>(
             script,
             check,
         } => {
-            let (config, script) = (config.as_str(), script.as_str());
-            match run(alloc, config, script, *check, input, machine, out) {
+            let words = RunWords {
+                config: config.as_str(),
+                script: script.as_str(),
+                check: *check,
+            };
+            match run(alloc, words, input, machine, out) {
                 Ok(()) => Ok(()),
                 Err(error) => Err(running_fault(alloc, error)),
             }

@@ -12,8 +12,8 @@ ghost use Rattle.bsc_monitor.specs.Arrivals.{channel_arrivals, counted};
 use crate::{Party, Received};
 use bsc_block::Record;
 use bsc_control::Way;
-use bsc_print::{PrintError, write_chars};
-use bsc_report::{put, write_channel_name};
+use bsc_print::{PrintError, put, write_chars};
+use bsc_report::write_channel_name;
 use std::alloc::Allocator;
 use std::io::Write;
 

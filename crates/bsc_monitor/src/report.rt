@@ -13,8 +13,8 @@ ghost use Rattle.bsc_monitor.specs.Printed.{station_report};
 use crate::{ChannelEnd, Party};
 use bsc_block::Record;
 use bsc_control::Way;
-use bsc_print::PrintError;
-use bsc_report::{doubt_text, put, write_channel_name, write_records};
+use bsc_print::{PrintError, put};
+use bsc_report::{doubt_text, write_channel_name, write_records};
 use std::alloc::Allocator;
 use std::io::Write;
 

@@ -10,10 +10,9 @@ ghost use Rattle.bsc_monitor.specs.Traces.{who_shown};
 
 use bsc_carrier::CarrierError;
 use bsc_connections::Note;
+use bsc_frame::decode;
 use bsc_frame::laws::{one_reading, reading};
-use bsc_frame::{Heard, decode};
-use bsc_print::{PrintError, write_chars, write_name};
-use bsc_report::put;
+use bsc_print::{PrintError, put, write_chars, write_heard_name};
 use std::alloc::Allocator;
 use std::io::Write;
 
@@ -76,18 +75,6 @@ fn deed_text(deed: Deed) -> &'static [u8]
     }
 }
 
-/// Writes the name of what is heard.
-fn write_heard<W: Write>(heard: &Heard, out: &mut W) -> Result<(), PrintError>
-    ensures { OnOk result
-        (Appends (W.contents out.old) (W.contents out.new) (name_of heard.now)) }
-{
-    match heard {
-        Heard::Whole(message) => write_name(message, out),
-        Heard::Failed => put(b"FAILED", out),
-        Heard::Noise => put(b"NOISE", out),
-    }
-}
-
 /// Writes the line of a transmission: the time in milliseconds, who sent it, what the station did
 /// with it, its name, and its octets in hexadecimal text.
 fn write_transmission<A: Allocator, W: Write>(
@@ -118,7 +105,7 @@ fn write_content<A: Allocator, W: Write>(
 {
     one_reading();
     reading();
-    write_heard(&decode(octets), out)?;
+    write_heard_name(&decode(octets), out)?;
     write_octets(alloc, octets, out)
 }
 

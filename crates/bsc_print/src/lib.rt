@@ -8,4 +8,4 @@ mod error;
 mod printed;
 
 pub use error::PrintError;
-pub use printed::{Detail, write_chars, write_name, write_shown};
+pub use printed::{Detail, put, write_chars, write_heard_name, write_name, write_shown};

@@ -21,8 +21,8 @@ pub enum Detail {
     Units,
 }
 
-/// Writes the octets.
-fn put<W: Write>(octets: &[u8], out: &mut W) -> Result<(), PrintError>
+/// Writes the octets as they are. After an error a part of them may have been written.
+pub fn put<W: Write>(octets: &[u8], out: &mut W) -> Result<(), PrintError>
     ensures ok { OnOk result (Appends (W.contents out.old) (W.contents out.new) octets.now) }
     ensures err { IfErr result (λ error. error ≡ PrintError.Output) }
 {
@@ -76,8 +76,9 @@ pub fn write_name<W: Write>(message: &Message, out: &mut W) -> Result<(), PrintE
     }
 }
 
-/// Writes the name of what is heard.
-fn write_heard_name<W: Write>(heard: &Heard, out: &mut W) -> Result<(), PrintError>
+/// Writes the name of what is heard, without a line feed: that of the message, `FAILED` or `NOISE`.
+/// After an error a part of it may have been written.
+pub fn write_heard_name<W: Write>(heard: &Heard, out: &mut W) -> Result<(), PrintError>
     ensures ok { OnOk result
         (Appends (W.contents out.old) (W.contents out.new) (name_of heard.now)) }
     ensures err { IfErr result (λ error. error ≡ PrintError.Output) }

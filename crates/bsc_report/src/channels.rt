@@ -7,19 +7,9 @@ ghost use Rattle.bsc_report.specs.Channels.{channel_name, doubt_shown, record_li
 
 use bsc_block::Record;
 use bsc_directory::Way;
-use bsc_print::{PrintError, write_chars};
+use bsc_print::{PrintError, put, write_chars};
 use std::alloc::Allocator;
 use std::io::Write;
-
-/// Writes the octets.
-pub fn put<W: Write>(octets: &[u8], out: &mut W) -> Result<(), PrintError>
-    ensures { OnOk result (Appends (W.contents out.old) (W.contents out.new) octets.now) }
-{
-    match out.write_all(octets) {
-        Ok(()) => Ok(()),
-        Err(_) => Err(PrintError::Output),
-    }
-}
 
 /// Writes the name of a channel of a terminal that has this many selection addresses. After an
 /// error a part of it may have been written.

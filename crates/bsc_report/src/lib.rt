@@ -6,4 +6,4 @@
 
 mod channels;
 
-pub use channels::{doubt_text, put, write_channel_name, write_records};
+pub use channels::{doubt_text, write_channel_name, write_records};

@@ -10,8 +10,8 @@ ghost use Rattle.bsc_run.specs.Printed.{report_of};
 
 use bsc_control::Way;
 use bsc_line::Line;
-use bsc_print::PrintError;
-use bsc_report::{doubt_text, put, write_channel_name, write_records};
+use bsc_print::{PrintError, put};
+use bsc_report::{doubt_text, write_channel_name, write_records};
 use std::alloc::Allocator;
 use std::io::Write;
 

@@ -9,8 +9,7 @@ ghost use Rattle.bsc_run.specs.Printed.{speaker_name, pending_line};
 use bsc_frame::decode;
 use bsc_frame::laws::{one_reading, reading};
 use bsc_line::{Line, Speaker};
-use bsc_print::{Detail, PrintError, write_shown};
-use bsc_report::put;
+use bsc_print::{Detail, PrintError, put, write_shown};
 use std::alloc::Allocator;
 use std::io::Write;
 

@@ -10,4 +10,4 @@ mod running;
 
 pub use cables::Cables;
 pub use error::RunningError;
-pub use running::run;
+pub use running::{RunWords, run};

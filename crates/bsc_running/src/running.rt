@@ -12,25 +12,43 @@ use bsc_script::{Script, read_script};
 use std::alloc::Global;
 use std::io::{Read, Write};
 
+/// What is to be run: the texts of a run by their paths, of which one may be `-`, which is standard
+/// input. (Own.)
+#[derive(Clone, Copy, Debug, PartialEq, Eq)]
+pub struct RunWords<'a> {
+    /// The path of the configuration.
+    pub config: &'a str,
+
+    /// The path of the script.
+    pub script: &'a str,
+
+    /// Both are only read and checked.
+    pub check: bool,
+}
+
 /// Runs the events of the script on a line of the configuration, over a cable of the machine, and
 /// prints what is on the line after each event that is heard, and a report at the end. Both are
-/// named by their paths; one of them may be `-`, which is standard input. Both are read before what
-/// they say is checked, the configuration first. With `check` nothing is run or printed. (Own.)
+/// read before what they say is checked, the configuration first. With `check` nothing is run or
+/// printed. (Own.)
 pub fn run<R: Read, H: Files + Cables, W: Write>(
     alloc: Global,
-    config: &str,
-    script: &str,
-    check: bool,
+    words: RunWords<'_>,
     input: &mut R,
     machine: &mut H,
     out: &mut W,
 ) -> Result<(), RunningError>
     ensures early { IfErr result (λ error. IsEarly error → out.new ≡ out.old) }
-    ensures checked { IsTrue check → out.new ≡ out.old }
+    ensures checked { IsTrue words.entry.check → out.new ≡ out.old }
     ensures done { OnOk result
-        (IsRunDone H.Stream.contents H.Stream.remaining check config.now script.now
-        (R.remaining input.old) (W.contents out.old) (W.contents out.new)) }
+        (IsRunDone H.Stream.contents H.Stream.remaining words.entry.check words.entry.config.now
+        words.entry.script.now (R.remaining input.old) (W.contents out.old)
+        (W.contents out.new)) }
 {
+    let RunWords {
+        config,
+        script,
+        check,
+    } = words;
     if are_both_standard_input(config, script) {
         return Err(RunningError::BothStandardInput);
     }

@@ -13,6 +13,19 @@ use std::io::ErrorKind;
 use std::net::{Net, SocketAddr};
 use std::time::{Clock, Duration};
 
+/// The peers that one waits for. (Own.)
+#[derive(Clone, Copy, Debug, PartialEq, Eq)]
+pub struct Peers {
+    /// How many there are.
+    pub count: usize,
+
+    /// For how long each is waited for, from the one before it on.
+    pub patience: Duration,
+
+    /// Whether a further peer is a newcomer; else the system refuses it.
+    pub keeps_listening: bool,
+}
+
 /// Sockets with a connection at each of their places.
 #[derive(Drop)]
 pub struct Begun<'a, N: Net + Clock, A: Allocator> {
@@ -74,27 +87,25 @@ fn connect_to<N: Net + Clock, A: Allocator>(
     }
 }
 
-/// Takes a connection from each of this many peers, fewer than 65,536, in the order in which they
-/// connect. Fails with `NobodyConnected` if a peer does not connect within `patience`, which begins
-/// anew for each, with `Sockets` if the system refuses what a connection needs, and with `Memory`
-/// if memory cannot be allocated. If it keeps listening, a further peer is a newcomer; else the
-/// system refuses that peer.
+/// Takes a connection from each of these peers, fewer than 65,536, in the order in which they
+/// connect. Fails with `NobodyConnected` if a peer does not connect within their patience, which
+/// begins anew for each, with `Sockets` if the system refuses what a connection needs, and with
+/// `Memory` if memory cannot be allocated. If it keeps listening, a further peer is a newcomer; else
+/// the system refuses that peer.
 pub fn listen<'a, N: Net + Clock, A: Allocator + Copy>(
     runtime: &'a N,
     alloc: A,
     listening: Listening,
-    peers: usize,
-    patience: Duration,
-    keeps_listening: bool,
+    peers: Peers,
     settings: Settings,
 ) -> Result<Begun<'a, N, A>, SocketsError>
-    requires { peers < 2 ^ 16 }
-    ensures count { IfOk result (λ begun. length begun.connections.items ≡ peers) }
-    ensures refuses { keeps_listening ≡ false
+    requires { peers.count < 2 ^ 16 }
+    ensures count { IfOk result (λ begun. length begun.connections.items ≡ peers.count) }
+    ensures refuses { peers.keeps_listening ≡ false
         → IfOk result (λ begun. IsNone begun.sockets.listener) }
 {
-    let mut begun = Begun::new(runtime, alloc, peers, settings)?;
-    begun.take_peers(listening, peers, patience, keeps_listening)?;
+    let mut begun = Begun::new(runtime, alloc, peers.count, settings)?;
+    begun.take_peers(listening, peers)?;
     Ok(begun)
 }
 
@@ -126,22 +137,16 @@ impl<'a, N: Net + Clock, A: Allocator + Copy> Begun<'a, N, A> {
         Ok(())
     }
 
-    /// Takes a connection from each of this many peers, and then keeps listening or stops.
-    fn take_peers(
-        &mut self,
-        listening: Listening,
-        peers: usize,
-        patience: Duration,
-        keeps_listening: bool,
-    ) -> Result<(), SocketsError>
+    /// Takes a connection from each of these peers, and then keeps listening or stops.
+    fn take_peers(&mut self, listening: Listening, peers: Peers) -> Result<(), SocketsError>
         requires { self.old.connections.items ≡ [] }
-        ensures count { OnOk result (length self.new.connections.items ≡ peers) }
-        ensures refuses { keeps_listening ≡ false
+        ensures count { OnOk result (length self.new.connections.items ≡ peers.count) }
+        ensures refuses { peers.keeps_listening ≡ false
             → OnOk result (IsNone self.new.sockets.listener) }
     {
         self.sockets.take_peers_of(listening)?;
-        self.add_peers(peers, patience)?;
-        if !keeps_listening {
+        self.add_peers(peers.count, peers.patience)?;
+        if !peers.keeps_listening {
             self.sockets.stop_listening();
         }
         Ok(())

@@ -2,7 +2,7 @@
 //! the sockets of this machine, in one thread, by the readiness reports of the system. It knows
 //! nothing of transmissions.
 //!
-//! - `Listening` is an address that is bound; `listen` waits there for a number of peers.
+//! - `Listening` is an address that is bound; `listen` waits there for `Peers`.
 //! - `connect` makes one connection to a peer that listens.
 //! - `Sockets` waits for octets, for a further peer, or until a time has passed.
 //! - `Reading` and `Writing` are the two directions of a connection. A read does not wait, and a
@@ -21,7 +21,7 @@ mod sockets;
 mod time_limit;
 mod writable;
 
-pub use begin::{Begun, connect, listen};
+pub use begin::{Begun, Peers, connect, listen};
 pub use directions::{Reading, Writing};
 pub use error::SocketsError;
 pub use listening::Listening;

@@ -9,8 +9,8 @@ use bsc_loopback::{LoopbackError, connect};
 use bsc_monitor::Timer;
 use bsc_running::Cables;
 use bsc_sockets::{
-    Begun, Listening, Reading, Settings, Sockets, SocketsError, Writing, connect as connect_to,
-    listen,
+    Begun, Listening, Peers, Reading, Settings, Sockets, SocketsError, Writing,
+    connect as connect_to, listen,
 };
 use std::alloc::Global;
 use std::fs::File;
@@ -105,15 +105,15 @@ fn begin<'a, R: AllocGlobal + Clock + Net>(
             settings.time_out,
             settings,
         ),
-        Place::Listen { address } => listen(
-            runtime,
-            runtime.alloc(),
-            Listening::bind(runtime, address)?,
-            wanted.connections.min(MAX_CONNECTIONS),
-            Duration::from_millis(PATIENCE),
-            wanted.stays,
-            settings,
-        ),
+        Place::Listen { address } => {
+            let listening = Listening::bind(runtime, address)?;
+            let peers = Peers {
+                count: wanted.connections.min(MAX_CONNECTIONS),
+                patience: Duration::from_millis(PATIENCE),
+                keeps_listening: wanted.stays,
+            };
+            listen(runtime, runtime.alloc(), listening, peers, settings)
+        }
     }
 }
 

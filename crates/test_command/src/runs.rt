@@ -4,7 +4,7 @@ use crate::faults::has_text;
 use bsc_carrier::Cable;
 use bsc_input::{Files, InputError};
 use bsc_loopback::{LoopbackError, connect};
-use bsc_running::{Cables, run};
+use bsc_running::{Cables, RunWords, run};
 use std::alloc::Global;
 use std::net::Net;
 use std::test::Fail;
@@ -251,15 +251,12 @@ fn is_due<R: Net>(runtime: &R, alloc: Global, case: &Case) -> bool {
     };
     let (mut input, mut out) = (case.input.as_bytes(), Vec::new(alloc));
     let (config, script) = case.paths;
-    let answer = run(
-        alloc,
+    let words = RunWords {
         config,
         script,
-        case.check,
-        &mut input,
-        &mut machine,
-        &mut out,
-    );
+        check: case.check,
+    };
+    let answer = run(alloc, words, &mut input, &mut machine, &mut out);
     let is_printed = match case.printed {
         Some(text) => out.as_slice() == text.as_bytes(),
         None => true,

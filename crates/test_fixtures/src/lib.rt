@@ -1,6 +1,7 @@
 //! Data shared by the tests of several crates: the transmissions of their exchanges, the settings
 //! and terminals of the line on which most of them play, its configuration, comparisons of records
-//! with characters, and a writer that fails. The crates of the line use it in their tests only.
+//! with characters, a writer that fails, and random numbers. The crates of the line use it in their
+//! tests only.
 //!
 //! The transmissions are the standard's (GA27-3004); the settings and terminals are this project's
 //! own.
@@ -10,8 +11,10 @@ pub mod configurations;
 mod full;
 pub mod lines;
 pub mod octets;
+mod random;
 pub mod records;
 #[cfg(test)]
 mod tests;
 
 pub use full::Full;
+pub use random::Random;

@@ -1,11 +1,11 @@
 //! Random events of a line, which are made without access to the line.
 
-use crate::random::Random;
 use crate::spoiling::{Spoiling, any_spoiling, change};
 use bsc_control::Way;
 use bsc_line::{Event, Speaker};
 use std::alloc::{AllocError, Global};
 use std::mem;
+use test_fixtures::Random;
 
 /// What was pending: nothing, a call, another message of the control station, or a message of a
 /// terminal.

@@ -9,7 +9,6 @@
 
 mod events;
 mod player;
-mod random;
 mod report;
 mod setups;
 mod spoiling;

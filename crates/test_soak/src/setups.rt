@@ -2,11 +2,11 @@
 
 ghost use Rattle.std.specs.Prelude.{◌<◌};
 
-use crate::random::Random;
 use anyhow::Context;
 use bsc_bid::{Setup, Terminal};
 use bsc_frame::Address;
 use std::alloc::{AllocError, Global};
+use test_fixtures::Random;
 
 /// The number as one octet, at most 255.
 fn octet(number: usize) -> u8 {

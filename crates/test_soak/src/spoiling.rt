@@ -2,8 +2,8 @@
 
 ghost use Rattle.std.specs.Prelude.{◌<◌};
 
-use crate::random::Random;
 use std::alloc::AllocError;
+use test_fixtures::Random;
 
 /// What happens to the transmissions of a line.
 #[derive(Clone, Copy)]

@@ -3,7 +3,7 @@
 use crate::acts::{reads_at, writes_at};
 use crate::meeting::{bound, patience, peer, settings};
 use bsc_connections::{Awaited, Wait, Waiter};
-use bsc_sockets::{Begun, Listening, SocketsError, connect, listen};
+use bsc_sockets::{Begun, Listening, Peers, SocketsError, connect, listen};
 use std::alloc::{AllocError, Allocator, Global};
 use std::io::{Read, Write};
 use std::net::SocketAddr;
@@ -28,8 +28,12 @@ pub(crate) fn connections_at<A: Allocator + Copy>(
     peers: u16,
     patience: Duration,
 ) -> Result<usize, SocketsError> {
-    let peers = usize::from(peers);
-    let begun = listen(rt, alloc, listening, peers, patience, true, settings())?;
+    let peers = Peers {
+        count: usize::from(peers),
+        patience,
+        keeps_listening: true,
+    };
+    let begun = listen(rt, alloc, listening, peers, settings())?;
     Ok(begun.connections.len())
 }
 
@@ -133,10 +137,15 @@ fn listens_to<P, Q: Write>(
     near: &mut [(P, Q)],
     address: &str,
 ) -> Result<bool, SocketsError> {
+    let peers = Peers {
+        count: 1,
+        patience: patience(),
+        keeps_listening: false,
+    };
     let Begun {
         mut sockets,
         mut connections,
-    } = listen(rt, alloc, listening, 1, patience(), false, settings())?;
+    } = listen(rt, alloc, listening, peers, settings())?;
     let meets = writes_at(near, 0, &[0x16]) && hears(&mut sockets, &mut connections);
     let third = connections_to(rt, alloc, address);
     Ok(meets && third == Err(SocketsError::NobodyThere))

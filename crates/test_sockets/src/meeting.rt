@@ -1,7 +1,7 @@
 //! A station that listens, and the peers that connected to it.
 
 use crate::acts::{Act, Read4, reads, station_goes};
-use bsc_sockets::{Begun, Listening, Settings, SocketsError, listen};
+use bsc_sockets::{Begun, Listening, Peers, Settings, SocketsError, listen};
 use std::alloc::Global;
 use std::io;
 use std::io::{Read, Write};
@@ -55,8 +55,12 @@ fn meet<'a>(
 ) -> Result<Meeting<'a>, Fail> {
     let (listening, address) = bound(rt)?;
     let peers = peers_of(rt, alloc, address, count)?;
-    let count = usize::from(count);
-    let begun = listen(rt, alloc, listening, count, patience(), true, settings)?;
+    let wanted = Peers {
+        count: usize::from(count),
+        patience: patience(),
+        keeps_listening: true,
+    };
+    let begun = listen(rt, alloc, listening, wanted, settings)?;
     Ok(Meeting {
         rt,
         address,

@@ -3,7 +3,7 @@
 use crate::beginning::{connections_at, connections_to, text};
 use crate::meeting::{bound, patience, peer, settings};
 use bsc_connections::{Awaited, Wait, Waiter};
-use bsc_sockets::{Sockets, SocketsError, listen};
+use bsc_sockets::{Peers, Sockets, SocketsError, listen};
 use std::alloc::{Allocator, Global};
 use std::io::Read;
 use std::net::SocketAddr;
@@ -60,7 +60,12 @@ fn without_peer<'a, A: Allocator + Copy>(
 ) -> Result<(Sockets<'a, HostRuntime, A>, SocketAddr), Fail> {
     let (listening, address) = bound(rt)?;
     let _first = peer(rt, address)?;
-    let begun = listen(rt, alloc, listening, 1, patience(), true, settings())?;
+    let peers = Peers {
+        count: 1,
+        patience: patience(),
+        keeps_listening: true,
+    };
+    let begun = listen(rt, alloc, listening, peers, settings())?;
     Ok((begun.sockets, address))
 }
 

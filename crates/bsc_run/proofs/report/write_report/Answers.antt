@@ -19,7 +19,7 @@ returns g c =
     let all : c.terminals.terminal ≡ terminal_count l =
     omega (arith, c.terminals-terminal-end.ensures.value) in
     let terminals = rw all at c.terminals.invariant in
-    let last = rw (c.trust_text.ensures, c.trusted.ensures.value) at c.put.ensures in
+    let last = rw (c.trust_text.ensures, c.trusted.ensures.value) at c.put.ensures.ok in
     two_on_ok (g.W.Write.contents c.args.out.now) (g.W.Write.contents c.terminals.out)
     (g.W.Write.contents c.put.new.out) (each_below (terminal_lines l) (terminal_count l))
     (trust_line l.trusted) c.put.result terminals last

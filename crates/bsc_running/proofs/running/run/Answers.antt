@@ -9,9 +9,11 @@ use Rattle.bsc_running.proofs.running.run.Goals as goal
 
 pub returns-then-check-clause-done : goal.returns-then-check-clause-done
 returns-then-check-clause-done g c =
+    let config = c.args.words.config.now in
+    let script = c.args.words.script.now in
     let held = g.W.Write.contents c.args.out.now in
-    subst (λ b. IsRunDone g.H.Stream.Write.contents g.H.Stream.Read.remaining b c.args.config.now
-    c.args.script.now (g.R.Read.remaining c.args.input.now) held held)
+    subst (λ b. IsRunDone g.H.Stream.Write.contents g.H.Stream.Read.remaining b config script
+    (g.R.Read.remaining c.args.input.now) held held)
     (sym c.if-check.true) (record {
       config = c.in_ok-config.config;
       steps = c.in_ok-script.script;
@@ -19,13 +21,13 @@ returns-then-check-clause-done g c =
         config_text = c.deref.result.now;
         script_text = c.deref-2.result.now;
         config_is =
-            subst (IsTextAt c.args.config.now (g.R.Read.remaining c.args.input.now))
+            subst (IsTextAt config (g.R.Read.remaining c.args.input.now))
             (sym c.deref.ensures.value) c.in_ok-config_text.ensures.text;
         script_is =
-            subst (IsTextAt c.args.script.now (g.R.Read.remaining c.args.input.now))
+            subst (IsTextAt script (g.R.Read.remaining c.args.input.now))
             (sym c.deref-2.ensures.value)
-            (script_is g.R.Read.remaining c.args.config.now c.args.script.now c.args.input.now
-            c.read_text.new.input c.in_ok-script_text.script_text.items
+            (script_is g.R.Read.remaining config script c.args.input.now c.read_text.new.input
+            c.in_ok-script_text.script_text.items
             (c.are_both_standard_input.ensures c.if-are_both_standard_input.false)
             c.in_ok-config_text.ensures.unasked c.in_ok-script_text.ensures.text);
         says = c.in_ok-config.ensures.says;
@@ -36,12 +38,14 @@ returns-then-check-clause-done g c =
 
 pub returns-clause-done : goal.returns-clause-done
 returns-clause-done g c =
+    let config = c.args.words.config.now in
+    let script = c.args.words.script.now in
     let held = g.W.Write.contents c.args.out.now in
     let holds = g.W.Write.contents c.run_on_cable.new.out in
     on_ok c.run_on_cable.result
     (λ ran.
-    subst (λ b. IsRunDone g.H.Stream.Write.contents g.H.Stream.Read.remaining b c.args.config.now
-    c.args.script.now (g.R.Read.remaining c.args.input.now) held holds)
+    subst (λ b. IsRunDone g.H.Stream.Write.contents g.H.Stream.Read.remaining b config script
+    (g.R.Read.remaining c.args.input.now) held holds)
     (sym c.if-check.false) (record {
       config = c.in_ok-config.config;
       steps = c.in_ok-script.script;
@@ -49,13 +53,13 @@ returns-clause-done g c =
         config_text = c.deref.result.now;
         script_text = c.deref-2.result.now;
         config_is =
-            subst (IsTextAt c.args.config.now (g.R.Read.remaining c.args.input.now))
+            subst (IsTextAt config (g.R.Read.remaining c.args.input.now))
             (sym c.deref.ensures.value) c.in_ok-config_text.ensures.text;
         script_is =
-            subst (IsTextAt c.args.script.now (g.R.Read.remaining c.args.input.now))
+            subst (IsTextAt script (g.R.Read.remaining c.args.input.now))
             (sym c.deref-2.ensures.value)
-            (script_is g.R.Read.remaining c.args.config.now c.args.script.now c.args.input.now
-            c.read_text.new.input c.in_ok-script_text.script_text.items
+            (script_is g.R.Read.remaining config script c.args.input.now c.read_text.new.input
+            c.in_ok-script_text.script_text.items
             (c.are_both_standard_input.ensures c.if-are_both_standard_input.false)
             c.in_ok-config_text.ensures.unasked c.in_ok-script_text.ensures.text);
         says = c.in_ok-config.ensures.says;

@@ -1,14 +1,15 @@
-//! The random numbers from which lines and events are made.
+//! The random numbers from which lines and events are made, the same as in `bench/line_plain`.
 
-ghost use Rattle.std.specs.Prelude.{◌<◌};
+ghost use Rattle.std.specs.Prelude.{◌≡◌, ◌<◌, ◌≤◌};
 
-/// The generator xorshift64*.
+/// Numbers that follow from a seed: the generator xorshift64*.
 #[derive(Drop)]
 pub struct Random {
     state: u64,
 }
 
 impl Random {
+    /// Returns the numbers of this seed.
     pub fn new(seed: u64) -> Random {
         Random {
             state: seed.wrapping_mul(0x9e37_79b9_7f4a_7c15) | 1,
@@ -22,9 +23,10 @@ impl Random {
         self.state.wrapping_mul(0x2545_f491_4f6c_dd1d)
     }
 
-    /// A number below the bound; 0 if the bound is 0.
+    /// Returns a number below the bound; 0 if the bound is 0.
     pub fn below(&mut self, bound: usize) -> usize
-        ensures { 0 < bound → result < bound }
+        ensures below { 0 < bound → result < bound }
+        ensures nothing { bound ≡ 0 → result ≡ 0 }
     {
         let number = (self.word() >> 32) as usize;
         if bound == 0 { 0 } else { number % bound }
@@ -36,7 +38,9 @@ impl Random {
     }
 
     /// One of these three numbers, or any number from the least to the greatest of them.
-    pub fn setting(&mut self, least: usize, middle: usize, most: usize) -> usize {
+    pub fn setting(&mut self, least: usize, middle: usize, most: usize) -> usize
+        ensures { least ≤ middle → middle ≤ most → (least ≤ result) × (result ≤ most) }
+    {
         match self.below(4) {
             0 => least,
             1 => middle,
@@ -45,6 +49,7 @@ impl Random {
         }
     }
 
+    /// Any octet.
     pub fn octet(&mut self) -> u8 {
         self.below(256) as u8
     }
