@@ -3,7 +3,6 @@
 use Rattle.std.proofs.Common.{◌≡◌, ◌≢◌, ◌⊎◌, inl, inr, ℕ, zero, suc, ◌+◌, ◌*◌, ◌^◌, ◌-◌, ◌<◌}
 use Rattle.std.proofs.Common.{false, List, length, Option, None, Some, Result, refl}
 use Rattle.std.proofs.Common.{sym, ◌∙◌, ap, subst, arith}
-use Rattle.bsc_frame.specs.declared.message.Message.TheVariants as m
 use Rattle.bsc_frame.specs.declared.message.Message.{Message}
 use Rattle.bsc_frame.specs.declared.message.Message.TheVariants as msg
 use Rattle.bsc_frame.specs.declared.message.Heard.TheVariants.{Whole}
@@ -193,7 +192,7 @@ not_landed_up pending p e x b t is phase h =
 -- a text from the terminal is acknowledged
 record TakenUp (l new : LineValue) (place : ℕ) (alternation : Alternation) : Type 0 where
   pending : new.pending
-      ≡ Some (record { speaker = sp.Control; message = m.Reply (ack alternation) })
+      ≡ Some (record { speaker = sp.Control; message = msg.Reply (ack alternation) })
   polled : IsPolled new.control place
   terminals : new.terminals ≡ l.terminals
   stays : ControlStays (current l.control) FromTerminal l.control new.control
@@ -219,7 +218,7 @@ text_up l new place n b g polled i calm delays is h =
     let room : ((peer_at new.control e).spool.delays ≡ (peer c).spool.delays)
     × ((peer c).spool.delays < 2 ^ 64 - 1) =
     delays.control e (current_terminal_there l.control l.terminals g.line.stations) in
-    let y : (h.sent ≡ Some (m.Reply (ack b.alternation))) × IsPolled new.control place
+    let y : (h.sent ≡ Some (msg.Reply (ack b.alternation))) × IsPolled new.control place
     × ControlStays e FromTerminal c new.control =
     takes_up c new.control h.sent t b.alternation place (current_there c (good_places l g))
     polled calm counted
@@ -235,14 +234,14 @@ text_up l new place n b g polled i calm delays is h =
 -- the terminal hears its acknowledgement: the next block, or EOT
 ack_up : (laws : VisitLaws) (l new : LineValue) (place n : ℕ) (b : SentBlock) → IsGood l
     → IsPolled l.control place → IsInBlockUp (terminal_at l (current l.control)) n b →
-    IsCarriedDown (m.Reply (ack b.alternation)) (λ z. Whole (m.Reply (ack b.alternation))) l
+    IsCarriedDown (msg.Reply (ack b.alternation)) (λ z. Whole (msg.Reply (ack b.alternation))) l
     new → IsInPoll new (current l.control) place n
     × Stays (current l.control) FromTerminal l new
 ack_up laws l new place n b g polled i h =
     let c : ControlValue = l.control in
     let e : ℕ = current c in
     let x : TributaryValue = terminal_at l e in
-    let w : Message = m.Reply (ack b.alternation) in
+    let w : Message = msg.Reply (ack b.alternation) in
     let there : e < length l.terminals =
     current_terminal_there l.control l.terminals g.line.stations in
     let tuned : AreTuned l.addressed l.terminals = g.line.tuned g.trusted in
@@ -326,12 +325,12 @@ exchange_up laws at more l new r place n g h calm w =
     (record { speaker = sp.Terminal e; message = msg.Text t }) l new r is refl w in
     let taken : TakenUp l one.mid place b.alternation =
     text_up l one.mid place n b g h.polled sends.in_block calm one.delays is one.carried in
-    let two : Stepped (record { speaker = sp.Control; message = m.Reply (ack b.alternation) })
+    let two : Stepped (record { speaker = sp.Control; message = msg.Reply (ack b.alternation) })
     one.mid (λ mid. Walks (at + 1 + 1) more mid r new) =
     one_step (at + 1) more (suc more) (record {
       speaker = sp.Control;
       message =
-          m.Reply (ack b.alternation);
+          msg.Reply (ack b.alternation);
     }) one.mid new r taken.pending refl one.rest in
     let cur : current one.mid.control ≡ e =
     current_same c one.mid.control taken.stays.poll_list

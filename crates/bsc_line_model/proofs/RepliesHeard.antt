@@ -18,7 +18,6 @@ use Rattle.bsc_bid.specs.Receiver.{Rooms, replied, is_wack}
 use Rattle.bsc_bid.specs.Sender.{SenderStep, reply_step}
 use Rattle.bsc_bid.specs.Fair.{IsFairlyHeard}
 use Rattle.bsc_bid.specs.Agreement.{Flight, Back, InBid, IsResting}
-use Rattle.bsc_bid.proofs.Answering.{reply_not_cut}
 use Rattle.bsc_bid.specs.EachStep.{SenderAgrees}
 use Rattle.bsc_tributary.specs.declared.mode.Mode.{Mode}
 use Rattle.bsc_tributary.specs.declared.mode.Mode.TheVariants.{Control, Receiving}
@@ -53,7 +52,7 @@ reply_no_call r = tt
 pub reply_heard_whole : (r : Reply) (h : Heard) → IsFairlyHeard (m.Reply r) h → IsNoCall h
 reply_heard_whole r (Whole v) (inl e) =
     subst (λ (x : Message). IsNoCall (Whole x)) (sym e) (reply_no_call r)
-reply_heard_whole r (Whole v) (inr f) = absurd (reply_not_cut r v f)
+reply_heard_whole r (Whole v) (inr f) = absurd f
 reply_heard_whole r Failed f = tt
 reply_heard_whole r Noise f = tt
 

@@ -4,7 +4,6 @@ use Rattle.std.proofs.Common.{◌≡◌, ℕ, zero, suc, ◌+◌, ◌*◌, ◌�
 use Rattle.std.proofs.Common.{Option, Some, Result, refl, sym, ◌∙◌, ap, subst, arith}
 use Rattle.std.proofs.lemmas.List.{length-drop}
 use Rattle.std.proofs.lemmas.List.Elements.{All-get_or}
-use Rattle.bsc_frame.specs.declared.message.Message.TheVariants as m
 use Rattle.bsc_frame.specs.declared.message.Message.{Message}
 use Rattle.bsc_frame.specs.declared.message.Message.TheVariants as msg
 use Rattle.bsc_frame.specs.declared.message.Heard.TheVariants.{Whole}
@@ -135,19 +134,19 @@ exchange laws at m l new r s n g h calm w =
     (λ mid. Walks (at + 1) (suc m) mid r new) =
     one_step at (suc m) (suc (suc m)) (record { speaker = sp.Control; message = msg.Text t }) l
     new r is refl w in
-    let answered : OneAnswers e (ToTerminal s) (m.Reply (ack b.alternation)) l one.mid =
+    let answered : OneAnswers e (ToTerminal s) (msg.Reply (ack b.alternation)) l one.mid =
     text_down l one.mid s n b g h.sends.in_block calm one.delays is one.carried in
-    let two : Stepped (record { speaker = sp.Terminal e; message = m.Reply (ack b.alternation) })
+    let two : Stepped (record { speaker = sp.Terminal e; message = msg.Reply (ack b.alternation) })
     one.mid (λ mid. Walks (at + 1 + 1) m mid r new) =
     one_step (at + 1) m (suc m) (record {
       speaker = sp.Terminal e;
       message =
-          m.Reply (ack b.alternation);
+          msg.Reply (ack b.alternation);
     }) one.mid new r answered.pending refl one.rest in
-    let up : IsCarriedUp (m.Reply (ack b.alternation)) (Whole (m.Reply (ack b.alternation)))
+    let up : IsCarriedUp (msg.Reply (ack b.alternation)) (Whole (msg.Reply (ack b.alternation)))
     one.mid two.mid = two.carried in
-    let heard : Hears c (Whole (m.Reply (ack b.alternation))) two.mid.control up.sent =
-    subst (λ (d : ControlValue). Hears d (Whole (m.Reply (ack b.alternation)))
+    let heard : Hears c (Whole (msg.Reply (ack b.alternation))) two.mid.control up.sent =
+    subst (λ (d : ControlValue). Hears d (Whole (msg.Reply (ack b.alternation)))
     two.mid.control up.sent) answered.control up.control in
     let select : s < length (peer c).outbounds =
     sending_there c s g.line.stations.control h.sends.in_block.task in
