@@ -30,7 +30,7 @@ use Rattle.bsc_bid.specs.OneBid.{MovesAtSender}
 use Rattle.bsc_bid.specs.Agreement.{Flight, Still, Outward, Back, IsReplyBefore, NotLanded, Agree}
 use Rattle.bsc_bid.specs.Agreement.{InBid, IsResting, Continues, reply_flight, sent_flight}
 use Rattle.bsc_bid.proofs.Choice.{choose}
-use Rattle.bsc_bid.proofs.ReadyLemmas.{within_offered}
+use Rattle.bsc_bid.proofs.Readiness.{within_offered}
 use Rattle.bsc_bid.proofs.Hearing.{fits, agree_still}
 use Rattle.bsc_bid.proofs.Landing.{NextLaw, Leaves, LeavesQueue, at_rest, next_keeps, at_same}
 use Rattle.bsc_bid.proofs.Landing.{accepted_keeps, delayed_keeps, other_twice, landed_keeps}

@@ -32,7 +32,7 @@ use Rattle.bsc_bid.specs.OneBid.{MovesAtReceiver}
 use Rattle.bsc_bid.specs.Agreement.{Flight, Still, Outward, Back, IsReplyAfter, IsReplyHeld}
 use Rattle.bsc_bid.specs.Agreement.{IsFlightBefore, IsFlightAfter, NotLanded, HasLanded, IsHeld}
 use Rattle.bsc_bid.specs.Agreement.{Agree, InBid, reply_flight}
-use Rattle.bsc_bid.proofs.ReadyLemmas.{all_waiting}
+use Rattle.bsc_bid.proofs.Readiness.{all_waiting}
 
 -- the units that are built for records hold these records
 abbrev pub RecordsBack : Type 0

@@ -21,7 +21,7 @@ use Rattle.bsc_bid.specs.OneBid.{MovesAtSender}
 use Rattle.bsc_bid.specs.Agreement.{Still, Back, IsReplyBefore, IsReplyAfter, HasLanded, InBid}
 use Rattle.bsc_bid.specs.Agreement.{IsResting, Continues, sent_flight}
 use Rattle.bsc_bid.proofs.Choice.{choose}
-use Rattle.bsc_bid.proofs.ReadyLemmas.{counts_next, within_offered, is_queue_marked, still_waiting}
+use Rattle.bsc_bid.proofs.Readiness.{counts_next, within_offered, is_queue_marked, still_waiting}
 use Rattle.bsc_bid.proofs.Hearing.{fits}
 
 -- what is known of the next block of a queue

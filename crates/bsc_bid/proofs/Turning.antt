@@ -24,13 +24,13 @@ use Rattle.bsc_bid.specs.Bid.{AreEvents, IsNewBid, Reaches}
 use Rattle.bsc_bid.specs.OneBid.{channel_within, MovesInTurn, OnlyMoves, StaysReady, StaysSound}
 use Rattle.bsc_bid.specs.OneBid.{SoundWithinTurns}
 use Rattle.bsc_bid.specs.Agreement.{Flight, Outward, InBid, Continues, reply_flight, sent_flight}
-use Rattle.bsc_bid.proofs.ReadyLemmas.{within_offered}
+use Rattle.bsc_bid.proofs.Readiness.{within_offered}
 use Rattle.bsc_bid.proofs.Hearing.{RecordsBack, Keeps, fits, receiver_keeps}
 use Rattle.bsc_bid.proofs.Answering.{sender_keeps, settled_keeps, begin_keeps}
 use Rattle.bsc_bid.proofs.Landing.{NextLaw, Leaves}
 use Rattle.bsc_bid.proofs.Answering.{busy}
-use Rattle.bsc_bid.proofs.OfferLemmas.{OffersQueue, continues_offered}
-use Rattle.bsc_bid.proofs.FitLemmas.{Fits, fits_begin, fits_heard, fits_settled}
+use Rattle.bsc_bid.proofs.Offers.{OffersQueue, continues_offered}
+use Rattle.bsc_bid.proofs.Fitting.{Fits, fits_begin, fits_heard, fits_settled}
 
 -- the laws of the layers below that a bid rests on
 pub record LawsBelow : Type 0 where

@@ -87,7 +87,7 @@ impl Sender {
     /// Begins a bid: leaves the text of the first block of the waiting records in `sent`.
     /// Condition: the sender is idle, so there is no doubt, and records wait. (GA27-3004,
     /// transmission of blocks.)
-    #[tactic(auto, using(crate::proofs::ReadyLemmas::going_begin))]
+    #[tactic(auto, using(crate::proofs::Readiness::going_begin))]
     pub fn begin<A: Allocator>(&mut self, queue: &Queue<A>, sent: &mut Option<Message>) -> Outcome
         requires idle { self.old.phase ≡ Phase.Idle }
         requires some { 1 ≤ length (waiting queue.now) }
@@ -137,7 +137,7 @@ impl Sender {
     /// left in `sent`. While a bid continues, a silence is one more failure: the sender asks for
     /// the last reply again with ENQ, or the bid is over, and then an unanswered block is in doubt.
     /// (GA27-3004, time-outs. The limit and the doubt are this project's own.)
-    #[tactic(auto, using(crate::proofs::ReadyLemmas::all_waiting))]
+    #[tactic(auto, using(crate::proofs::Readiness::all_waiting))]
     pub fn silence(&mut self, sent: &mut Option<Message>) -> Outcome
         ensures row { (q : QueueValue)
             → Tells self.new q result sent.new
@@ -216,7 +216,7 @@ impl Sender {
     }
 
     /// Sends the next block, with both counters at 0, or ends the bid if no record waits.
-    #[tactic(auto, using(crate::proofs::ReadyLemmas::counts_next))]
+    #[tactic(auto, using(crate::proofs::Readiness::counts_next))]
     fn send_next<A: Allocator>(
         &mut self,
         queue: &Queue<A>,
@@ -329,7 +329,7 @@ impl Sender {
     }
 
     /// Acts on a reply while a block is unanswered.
-    #[tactic(auto, using(crate::proofs::ReadyLemmas::reply_steps))]
+    #[tactic(auto, using(crate::proofs::Readiness::reply_steps))]
     fn answer_unanswered<A: Allocator>(
         &mut self,
         queue: &mut Queue<A>,

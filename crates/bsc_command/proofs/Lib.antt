@@ -1,3 +1,3 @@
-pub mod FaultLemmas
+pub mod Faults
 pub mod Keeping
 pub mod Outcomes

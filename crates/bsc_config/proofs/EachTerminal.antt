@@ -9,7 +9,7 @@ use Rattle.bsc_config.specs.declared.error.ConfigError.TheVariants as error
 use Rattle.bsc_config.specs.declared.values.Version.{Version}
 use Rattle.bsc_config.specs.Faults.{Fault, Reports, ◌>>=◌}
 use Rattle.bsc_config.specs.Terminals.{terminal_of_value, terminals_of}
-use Rattle.bsc_config.proofs.ItemLemmas.{next_item}
+use Rattle.bsc_config.proofs.Items.{next_item}
 
 -- the first fault of one reading is the fault of both
 pub first_reported : {V W : Type 0} (e : ConfigError) (reading : Result V Fault)

@@ -1,3 +1,3 @@
-pub mod KeyLemmas
-pub mod ItemLemmas
+pub mod Keys
+pub mod Items
 pub mod EachTerminal

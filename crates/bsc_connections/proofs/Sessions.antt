@@ -26,8 +26,8 @@ use Rattle.bsc_connections.specs.Attending.{SendsAll, IsTakenAt, ReadsAt, TimesO
 use Rattle.bsc_connections.specs.Attending.{ended, goes_on, first_closed, first_awaiting}
 use Rattle.bsc_connections.specs.Streams.{Carries, CarriedAt, CarriesFromStart, CarriesSinceJoining}
 use Rattle.bsc_connections.specs.Streams.{CarriesHistory}
-use Rattle.bsc_connections.proofs.PlaceLemmas.{kept_at, put_at, zipped_at, same_place, heard_here}
-use Rattle.bsc_connections.proofs.PlaceLemmas.{heard_elsewhere}
+use Rattle.bsc_connections.proofs.OnePlace.{kept_at, put_at, zipped_at, same_place, heard_here}
+use Rattle.bsc_connections.proofs.OnePlace.{heard_elsewhere}
 use Rattle.bsc_carrier.specs.Cable.{ChangesAt}
 use Rattle.bsc_octet.proofs.Elements.{all_append}
 

@@ -12,8 +12,8 @@ use Rattle.bsc_bid.specs.EachStep as each
 use Rattle.bsc_bid.specs.Ready.{IsGoing, IsAtRest, FitsAct}
 use Rattle.bsc_bid.specs.Sender.{SenderValue, SenderStep, sent_next, begin_step, reply_step}
 use Rattle.bsc_bid.specs.Sender.{silence_step}
-use Rattle.bsc_bid.proofs.FitLemmas.{fits_reply, fits_silence}
-use Rattle.bsc_bid.proofs.KeepLemmas.{keeps_begin, keeps_reply, keeps_silence}
+use Rattle.bsc_bid.proofs.Fitting.{fits_reply, fits_silence}
+use Rattle.bsc_bid.proofs.Keeping.{keeps_begin, keeps_reply, keeps_silence}
 
 -- a bid is in progress after each act but the one that ends it
 abbrev pub LeavesPhase : Act → Phase → Type 0

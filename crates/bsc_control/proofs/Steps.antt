@@ -40,7 +40,7 @@ use Rattle.bsc_bid.proofs.ReceiverSteps.{TakesText, Grows, grows_heard_step, sil
 use Rattle.bsc_bid.proofs.Choice.{choose}
 use Rattle.bsc_control.proofs.SenderSteps.{KeepsAndLeaves, keeps_begin_step}
 use Rattle.bsc_control.proofs.SenderSteps.{keeps_reply_step, keeps_silence_step}
-use Rattle.bsc_bid.proofs.FitLemmas.{begin_not_quiet}
+use Rattle.bsc_bid.proofs.Fitting.{begin_not_quiet}
 
 -- what hearing a transmission keeps
 pub record HearingKeeps (old : ControlValue) (h : Heard) (step : ControlStep) : Type 0 where

@@ -13,10 +13,10 @@ use Rattle.bsc_frame.specs.TurnedBits.{IsOtherOctet}
 use Rattle.bsc_frame.specs.declared.message.Message.{Message}
 use Rattle.bsc_frame.specs.declared.message.Message.TheVariants.{Text}
 use Rattle.bsc_frame.proofs.TextUnits.{units_at_read, wire_units}
-use Rattle.bsc_frame.proofs.OddLemmas.{units_odd}
-use Rattle.bsc_frame.proofs.PlaceLemmas.{around, parted, all_here, all_after}
-use Rattle.bsc_frame.proofs.InsideLemmas.{Inside, inside, after_first}
-use Rattle.bsc_frame.proofs.LongerLemmas.{no_longer_units}
+use Rattle.bsc_frame.proofs.OddTexts.{units_odd}
+use Rattle.bsc_frame.proofs.Places.{around, parted, all_here, all_after}
+use Rattle.bsc_frame.proofs.Insides.{Inside, inside, after_first}
+use Rattle.bsc_frame.proofs.LongerTexts.{no_longer_units}
 use Rattle.bsc_frame.proofs.DamagedText.{heads, tails, text_body, some_after}
 use Rattle.bsc_frame.proofs.DamagedCall.{pad_even}
 use Rattle.bsc_frame.proofs.ChangedUnits.{changed_units}

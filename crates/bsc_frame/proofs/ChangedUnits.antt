@@ -7,22 +7,22 @@ use Rattle.std.specs.List.{AllByRecursion}
 use Rattle.std.specs.Int.Count.{ones}
 use Rattle.std.proofs.lemmas.List.{map-append}
 use Rattle.bsc_octet.specs.Octet.{odd_octet, longitudinal_sum, code_of}
-use Rattle.bsc_octet.proofs.ParityLemmas.{odd_of_low, odd_octet_low, code_of_odd, code_of_odd_octet}
-use Rattle.bsc_octet.proofs.SumLemmas.{longitudinal_sum_lt}
+use Rattle.bsc_octet.proofs.Parity.{odd_of_low, odd_octet_low, code_of_odd, code_of_odd_octet}
+use Rattle.bsc_octet.proofs.Sums.{longitudinal_sum_lt}
 use Rattle.bsc_frame.specs.Texts.{TextUnit, IsUnit}
 use Rattle.bsc_frame.specs.Units.{unit_codes, unit_wire, units_wire, ending}
 use Rattle.bsc_frame.specs.Reading.{low_bits, is_ending_code, is_ending_octet, after_check, unit_at}
 use Rattle.bsc_frame.specs.Reading.{units_at}
 use Rattle.bsc_frame.specs.TurnedBits.{IsOtherOctet}
 use Rattle.bsc_frame.specs.declared.text.End.{End}
-use Rattle.bsc_frame.proofs.ReadLemmas.{test_false}
-use Rattle.bsc_frame.proofs.CarriedLemmas.{ending_same}
-use Rattle.bsc_frame.proofs.GatherLemmas.{IsOther, IsRun, gathered_read}
-use Rattle.bsc_frame.proofs.UnitLemmas.{unit_at_read, run_unit, length_unit_codes}
+use Rattle.bsc_frame.proofs.ReadingSteps.{test_false}
+use Rattle.bsc_frame.proofs.CarriedOctets.{ending_same}
+use Rattle.bsc_frame.proofs.Gathering.{IsOther, IsRun, gathered_read}
+use Rattle.bsc_frame.proofs.Units.{unit_at_read, run_unit, length_unit_codes}
 use Rattle.bsc_frame.proofs.TextUnits.{ending_is}
 use Rattle.bsc_frame.proofs.TextUnits.{filled_plain}
 use Rattle.bsc_frame.proofs.UnitSteps.{units_stop}
-use Rattle.bsc_frame.proofs.PlaceLemmas.{parted}
+use Rattle.bsc_frame.proofs.Places.{parted}
 use Rattle.bsc_frame.proofs.SumChanges.{one_changed}
 use Rattle.bsc_frame.specs.declared.limits.TheConstants.{MAX_UNIT_CODES}
 use Rattle.bsc_frame.specs.declared.octets.TheConstants.{SYN, US_CODE}

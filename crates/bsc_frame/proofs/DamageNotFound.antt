@@ -8,7 +8,7 @@ use Rattle.bsc_frame.specs.Spells.{Spells}
 use Rattle.bsc_frame.specs.TurnedBits.{two_chars, with_ends_turned}
 use Rattle.bsc_frame.specs.declared.message.Message.TheVariants as m
 use Rattle.bsc_frame.specs.declared.reply.Reply.TheVariants.{Ack0, Ack1}
-use Rattle.bsc_frame.proofs.HeardLemmas.{wire_spells}
+use Rattle.bsc_frame.proofs.HeardMessages.{wire_spells}
 
 -- HI and IH are texts whose transmissions differ in two octets
 is_text : IsMessage (two_chars 0x49 0x48)

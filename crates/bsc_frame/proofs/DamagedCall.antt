@@ -14,12 +14,12 @@ use Rattle.bsc_frame.specs.TurnedBits.{HaveOtherParity, IsCallFill}
 use Rattle.bsc_frame.specs.declared.message.Message.{Message}
 use Rattle.bsc_frame.specs.declared.message.Message.TheVariants.{Eot, Call, Enq, Reply, Text}
 use Rattle.bsc_frame.specs.declared.octets.TheConstants.{ENQ, EOT, PAD, SYN}
-use Rattle.bsc_frame.proofs.ControlLemmas.{plain, plain_odd}
-use Rattle.bsc_frame.proofs.ReplyLemmas.{reply_form}
-use Rattle.bsc_frame.proofs.OddLemmas.{syn_odd}
-use Rattle.bsc_frame.proofs.BodyOddLemmas.{called_odd, address_odd, enq_odd}
-use Rattle.bsc_frame.proofs.PlaceLemmas.{parted, all_here, all_after}
-use Rattle.bsc_frame.proofs.InsideLemmas.{AfterFirst}
+use Rattle.bsc_frame.proofs.ControlSequences.{plain, plain_odd}
+use Rattle.bsc_frame.proofs.Replies.{reply_form}
+use Rattle.bsc_frame.proofs.OddTexts.{syn_odd}
+use Rattle.bsc_frame.proofs.BodyParity.{called_odd, address_odd, enq_odd}
+use Rattle.bsc_frame.proofs.Places.{parted, all_here, all_after}
+use Rattle.bsc_frame.proofs.Insides.{AfterFirst}
 use Rattle.bsc_frame.proofs.DamagedText.{heads, tails, not_both_odd, not_same}
 use Rattle.bsc_octet.proofs.Elements.{all_append}
 

@@ -7,8 +7,8 @@ use Rattle.bsc_frame.specs.TurnedBits.{HaveOtherParity}
 use Rattle.bsc_frame.specs.declared.message.Message.{Message}
 use Rattle.bsc_frame.specs.declared.message.Message.TheVariants.{Eot, Call, Enq, Reply, Text}
 use Rattle.bsc_frame.specs.declared.octets.TheConstants.{DLE, ENQ, EOT, PAD, STX}
-use Rattle.bsc_frame.proofs.ReplyLemmas.{reply_form}
-use Rattle.bsc_frame.proofs.InsideLemmas.{AfterFirst}
+use Rattle.bsc_frame.proofs.Replies.{reply_form}
+use Rattle.bsc_frame.proofs.Insides.{AfterFirst}
 use Rattle.bsc_frame.proofs.DamagedText.{heads, tails, not_both_odd, not_same}
 
 -- a body of two octets begins with DLE or STX

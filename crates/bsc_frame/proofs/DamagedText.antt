@@ -11,12 +11,12 @@ use Rattle.bsc_frame.specs.TurnedBits.{HaveOtherParity}
 use Rattle.bsc_frame.specs.declared.message.Message.{Message}
 use Rattle.bsc_frame.specs.declared.message.Message.TheVariants.{Eot, Call, Enq, Reply, Text}
 use Rattle.bsc_frame.specs.declared.octets.TheConstants.{PAD, STX}
-use Rattle.bsc_frame.proofs.ReplyLemmas.{reply_form}
+use Rattle.bsc_frame.proofs.Replies.{reply_form}
 use Rattle.bsc_frame.proofs.TextUnits.{wire_units}
-use Rattle.bsc_frame.proofs.OddLemmas.{units_odd}
-use Rattle.bsc_frame.proofs.PlaceLemmas.{parted, all_here}
-use Rattle.bsc_frame.proofs.InsideLemmas.{Inside, after_first}
-use Rattle.bsc_frame.proofs.LongerLemmas.{no_longer_units}
+use Rattle.bsc_frame.proofs.OddTexts.{units_odd}
+use Rattle.bsc_frame.proofs.Places.{parted, all_here}
+use Rattle.bsc_frame.proofs.Insides.{Inside, after_first}
+use Rattle.bsc_frame.proofs.LongerTexts.{no_longer_units}
 
 -- lists that are the same have the same first element
 pub heads : {x y : ℕ} {xs ys : List ℕ} → x ∷ xs ≡ y ∷ ys → x ≡ y

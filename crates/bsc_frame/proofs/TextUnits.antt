@@ -8,22 +8,22 @@ use Rattle.std.proofs.lemmas.Bool.{eqb-true, eqb-false}
 use Rattle.std.proofs.lemmas.List.{length-map}
 use Rattle.std.specs.Int.Count.{ones-ones}
 use Rattle.bsc_octet.specs.Octet.{odd_octet, longitudinal_sum}
-use Rattle.bsc_octet.proofs.SumLemmas.{longitudinal_sum_lt}
-use Rattle.bsc_octet.proofs.ParityLemmas.{odd_cases}
-use Rattle.bsc_frame.proofs.FrontLemmas.{Ends}
+use Rattle.bsc_octet.proofs.Sums.{longitudinal_sum_lt}
+use Rattle.bsc_octet.proofs.Parity.{odd_cases}
+use Rattle.bsc_frame.proofs.Fronts.{Ends}
 use Rattle.bsc_frame.specs.Texts.{TextUnit, TextValue, IsUnit}
 use Rattle.bsc_frame.specs.Units.{unit_codes, unit_wire, units_wire, ending, end_code}
 use Rattle.bsc_frame.specs.Spells.{AreFilled, AreUnits}
 use Rattle.bsc_frame.specs.Reading.{is_ending_code, unit_at, units_at, before_units, last_unit}
 use Rattle.bsc_frame.specs.declared.text.End.{End}
 use Rattle.bsc_frame.specs.declared.text.End.TheVariants.{Etb, Etx}
-use Rattle.bsc_frame.proofs.ReadLemmas.{test_false}
-use Rattle.bsc_frame.proofs.ControlLemmas.{some_is}
-use Rattle.bsc_frame.proofs.ReadLemmas.{chosen}
+use Rattle.bsc_frame.proofs.ReadingSteps.{test_false}
+use Rattle.bsc_frame.proofs.ControlSequences.{some_is}
+use Rattle.bsc_frame.proofs.ReadingSteps.{chosen}
 use Rattle.bsc_frame.specs.declared.limits.TheConstants.{MAX_UNIT_SENT}
 use Rattle.bsc_frame.specs.declared.octets.TheConstants.{ETB_CODE, PAD, US_CODE}
-use Rattle.bsc_frame.proofs.UnitLemmas.{bind_some, UnitAt, unit_at_reads, length_unit_codes}
-use Rattle.bsc_frame.proofs.UnitLemmas.{unit_at_read}
+use Rattle.bsc_frame.proofs.Units.{bind_some, UnitAt, unit_at_reads, length_unit_codes}
+use Rattle.bsc_frame.proofs.Units.{unit_at_read}
 use Rattle.bsc_frame.proofs.UnitCodes.{ending_cases}
 
 -- octets are the units of a text, of which at most n are read

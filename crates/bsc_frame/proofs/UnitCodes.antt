@@ -13,9 +13,9 @@ use Rattle.bsc_frame.specs.Units.{unit_codes}
 use Rattle.bsc_frame.specs.Spells.{IsStart}
 use Rattle.bsc_frame.specs.Reading.{is_ending_code, is_octet, begins, after_start, read_unit}
 use Rattle.bsc_frame.specs.Reading.{unit_of_tail}
-use Rattle.bsc_frame.proofs.ReadLemmas.{test_false}
-use Rattle.bsc_frame.proofs.ControlLemmas.{some_is}
-use Rattle.bsc_frame.proofs.ReadLemmas.{chosen}
+use Rattle.bsc_frame.proofs.ReadingSteps.{test_false}
+use Rattle.bsc_frame.proofs.ControlSequences.{some_is}
+use Rattle.bsc_frame.proofs.ReadingSteps.{chosen}
 use Rattle.bsc_frame.specs.declared.limits.TheConstants.{MAX_CHARS}
 use Rattle.bsc_frame.specs.declared.octets.TheConstants.{EM_CODE, ETB_CODE, ETX_CODE, STX, US_CODE}
 

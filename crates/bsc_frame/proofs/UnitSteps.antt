@@ -10,15 +10,15 @@ use Rattle.std.proofs.Math.Seq.{drop-append_seam}
 use Rattle.std.proofs.lemmas.List.Elements.{All-drop}
 use Rattle.bsc_frame.specs.Units.{unit_codes}
 use Rattle.bsc_octet.specs.Octet.{IsOdd, odd_octet, longitudinal_sum}
-use Rattle.bsc_octet.proofs.SumLemmas.{longitudinal_sum_lt}
+use Rattle.bsc_octet.proofs.Sums.{longitudinal_sum_lt}
 use Rattle.bsc_frame.specs.Texts.{TextUnit, TextValue}
 use Rattle.bsc_frame.specs.Drafts.{draft_units, IsDraft, TakesUnit, ReadsText}
 use Rattle.bsc_frame.specs.Reading.{after_check, unit_at, units_at, before_units, last_unit}
 use Rattle.bsc_frame.specs.declared.text.End.{End}
 use Rattle.bsc_frame.specs.declared.text.End.TheVariants.{Etb, Etx}
 use Rattle.bsc_frame.specs.declared.text.Draft.{Draft}
-use Rattle.bsc_frame.proofs.ReadLemmas.{test_false, rest_is}
-use Rattle.bsc_frame.proofs.UnitLemmas.{unit_at_reads}
+use Rattle.bsc_frame.proofs.ReadingSteps.{test_false, rest_is}
+use Rattle.bsc_frame.proofs.Units.{unit_at_reads}
 use Rattle.bsc_frame.specs.declared.limits.TheConstants.{MAX_UNITS}
 use Rattle.bsc_frame.specs.declared.octets.TheConstants.{ETB_CODE, US_CODE}
 

@@ -11,16 +11,16 @@ use Rattle.std.proofs.lemmas.List.Elements.{recursion_from_All, All-from_recursi
 use Rattle.std.proofs.lemmas.List.Elements.{All-cons}
 use Rattle.std.proofs.lemmas.List.Elements.{All-nil}
 use Rattle.bsc_octet.specs.Octet.{odd_octet, longitudinal_sum, is_record_char}
-use Rattle.bsc_octet.proofs.ParityLemmas.{odd_octet_low}
+use Rattle.bsc_octet.proofs.Parity.{odd_octet_low}
 use Rattle.std.specs.Int.Count.{ones}
 use Rattle.bsc_frame.specs.Reading.{low_bits}
-use Rattle.bsc_frame.proofs.CarriedLemmas.{sum_low}
+use Rattle.bsc_frame.proofs.CarriedOctets.{sum_low}
 use Rattle.bsc_frame.specs.Texts.{TextUnit, IsUnit}
 use Rattle.bsc_frame.specs.Units.{unit_codes, unit_wire, units_wire, ending, end_code}
 use Rattle.bsc_frame.specs.declared.limits.TheConstants.{MAX_UNITS, MAX_UNIT_SENT, MAX_SENT}
 use Rattle.bsc_frame.specs.declared.text.End.{End}
 use Rattle.bsc_frame.specs.declared.octets.TheConstants.{EM_CODE, US_CODE}
-use Rattle.bsc_frame.proofs.UnitLemmas.{char_lt}
+use Rattle.bsc_frame.proofs.Units.{char_lt}
 use Rattle.bsc_frame.proofs.TextUnits.{length_units_wire}
 
 -- record characters are codes of seven bits

@@ -8,7 +8,7 @@ use crate::limits::MAX_HEARD;
 use crate::octets::{LEADING_PADS, PAD, SYN};
 
 /// Returns the octets after the leading pads (`LEADING_PADS`).
-#[tactic(auto, using(crate::proofs::RunLemmas::skip_pads))]
+#[tactic(auto, using(crate::proofs::Runs::skip_pads))]
 fn after_pads(octets: &[u8]) -> &[u8]
     ensures { result.now ≡ skip is_pad_octet octets.now }
 {
@@ -18,7 +18,7 @@ fn after_pads(octets: &[u8]) -> &[u8]
 
 /// Returns what follows the octets at the front that equal `octet`. Fewer than 32 octets are tested
 /// one at a time.
-#[tactic(auto, using(crate::proofs::RunLemmas::skip_all))]
+#[tactic(auto, using(crate::proofs::Runs::skip_all))]
 #[inline(always)]
 pub(crate) fn after_all(octets: &[u8], octet: u8) -> &[u8]
     ensures { result.now ≡ skip (is_octet octet) octets.now }
@@ -46,7 +46,7 @@ fn trim_lanes(octets: &[u8]) -> &[u8]
 }
 
 /// Returns the octets without PAD at their end, which is dropped one octet at a time.
-#[tactic(auto, using(crate::proofs::ReadLemmas::trim_steps))]
+#[tactic(auto, using(crate::proofs::ReadingSteps::trim_steps))]
 fn trim_rest(octets: &[u8]) -> &[u8]
     ensures { result.now ≡ trimmed octets.now }
 {
@@ -99,7 +99,7 @@ fn starts_with_pad(octets: &[u8]) -> bool
 
 /// Returns the body of any number of octets, which are tested 32 at a time. It is empty if they
 /// carry none, which is known at once if the first octet is neither a leading pad nor SYN.
-#[tactic(auto, using(crate::proofs::BodyLemmas::empty_body))]
+#[tactic(auto, using(crate::proofs::Bodies::empty_body))]
 #[inline(always)]
 fn body_of_many(octets: &[u8]) -> &[u8]
     ensures { heard octets.now ≡ heard_body result.now }

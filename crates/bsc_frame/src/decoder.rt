@@ -15,7 +15,7 @@ use crate::{Heard, Message, Short, Text};
 use bsc_octet::all_odd;
 
 /// Returns what a text is heard as, from the octets after its STX.
-#[tactic(auto, using(crate::proofs::OddLemmas::not_odd_fails))]
+#[tactic(auto, using(crate::proofs::OddTexts::not_odd_fails))]
 fn text_heard(units: &[u8]) -> Heard
     ensures { result ≡ whole_or_failed (units_at MAX_UNITS false units.now) }
 {

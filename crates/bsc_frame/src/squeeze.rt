@@ -23,7 +23,7 @@ pub(crate) const UNIT_ROOM: usize = TOO_MANY + PART;
 pub(crate) type UnitBuffer = [u8; UNIT_ROOM];
 
 /// Returns whether there is a SYN among the octets.
-#[tactic(auto, using(crate::proofs::SqueezeLemmas::fill_more))]
+#[tactic(auto, using(crate::proofs::Squeezing::fill_more))]
 pub(crate) fn has_fill(octets: &[u8]) -> bool
     ensures { result ≡ list_any (is_octet SYN) octets.now }
 {
@@ -37,7 +37,7 @@ pub(crate) fn has_fill(octets: &[u8]) -> bool
 /// Writes the octets other than SYN after the first `start` octets of the buffer, and returns the
 /// new count. Each octet is stored; a SYN is overwritten by the next octet.
 #[inline(always)]
-#[tactic(auto, using(crate::proofs::SqueezeLemmas::squeeze_more))]
+#[tactic(auto, using(crate::proofs::Squeezing::squeeze_more))]
 fn squeeze_part(octets: &[u8], buffer: &mut UnitBuffer, start: usize) -> usize
     requires part { length octets.now ≤ PART }
     requires start { start ≤ TOO_MANY }
@@ -54,7 +54,7 @@ fn squeeze_part(octets: &[u8], buffer: &mut UnitBuffer, start: usize) -> usize
 
 /// Writes the octets other than SYN to the front of the buffer and returns their count, which may
 /// be up to `UNIT_ROOM`. `None` means that there are more than a unit has before its check.
-#[tactic(auto, using(crate::proofs::SqueezeLemmas::part_steps))]
+#[tactic(auto, using(crate::proofs::Squeezing::part_steps))]
 pub(crate) fn squeeze(octets: &[u8], buffer: &mut UnitBuffer) -> Option<usize>
     ensures some { IfSome result (λ n. (n ≤ UNIT_ROOM)
         × (take n buffer.new ≡ filter is_other octets.now)) }
@@ -77,7 +77,7 @@ pub(crate) fn squeeze(octets: &[u8], buffer: &mut UnitBuffer) -> Option<usize>
 
 /// Writes the codes of the octets to the front of the buffer, and returns whether all of them are
 /// record characters.
-#[tactic(auto, using(crate::proofs::SqueezeLemmas::code_steps))]
+#[tactic(auto, using(crate::proofs::Squeezing::code_steps))]
 pub(crate) fn copy_codes(octets: &[u8], buffer: &mut [u8; MAX_CHARS]) -> bool
     requires { length octets.now ≤ MAX_CHARS }
     ensures codes { take (length octets.now) buffer.new ≡ map low_bits octets.now }

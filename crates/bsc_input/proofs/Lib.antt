@@ -1,1 +1,1 @@
-pub mod SplitLemmas
+pub mod Splitting

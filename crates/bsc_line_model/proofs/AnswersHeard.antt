@@ -45,7 +45,7 @@ use Rattle.bsc_line_model.proofs.Calling.{called_next}
 use Rattle.bsc_line_model.proofs.SendingDown.{IsBidMessage, no_call_heard}
 use Rattle.bsc_line_model.proofs.SendingUp.{HasActed, performed, places_after, answers_down}
 use Rattle.bsc_line_model.proofs.CallsHeard.{with_others}
-use Rattle.bsc_bid.proofs.FitLemmas.{begin_not_quiet}
+use Rattle.bsc_bid.proofs.Fitting.{begin_not_quiet}
 
 -- the pending transmission is lost
 lost_selecting : (c : ControlValue) (ts : List TributaryValue) (pending : Option Transmission)

@@ -58,7 +58,7 @@ use Rattle.bsc_line_model.proofs.SendingDown.{first_answer_is, same_terminal}
 use Rattle.bsc_line_model.proofs.ActingUp.{HasActedUp, acts_up, present_after}
 use Rattle.bsc_line_model.proofs.CallsMissed.{no_bid_without_line, GivesUp}
 use Rattle.bsc_line_model.proofs.CallsMissed.{no_bid_back}
-use Rattle.bsc_bid.proofs.RestLemmas.{idle_at_rest, cut_at_rest}
+use Rattle.bsc_bid.proofs.Resting.{idle_at_rest, cut_at_rest}
 use Rattle.bsc_line_model.proofs.UpTerminals.{poll_by}
 
 -- all hear a call whole, and its address is that of terminal e for this way

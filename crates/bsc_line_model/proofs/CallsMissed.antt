@@ -18,7 +18,7 @@ use Rattle.bsc_line_model.specs.Trust.{EachOf, IsMissed}
 use Rattle.bsc_line_model.specs.Kept.{AreStations}
 use Rattle.bsc_line_model.specs.Together.{HasNoBid, NoBids, IsSelecting, IsPolling}
 use Rattle.bsc_line_model.proofs.SendingDown.{none_before}
-use Rattle.bsc_bid.proofs.RestLemmas.{cut_at_rest}
+use Rattle.bsc_bid.proofs.Resting.{cut_at_rest}
 use Rattle.bsc_line_model.proofs.Stations.{at_rest_in}
 use Rattle.bsc_bid.specs.Station.{StaysQuiet}
 

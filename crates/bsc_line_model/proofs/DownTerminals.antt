@@ -26,7 +26,7 @@ use Rattle.bsc_tributary.specs.Tributary.{without_line, quiet_step, spool_at, em
 use Rattle.bsc_directory.specs.declared.way.Way.TheVariants.{ToTerminal}
 use Rattle.bsc_directory.specs.declared.way.Way.{Way}
 use Rattle.bsc_line_model.proofs.Staying.{TerminalStays}
-use Rattle.bsc_bid.proofs.RestLemmas.{cut_at_rest}
+use Rattle.bsc_bid.proofs.Resting.{cut_at_rest}
 
 -- a flag that is down stays down
 pub calm : (b u : Bool) → u ≡ false → (if b then false else u) ≡ false

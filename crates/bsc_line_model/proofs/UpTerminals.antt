@@ -35,7 +35,7 @@ use Rattle.bsc_line_model.proofs.BlockCounts.{CutLaws, HasFirstBlock, IsEnd, has
 use Rattle.bsc_line_model.proofs.BlockCounts.{a_block}
 use Rattle.bsc_line_model.proofs.Staying.{TerminalStays}
 use Rattle.bsc_line_model.proofs.DownControl.{ack_step}
-use Rattle.bsc_bid.proofs.RestLemmas.{cut_at_rest}
+use Rattle.bsc_bid.proofs.Resting.{cut_at_rest}
 
 -- block b of the terminal is unanswered, with n blocks after it
 pub record IsInBlockUp (x : TributaryValue) (n : ℕ) (b : SentBlock) : Type 0 where

@@ -22,7 +22,7 @@ use Rattle.bsc_line_model.proofs.DownControl.{address_at}
 use Rattle.bsc_line_model.proofs.Walking.{IsGood}
 use Rattle.bsc_line_model.proofs.Selections.{Calls}
 use Rattle.bsc_line_model.proofs.Visits.{selections_length}
-use Rattle.bsc_frame.proofs.ControlLemmas.{some_is}
+use Rattle.bsc_frame.proofs.ControlSequences.{some_is}
 
 sum_from : (p : PeerValue) (from k : ℕ) → from + k ≡ length p.outbounds
     → sum_by outbound_length (drop from p.outbounds) ≡ selections_length p from k

@@ -1,5 +1,5 @@
-pub mod HeardLemmas
-pub mod LineLemmas
-pub mod ListLemmas
+pub mod HeardNames
+pub mod Lines
+pub mod Lists
 pub mod Outcomes
-pub mod PartLemmas
+pub mod Parts

@@ -1,4 +1,4 @@
-pub mod ParityLemmas
-pub mod SumLemmas
+pub mod Parity
+pub mod Sums
 pub mod Elements
-pub mod LaneLemmas
+pub mod Lanes

@@ -1,1 +1,1 @@
-pub mod ListLemmas
+pub mod Lists

@@ -1,3 +1,3 @@
-pub mod DigitLemmas
-pub mod ItemLemmas
-pub mod ScriptLemmas
+pub mod Digits
+pub mod Items
+pub mod Scripts

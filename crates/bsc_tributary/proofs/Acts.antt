@@ -17,8 +17,8 @@ use Rattle.bsc_bid.specs.Ready.{IsGoing, IsAtRest, FitsAct}
 use Rattle.bsc_bid.specs.Setup.{SetupValue}
 use Rattle.bsc_bid.specs.Sender.{SenderValue, SenderStep, SenderAnswer, Tells, sent_next}
 use Rattle.bsc_bid.specs.Sender.{reply_step, silence_step, cut_phase}
-use Rattle.bsc_bid.proofs.FitLemmas.{fits_reply, fits_silence}
-use Rattle.bsc_bid.proofs.KeepLemmas.{keeps_reply, keeps_silence}
+use Rattle.bsc_bid.proofs.Fitting.{fits_reply, fits_silence}
+use Rattle.bsc_bid.proofs.Keeping.{keeps_reply, keeps_silence}
 use Rattle.bsc_tributary.specs.declared.mode.Mode.{Mode}
 use Rattle.bsc_tributary.specs.declared.mode.Mode.TheVariants.{Control, Receiving, Sending}
 use Rattle.bsc_tributary.specs.Tributary.{mode_left, mode_after, message_left, message_of_act}

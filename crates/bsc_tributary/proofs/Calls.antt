@@ -22,7 +22,7 @@ use Rattle.bsc_tributary.specs.Tributary.{act_step, poll_step, selection_step}
 use Rattle.bsc_tributary.specs.Kept.{IsTributary}
 use Rattle.bsc_tributary.proofs.Acts.{FollowsFrom, follows_sent_next, is_at_rest_cut_phase}
 use Rattle.bsc_tributary.proofs.Stays.{stays_act_step, stays_flags}
-use Rattle.bsc_bid.proofs.RestLemmas.{idle_at_rest}
+use Rattle.bsc_bid.proofs.Resting.{idle_at_rest}
 
 -- the answer to a poll of a terminal from which the line was taken
 abbrev poll_from : TributaryValue → TributaryStep

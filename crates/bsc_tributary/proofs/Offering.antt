@@ -10,7 +10,7 @@ use Rattle.bsc_bid.specs.Ready.{IsReady}
 use Rattle.bsc_bid.specs.Setup.{SetupValue}
 use Rattle.bsc_bid.specs.Sender.{SenderValue, ReleaseStep, release_step, with_phase}
 use Rattle.bsc_bid.proofs.Choice.{choose}
-use Rattle.bsc_bid.proofs.OfferLemmas.{ready_offered}
+use Rattle.bsc_bid.proofs.Offers.{ready_offered}
 use Rattle.bsc_tributary.specs.declared.mode.Mode.{Mode}
 use Rattle.bsc_tributary.specs.declared.mode.Mode.TheVariants.{Control, Receiving, Sending}
 use Rattle.bsc_tributary.specs.Tributary.{TributaryValue, after_release}

@@ -1,10 +1,10 @@
 -- What each step of a bid keeps, from the lemmas about its steps and the laws of blocks and queues.
-use Rattle.bsc_bid.proofs.StepLemmas.{hearing_agrees, answering_agrees, silence_agrees}
-use Rattle.bsc_bid.proofs.StepLemmas.{begin_agrees, offer_agrees, offer_keeps_rest}
-use Rattle.bsc_bid.proofs.StepLemmas.{release_keeps_rest, agreement_is_sound, loss_agrees}
-use Rattle.bsc_bid.proofs.StepLemmas.{outward_is_text_or_enq, reply_is_last}
-use Rattle.bsc_bid.proofs.FitLemmas.{fits_begin, fits_reply, fits_silence}
-use Rattle.bsc_bid.proofs.KeepLemmas.{keeps_begin, keeps_reply, keeps_silence}
+use Rattle.bsc_bid.proofs.Steps.{hearing_agrees, answering_agrees, silence_agrees}
+use Rattle.bsc_bid.proofs.Steps.{begin_agrees, offer_agrees, offer_keeps_rest}
+use Rattle.bsc_bid.proofs.Steps.{release_keeps_rest, agreement_is_sound, loss_agrees}
+use Rattle.bsc_bid.proofs.Steps.{outward_is_text_or_enq, reply_is_last}
+use Rattle.bsc_bid.proofs.Fitting.{fits_begin, fits_reply, fits_silence}
+use Rattle.bsc_bid.proofs.Keeping.{keeps_begin, keeps_reply, keeps_silence}
 use Rattle.bsc_bid.proofs.Answering.{busy}
 use Rattle.bsc_bid.proofs.Turning.{LawsBelow, bid_continues}
 use Rattle.bsc_bid.proofs.laws.each_step.Goals as goal

@@ -1,7 +1,7 @@
 -- What holds of every bid, from the lemmas about its turns and the laws of blocks and queues.
-use Rattle.bsc_bid.proofs.BlockLemmas.{sends_its_blocks, hears_its_blocks, ends_knowing}
-use Rattle.bsc_bid.proofs.BlockLemmas.{release_ends_doubt}
-use Rattle.bsc_bid.proofs.DoubtLemmas.{doubts_at_silence}
+use Rattle.bsc_bid.proofs.Blocks.{sends_its_blocks, hears_its_blocks, ends_knowing}
+use Rattle.bsc_bid.proofs.Blocks.{release_ends_doubt}
+use Rattle.bsc_bid.proofs.Doubts.{doubts_at_silence}
 use Rattle.bsc_bid.proofs.TurnCount.{ends_soon}
 use Rattle.bsc_bid.proofs.Turning.{LawsBelow, stays_ready, stays_sound, sound_within_turns}
 use Rattle.bsc_bid.proofs.Turning.{only_moves}

@@ -2,7 +2,7 @@
 use Rattle.std.proofs.Common.{rules, ◌≡◌, true, false, cond, Some, string_bytes, ap, sym, ◌∙◌}
 use Rattle.std.proofs.lemmas.Map.Iter.{rest_more}
 use Rattle.std.specs.Map.Iter.{deref}
-use Rattle.bsc_config.proofs.KeyLemmas.{first_in, first_in_keys}
+use Rattle.bsc_config.proofs.Keys.{first_in, first_in_keys}
 use Rattle.bsc_config.specs.Keys.{is_known}
 use Rattle.bsc_config.proofs.known.unknown_name.Goals as goal
 

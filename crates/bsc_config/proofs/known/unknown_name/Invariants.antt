@@ -2,7 +2,7 @@
 use Rattle.std.proofs.Common.{◌≡◌}
 use Rattle.toml.specs.View.{members_view}
 use Rattle.bsc_config.specs.Checks.{first_unknown}
-use Rattle.bsc_config.proofs.KeyLemmas.{first_in}
+use Rattle.bsc_config.proofs.Keys.{first_in}
 use Rattle.bsc_config.proofs.known.unknown_name.Given as goal
 
 abbrev pub invariant-names : goal.invariant-names

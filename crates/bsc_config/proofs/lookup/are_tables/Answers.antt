@@ -2,7 +2,7 @@
 use Rattle.std.proofs.Common.{◌+◌, ◌&&◌, ◌∙◌, ap, sym, drop}
 use Rattle.toml.specs.View.{items_view}
 use Rattle.bsc_config.specs.Tables.{are_tables}
-use Rattle.bsc_config.proofs.ItemLemmas.{next_item}
+use Rattle.bsc_config.proofs.Items.{next_item}
 use Rattle.bsc_config.proofs.lookup.are_tables.Goals as goal
 
 pub loop-value-preserved : goal.loop-value-preserved

@@ -4,7 +4,7 @@ use Rattle.std.specs.Option.{option_map}
 use Rattle.toml.specs.View.{items_view}
 use Rattle.bsc_config.specs.declared.key.Key.TheVariants as key
 use Rattle.bsc_config.specs.Values.{or_wrong, read_each, whole_number}
-use Rattle.bsc_config.proofs.ItemLemmas.{read_each_next, read_each_stop}
+use Rattle.bsc_config.proofs.Items.{read_each_next, read_each_stop}
 use Rattle.bsc_config.proofs.poll_list.entries.Goals as goal
 
 pub loop-value-preserved : goal.loop-value-preserved

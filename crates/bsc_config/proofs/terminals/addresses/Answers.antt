@@ -3,7 +3,7 @@ use Rattle.std.proofs.Common.{◌+◌, ◌++◌, ◌∙◌, ap, sym, drop}
 use Rattle.std.specs.Option.{option_map}
 use Rattle.toml.specs.View.{items_view}
 use Rattle.bsc_config.specs.Values.{or_wrong, read_each, address_in}
-use Rattle.bsc_config.proofs.ItemLemmas.{read_each_next, read_each_stop}
+use Rattle.bsc_config.proofs.Items.{read_each_next, read_each_stop}
 use Rattle.bsc_config.proofs.terminals.addresses.Goals as goal
 
 pub loop-value-preserved : goal.loop-value-preserved

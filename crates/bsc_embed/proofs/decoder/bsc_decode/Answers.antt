@@ -1,6 +1,6 @@
 -- What holds of the kind holds of its number.
 use Rattle.std.proofs.Common.{◌∙◌, sym}
-use Rattle.bsc_embed.proofs.HeardLemmas.{by_kind, failed_number, noise_number}
+use Rattle.bsc_embed.proofs.HeardKinds.{by_kind, failed_number, noise_number}
 use Rattle.bsc_embed.proofs.decoder.bsc_decode.Goals as goal
 
 pub returns : goal.returns

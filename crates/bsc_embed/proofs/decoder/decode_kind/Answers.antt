@@ -1,6 +1,6 @@
 -- `decode_kind` tells what a short message is heard as.
 use Rattle.bsc_frame.specs.Short.{heard_as}
-use Rattle.bsc_embed.proofs.HeardLemmas.{tells}
+use Rattle.bsc_embed.proofs.HeardKinds.{tells}
 use Rattle.bsc_embed.proofs.decoder.decode_kind.Goals as goal
 
 pub returns-in-Some : goal.returns-in-Some

@@ -2,7 +2,7 @@
 use Rattle.std.proofs.Common.{◌∙◌, ap, refl}
 use Rattle.bsc_frame.specs.declared.message.Message.TheVariants.{Text}
 use Rattle.bsc_frame.specs.declared.message.Heard.TheVariants.{Whole, Failed}
-use Rattle.bsc_embed.proofs.HeardLemmas.{heard_is, only_text, tells}
+use Rattle.bsc_embed.proofs.HeardKinds.{heard_is, only_text, tells}
 use Rattle.bsc_embed.proofs.decoder.decode_text.Goals as goal
 
 pub unreachable-requires : goal.unreachable-requires

@@ -2,8 +2,8 @@
 use Rattle.std.proofs.Common.{◌∙◌, ap, arith}
 use Rattle.bsc_frame.specs.Reading.{trimmed}
 use Rattle.bsc_frame.specs.declared.octets.TheConstants.{SYN}
-use Rattle.bsc_frame.proofs.RunLemmas.{skip_pads, skip_all}
-use Rattle.bsc_frame.proofs.BodyLemmas.{heard_no_syn, heard_after_syn}
+use Rattle.bsc_frame.proofs.Runs.{skip_pads, skip_all}
+use Rattle.bsc_frame.proofs.Bodies.{heard_no_syn, heard_after_syn}
 use Rattle.bsc_frame.proofs.body.body_of_few.Goals as goal
 
 pub returns-then-not-starts_with : goal.returns-then-not-starts_with

@@ -1,7 +1,7 @@
 -- `body_of_many` returns a body that is heard as the octets are.
 use Rattle.std.proofs.Common.{◌∙◌, ap}
 use Rattle.bsc_frame.specs.Reading.{trimmed}
-use Rattle.bsc_frame.proofs.BodyLemmas.{heard_no_syn, heard_after_syn}
+use Rattle.bsc_frame.proofs.Bodies.{heard_no_syn, heard_after_syn}
 use Rattle.bsc_frame.proofs.body.body_of_many.Goals as goal
 
 pub returns-then-not-starts_with : goal.returns-then-not-starts_with

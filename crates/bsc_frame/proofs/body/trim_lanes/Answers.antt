@@ -1,6 +1,6 @@
 -- The loop of `trim_lanes` drops only PAD.
 use Rattle.std.proofs.Common.{arith}
-use Rattle.bsc_frame.proofs.RunLemmas.{trim_more}
+use Rattle.bsc_frame.proofs.Runs.{trim_more}
 use Rattle.bsc_frame.proofs.body.trim_lanes.Goals as goal
 
 pub loop-end-preserved : goal.loop-end-preserved

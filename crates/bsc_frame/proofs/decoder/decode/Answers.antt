@@ -1,7 +1,7 @@
 -- What `decode` returns by reading from left to right, stated by the relations on whole lists.
 use Rattle.std.proofs.Common.{◌∙◌, sym}
-use Rattle.bsc_frame.proofs.HeardLemmas.{spelled_heard, heard_spelled, failed_heard, heard_failed}
-use Rattle.bsc_frame.proofs.HeardLemmas.{noise_heard, heard_noise}
+use Rattle.bsc_frame.proofs.HeardMessages.{spelled_heard, heard_spelled, failed_heard, heard_failed}
+use Rattle.bsc_frame.proofs.HeardMessages.{noise_heard, heard_noise}
 use Rattle.bsc_frame.proofs.decoder.decode.Goals as goal
 
 pub returns-clause-whole : goal.returns-clause-whole

@@ -1,6 +1,6 @@
 -- `before_ending` counts the octets before the first US, ETB or ETX, 32 at a time.
 use Rattle.bsc_frame.specs.Reading.{is_before_ending}
-use Rattle.bsc_frame.proofs.RunLemmas.{run_stops, run_goes_on, run_rest}
+use Rattle.bsc_frame.proofs.Runs.{run_stops, run_goes_on, run_rest}
 use Rattle.bsc_frame.proofs.front.before_ending.Goals as goal
 
 pub returns-then-run-lt-LANES-clause-count : goal.returns-then-run-lt-LANES-clause-count

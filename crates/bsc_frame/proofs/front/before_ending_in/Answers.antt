@@ -4,7 +4,7 @@ use Rattle.std.proofs.lemmas.Simd.{zip2_splat, zip2_of_maps, length-chunk}
 use Rattle.bsc_frame.specs.Reading.{is_ending_octet}
 use Rattle.bsc_frame.specs.declared.front.TheConstants.{LANES}
 use Rattle.bsc_frame.specs.declared.octets.TheConstants.{ETB, ETX, US}
-use Rattle.bsc_frame.proofs.LaneLemmas.{first_lane_is, top_or}
+use Rattle.bsc_frame.proofs.Lanes.{first_lane_is, top_or}
 use Rattle.bsc_frame.proofs.front.before_ending_in.Goals as goal
 
 pub returns : goal.returns

@@ -1,8 +1,8 @@
 -- `either_front` counts the octets at the front that are one of the two, 32 at a time.
 use Rattle.bsc_frame.specs.Reading.{is_either}
 use Rattle.std.proofs.Common.{refl}
-use Rattle.bsc_frame.proofs.ReadLemmas.{test_false}
-use Rattle.bsc_frame.proofs.RunLemmas.{run_none, run_stops, run_goes_on, run_rest}
+use Rattle.bsc_frame.proofs.ReadingSteps.{test_false}
+use Rattle.bsc_frame.proofs.Runs.{run_none, run_stops, run_goes_on, run_rest}
 use Rattle.bsc_frame.proofs.front.either_front.Goals as goal
 
 pub returns-then-run-lt-LANES-clause-count : goal.returns-then-run-lt-LANES-clause-count

@@ -1,7 +1,7 @@
 -- The loop invariant of `either_front`, and the number that its loop decreases.
 use Rattle.std.proofs.Common.{◌-◌, length}
 use Rattle.bsc_frame.specs.Reading.{is_either}
-use Rattle.bsc_frame.proofs.RunLemmas.{CountedTo}
+use Rattle.bsc_frame.proofs.Runs.{CountedTo}
 use Rattle.bsc_frame.proofs.front.either_front.Given as goal
 
 abbrev pub invariant-loop-at : goal.invariant-loop-at

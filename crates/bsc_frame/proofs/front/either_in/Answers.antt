@@ -3,7 +3,7 @@ use Rattle.std.proofs.Common.{◌==◌, take, drop, not, bit_and, ◌∙◌}
 use Rattle.std.proofs.lemmas.Simd.{zip2_splat, zip2_of_maps, length-chunk}
 use Rattle.bsc_frame.specs.Reading.{is_either}
 use Rattle.bsc_frame.specs.declared.front.TheConstants.{LANES}
-use Rattle.bsc_frame.proofs.LaneLemmas.{first_lane_is, top_and, prefix_len_same, not_twice}
+use Rattle.bsc_frame.proofs.Lanes.{first_lane_is, top_and, prefix_len_same, not_twice}
 use Rattle.bsc_frame.proofs.front.either_in.Goals as goal
 
 pub returns : goal.returns

@@ -1,9 +1,9 @@
 -- The loop of `either_rest` stops at the first octet that is neither of the two.
 use Rattle.std.proofs.Common.{refl}
 use Rattle.std.proofs.lemmas.Bool.{eq-eqb}
-use Rattle.bsc_frame.proofs.ReadLemmas.{test_false}
+use Rattle.bsc_frame.proofs.ReadingSteps.{test_false}
 use Rattle.bsc_frame.specs.Reading.{is_either}
-use Rattle.bsc_frame.proofs.RunLemmas.{run_more, run_stop, run_end}
+use Rattle.bsc_frame.proofs.Runs.{run_more, run_stop, run_end}
 use Rattle.bsc_frame.proofs.front.either_rest.Goals as goal
 use Rattle.bsc_frame.proofs.front.either_rest.Goals.{else-octet-one-via-else-octet-one}
 use Rattle.bsc_frame.proofs.front.either_rest.Goals.{else-octet-one-via-then-octet-one+else-octet-other}

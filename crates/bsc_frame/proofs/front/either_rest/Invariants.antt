@@ -1,6 +1,6 @@
 -- The loop invariant of `either_rest`.
 use Rattle.bsc_frame.specs.Reading.{is_either}
-use Rattle.bsc_frame.proofs.RunLemmas.{CountedTo}
+use Rattle.bsc_frame.proofs.Runs.{CountedTo}
 use Rattle.bsc_frame.proofs.front.either_rest.Given as goal
 
 abbrev pub invariant-loop-i : goal.invariant-loop-i

@@ -1,5 +1,5 @@
 -- What octets are heard as if one bit of one of them is turned.
-use Rattle.bsc_frame.proofs.TurnedBitLemmas.{turned_spells, turned_failed, turned_noise}
+use Rattle.bsc_frame.proofs.TurnedBits.{turned_spells, turned_failed, turned_noise}
 use Rattle.bsc_frame.proofs.laws.one_bit.Goals as goal
 
 pub returns-clause-spelled : goal.returns-clause-spelled

@@ -1,6 +1,6 @@
 -- What octets are heard as if one of them is replaced by an octet of the other parity.
-use Rattle.bsc_frame.proofs.DamagedLemmas.{spelled_where, failed_place}
-use Rattle.bsc_frame.proofs.TurnedLemmas.{odd_bits_other}
+use Rattle.bsc_frame.proofs.DamagedMessages.{spelled_where, failed_place}
+use Rattle.bsc_frame.proofs.TurnedOctets.{odd_bits_other}
 use Rattle.bsc_frame.proofs.laws.other_parity.Goals as goal
 
 pub returns-clause-spelled : goal.returns-clause-spelled

@@ -1,7 +1,7 @@
 -- Reading from left to right agrees with the relations on whole lists, from the lemmas about what
 -- is heard.
-use Rattle.bsc_frame.proofs.HeardLemmas.{spelled_heard, heard_spelled, failed_heard, heard_failed}
-use Rattle.bsc_frame.proofs.HeardLemmas.{noise_heard, heard_noise}
+use Rattle.bsc_frame.proofs.HeardMessages.{spelled_heard, heard_spelled, failed_heard, heard_failed}
+use Rattle.bsc_frame.proofs.HeardMessages.{noise_heard, heard_noise}
 use Rattle.bsc_frame.proofs.laws.reading.Goals as goal
 
 pub returns-clause-whole : goal.returns-clause-whole

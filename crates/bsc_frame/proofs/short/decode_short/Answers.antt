@@ -1,5 +1,5 @@
 -- `decode_short` returns what is heard, or `None` for octets that begin as a text.
-use Rattle.bsc_frame.proofs.ShortLemmas.{short_is_heard, text_begins}
+use Rattle.bsc_frame.proofs.ShortMessages.{short_is_heard, text_begins}
 use Rattle.bsc_frame.proofs.short.decode_short.Goals as goal
 
 pub returns-then-starts_with-clause-text : goal.returns-then-starts_with-clause-text

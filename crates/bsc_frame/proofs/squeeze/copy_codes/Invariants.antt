@@ -1,5 +1,5 @@
 -- The loop invariant of `copy_codes`.
-use Rattle.bsc_frame.proofs.SqueezeLemmas.{CopiedTo}
+use Rattle.bsc_frame.proofs.Squeezing.{CopiedTo}
 use Rattle.bsc_frame.proofs.squeeze.copy_codes.Given as goal
 
 abbrev pub invariant-loop-i : goal.invariant-loop-i

@@ -1,6 +1,6 @@
 -- The loop of `squeeze` squeezes part after part, unless there are too many octets without fill.
 use Rattle.std.proofs.Common.{arith, ◌+◌, ◌-◌, drop, length-take}
-use Rattle.bsc_frame.proofs.SqueezeLemmas.{part_more, part_full}
+use Rattle.bsc_frame.proofs.Squeezing.{part_more, part_full}
 use Rattle.bsc_frame.proofs.squeeze.squeeze.Goals as goal
 
 pub returns-then-count-ge-TOO_MANY-clause-none : goal.returns-then-count-ge-TOO_MANY-clause-none

@@ -1,6 +1,6 @@
 -- The loop invariant of `squeeze`, and the number that its loop decreases.
 use Rattle.std.proofs.Common.{◌-◌, length}
-use Rattle.bsc_frame.proofs.SqueezeLemmas.{PartsTo}
+use Rattle.bsc_frame.proofs.Squeezing.{PartsTo}
 use Rattle.bsc_frame.proofs.squeeze.squeeze.Given as goal
 
 abbrev pub invariant-loop-at : goal.invariant-loop-at

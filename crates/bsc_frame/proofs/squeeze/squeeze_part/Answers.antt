@@ -1,5 +1,5 @@
 -- The loop of `squeeze_part` writes the octets other than SYN after the first ones.
-use Rattle.bsc_frame.proofs.SqueezeLemmas.{squeeze_start, squeeze_all}
+use Rattle.bsc_frame.proofs.Squeezing.{squeeze_start, squeeze_all}
 use Rattle.bsc_frame.proofs.squeeze.squeeze_part.Goals as goal
 
 pub loop-octet-init : goal.loop-octet-init

@@ -1,5 +1,5 @@
 -- The loop invariant of `squeeze_part`.
-use Rattle.bsc_frame.proofs.SqueezeLemmas.{SqueezedTo}
+use Rattle.bsc_frame.proofs.Squeezing.{SqueezedTo}
 use Rattle.bsc_frame.proofs.squeeze.squeeze_part.Given as goal
 
 abbrev pub invariant-loop-octet : goal.invariant-loop-octet

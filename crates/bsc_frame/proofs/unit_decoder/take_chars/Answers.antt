@@ -1,8 +1,8 @@
 -- `take_chars` adds the unit that the codes of the octets are read as.
 use Rattle.std.proofs.Common.{arith, map, ◌∙◌, sym}
 use Rattle.bsc_frame.specs.Reading.{low_bits}
-use Rattle.bsc_frame.proofs.CarriedLemmas.{carried}
-use Rattle.bsc_frame.proofs.TakeLemmas.{parts_none, parts_read, chars_unit}
+use Rattle.bsc_frame.proofs.CarriedOctets.{carried}
+use Rattle.bsc_frame.proofs.Taking.{parts_none, parts_read, chars_unit}
 use Rattle.bsc_frame.proofs.unit_decoder.take_chars.Goals as goal
 
 pub returns-then-chars-gt-MAX_CHARS-clause-none : goal.returns-then-chars-gt-MAX_CHARS-clause-none

@@ -2,9 +2,9 @@
 use Rattle.std.proofs.Common.{map}
 use Rattle.bsc_frame.specs.Drafts.{AddsUnit}
 use Rattle.bsc_frame.specs.Reading.{low_bits, read_unit, after_start}
-use Rattle.bsc_frame.proofs.CarriedLemmas.{carried}
-use Rattle.bsc_frame.proofs.TakeLemmas.{wrong_check_none, wrong_unit, right_unit, odd_start}
-use Rattle.bsc_frame.proofs.TakeLemmas.{ends_start}
+use Rattle.bsc_frame.proofs.CarriedOctets.{carried}
+use Rattle.bsc_frame.proofs.Taking.{wrong_check_none, wrong_unit, right_unit, odd_start}
+use Rattle.bsc_frame.proofs.Taking.{ends_start}
 use Rattle.bsc_frame.proofs.unit_decoder.take_front.Goals as goal
 
 pub returns-in_default-clause-none : goal.returns-in_default-clause-none

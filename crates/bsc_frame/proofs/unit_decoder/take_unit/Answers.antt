@@ -4,10 +4,10 @@ use Rattle.std.proofs.lemmas.List.Elements.{All-take, All-filter}
 use Rattle.bsc_octet.specs.Octet.{IsOdd}
 use Rattle.bsc_frame.specs.Drafts.{TakesUnit}
 use Rattle.bsc_frame.specs.Reading.{low_bits, is_other, unit_before, unit_at}
-use Rattle.bsc_frame.proofs.CarriedLemmas.{carried}
-use Rattle.bsc_frame.proofs.TakeLemmas.{at_end, front_ends, ends_filtered, front_without_fill}
-use Rattle.bsc_frame.proofs.TakeLemmas.{front_squeezed}
-use Rattle.bsc_frame.proofs.TakeLemmas.{long_front_none}
+use Rattle.bsc_frame.proofs.CarriedOctets.{carried}
+use Rattle.bsc_frame.proofs.Taking.{at_end, front_ends, ends_filtered, front_without_fill}
+use Rattle.bsc_frame.proofs.Taking.{front_squeezed}
+use Rattle.bsc_frame.proofs.Taking.{long_front_none}
 use Rattle.bsc_frame.proofs.unit_decoder.take_unit.Goals as goal
 
 pub returns-then-place-octets-clause-none : goal.returns-then-place-octets-clause-none

@@ -3,8 +3,8 @@ use Rattle.std.proofs.Common.{◌≡◌, ◌-◌, ◌+◌, ◌==◌, ◌∷◌, 
 use Rattle.std.proofs.Common.{length-drop}
 use Rattle.std.specs.List.{slice_split}
 use Rattle.std.proofs.lemmas.List.{take_all}
-use Rattle.bsc_input.proofs.SplitLemmas.{before_first_some, before_first_none, slice_split_finds_some}
-use Rattle.bsc_input.proofs.SplitLemmas.{slice_split_finds_none}
+use Rattle.bsc_input.proofs.Splitting.{before_first_some, before_first_none, slice_split_finds_some}
+use Rattle.bsc_input.proofs.Splitting.{slice_split_finds_none}
 use Rattle.bsc_input.proofs.parts.split_at_first.Goals as goal
 
 pub returns-in-Some-clause-before : goal.returns-in-Some-clause-before

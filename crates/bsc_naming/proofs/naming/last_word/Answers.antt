@@ -1,7 +1,7 @@
 -- Shows that dropping the first word keeps the last word.
 use Rattle.std.proofs.Common.{ap, ◌∙◌}
 use Rattle.bsc_naming.specs.Lines.{last_part}
-use Rattle.bsc_naming.proofs.PartLemmas.{last_part_more}
+use Rattle.bsc_naming.proofs.Parts.{last_part_more}
 use Rattle.bsc_naming.proofs.naming.last_word.Goals as goal
 
 pub words-preserved : goal.words-preserved

@@ -3,8 +3,8 @@ use Rattle.std.proofs.Common.{◌≡◌, ◌∷◌, [], map, sym, ap, ◌∙◌,
 use Rattle.std.specs.Str.Lines.{strip_carriage_return}
 use Rattle.bsc_input.specs.Lines.{lines_of}
 use Rattle.bsc_naming.specs.declared.error.NamingError.TheVariants.{NotHexadecimalAt}
-use Rattle.bsc_naming.proofs.LineLemmas.{has_printed_more, has_printed_all, has_printed_wrong}
-use Rattle.bsc_naming.proofs.LineLemmas.{lines_left}
+use Rattle.bsc_naming.proofs.Lines.{has_printed_more, has_printed_all, has_printed_wrong}
+use Rattle.bsc_naming.proofs.Lines.{lines_left}
 use Rattle.bsc_naming.proofs.naming.write_lines.Goals as goal
 
 pub returns-in_err-write_line-clause-wrong : goal.returns-in_err-write_line-clause-wrong

@@ -2,7 +2,7 @@
 use Rattle.std.proofs.Common.{◌≤◌, ◌+◌, length}
 use Rattle.bsc_input.specs.Lines.{lines_of}
 use Rattle.bsc_print.specs.Names.{shown}
-use Rattle.bsc_naming.proofs.LineLemmas.{HasPrinted}
+use Rattle.bsc_naming.proofs.Lines.{HasPrinted}
 use Rattle.bsc_naming.proofs.naming.write_lines.Given as goal
 
 abbrev pub invariant-lines : goal.invariant-lines

@@ -4,8 +4,8 @@ use Rattle.bsc_input.specs.Hexadecimal.{octets_of}
 use Rattle.bsc_input.specs.Lines.{is_blank}
 use Rattle.bsc_print.specs.Names.{shown}
 use Rattle.bsc_naming.specs.Lines.{digits}
-use Rattle.bsc_naming.proofs.LineLemmas.{prints_lines_one, prints_lines_skip, digits_traced}
-use Rattle.bsc_naming.proofs.LineLemmas.{given_blank, given_wrong}
+use Rattle.bsc_naming.proofs.Lines.{prints_lines_one, prints_lines_skip, digits_traced}
+use Rattle.bsc_naming.proofs.Lines.{given_blank, given_wrong}
 use Rattle.bsc_naming.proofs.Outcomes.{on_ok}
 use Rattle.bsc_naming.proofs.naming.write_traced.Goals as goal
 

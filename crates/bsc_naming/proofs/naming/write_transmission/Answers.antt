@@ -1,5 +1,5 @@
 -- Shows that the output is that for what the octets are heard as.
-use Rattle.bsc_naming.proofs.HeardLemmas.{is_heard}
+use Rattle.bsc_naming.proofs.HeardNames.{is_heard}
 use Rattle.bsc_naming.proofs.naming.write_transmission.Goals as goal
 
 pub returns-clause-ok : goal.returns-clause-ok

@@ -1,7 +1,7 @@
 -- The loop of `xor_of_rest` adds one octet at a time.
 use Rattle.std.proofs.Common.{arith, take, ◌≡◌}
 use Rattle.std.proofs.lemmas.List.{take_all}
-use Rattle.bsc_octet.proofs.SumLemmas.{xor_more}
+use Rattle.bsc_octet.proofs.Sums.{xor_more}
 use Rattle.bsc_octet.proofs.longitudinal.xor_of_rest.Goals as goal
 
 pub loop-octet-preserved : goal.loop-octet-preserved

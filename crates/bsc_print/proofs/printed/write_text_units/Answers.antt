@@ -4,7 +4,7 @@ use Rattle.std.specs.List.{flat_map}
 use Rattle.std.proofs.KnownBytes.{Appends-trans}
 use Rattle.bsc_frame.specs.Units.{text_unit}
 use Rattle.bsc_print.specs.Names.{unit_line}
-use Rattle.bsc_print.proofs.ListLemmas.{flat_map_take_more}
+use Rattle.bsc_print.proofs.Lists.{flat_map_take_more}
 use Rattle.bsc_print.proofs.printed.write_text_units.Goals as goal
 
 pub units-preserved : goal.units-preserved

@@ -3,7 +3,7 @@ use Rattle.std.proofs.Common.{◌≡◌, true, take, arith, sym}
 use Rattle.std.specs.Str.Parse.{digits_value}
 use Rattle.std.proofs.lemmas.Int.Digits.{digits_value_more}
 use Rattle.bsc_script.specs.Numbers.{has_digits}
-use Rattle.bsc_script.proofs.DigitLemmas.{below_thousand, digit_at}
+use Rattle.bsc_script.proofs.Digits.{below_thousand, digit_at}
 use Rattle.bsc_script.proofs.number.number.Goals as goal
 
 pub overflow_add-number : goal.overflow_add-number

@@ -2,7 +2,7 @@
 use Rattle.std.proofs.Common.{◌≡◌, length}
 use Rattle.bsc_script.specs.Transmissions.{items_of}
 use Rattle.bsc_script.specs.Words.{words_of}
-use Rattle.bsc_script.proofs.ItemLemmas.{after_items}
+use Rattle.bsc_script.proofs.Items.{after_items}
 use Rattle.bsc_script.proofs.reading.read_items.Given as goal
 
 abbrev pub invariant-words : goal.invariant-words

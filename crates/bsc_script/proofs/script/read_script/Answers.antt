@@ -2,7 +2,7 @@
 use Rattle.std.proofs.Common.{◌≡◌, ◌+◌, ◌∷◌, [], map, sym, ap, ◌∙◌, arith}
 use Rattle.std.specs.Str.Lines.{strip_carriage_return}
 use Rattle.bsc_input.specs.Lines.{lines_of}
-use Rattle.bsc_script.proofs.ScriptLemmas.{all_read, keep_line, take_line}
+use Rattle.bsc_script.proofs.Scripts.{all_read, keep_line, take_line}
 use Rattle.bsc_script.proofs.script.read_script.Goals as goal
 use Rattle.bsc_script.proofs.script.read_script.Goals.{then-not-is_skipped+in_ok-read_step+in_ok-push}
 use Rattle.bsc_script.proofs.script.read_script.Goals.{else-not-is_skipped}

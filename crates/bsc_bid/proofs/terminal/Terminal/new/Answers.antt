@@ -1,6 +1,6 @@
 -- The addresses that `new` accepts are those of a terminal, and the table holds them.
 use Rattle.std.proofs.Common.{arith}
-use Rattle.bsc_bid.proofs.SelectLemmas.{holds_selects}
+use Rattle.bsc_bid.proofs.Selecting.{holds_selects}
 use Rattle.bsc_bid.proofs.terminal.Terminal.new.Goals as goal
 
 pub invariant_of-result : goal.invariant_of-result

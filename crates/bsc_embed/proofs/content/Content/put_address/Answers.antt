@@ -1,7 +1,7 @@
 -- `put_address` stores the address and keeps the rest.
 use Rattle.std.proofs.Common.{refl, length, drop}
 use Rattle.std.proofs.Math.Seq.{drop-append_seam}
-use Rattle.bsc_embed.proofs.AddressLemmas.{address_put}
+use Rattle.bsc_embed.proofs.Addresses.{address_put}
 use Rattle.bsc_embed.proofs.content.Content.put_address.Goals as goal
 
 pub returns-clause-address : goal.returns-clause-address

@@ -1,8 +1,8 @@
 -- `put_text` stores the text and keeps the rest.
 use Rattle.std.proofs.Common.{◌≡◌, ◌∙◌, ap, rules, arith, refl, Some}
 use Rattle.bsc_frame.specs.Units.{text_unit}
-use Rattle.bsc_embed.proofs.TextLemmas.{units_put, text_here, units_all}
-use Rattle.bsc_embed.proofs.KeptLemmas.{keep_same, keep_put, rest_set}
+use Rattle.bsc_embed.proofs.Texts.{units_put, text_here, units_all}
+use Rattle.bsc_embed.proofs.KeptContents.{keep_same, keep_put, rest_set}
 use Rattle.bsc_embed.proofs.content.Content.put_text.Goals as goal
 
 pub loop-place-init : goal.loop-place-init

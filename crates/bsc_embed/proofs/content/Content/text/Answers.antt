@@ -2,8 +2,8 @@
 use Rattle.std.proofs.Common.{◌∙◌, sym, ap, inl, inr, arith, rules, take, length-set}
 use Rattle.std.specs.Option.{option_map}
 use Rattle.bsc_frame.specs.Units.{text_unit}
-use Rattle.bsc_embed.proofs.TextLemmas.{text_not_counted, text_not_ended, text_not_unit, units_are}
-use Rattle.bsc_embed.proofs.TextLemmas.{units_taken, units_read, text_here}
+use Rattle.bsc_embed.proofs.Texts.{text_not_counted, text_not_ended, text_not_unit, units_are}
+use Rattle.bsc_embed.proofs.Texts.{units_taken, units_read, text_here}
 use Rattle.bsc_embed.proofs.content.Content.text.Goals as goal
 
 pub returns-then-count-eq0 : goal.returns-then-count-eq0

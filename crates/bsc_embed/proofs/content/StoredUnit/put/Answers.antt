@@ -2,7 +2,7 @@
 use Rattle.std.proofs.Common.{length, drop}
 use Rattle.std.proofs.Math.Seq.{drop-append_seam}
 use Rattle.bsc_frame.specs.Units.{text_unit}
-use Rattle.bsc_embed.proofs.UnitLemmas.{unit_put}
+use Rattle.bsc_embed.proofs.Units.{unit_put}
 use Rattle.bsc_embed.proofs.content.StoredUnit.put.Goals as goal
 
 pub returns-clause-unit : goal.returns-clause-unit

@@ -1,7 +1,7 @@
 -- `called` returns the address of the call that the octets carry, or `None` if there is no call.
 use Rattle.std.proofs.Common.{refl, sym, ◌∙◌, arith}
-use Rattle.bsc_frame.proofs.CallLemmas.{call_ends, call_early, call_empty, call_full, call_wrong}
-use Rattle.bsc_frame.proofs.CallLemmas.{call_wrong_code, call_goes_on, call_none}
+use Rattle.bsc_frame.proofs.Calls.{call_ends, call_early, call_empty, call_full, call_wrong}
+use Rattle.bsc_frame.proofs.Calls.{call_wrong_code, call_goes_on, call_none}
 use Rattle.bsc_frame.proofs.address.Address.called.Goals as goal
 use Rattle.bsc_frame.proofs.address.Address.called.Goals.{else-i-gt0-via-then-i-gt0+else-i-octets}
 use Rattle.bsc_frame.proofs.address.Address.called.Goals.{else-i-gt0-via-else-i-gt0}

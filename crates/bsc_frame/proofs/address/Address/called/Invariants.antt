@@ -1,5 +1,5 @@
 -- The loop invariant of `called`.
-use Rattle.bsc_frame.proofs.CallLemmas.{Called}
+use Rattle.bsc_frame.proofs.Calls.{Called}
 use Rattle.bsc_frame.proofs.address.Address.called.Given as goal
 
 abbrev pub invariant-loop-i : goal.invariant-loop-i

@@ -3,7 +3,7 @@ use Rattle.std.proofs.Common.{◌==◌, ◌∙◌, sym}
 use lib.Pointwise.{pointwise}
 use denote.Enum.Bare.{sameb}
 use Rattle.bsc_frame.specs.contracts.text.End.{the_type}
-use Rattle.bsc_frame.proofs.SameLemmas.{tells_text, third_tells, first_fails, second_fails}
+use Rattle.bsc_frame.proofs.SameTexts.{tells_text, third_tells, first_fails, second_fails}
 use Rattle.bsc_frame.proofs.text.TextPartialEq.eq.Goals.{then-eq, else-eq}
 use Rattle.bsc_frame.proofs.text.TextPartialEq.eq.Goals as goal
 

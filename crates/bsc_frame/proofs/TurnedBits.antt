@@ -7,8 +7,8 @@ use Rattle.bsc_frame.specs.TurnedBits.{turned, with_turned_bit, IsSomeCall, IsSo
 use Rattle.bsc_frame.specs.TurnedBits.{IsLeadingPad, IsCallFill}
 use Rattle.bsc_frame.specs.declared.message.Message.{Message}
 use Rattle.bsc_frame.specs.declared.octets.TheConstants.{PAD, SYN}
-use Rattle.bsc_frame.proofs.TurnedLemmas.{turned_other, syn_no_pad, syn_no_fill, pad_no_fill}
-use Rattle.bsc_frame.proofs.DamagedLemmas.{spelled_where, failed_place, sent_of}
+use Rattle.bsc_frame.proofs.TurnedOctets.{turned_other, syn_no_pad, syn_no_fill, pad_no_fill}
+use Rattle.bsc_frame.proofs.DamagedMessages.{spelled_where, failed_place, sent_of}
 
 -- the first octet of what is sent is SYN
 first_syn : (m : Message) → IsMessage m → get_or (wire m) 0 0 ≡ SYN

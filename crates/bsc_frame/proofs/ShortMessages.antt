@@ -7,8 +7,8 @@ use Rattle.bsc_frame.specs.Reading.{is_octet, begins, control, heard, heard_body
 use Rattle.bsc_frame.specs.Reading.{whole_or_failed, units_at}
 use Rattle.bsc_frame.specs.declared.message.Message.TheVariants.{Text}
 use Rattle.bsc_frame.specs.declared.message.Heard.{Heard}
-use Rattle.bsc_frame.proofs.HeardLemmas.{spelled_heard, heard_spelled, failed_heard, heard_failed}
-use Rattle.bsc_frame.proofs.HeardLemmas.{noise_heard, heard_noise}
+use Rattle.bsc_frame.proofs.HeardMessages.{spelled_heard, heard_spelled, failed_heard, heard_failed}
+use Rattle.bsc_frame.proofs.HeardMessages.{noise_heard, heard_noise}
 use Rattle.bsc_frame.specs.declared.limits.TheConstants.{MAX_UNITS}
 use Rattle.bsc_frame.specs.declared.octets.TheConstants.{STX}
 

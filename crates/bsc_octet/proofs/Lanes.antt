@@ -17,7 +17,7 @@ use Rattle.std.proofs.lemmas.List.Elements.{All-from_recursion, recursion_from_A
 use Rattle.std.proofs.lemmas.List.Sums.{sum_by-cons, sum_by-append}
 use Rattle.std.proofs.lemmas.Bool.{eqb-true, eq-eqb}
 use Rattle.bsc_octet.specs.Octet.{longitudinal_sum, with_bit, IsOdd}
-use Rattle.bsc_octet.proofs.SumLemmas.{longitudinal_sum_from_xor}
+use Rattle.bsc_octet.proofs.Sums.{longitudinal_sum_from_xor}
 use Rattle.bsc_octet.proofs.Elements.{all_take, all_drop, all_append}
 
 with_bit_cons : (i x : ℕ) (xs : List ℕ) → with_bit i (x ∷ xs) ≡ cond (bit_at x i == 1) 1 0

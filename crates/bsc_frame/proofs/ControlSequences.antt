@@ -12,7 +12,7 @@ use Rattle.std.specs.Str.{bytes_eq}
 use Rattle.std.proofs.lemmas.Bool.{eqb-true, eqb-false}
 use Rattle.std.proofs.lemmas.Bool.Decides.{nat_tests}
 use Rattle.bsc_octet.specs.Octet.{odd_octet, code_of}
-use Rattle.bsc_octet.proofs.ParityLemmas.{odd_cases, code_of_some, code_of_odd_octet}
+use Rattle.bsc_octet.proofs.Parity.{odd_cases, code_of_some, code_of_odd_octet}
 use Rattle.bsc_frame.specs.Addresses.{IsAddress, is_address_code}
 use Rattle.bsc_frame.specs.Message.{read_address, first_wrong}
 use Rattle.bsc_frame.specs.Spells.{AreAll, IsCall, IsBody}
@@ -23,10 +23,10 @@ use Rattle.bsc_frame.specs.declared.reply.Reply.{Reply as ReplyValue}
 use Rattle.bsc_frame.specs.declared.address.AddressError.{AddressError}
 use Rattle.bsc_frame.specs.declared.message.Message.{Message}
 use Rattle.bsc_frame.specs.declared.message.Message.TheVariants.{Eot, Call, Enq, Reply, Text}
-use Rattle.bsc_frame.proofs.AddressLemmas.{is_address}
-use Rattle.bsc_frame.proofs.ReadLemmas.{test_false, has_room, chosen, equal}
-use Rattle.bsc_frame.proofs.ReplyLemmas.{reply_read, reply_reads}
-use Rattle.bsc_frame.proofs.FrontLemmas.{parts, skip_pass, skip_none, pass_are, are_pass}
+use Rattle.bsc_frame.proofs.Addresses.{is_address}
+use Rattle.bsc_frame.proofs.ReadingSteps.{test_false, has_room, chosen, equal}
+use Rattle.bsc_frame.proofs.Replies.{reply_read, reply_reads}
+use Rattle.bsc_frame.proofs.Fronts.{parts, skip_pass, skip_none, pass_are, are_pass}
 use Rattle.bsc_frame.specs.declared.limits.TheConstants.{MAX_ADDRESS}
 use Rattle.bsc_frame.specs.declared.octets.TheConstants.{ENQ, EOT, PAD, SYN}
 

@@ -7,7 +7,7 @@ use Rattle.bsc_frame.specs.TextEquality.{text_decides}
 use Rattle.bsc_frame.specs.declared.message.Message.{Message}
 use Rattle.bsc_frame.specs.declared.message.Message.TheVariants.{Eot, Call, Enq, Reply, Text}
 use Rattle.bsc_frame.specs.contracts.message.MessagePartialEq.TheImpl.{eq-value}
-use Rattle.bsc_frame.proofs.ReplyLemmas.{reply_decides}
+use Rattle.bsc_frame.proofs.Replies.{reply_decides}
 
 -- false is not true
 never : false ≡ true → ⊥

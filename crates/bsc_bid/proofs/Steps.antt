@@ -23,10 +23,10 @@ use Rattle.bsc_bid.proofs.Hearing.{IsSenders, senders, receiver_keeps}
 use Rattle.bsc_bid.proofs.Answering.{still_on, back_last, sender_keeps}
 use Rattle.bsc_bid.proofs.Landing.{Leaves, at_same}
 use Rattle.bsc_bid.proofs.Answering.{silence_keeps, begin_keeps}
-use Rattle.bsc_bid.proofs.OfferLemmas.{not_longer, bid_offered, resting_offered}
-use Rattle.bsc_bid.proofs.FitLemmas.{Fits, fits_heard, fits_silence, fits_begin}
+use Rattle.bsc_bid.proofs.Offers.{not_longer, bid_offered, resting_offered}
+use Rattle.bsc_bid.proofs.Fitting.{Fits, fits_heard, fits_silence, fits_begin}
 use Rattle.bsc_bid.proofs.Turning.{LawsBelow, ended, sound_by}
-use Rattle.bsc_bid.proofs.BlockLemmas.{released_by}
+use Rattle.bsc_bid.proofs.Blocks.{released_by}
 
 agrees : (s : SenderValue) (q : QueueValue) (alternation : Alternation) (last : Reply)
     (spooled : List (List ℕ)) (t : SenderStep) → Leaves q alternation last spooled t → Fits s t

@@ -11,10 +11,10 @@ use Rattle.bsc_frame.specs.Units.{unit_codes}
 use Rattle.bsc_frame.specs.Spells.{AreFilled, IsStart}
 use Rattle.bsc_frame.specs.Reading.{◌>>=◌, is_ending_code, gathered, after_check, after_start}
 use Rattle.bsc_frame.specs.Reading.{read_unit, unit_at}
-use Rattle.bsc_frame.proofs.ControlLemmas.{some_is}
-use Rattle.bsc_frame.proofs.ReadLemmas.{chosen}
-use Rattle.bsc_frame.proofs.GatherLemmas.{gathered_reads, gathered_read, ends_unit_last, IsOther}
-use Rattle.bsc_frame.proofs.GatherLemmas.{IsRun}
+use Rattle.bsc_frame.proofs.ControlSequences.{some_is}
+use Rattle.bsc_frame.proofs.ReadingSteps.{chosen}
+use Rattle.bsc_frame.proofs.Gathering.{gathered_reads, gathered_read, ends_unit_last, IsOther}
+use Rattle.bsc_frame.proofs.Gathering.{IsRun}
 use Rattle.bsc_frame.specs.declared.limits.TheConstants.{MAX_UNIT_CODES}
 use Rattle.bsc_frame.specs.declared.octets.TheConstants.{EM_CODE, STX, SYN}
 use Rattle.bsc_frame.proofs.UnitCodes.{unit_of_reads, ending_cases, ending_no_char, unit_of_read}

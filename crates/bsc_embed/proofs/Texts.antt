@@ -15,7 +15,7 @@ use Rattle.bsc_frame.specs.declared.text.Unit.{Unit as Lent}
 use Rattle.bsc_embed.specs.Contents.{unit_in, units_in, before_unit, end_at, text_in}
 use Rattle.bsc_embed.specs.declared.content.Content.{Content}
 use Rattle.bsc_embed.specs.declared.content.StoredUnit.{StoredUnit}
-use Rattle.bsc_embed.proofs.UnitLemmas.{unit_is}
+use Rattle.bsc_embed.proofs.Units.{unit_is}
 use Rattle.bsc_frame.specs.declared.limits.TheConstants.{MAX_UNITS}
 
 push_step : (o : Option TextUnit) (r q : Option (List TextUnit)) (us : List TextUnit) (u : TextUnit)

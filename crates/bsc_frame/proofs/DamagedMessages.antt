@@ -14,17 +14,17 @@ use Rattle.bsc_frame.specs.TurnedBits.{IsCallFill, IsFillIn}
 use Rattle.bsc_frame.specs.declared.message.Message.{Message}
 use Rattle.bsc_frame.specs.declared.message.Message.TheVariants.{Eot, Call, Enq, Reply, Text}
 use Rattle.bsc_frame.specs.declared.message.Heard.TheVariants.{Whole, Failed, Noise}
-use Rattle.bsc_frame.proofs.ReadLemmas.{test_false}
-use Rattle.bsc_frame.proofs.OddLemmas.{syn_odd}
-use Rattle.bsc_frame.proofs.HeardLemmas.{heard_spelled, heard_failed, length_wire, one_message}
+use Rattle.bsc_frame.proofs.ReadingSteps.{test_false}
+use Rattle.bsc_frame.proofs.OddTexts.{syn_odd}
+use Rattle.bsc_frame.proofs.HeardMessages.{heard_spelled, heard_failed, length_wire, one_message}
 use Rattle.bsc_frame.proofs.TextUnits.{wire_units}
-use Rattle.bsc_frame.proofs.BodyOddLemmas.{eot_odd, enq_odd, nak_odd, dle_odd, stx_odd}
-use Rattle.bsc_frame.proofs.ReplyLemmas.{IsPair, reply_form}
+use Rattle.bsc_frame.proofs.BodyParity.{eot_odd, enq_odd, nak_odd, dle_odd, stx_odd}
+use Rattle.bsc_frame.proofs.Replies.{IsPair, reply_form}
 use Rattle.bsc_frame.specs.Replies.{reply_octets}
 use Rattle.bsc_frame.specs.declared.reply.Reply.{Reply as ReplyValue}
-use Rattle.bsc_frame.proofs.PlaceLemmas.{around}
-use Rattle.bsc_frame.proofs.InsideLemmas.{Inside, inside, failed_inside, after_first, first_is_odd}
-use Rattle.bsc_frame.proofs.InsideLemmas.{starts_wrong, pad_or_not}
+use Rattle.bsc_frame.proofs.Places.{around}
+use Rattle.bsc_frame.proofs.Insides.{Inside, inside, failed_inside, after_first, first_is_odd}
+use Rattle.bsc_frame.proofs.Insides.{starts_wrong, pad_or_not}
 use Rattle.bsc_frame.proofs.DamagedText.{heads, not_both_odd, not_same, lost_text}
 use Rattle.bsc_frame.proofs.DamagedCall.{call_tail, spared_call}
 use Rattle.bsc_frame.specs.declared.limits.TheConstants.{MAX_HEARD}

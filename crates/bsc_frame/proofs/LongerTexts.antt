@@ -7,10 +7,10 @@ use Rattle.bsc_frame.specs.Texts.{TextUnit, TextValue, IsText}
 use Rattle.bsc_frame.specs.Units.{unit_codes}
 use Rattle.bsc_frame.specs.Spells.{AreUnits}
 use Rattle.bsc_frame.specs.Reading.{unit_at, units_at, last_unit}
-use Rattle.bsc_frame.proofs.ReadLemmas.{chosen}
-use Rattle.bsc_frame.proofs.UnitLemmas.{UnitAt, unit_at_reads, unit_at_read}
+use Rattle.bsc_frame.proofs.ReadingSteps.{chosen}
+use Rattle.bsc_frame.proofs.Units.{UnitAt, unit_at_reads, unit_at_read}
 use Rattle.bsc_frame.proofs.TextUnits.{units_at_read}
-use Rattle.bsc_frame.proofs.UnitLemmas.{bind_some}
+use Rattle.bsc_frame.proofs.Units.{bind_some}
 use Rattle.bsc_frame.proofs.TextUnits.{before_units_some}
 use Rattle.bsc_frame.specs.declared.limits.TheConstants.{MAX_UNITS}
 use Rattle.bsc_frame.specs.declared.octets.TheConstants.{US_CODE}

@@ -17,10 +17,10 @@ use Rattle.bsc_frame.specs.declared.message.Message.{Message}
 use Rattle.bsc_frame.specs.declared.message.Message.TheVariants.{Eot, Call, Enq, Reply, Text}
 use Rattle.bsc_frame.specs.declared.message.Heard.{Heard}
 use Rattle.bsc_frame.specs.declared.message.Heard.TheVariants.{Whole, Failed, Noise}
-use Rattle.bsc_frame.proofs.FrontLemmas.{bodies, heard_carried, Ends, trimmed_body, trimmed_begins}
-use Rattle.bsc_frame.proofs.ControlLemmas.{control_reads, control_read, IsControl}
-use Rattle.bsc_frame.proofs.ReadLemmas.{chosen}
-use Rattle.bsc_frame.proofs.ReplyLemmas.{reply_form}
+use Rattle.bsc_frame.proofs.Fronts.{bodies, heard_carried, Ends, trimmed_body, trimmed_begins}
+use Rattle.bsc_frame.proofs.ControlSequences.{control_reads, control_read, IsControl}
+use Rattle.bsc_frame.proofs.ReadingSteps.{chosen}
+use Rattle.bsc_frame.proofs.Replies.{reply_form}
 use Rattle.bsc_frame.proofs.TextUnits.{units_at_reads, units_at_read, units_end, wire_units}
 use Rattle.bsc_frame.proofs.TextUnits.{length_units_wire}
 use Rattle.bsc_frame.specs.declared.limits.TheConstants.{MAX_UNITS, MAX_SENT}

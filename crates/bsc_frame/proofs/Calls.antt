@@ -16,10 +16,10 @@ use Rattle.bsc_frame.specs.declared.address.AddressError.{AddressError}
 use Rattle.bsc_frame.specs.declared.limits.TheConstants.{MAX_ADDRESS}
 use Rattle.bsc_frame.specs.declared.message.Message.TheVariants.{Call}
 use Rattle.bsc_frame.specs.declared.octets.TheConstants.{ENQ}
-use Rattle.bsc_frame.proofs.ControlLemmas.{address_read, address_reads}
-use Rattle.bsc_frame.proofs.ReadLemmas.{Reads, with_codes, called_end, called_early, called_full}
-use Rattle.bsc_frame.proofs.ReadLemmas.{called_wrong}
-use Rattle.bsc_frame.proofs.ReadLemmas.{called_more, called_none}
+use Rattle.bsc_frame.proofs.ControlSequences.{address_read, address_reads}
+use Rattle.bsc_frame.proofs.ReadingSteps.{Reads, with_codes, called_end, called_early, called_full}
+use Rattle.bsc_frame.proofs.ReadingSteps.{called_wrong}
+use Rattle.bsc_frame.proofs.ReadingSteps.{called_more, called_none}
 use Rattle.bsc_octet.proofs.Elements.{all_append}
 
 -- The loop invariant: the codes before the place stand at the front of the buffer, all of them may

@@ -10,7 +10,7 @@ use Rattle.std.specs.List.{prefix_len}
 use Rattle.std.proofs.lemmas.List.{drop_all}
 use Rattle.std.proofs.lemmas.Bool.{eqb-true}
 use Rattle.bsc_frame.specs.Reading.{skip, is_either, is_octet, is_pad_octet, trimmed}
-use Rattle.bsc_frame.proofs.ReadLemmas.{rest_is, trimmed_push_pad}
+use Rattle.bsc_frame.proofs.ReadingSteps.{rest_is, trimmed_push_pad}
 use Rattle.bsc_frame.specs.declared.front.TheConstants.{LANES}
 use Rattle.bsc_frame.specs.declared.octets.TheConstants.{PAD}
 

@@ -3,16 +3,16 @@ use Rattle.std.proofs.Common.{◌∙◌, inl, inr, ℕ, false, refl, arith, List
 use Rattle.std.specs.List.{AllByRecursion}
 use Rattle.std.specs.Int.Count.{ones}
 use Rattle.bsc_octet.specs.Octet.{IsOdd, odd_octet}
-use Rattle.bsc_octet.proofs.ParityLemmas.{is_odd_odd_octet}
+use Rattle.bsc_octet.proofs.Parity.{is_odd_odd_octet}
 use Rattle.bsc_frame.specs.Addresses.{is_address_code}
 use Rattle.bsc_frame.specs.Spells.{AreAll, IsBody, IsCall}
 use Rattle.bsc_frame.specs.TurnedBits.{IsBodyOctet}
 use Rattle.bsc_frame.specs.declared.message.Message.{Message}
 use Rattle.bsc_frame.specs.declared.message.Message.TheVariants.{Eot, Call, Enq, Reply, Text}
 use Rattle.bsc_frame.specs.declared.octets.TheConstants.{DLE, ENQ, EOT, NAK, PAD, STX, SYN}
-use Rattle.bsc_frame.proofs.ControlLemmas.{plain}
-use Rattle.bsc_frame.proofs.OddLemmas.{units_odd, fill_odd}
-use Rattle.bsc_frame.proofs.ReplyLemmas.{reply_form}
+use Rattle.bsc_frame.proofs.ControlSequences.{plain}
+use Rattle.bsc_frame.proofs.OddTexts.{units_odd, fill_odd}
+use Rattle.bsc_frame.proofs.Replies.{reply_form}
 use Rattle.bsc_octet.proofs.Elements.{all_append}
 
 pub eot_odd : IsOdd EOT

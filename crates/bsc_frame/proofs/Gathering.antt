@@ -5,12 +5,12 @@ use Rattle.std.proofs.Common.{ap, ◌∙◌, arith, List, [], ◌∷◌, ◌++�
 use Rattle.std.proofs.Common.{append_assoc}
 use Rattle.std.proofs.lemmas.Bool.{eqb-true}
 use Rattle.bsc_octet.specs.Octet.{odd_octet, code_of}
-use Rattle.bsc_octet.proofs.ParityLemmas.{odd_cases, code_of_some, code_of_odd_octet}
+use Rattle.bsc_octet.proofs.Parity.{odd_cases, code_of_some, code_of_odd_octet}
 use Rattle.bsc_frame.specs.Spells.{AreAll, AreFilled}
 use Rattle.bsc_frame.specs.Reading.{is_ending_code, before_gathered, gather_code, gathered}
 use Rattle.bsc_frame.specs.declared.octets.TheConstants.{SYN}
-use Rattle.bsc_frame.proofs.ReadLemmas.{test_false, has_room}
-use Rattle.bsc_frame.proofs.ReadLemmas.{chosen}
+use Rattle.bsc_frame.proofs.ReadingSteps.{test_false, has_room}
+use Rattle.bsc_frame.proofs.ReadingSteps.{chosen}
 
 -- the last of the codes is an ending character
 abbrev pub EndsUnit : List ℕ → Type 0

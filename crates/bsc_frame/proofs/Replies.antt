@@ -8,7 +8,7 @@ use Rattle.std.specs.Str.{bytes_eq}
 use Rattle.std.proofs.lemmas.Slice.Eq.{bytes_eq-Decides}
 use mathlib.Core.Bool.{true≢false}
 use Rattle.bsc_octet.specs.Octet.{IsOdd, odd_octet}
-use Rattle.bsc_octet.proofs.ParityLemmas.{is_odd_odd_octet}
+use Rattle.bsc_octet.proofs.Parity.{is_odd_odd_octet}
 use Rattle.bsc_frame.specs.Reading.{control}
 use Rattle.bsc_frame.specs.Replies.{reply_octets, reply_spelled}
 use Rattle.bsc_frame.specs.declared.octets.TheConstants.{ACK0, ACK1, DLE, NAK, PAD, RVI, WACK}
@@ -16,7 +16,7 @@ use Rattle.bsc_frame.specs.declared.message.Message.TheVariants as m
 use Rattle.bsc_frame.specs.declared.reply.Reply.{Reply}
 use Rattle.bsc_frame.specs.declared.reply.Reply.TheVariants.{Ack0, Ack1, Nak, Wack, Rvi}
 use Rattle.bsc_frame.specs.contracts.reply.ReplyPartialEq.TheImpl.{eq-value}
-use Rattle.bsc_frame.proofs.ReadLemmas.{chosen, equal}
+use Rattle.bsc_frame.proofs.ReadingSteps.{chosen, equal}
 
 -- ---- the form of their octets
 

@@ -10,7 +10,7 @@ use Rattle.bsc_frame.specs.Reading.{low_bits, is_other, is_before_ending, is_end
 use Rattle.bsc_frame.specs.Reading.{before_gathered}
 use Rattle.bsc_frame.specs.Reading.{gathered}
 use Rattle.bsc_frame.specs.declared.octets.TheConstants.{SYN}
-use Rattle.bsc_frame.proofs.CarriedLemmas.{AreCarried, ending_same}
+use Rattle.bsc_frame.proofs.CarriedOctets.{AreCarried, ending_same}
 
 -- gathering depends on three tests: fill, room, an ending octet
 gather_step : (room x : ℕ) (s : List ℕ) → code_of x ≡ Some (low_bits x)

@@ -15,8 +15,8 @@ use Rattle.bsc_input.specs.Parts.{parts_at}
 use Rattle.bsc_naming.specs.Lines.{AreShown, PrintsInput, PrintsLines, StopsAt, digits, given}
 use Rattle.bsc_naming.specs.Lines.{is_traced, is_wrong, last_part, transmission}
 use Rattle.bsc_input.specs.Hexadecimal.{octets_of}
-use Rattle.bsc_naming.proofs.ListLemmas.{NonePasses, NonePasses-more, position-append}
-use Rattle.bsc_naming.proofs.ListLemmas.{position_none}
+use Rattle.bsc_naming.proofs.Lists.{NonePasses, NonePasses-more, position-append}
+use Rattle.bsc_naming.proofs.Lists.{position_none}
 
 are_shown_append : (show : Heard → List ℕ) (xs ys : List (List ℕ)) (t u : List ℕ)
     → AreShown show xs t → AreShown show ys u → AreShown show (xs ++ ys) (t ++ u)

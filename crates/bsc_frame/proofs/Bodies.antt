@@ -8,7 +8,7 @@ use Rattle.bsc_frame.specs.Reading.{heard_body}
 use Rattle.bsc_frame.specs.declared.message.Heard.TheVariants.{Noise}
 use Rattle.bsc_frame.specs.declared.limits.TheConstants.{MAX_HEARD}
 use Rattle.bsc_frame.specs.declared.octets.TheConstants.{SYN}
-use Rattle.bsc_frame.proofs.FrontLemmas.{skip_none, within}
+use Rattle.bsc_frame.proofs.Fronts.{skip_none, within}
 
 -- the empty body is noise
 empty_is_noise : heard_body [] ≡ Noise

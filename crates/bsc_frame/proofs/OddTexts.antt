@@ -5,17 +5,17 @@ use Rattle.std.proofs.Common.{None, All}
 use Rattle.std.specs.List.{AllByRecursion}
 use Rattle.std.proofs.lemmas.List.Elements.{All-from_recursion}
 use Rattle.bsc_octet.specs.Octet.{odd_octet, longitudinal_sum, IsOdd}
-use Rattle.bsc_octet.proofs.ParityLemmas.{is_odd_odd_octet}
-use Rattle.bsc_octet.proofs.SumLemmas.{longitudinal_sum_lt}
+use Rattle.bsc_octet.proofs.Parity.{is_odd_odd_octet}
+use Rattle.bsc_octet.proofs.Sums.{longitudinal_sum_lt}
 use Rattle.bsc_frame.specs.Texts.{TextUnit, TextValue, IsUnit}
 use Rattle.bsc_frame.specs.Units.{unit_codes, ending}
 use Rattle.bsc_frame.specs.Spells.{AreAll, AreFilled, AreUnits}
 use Rattle.bsc_frame.specs.Reading.{units_at, whole_or_failed}
 use Rattle.bsc_frame.specs.declared.text.End.{End}
 use Rattle.bsc_frame.specs.declared.message.Heard.TheVariants.{Failed}
-use Rattle.bsc_frame.proofs.UnitLemmas.{run_unit, run_start}
+use Rattle.bsc_frame.proofs.Units.{run_unit, run_start}
 use Rattle.bsc_frame.proofs.TextUnits.{units_at_reads, ending_is}
-use Rattle.bsc_frame.proofs.GatherLemmas.{IsRun}
+use Rattle.bsc_frame.proofs.Gathering.{IsRun}
 use Rattle.std.specs.Int.Count.{ones}
 use Rattle.bsc_frame.specs.declared.limits.TheConstants.{MAX_UNITS}
 use Rattle.bsc_frame.specs.declared.octets.TheConstants.{SYN}

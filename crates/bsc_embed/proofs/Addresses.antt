@@ -4,7 +4,7 @@ use Rattle.std.proofs.Common.{nat_le}
 use Rattle.std.proofs.Math.Seq.{take-append_seam}
 use Rattle.std.proofs.lemmas.Bool.Decides.{nat_tests}
 use Rattle.bsc_frame.specs.Addresses.{IsAddress}
-use Rattle.bsc_frame.proofs.ControlLemmas.{address_read}
+use Rattle.bsc_frame.proofs.ControlSequences.{address_read}
 use Rattle.bsc_embed.specs.Contents.{address_in}
 use Rattle.bsc_embed.specs.declared.content.Content.{Content}
 use Rattle.bsc_frame.specs.declared.limits.TheConstants.{MAX_ADDRESS}

@@ -18,7 +18,7 @@ use Rattle.bsc_bid.specs.Ready.{AreWaiting, CountsOn, IsReady}
 use Rattle.bsc_bid.specs.Channel.{channel, IsSound}
 use Rattle.bsc_bid.specs.Agreement.{Flight, Still, Outward, Back, IsFlightBefore, Agree, InBid}
 use Rattle.bsc_bid.specs.Agreement.{IsResting, Continues}
-use Rattle.bsc_bid.proofs.ReadyLemmas.{within_offered}
+use Rattle.bsc_bid.proofs.Readiness.{within_offered}
 use Rattle.bsc_bid.proofs.Hearing.{fits}
 
 -- a queue with one more offered record is a queue

@@ -17,10 +17,10 @@ use Rattle.bsc_frame.specs.Reading.{◌>>=◌, low_bits, is_octet, begins, is_ot
 use Rattle.bsc_frame.specs.Reading.{is_before_ending, is_ending_code, is_ending_octet, IsFront}
 use Rattle.bsc_frame.specs.Reading.{AreParts}
 use Rattle.bsc_frame.specs.Reading.{after_check, after_start, read_unit, unit_before, unit_at}
-use Rattle.bsc_frame.proofs.UnitLemmas.{length_unit_codes}
+use Rattle.bsc_frame.proofs.Units.{length_unit_codes}
 use Rattle.bsc_frame.proofs.UnitCodes.{unit_of_reads, unit_of_read}
-use Rattle.bsc_frame.proofs.CarriedLemmas.{AreCarried, ending_same, em_is, check_low, start_low}
-use Rattle.bsc_frame.proofs.CutLemmas.{gathered_none, cut}
+use Rattle.bsc_frame.proofs.CarriedOctets.{AreCarried, ending_same, em_is, check_low, start_low}
+use Rattle.bsc_frame.proofs.Cutting.{gathered_none, cut}
 use Rattle.bsc_frame.specs.declared.limits.TheConstants.{MAX_CHARS, MAX_UNIT_CODES}
 use Rattle.bsc_frame.specs.declared.octets.TheConstants.{EM_CODE, STX, SYN}
 

@@ -11,10 +11,10 @@ use Rattle.bsc_frame.specs.declared.message.Message.{Message}
 use Rattle.bsc_frame.specs.declared.message.Message.TheVariants.{Eot, Call, Enq, Reply, Text}
 use Rattle.bsc_frame.specs.declared.message.Heard.{Heard}
 use Rattle.bsc_frame.specs.declared.message.Heard.TheVariants.{Noise}
-use Rattle.bsc_frame.proofs.FrontLemmas.{heard_carried, trail_of}
-use Rattle.bsc_frame.proofs.HeardLemmas.{body_reads, heard_spelled, heard_failed, failed_begins}
-use Rattle.bsc_frame.proofs.ReplyLemmas.{reply_form}
-use Rattle.bsc_frame.proofs.BodyOddLemmas.{eot_odd, enq_odd, nak_odd, dle_odd, stx_odd}
+use Rattle.bsc_frame.proofs.Fronts.{heard_carried, trail_of}
+use Rattle.bsc_frame.proofs.HeardMessages.{body_reads, heard_spelled, heard_failed, failed_begins}
+use Rattle.bsc_frame.proofs.Replies.{reply_form}
+use Rattle.bsc_frame.proofs.BodyParity.{eot_odd, enq_odd, nak_odd, dle_odd, stx_odd}
 use Rattle.bsc_frame.specs.declared.limits.TheConstants.{MAX_HEARD}
 use Rattle.bsc_frame.specs.declared.octets.TheConstants.{DLE, ENQ, EOT, NAK, PAD, STX, SYN}
 
