@@ -3,7 +3,7 @@ mod Gathered
 mod Kept
 mod Places
 mod Sending
-mod PlaceLemmas
+mod OnePlace
 mod Sessions
 mod Silences
 mod Streams

@@ -1,5 +1,5 @@
-mod UnitLemmas
-mod AddressLemmas
-mod TextLemmas
-mod KeptLemmas
-mod HeardLemmas
+mod Units
+mod Addresses
+mod Texts
+mod KeptContents
+mod HeardKinds

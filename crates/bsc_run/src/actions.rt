@@ -23,7 +23,7 @@ use crate::error::StepError;
 use bsc_carrier::{Cable, Octets};
 use bsc_frame::laws::one_reading;
 use bsc_line::{Line, LineError, Speaker};
-use bsc_script::{Action, Transmission};
+use bsc_script::{Action, HeardOctets};
 use std::alloc::Allocator;
 use std::io::{Read, Write};
 
@@ -91,7 +91,7 @@ fn carry_pending<S: Read + Write + Drop, A: Allocator, B: Allocator>(
 /// there are heard.
 fn carry_given<S: Read + Write + Drop, A: Allocator, B: Allocator, C: Allocator>(
     line: &mut Line<B>,
-    octets: &Transmission<C>,
+    octets: &HeardOctets<C>,
     cable: &mut Cable<S, A>,
 ) -> Result<(), StepError>
     requires { Fits line.old cable.old }
@@ -166,7 +166,7 @@ fn carry_items<
 >(
     alloc: E,
     line: &mut Line<B>,
-    items: &[Option<Transmission<C>>],
+    items: &[Option<HeardOctets<C>>],
     cable: &mut Cable<S, A>,
 ) -> Result<(), StepError>
     requires { Fits line.old cable.old }

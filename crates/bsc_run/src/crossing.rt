@@ -11,7 +11,7 @@ ghost use Rattle.bsc_run.specs.Crossing.{ItemsCross};
 use crate::error::StepError;
 use bsc_carrier::{Cable, CarrierError, Octets};
 use bsc_line::Speaker;
-use bsc_script::Transmission;
+use bsc_script::HeardOctets;
 use std::alloc::{AllocError, Allocator};
 use std::io::{Read, Write};
 
@@ -41,7 +41,7 @@ pub(crate) fn cross<S: Read + Write + Drop, A: Allocator>(
 pub(crate) fn cross_each<S: Read + Write + Drop, A: Allocator, B: Allocator, C: Allocator>(
     alloc: C,
     cable: &mut Cable<S, A>,
-    items: &[Option<Transmission<B>>],
+    items: &[Option<HeardOctets<B>>],
 ) -> Result<Vec<Option<Octets>, C>, StepError>
     requires { length items.now ≤ connection_count cable.old }
     ensures crossed { IfOk result (λ heard. ItemsCross S.contents S.remaining
@@ -61,7 +61,7 @@ pub(crate) fn cross_each<S: Read + Write + Drop, A: Allocator, B: Allocator, C: 
 fn cross_item<S: Read + Write + Drop, A: Allocator, B: Allocator>(
     cable: &mut Cable<S, A>,
     terminal: usize,
-    item: &Option<Transmission<B>>,
+    item: &Option<HeardOctets<B>>,
 ) -> Result<Option<Octets>, CarrierError>
     requires { terminal < connection_count cable.old }
     ensures crossed { IfOk result (λ word. ItemCrosses S.contents S.remaining terminal

@@ -1,6 +1,6 @@
 //! The events of a script.
 
-use crate::Transmission;
+use crate::HeardOctets;
 use bsc_directory::Way;
 use std::alloc::Allocator;
 
@@ -31,13 +31,13 @@ pub enum Action<'a, A: Allocator> {
 
     /// The pending transmission is heard as these octets by all its listeners.
     Heard {
-        octets: Transmission<A>,
+        octets: HeardOctets<A>,
     },
 
     /// Each terminal hears the item with its number in place of the pending transmission of the
     /// control station; `None` means that it hears nothing. There is at least one item.
     HeardEach {
-        items: Vec<Option<Transmission<A>>, A>,
+        items: Vec<Option<HeardOctets<A>>, A>,
     },
 
     /// A time-out passes in which nothing is heard.

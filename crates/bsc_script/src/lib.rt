@@ -25,13 +25,13 @@
 #![tactic(auto)]
 
 mod action;
+mod heard_octets;
 mod keyword;
 mod number;
 mod reading;
 mod script;
-mod transmission;
 mod words;
 
 pub use action::{Action, Step};
+pub use heard_octets::HeardOctets;
 pub use script::{Script, ScriptError, read_script};
-pub use transmission::Transmission;

@@ -9,11 +9,11 @@ ghost use Rattle.bsc_script.specs.Numbers.{terminal_of};
 ghost use Rattle.bsc_script.specs.Transmissions.{item_of, items_of, transmission_of};
 ghost use Rattle.bsc_script.specs.Words.{words_of};
 
+use crate::heard_octets::read_transmission;
 use crate::keyword::{Keyword, read_keyword};
 use crate::number::{select, terminal};
-use crate::transmission::read_transmission;
 use crate::words::split_word;
-use crate::{Action, Transmission};
+use crate::{Action, HeardOctets};
 use bsc_directory::Way;
 use std::alloc::{AllocError, Allocator};
 
@@ -168,7 +168,7 @@ fn heard_each<'a, A: Allocator + Copy>(
 fn read_items<A: Allocator + Copy>(
     alloc: A,
     text: &[u8],
-) -> Result<Option<Vec<Option<Transmission<A>>, A>>, AllocError>
+) -> Result<Option<Vec<Option<HeardOctets<A>>, A>>, AllocError>
     ensures { IfOk result (λ items.
         option_map (λ v. v.items) items ≡ items_of (words_of text.now)) }
 {
@@ -192,7 +192,7 @@ fn read_items<A: Allocator + Copy>(
 fn read_item<A: Allocator + Copy>(
     alloc: A,
     word: &[u8],
-) -> Result<Option<Option<Transmission<A>>>, AllocError>
+) -> Result<Option<Option<HeardOctets<A>>>, AllocError>
     ensures { IfOk result (λ item. item ≡ item_of word.now) }
 {
     if word == b"-".as_slice() {

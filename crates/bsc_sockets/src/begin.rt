@@ -5,7 +5,7 @@ ghost use Rattle.std.specs.Prelude.{◌≡◌, ◌<◌, ◌^◌, ◌+◌, [], fa
 use crate::directions::{Reading, Writing};
 use crate::listening::addresses;
 use crate::writable::Writable;
-use crate::{Listening, Settings, Sockets, SocketsError};
+use crate::{ConnectionSettings, Listening, Sockets, SocketsError};
 use mio::net::TcpStream;
 use std::alloc::Allocator;
 use std::io;
@@ -46,7 +46,7 @@ pub fn connect<'a, N: Net + Clock, A: Allocator + Copy>(
     alloc: A,
     address: &str,
     patience: Duration,
-    settings: Settings,
+    settings: ConnectionSettings,
 ) -> Result<Begun<'a, N, A>, SocketsError>
     ensures { IfOk result (λ begun. length begun.connections.items ≡ 1) }
 {
@@ -97,7 +97,7 @@ pub fn listen<'a, N: Net + Clock, A: Allocator + Copy>(
     alloc: A,
     listening: Listening,
     peers: Peers,
-    settings: Settings,
+    settings: ConnectionSettings,
 ) -> Result<Begun<'a, N, A>, SocketsError>
     requires { peers.count < 2 ^ 16 }
     ensures count { IfOk result (λ begun. length begun.connections.items ≡ peers.count) }
@@ -115,7 +115,7 @@ impl<'a, N: Net + Clock, A: Allocator + Copy> Begun<'a, N, A> {
         runtime: &'a N,
         alloc: A,
         places: usize,
-        settings: Settings,
+        settings: ConnectionSettings,
     ) -> Result<Begun<'a, N, A>, SocketsError>
         requires { places < 2 ^ 16 }
         ensures { IfOk result (λ begun. begun.connections.items ≡ []) }

@@ -25,4 +25,4 @@ pub use begin::{Begun, Peers, connect, listen};
 pub use directions::{Reading, Writing};
 pub use error::SocketsError;
 pub use listening::Listening;
-pub use sockets::{Settings, Sockets};
+pub use sockets::{ConnectionSettings, Sockets};

@@ -22,7 +22,7 @@ const MAX_ANSWERS_UNASKED: usize = 16;
 
 /// How long a station waits.
 #[derive(Clone, Copy, Debug, PartialEq, Eq)]
-pub struct Settings {
+pub struct ConnectionSettings {
     /// The time-out (GA27-3004, time-outs): a station is told of a silence when nothing arrives for
     /// this time. A write also waits no longer.
     pub time_out: Duration,
@@ -50,7 +50,7 @@ pub struct Sockets<'a, N: Net + Clock, A: Allocator> {
     listener: Option<TcpListener>,
     /// A peer that has connected and has no place yet.
     newcomer: Option<TcpStream>,
-    settings: Settings,
+    settings: ConnectionSettings,
     /// The number of places served since the system was last asked.
     unasked: usize,
 }
@@ -71,7 +71,7 @@ impl<'a, N: Net + Clock, A: Allocator + Copy> Sockets<'a, N, A> {
         runtime: &'a N,
         alloc: A,
         places: usize,
-        settings: Settings,
+        settings: ConnectionSettings,
     ) -> Result<Sockets<'a, N, A>, SocketsError>
         requires { places < 2 ^ 16 }
     {

@@ -9,7 +9,7 @@ use bsc_loopback::{LoopbackError, connect};
 use bsc_monitor::Timer;
 use bsc_running::Cables;
 use bsc_sockets::{
-    Begun, Listening, Peers, Reading, Settings, Sockets, SocketsError, Writing,
+    Begun, ConnectionSettings, Listening, Peers, Reading, Sockets, SocketsError, Writing,
     connect as connect_to, listen,
 };
 use std::alloc::Global;
@@ -92,7 +92,7 @@ fn begin<'a, R: AllocGlobal + Clock + Net>(
     runtime: &'a R,
     wanted: &Wanted<'_>,
 ) -> Result<Begun<'a, R, Global>, SocketsError> {
-    let settings = Settings {
+    let settings = ConnectionSettings {
         time_out: Duration::from_millis(wanted.time_out),
         gap: Duration::from_millis(wanted.gap),
         begins: wanted.begins,

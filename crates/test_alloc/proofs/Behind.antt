@@ -19,7 +19,7 @@ use denote.Triple.Walked.{Goes, stay_dropped, Goes-dropped}
 use denote.Param.{bounded, param}
 use Rattle.std.proofs.alloc.Calls.{Al, α, seen}
 use Rattle.std.specs.contracts.cell.Cell as cell
-use Rattle.test_alloc.specs.contracts.tally.Tally as tally
+use Rattle.test_alloc.specs.contracts.requests.Requests as tally
 use Rattle.test_alloc.specs.contracts.refusing.Refusing as refusing
 
 -- the type of the cell

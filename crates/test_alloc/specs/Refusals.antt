@@ -1,7 +1,7 @@
 -- Which requests for memory are refused, and how they are counted.
 use Rattle.std.specs.Prelude.{ℕ, ◌≡◌, ◌+◌, ◌-◌, ◌^◌, ◌<◌, ◌≤◌, min, Bool, if◌then◌else◌}
-use Rattle.test_alloc.specs.declared.tally.Rule.{Rule}
-use Rattle.test_alloc.specs.declared.tally.Rule.TheVariants.{Nothing, Nth, From, LargerThan}
+use Rattle.test_alloc.specs.declared.requests.Rule.{Rule}
+use Rattle.test_alloc.specs.declared.requests.Rule.TheVariants.{Nothing, Nth, From, LargerThan}
 
 -- whether a rule refuses a request, by its number, counted from 1, and its size in octets
 abbrev pub RefusesRequest : Rule → ℕ → ℕ → Type 0

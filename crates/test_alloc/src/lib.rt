@@ -6,7 +6,7 @@
 
 mod in_turn;
 mod refusing;
-mod tally;
+mod requests;
 #[cfg(test)]
 mod tests;
 mod turns;

@@ -3,7 +3,7 @@ ghost use Rattle.std.specs.Prelude.{◌≡◌};
 ghost use Rattle.test_alloc.specs.Turns.{new_turns};
 
 use crate::in_turn::InTurn;
-use crate::tally::{Rule, Tally};
+use crate::requests::{Requests, Rule};
 use std::alloc::{AllocError, Allocator, Global};
 use std::cell::Cell;
 use std::ops::Range;
@@ -33,7 +33,7 @@ pub enum Refusal {
 #[derive(Drop)]
 pub struct Refusing<B: Allocator = Global> {
     inner: B,
-    tally: Cell<Tally>,
+    tally: Cell<Requests>,
 }
 
 impl<B: Allocator> Refusing<B> {
@@ -41,7 +41,7 @@ impl<B: Allocator> Refusing<B> {
     pub fn new(inner: B) -> Refusing<B> {
         Refusing {
             inner,
-            tally: Cell::new(Tally::new()),
+            tally: Cell::new(Requests::new()),
         }
     }
 
@@ -121,7 +121,7 @@ impl<B: Allocator> Refusing<B> {
 }
 
 // Takes only the cell, so that it is the same function for every allocator.
-fn refuses(tally: &Cell<Tally>, size: usize) -> bool {
+fn refuses(tally: &Cell<Requests>, size: usize) -> bool {
     let mut now = tally.get();
     let refused = now.ask(size);
     tally.set(now);

@@ -65,7 +65,7 @@ impl<A: Allocator + Copy> Ends<A> {
 
 impl<A: Allocator> Ends<A> {
     /// Offers an empty record, and returns whether it was accepted.
-    #[tactic(auto, using(bsc_bid::proofs::OfferLemmas::counts_offered))]
+    #[tactic(auto, using(bsc_bid::proofs::Offers::counts_offered))]
     pub(crate) fn offer(&mut self) -> bool {
         let Ok(record) = Record::read(&[], 1) else {
             return false;

@@ -6,7 +6,7 @@ use Rattle.bsc_line_model.specs.Line.{LineValue, IsChannel, channel_of}
 use Rattle.test_hostile.specs.declared.broken.Broken.{Broken}
 use Rattle.test_hostile.specs.declared.broken.Broken.TheVariants as broken
 use Rattle.test_hostile.specs.declared.channel.Channel.{Channel}
-use Rattle.test_hostile.specs.declared.watch.Watch.{Watch}
+use Rattle.test_hostile.specs.declared.watch.LineWatch.{LineWatch}
 use Rattle.test_fixtures.specs.Records.{Begins}
 
 -- the digest with one more number added
@@ -60,9 +60,9 @@ pub record TellsOf (l : LineValue) (trusted : Bool) (cs : List Channel) (why : B
   pub told : IsTold l trusted why channel
 
 -- the channels that are watched
-abbrev pub channels_of : Watch → List Channel
+abbrev pub channels_of : LineWatch → List Channel
 channels_of w = w.channels.items
 
 -- whether every transmission so far was heard fairly
-abbrev pub is_trusting : Watch → Bool
+abbrev pub is_trusting : LineWatch → Bool
 is_trusting w = w.trusted

@@ -8,7 +8,7 @@ use Rattle.bsc_directory.specs.declared.way.Way.TheVariants.{FromTerminal, ToTer
 use Rattle.bsc_control.specs.Peer.{no_peer}
 use Rattle.test_hostile.specs.declared.channel.Channel.{Channel}
 use Rattle.test_hostile.specs.declared.tally.Tally.{Tally}
-use Rattle.test_hostile.specs.declared.watch.Watch.{Watch}
+use Rattle.test_hostile.specs.declared.watch.LineWatch.{LineWatch}
 
 -- a channel on which nothing has happened yet; both digests are that of an empty list
 abbrev pub new_channel : ℕ → Way → List ℕ → Channel
@@ -62,7 +62,7 @@ no_tally =
 
 -- nothing is pending, no channel is addressed, every transmission was heard fairly and alike by all
 -- terminals, and nothing has been counted
-pub record IsNewWatch (settings : SetupValue) (given : List TerminalValue) (w : Watch)
+pub record IsNewWatch (settings : SetupValue) (given : List TerminalValue) (w : LineWatch)
     : Type 0 where
   pub setup : w.setup ≡ settings
   pub terminals : w.terminals ≡ length given

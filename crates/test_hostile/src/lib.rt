@@ -1,7 +1,7 @@
 //! Checks what has to hold of a line after each event, whatever is heard, with the public functions
 //! of the line only.
 //!
-//! A [`Watch`] plays events on a line and compares after each one what the line shows with what the
+//! A [`LineWatch`] plays events on a line and compares after each one what the line shows with what the
 //! event may do: whether the event is refused, what is pending, whether the line is trusted, and
 //! what is offered, known, spooled and in doubt on each channel. The tests replace each
 //! transmission of some exchanges with anything near it; `test_soak` plays random events.
@@ -24,7 +24,7 @@ mod watch;
 
 pub use broken::Broken;
 pub use tally::Tally;
-pub use watch::Watch;
+pub use watch::LineWatch;
 
 #[cfg(test)]
 mod tests;

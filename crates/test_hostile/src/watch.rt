@@ -34,7 +34,7 @@ type Hearings = ArrayVec<Hearing, MAX_TERMINALS>;
 
 /// The state of a watch, which follows a line from its beginning.
 #[derive(Drop)]
-pub struct Watch {
+pub struct LineWatch {
     setup: Setup,
     terminals: usize,
     channels: Vec<Channel>,
@@ -117,16 +117,16 @@ fn octets_heard<'a>(event: &Event<'a>, sent: &'a [u8], terminal: usize) -> &'a [
     }
 }
 
-impl Watch {
+impl LineWatch {
     /// Watches a new line with these settings and terminals.
-    pub fn new(alloc: Global, setup: Setup, terminals: &[Terminal]) -> Result<Watch, AllocError>
+    pub fn new(alloc: Global, setup: Setup, terminals: &[Terminal]) -> Result<LineWatch, AllocError>
         ensures { IfOk result (IsNewWatch setup terminals.now) }
     {
         let mut channels = Vec::new(alloc);
         for (number, terminal) in terminals.iter().enumerate() {
             add_channels(&mut channels, number, terminal)?;
         }
-        Ok(Watch {
+        Ok(LineWatch {
             setup,
             terminals: terminals.len(),
             channels,

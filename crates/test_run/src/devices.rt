@@ -1,7 +1,7 @@
 //! Each call of each stream and of the writer goes wrong in turn: it fails, is interrupted, or
 //! moves no octet. The same is tried with calls that move at most one octet each.
 
-use crate::watched::{NO_TROUBLE, Part, Plan, Seen, Trouble, Watch, When, watched_writer};
+use crate::watched::{NO_TROUBLE, Part, Plan, RunWatch, Seen, Trouble, When, watched_writer};
 use crate::worked::{Case, WORKED, Worked};
 use bsc_control::Way;
 use bsc_run::RunError;
@@ -74,7 +74,7 @@ fn is_right(
 
 /// Runs by this plan and checks the result. Returns the number of calls that went wrong.
 fn try_plan(alloc: Global, case: &Case<'_>, plan: Plan) -> Result<usize, Fail> {
-    let watch = Watch::new(plan);
+    let watch = RunWatch::new(plan);
     let mut out = watched_writer(alloc, &watch);
     let answer = case.run(alloc, alloc, &watch, &mut out)?;
     let seen = watch.seen();
@@ -176,7 +176,7 @@ fn an_interrupted_write_of_the_text_is_made_again(rt: HostRuntime) -> Result<(),
 /// that arrived are in order.
 fn try_records(alloc: Global, case: &Case<'_>, part: Part) -> Result<(), Fail> {
     for call in 1..5000usize {
-        let watch = Watch::new(Plan {
+        let watch = RunWatch::new(Plan {
             part,
             when: When::At { call },
             ..NO_TROUBLE
@@ -229,7 +229,7 @@ trusted
 #[test]
 fn what_is_read_is_heard(rt: HostRuntime) -> Result<(), Fail> {
     let case = Case::read(rt.alloc(), &UNHEARD)?;
-    let watch = Watch::new(NO_TROUBLE);
+    let watch = RunWatch::new(NO_TROUBLE);
     let mut out = watched_writer(rt.alloc(), &watch);
     let answer = case.run_after(rt.alloc(), NOISE, &watch, &mut out)?;
     assert!(rt; UNHEARD.is_whole(&out.inner, answer));

@@ -2,7 +2,7 @@
 //! after it.
 
 use crate::runs::POLLED;
-use crate::watched::{Connections, NO_TROUBLE, Watch};
+use crate::watched::{Connections, NO_TROUBLE, RunWatch};
 use bsc_config::{Config, read_config};
 use bsc_line::Line;
 use bsc_run::run_on;
@@ -55,7 +55,7 @@ fn run_without(
     out: &mut Vec<u8>,
 ) -> Result<(), Fail> {
     let connections = Connections::new(alloc);
-    let watch = Watch::new(NO_TROUBLE);
+    let watch = RunWatch::new(NO_TROUBLE);
     let mut cable = connections.cable(alloc, &watch)?;
     if config.terminals() != 2 {
         return Err(Fail::new("not two terminals"));

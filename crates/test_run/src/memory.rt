@@ -2,7 +2,7 @@
 //! size.
 
 use crate::runs::REPORT;
-use crate::watched::{NO_TROUBLE, Watch, watched_writer};
+use crate::watched::{NO_TROUBLE, RunWatch, watched_writer};
 use crate::worked::{Case, WORKED, Worked};
 use bsc_line::LineError;
 use bsc_run::RunError;
@@ -72,7 +72,7 @@ fn try_refusal(
     case: &Case<'_>,
     refusal: Refusal,
 ) -> Result<Told, Fail> {
-    let watch = Watch::new(NO_TROUBLE);
+    let watch = RunWatch::new(NO_TROUBLE);
     let mut out = watched_writer(alloc, &watch);
     let answer = case.run(alloc, refusing, &watch, &mut out)?;
     let is_one = refusal == Refusal::Nth;
@@ -143,7 +143,7 @@ fn growths_of_a_run_above_each_size_are_refused(rt: HostRuntime) -> Result<(), F
 fn is_each_in_order(alloc: Global, worked: &Worked<'_>, refusal: Refusal) -> Result<bool, Fail> {
     let case = Case::read(alloc, worked)?;
     let refusing = Refusing::new(alloc);
-    let watch = Watch::new(NO_TROUBLE);
+    let watch = RunWatch::new(NO_TROUBLE);
     for number in refusing.in_turn(refusal, 1..59) {
         number?;
         if !case.is_in_order(alloc, &refusing, &watch)? {

@@ -77,14 +77,14 @@ pub(crate) struct Seen {
 
 /// Applies a plan to the calls of a run, and counts them.
 #[derive(Drop)]
-pub(crate) struct Watch {
+pub(crate) struct RunWatch {
     plan: Plan,
     seen: Cell<Seen>,
 }
 
-impl Watch {
-    pub(crate) fn new(plan: Plan) -> Watch {
-        Watch {
+impl RunWatch {
+    pub(crate) fn new(plan: Plan) -> RunWatch {
+        RunWatch {
             plan,
             seen: Cell::new(Seen {
                 calls: 0,
@@ -136,7 +136,7 @@ impl Watch {
 pub(crate) struct Watched<'a, S: Drop> {
     pub(crate) inner: S,
     pub(crate) part: Part,
-    pub(crate) watch: &'a Watch,
+    pub(crate) watch: &'a RunWatch,
 }
 
 impl<S: Read + Drop> Read for Watched<'_, S> {
@@ -177,7 +177,7 @@ impl Connection {
     }
 
     /// The end at the control station of the connection of this terminal.
-    fn control_end<'a>(&'a self, terminal: usize, watch: &'a Watch) -> Watched<'a, End<'a>> {
+    fn control_end<'a>(&'a self, terminal: usize, watch: &'a RunWatch) -> Watched<'a, End<'a>> {
         let (reads, writes) = (&self.up, &self.down);
         Watched {
             inner: End { reads, writes },
@@ -187,7 +187,7 @@ impl Connection {
     }
 
     /// The end at this terminal.
-    fn terminal_end<'a>(&'a self, terminal: usize, watch: &'a Watch) -> Watched<'a, End<'a>> {
+    fn terminal_end<'a>(&'a self, terminal: usize, watch: &'a RunWatch) -> Watched<'a, End<'a>> {
         let (reads, writes) = (&self.down, &self.up);
         Watched {
             inner: End { reads, writes },
@@ -222,7 +222,7 @@ impl Connections {
     pub(crate) fn cable<'a>(
         &'a self,
         alloc: Global,
-        watch: &'a Watch,
+        watch: &'a RunWatch,
     ) -> Result<Cable<Watched<'a, End<'a>>>, AllocError>
         ensures { IfOk result (λ cable. connection_count cable ≡ 2) }
     {
@@ -269,7 +269,7 @@ impl Write for End<'_> {
 }
 
 /// A writer into memory whose calls are watched.
-pub(crate) fn watched_writer<'a>(alloc: Global, watch: &'a Watch) -> Watched<'a, Vec<u8>> {
+pub(crate) fn watched_writer<'a>(alloc: Global, watch: &'a RunWatch) -> Watched<'a, Vec<u8>> {
     Watched {
         inner: Vec::new(alloc),
         part: Part::Writer,

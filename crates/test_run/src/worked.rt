@@ -5,7 +5,7 @@ ghost use Rattle.bsc_line_model.specs.Kept.{IsLine};
 ghost use Rattle.bsc_line_model.specs.Line.{IsChannel, terminal_count};
 
 use crate::runs::{COUNTED_TWICE, COUNTED_TWICE_PRINTED, HEARD_PRINTED, POLLED, POLLED_PRINTED};
-use crate::watched::{Connections, Watch, Watched, watched_writer};
+use crate::watched::{Connections, RunWatch, Watched, watched_writer};
 use bsc_config::{Config, read_config};
 use bsc_control::Way;
 use bsc_line::{Line, LineError};
@@ -113,7 +113,7 @@ impl<'a> Case<'a> {
         &self,
         alloc: Global,
         stations: E,
-        watch: &Watch,
+        watch: &RunWatch,
         out: &mut Watched<'_, Vec<u8>>,
     ) -> Result<Result<(), RunError>, Fail> {
         let connections = Connections::new(alloc);
@@ -125,7 +125,7 @@ impl<'a> Case<'a> {
         &self,
         alloc: Global,
         octets: &[u8],
-        watch: &Watch,
+        watch: &RunWatch,
         out: &mut Watched<'_, Vec<u8>>,
     ) -> Result<Result<(), RunError>, Fail> {
         let connections = Connections::new(alloc);
@@ -139,7 +139,7 @@ impl<'a> Case<'a> {
         alloc: Global,
         stations: E,
         connections: &Connections,
-        watch: &Watch,
+        watch: &RunWatch,
         out: &mut Watched<'_, Vec<u8>>,
     ) -> Result<Result<(), RunError>, Fail> {
         let mut cable = connections.cable(alloc, watch)?;
@@ -154,7 +154,7 @@ impl<'a> Case<'a> {
         &self,
         alloc: Global,
         stations: E,
-        watch: &Watch,
+        watch: &RunWatch,
     ) -> Result<bool, Fail> {
         if self.config.terminals() != 2 {
             return Err(Fail::new("not two terminals"));
@@ -176,7 +176,7 @@ impl<'a> Case<'a> {
         alloc: Global,
         stations: E,
         line: &mut Line<E>,
-        watch: &Watch,
+        watch: &RunWatch,
     ) -> Result<(), AllocError>
         requires line { IsLine line.old }
         requires count { terminal_count line.old ≡ 2 }

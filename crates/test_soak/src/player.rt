@@ -7,14 +7,14 @@ use bsc_line::{Event, Line};
 use std::alloc::{AllocError, Allocator, Global};
 use test_alloc::Refusing;
 use test_fixtures::Random;
-use test_hostile::{Broken, Watch};
+use test_hostile::{Broken, LineWatch};
 
 /// A line, its watch and its events. Short functions own it and lend it to the functions that play.
 #[derive(Drop)]
 pub struct Player<'a> {
     pub events: Events,
     pub line: Line<&'a Refusing>,
-    pub watch: Watch,
+    pub watch: LineWatch,
     memory: &'a Refusing,
     starved: bool,
 }
@@ -29,15 +29,15 @@ fn watched<'a>(
     setup: Setup,
     terminals: &[Terminal],
     poll_list: &[u8],
-) -> anyhow::Result<(Watch, Line<&'a Refusing>)> {
-    let watch = Watch::new(alloc, setup, terminals)?;
+) -> anyhow::Result<(LineWatch, Line<&'a Refusing>)> {
+    let watch = LineWatch::new(alloc, setup, terminals)?;
     let line = Line::new(memory, setup, terminals, poll_list)?;
     Ok((watch, line))
 }
 
 /// Plays an event with any answer of the line.
 fn play<A: Allocator>(
-    watch: &mut Watch,
+    watch: &mut LineWatch,
     line: &mut Line<A>,
     event: &Event<'_>,
 ) -> Result<(), Broken> {
@@ -50,7 +50,7 @@ fn play<A: Allocator>(
 /// Each terminal hears its own item in place of what is pending.
 fn play_each<A: Allocator>(
     alloc: Global,
-    watch: &mut Watch,
+    watch: &mut LineWatch,
     line: &mut Line<A>,
     hearings: &[Option<Vec<u8>>],
 ) -> Answer {

@@ -1,7 +1,7 @@
 //! A station that listens, and the peers that connected to it.
 
 use crate::acts::{Act, Read4, reads, station_goes};
-use bsc_sockets::{Begun, Listening, Peers, Settings, SocketsError, listen};
+use bsc_sockets::{Begun, ConnectionSettings, Listening, Peers, SocketsError, listen};
 use std::alloc::Global;
 use std::io;
 use std::io::{Read, Write};
@@ -15,8 +15,8 @@ pub(crate) fn patience() -> Duration {
 }
 
 /// A time-out of 40 milliseconds, and a gap of 10.
-pub(crate) fn settings() -> Settings {
-    Settings {
+pub(crate) fn settings() -> ConnectionSettings {
+    ConnectionSettings {
         time_out: Duration::from_millis(40),
         gap: Duration::from_millis(10),
         begins: false,
@@ -51,7 +51,7 @@ fn meet<'a>(
     rt: &'a HostRuntime,
     alloc: Global,
     count: u16,
-    settings: Settings,
+    settings: ConnectionSettings,
 ) -> Result<Meeting<'a>, Fail> {
     let (listening, address) = bound(rt)?;
     let peers = peers_of(rt, alloc, address, count)?;

@@ -1,7 +1,7 @@
 //! Each form of an event line in a script.
 
 use bsc_control::Way;
-use bsc_script::{Action, Transmission, read_script};
+use bsc_script::{Action, HeardOctets, read_script};
 use std::alloc::{Allocator, Global};
 
 /// An event: its name, its terminal, its selection address or other number, and its octets.
@@ -112,7 +112,7 @@ const ITEMS: &[(&[u8], &[Option<&[u8]>])] = &[
 ];
 
 /// Whether the item is this hearing.
-fn is_item<A: Allocator>(item: &Option<Transmission<A>>, heard: Option<&[u8]>) -> bool {
+fn is_item<A: Allocator>(item: &Option<HeardOctets<A>>, heard: Option<&[u8]>) -> bool {
     match item {
         Some(octets) => heard == Some(octets.as_slice()),
         None => heard.is_none(),

@@ -1,7 +1,7 @@
 //! The line of these tests, and the player that watches it.
 
 use crate::tests::exchanges::Exchange;
-use crate::{Broken, Watch};
+use crate::{Broken, LineWatch};
 use bsc_line::{Event, Line, LineError};
 use std::alloc::Global;
 use std::test::Fail;
@@ -11,7 +11,7 @@ use test_fixtures::lines::{setup, two_terminals};
 #[derive(Drop)]
 pub(crate) struct Watched {
     pub(crate) line: Line<Global>,
-    watch: Watch,
+    watch: LineWatch,
 }
 
 impl Watched {
@@ -19,7 +19,7 @@ impl Watched {
     /// selected by b, and they are called in turn.
     pub(crate) fn new(alloc: Global) -> Result<Watched, Fail> {
         let (setup, terminals) = (setup(3)?, two_terminals());
-        let watch = Watch::new(alloc, setup, &terminals)?;
+        let watch = LineWatch::new(alloc, setup, &terminals)?;
         let line = Line::new(alloc, setup, &terminals, &[0, 1])?;
         Ok(Watched { line, watch })
     }

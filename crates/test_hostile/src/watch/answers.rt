@@ -8,7 +8,7 @@ use crate::channel::Channel;
 use crate::heard::{Kind, kind_at};
 use crate::pending::{Sent, find, read_pending};
 use crate::step::Effect;
-use crate::watch::{Watch, octets_heard};
+use crate::watch::{LineWatch, octets_heard};
 use bsc_control::Way;
 use bsc_frame::{Address, Heard, Message, decode};
 use bsc_line::{Event, Line, Speaker};
@@ -77,7 +77,7 @@ fn is_shown<A: Allocator>(line: &Line<A>, sent: &Option<Sent>) -> bool {
     }
 }
 
-impl Watch {
+impl LineWatch {
     /// Whether all terminals heard a message of this kind.
     fn all_heard(&self, kind: Kind) -> bool {
         self.hearings

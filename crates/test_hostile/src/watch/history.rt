@@ -7,11 +7,11 @@ ghost use Rattle.test_hostile.specs.Histories.{IsAsSeen, IsTold, TellsOf, channe
 use crate::broken::Broken;
 use crate::channel::{Channel, is_channel};
 use crate::records::{EMPTY, begins, with_records};
-use crate::watch::Watch;
+use crate::watch::LineWatch;
 use bsc_line::Line;
 use std::alloc::Allocator;
 
-impl Watch {
+impl LineWatch {
     /// Compares all records of the line with those that were seen event by event, and, if the line
     /// is trusted, the records that arrived with those that were offered. For each channel the
     /// errors come in this order: `Channel` if the line has no such channel, `Offered` or `Spooled`

@@ -9,7 +9,7 @@ use crate::heard::Hearing;
 use crate::records::{begins, is_text_of, with_records};
 use crate::step::{Effect, allowed, check, moved, steps};
 use crate::tally::Tally;
-use crate::watch::{Watch, octets_heard};
+use crate::watch::{LineWatch, octets_heard};
 use bsc_control::Way;
 use bsc_line::{Event, Line};
 use std::alloc::Allocator;
@@ -26,7 +26,7 @@ struct Step<'a> {
     addressed: Option<(usize, Way)>,
 }
 
-impl Watch {
+impl LineWatch {
     /// Checks that each channel did only what the event may do to it.
     pub(crate) fn see_channels<A: Allocator>(
         &mut self,

@@ -1,7 +1,7 @@
 -- The first channel in doubt is the first one in doubt among the remaining channels.
 use Rattle.std.proofs.Common.{◌≡◌, drop}
 use Rattle.test_hostile.specs.Watches.{first_in_doubt}
-use Rattle.test_hostile.proofs.watch.Watch.doubtful.Given as goal
+use Rattle.test_hostile.proofs.watch.LineWatch.doubtful.Given as goal
 
 abbrev pub invariant-loop-channel : goal.invariant-loop-channel
 invariant-loop-channel l =

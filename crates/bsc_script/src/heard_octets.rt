@@ -10,11 +10,11 @@ use std::marker::Model;
 
 /// The octets of one transmission: 1 to 2,048, the length of a socket record.
 #[derive(Drop)]
-pub struct Transmission<A: Allocator> {
+pub struct HeardOctets<A: Allocator> {
     octets: Vec<u8, A>,
 }
 
-impl<A: Allocator> Model for Transmission<A> {
+impl<A: Allocator> Model for HeardOctets<A> {
     ghost use Rattle.std.specs.Prelude.{ℕ, List};
     ghost use Rattle.bsc_carrier.specs.Record.{IsCarried};
 
@@ -25,7 +25,7 @@ impl<A: Allocator> Model for Transmission<A> {
     ghost invariant = { λ t. IsCarried t.octets.items };
 }
 
-impl<A: Allocator> Transmission<A> {
+impl<A: Allocator> HeardOctets<A> {
     /// Returns the octets.
     pub fn as_slice(&self) -> &[u8]
         ensures value { result.now ≡ self.now }
@@ -40,11 +40,11 @@ impl<A: Allocator> Transmission<A> {
 pub(crate) fn read_transmission<A: Allocator + Copy>(
     alloc: A,
     text: &[u8],
-) -> Result<Option<Transmission<A>>, AllocError>
+) -> Result<Option<HeardOctets<A>>, AllocError>
     ensures { IfOk result (λ t. t ≡ transmission_of text.now) }
 {
     match read_octets(alloc, text)? {
-        Some(octets) if (1..=MAX_RECORD).contains(&octets.len()) => Ok(Some(Transmission {
+        Some(octets) if (1..=MAX_RECORD).contains(&octets.len()) => Ok(Some(HeardOctets {
             octets,
         })),
         _ => Ok(None),

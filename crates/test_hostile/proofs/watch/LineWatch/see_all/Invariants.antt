@@ -2,7 +2,7 @@
 use Rattle.std.proofs.Common.{take}
 use Rattle.std.specs.List.{All}
 use Rattle.test_hostile.specs.Histories.{IsAsSeen}
-use Rattle.test_hostile.proofs.watch.Watch.see_all.Given as goal
+use Rattle.test_hostile.proofs.watch.LineWatch.see_all.Given as goal
 
 abbrev pub invariant-loop-channel : goal.invariant-loop-channel
 invariant-loop-channel g l =

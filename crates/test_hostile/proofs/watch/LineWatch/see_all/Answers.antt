@@ -6,7 +6,7 @@ use Rattle.std.proofs.lemmas.List.Elements.{All-push}
 use Rattle.std.specs.List.{All}
 use Rattle.test_hostile.specs.declared.channel.Channel.{Channel}
 use Rattle.test_hostile.specs.Histories.{IsAsSeen}
-use Rattle.test_hostile.proofs.watch.Watch.see_all.Goals as goal
+use Rattle.test_hostile.proofs.watch.LineWatch.see_all.Goals as goal
 
 -- If the first n channels have a property and channel n has it too, then the first n + 1 have it.
 all_more : (P : Channel → Type 0) (cs : List Channel) (n : ℕ) (c : Channel) → n < length cs →

@@ -15,20 +15,20 @@ pub(crate) enum Rule {
 /// A rule, the number of requests since it was set, how many of them were refused, and how many
 /// requests were ever refused.
 #[derive(Clone, Copy, Debug, PartialEq, Eq)]
-pub(crate) struct Tally {
+pub(crate) struct Requests {
     pub(crate) rule: Rule,
     pub(crate) requests: usize,
     pub(crate) refused: usize,
     pub(crate) ever_refused: usize,
 }
 
-impl Tally {
+impl Requests {
     /// No rule, and no requests.
-    pub(crate) fn new() -> Tally
+    pub(crate) fn new() -> Requests
         ensures { result
             ≡ record { rule = Rule.Nothing; requests = 0; refused = 0; ever_refused = 0 } }
     {
-        Tally {
+        Requests {
             rule: Rule::Nothing,
             requests: 0,
             refused: 0,
