@@ -3,7 +3,7 @@ use Rattle.std.proofs.Common.{◌∙◌, inl, inr, ℕ, false, refl, arith, List
 use Rattle.std.specs.List.{AllByRecursion}
 use Rattle.std.specs.Int.Count.{ones}
 use Rattle.bsc_octet.specs.Octet.{IsOdd, odd_octet}
-use Rattle.bsc_octet.proofs.Parity.{is_odd_odd_octet}
+use Rattle.bsc_octet.proofs.OddOctets.{is_odd_odd_octet}
 use Rattle.bsc_frame.specs.Addresses.{is_address_code}
 use Rattle.bsc_frame.specs.Spells.{AreAll, IsBody, IsCall}
 use Rattle.bsc_frame.specs.TurnedBits.{IsBodyOctet}

@@ -9,7 +9,7 @@ use Rattle.std.proofs.lemmas.Bool.Decides.{nat_tests}
 use Rattle.std.proofs.lemmas.List.Elements.{All-from_get_or, recursion_from_All}
 use Rattle.std.proofs.lemmas.List.Sums.{sum_by-cons}
 use Rattle.bsc_octet.specs.Octet.{IsOdd, odd_octet, code_of, longitudinal_sum, with_bit}
-use Rattle.bsc_octet.proofs.Parity.{code_of_odd, code_of_some}
+use Rattle.bsc_octet.proofs.OddOctets.{code_of_odd, code_of_some}
 use Rattle.bsc_frame.specs.Reading.{low_bits, is_ending_code, is_ending_octet, after_start}
 use Rattle.bsc_frame.specs.Reading.{after_check}
 use Rattle.bsc_frame.specs.declared.octets.TheConstants.{EM_CODE, ETB, ETB_CODE, ETX, ETX_CODE, STX}

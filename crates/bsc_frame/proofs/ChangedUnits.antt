@@ -7,7 +7,7 @@ use Rattle.std.specs.List.{AllByRecursion}
 use Rattle.std.specs.Int.Count.{ones}
 use Rattle.std.proofs.lemmas.List.{map-append}
 use Rattle.bsc_octet.specs.Octet.{odd_octet, longitudinal_sum, code_of}
-use Rattle.bsc_octet.proofs.Parity.{odd_of_low, odd_octet_low, code_of_odd, code_of_odd_octet}
+use Rattle.bsc_octet.proofs.OddOctets.{odd_of_low, odd_octet_low, code_of_odd, code_of_odd_octet}
 use Rattle.bsc_octet.proofs.Sums.{longitudinal_sum_lt}
 use Rattle.bsc_frame.specs.Texts.{TextUnit, IsUnit}
 use Rattle.bsc_frame.specs.Units.{unit_codes, unit_wire, units_wire, ending}

@@ -5,7 +5,7 @@ use Rattle.std.proofs.Common.{ap, ◌∙◌, arith, List, [], ◌∷◌, ◌++�
 use Rattle.std.proofs.Common.{append_assoc}
 use Rattle.std.proofs.lemmas.Bool.{eqb-true}
 use Rattle.bsc_octet.specs.Octet.{odd_octet, code_of}
-use Rattle.bsc_octet.proofs.Parity.{odd_cases, code_of_some, code_of_odd_octet}
+use Rattle.bsc_octet.proofs.OddOctets.{odd_cases, code_of_some, code_of_odd_octet}
 use Rattle.bsc_frame.specs.Spells.{AreAll, AreFilled}
 use Rattle.bsc_frame.specs.Reading.{is_ending_code, before_gathered, gather_code, gathered}
 use Rattle.bsc_frame.specs.declared.octets.TheConstants.{SYN}

@@ -5,7 +5,7 @@ use Rattle.std.proofs.Common.{None, All}
 use Rattle.std.specs.List.{AllByRecursion}
 use Rattle.std.proofs.lemmas.List.Elements.{All-from_recursion}
 use Rattle.bsc_octet.specs.Octet.{odd_octet, longitudinal_sum, IsOdd}
-use Rattle.bsc_octet.proofs.Parity.{is_odd_odd_octet}
+use Rattle.bsc_octet.proofs.OddOctets.{is_odd_odd_octet}
 use Rattle.bsc_octet.proofs.Sums.{longitudinal_sum_lt}
 use Rattle.bsc_frame.specs.Texts.{TextUnit, TextValue, IsUnit}
 use Rattle.bsc_frame.specs.Units.{unit_codes, ending}

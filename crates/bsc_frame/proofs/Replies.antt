@@ -8,7 +8,7 @@ use Rattle.std.specs.Str.{bytes_eq}
 use Rattle.std.proofs.lemmas.Slice.Eq.{bytes_eq-Decides}
 use mathlib.Core.Bool.{true≢false}
 use Rattle.bsc_octet.specs.Octet.{IsOdd, odd_octet}
-use Rattle.bsc_octet.proofs.Parity.{is_odd_odd_octet}
+use Rattle.bsc_octet.proofs.OddOctets.{is_odd_odd_octet}
 use Rattle.bsc_frame.specs.Reading.{control}
 use Rattle.bsc_frame.specs.Replies.{reply_octets, reply_spelled}
 use Rattle.bsc_frame.specs.declared.octets.TheConstants.{ACK0, ACK1, DLE, NAK, PAD, RVI, WACK}

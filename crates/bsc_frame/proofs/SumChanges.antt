@@ -6,7 +6,7 @@ use Rattle.std.specs.Int.{bit_at}
 use Rattle.std.proofs.lemmas.Nat.Bits.{bit_at_xor, bit_at-lt}
 use Rattle.std.proofs.lemmas.List.Sums.{sum_by-cons}
 use Rattle.bsc_octet.specs.Octet.{longitudinal_sum, with_bit}
-use Rattle.bsc_octet.proofs.Lanes.{with_bit_append, test_bit}
+use Rattle.bsc_octet.proofs.LaneParity.{with_bit_append, test_bit}
 
 -- the members with a bit, around one of them
 around_bit : (i : ℕ) (front : List ℕ) (c : ℕ) (back : List ℕ)

@@ -9,7 +9,7 @@ use Rattle.std.proofs.lemmas.List.{length-map}
 use Rattle.std.specs.Int.Count.{ones-ones}
 use Rattle.bsc_octet.specs.Octet.{odd_octet, longitudinal_sum}
 use Rattle.bsc_octet.proofs.Sums.{longitudinal_sum_lt}
-use Rattle.bsc_octet.proofs.Parity.{odd_cases}
+use Rattle.bsc_octet.proofs.OddOctets.{odd_cases}
 use Rattle.bsc_frame.proofs.Fronts.{Ends}
 use Rattle.bsc_frame.specs.Texts.{TextUnit, TextValue, IsUnit}
 use Rattle.bsc_frame.specs.Units.{unit_codes, unit_wire, units_wire, ending, end_code}

@@ -11,7 +11,7 @@ use Rattle.std.proofs.lemmas.List.Elements.{recursion_from_All, All-from_recursi
 use Rattle.std.proofs.lemmas.List.Elements.{All-cons}
 use Rattle.std.proofs.lemmas.List.Elements.{All-nil}
 use Rattle.bsc_octet.specs.Octet.{odd_octet, longitudinal_sum, is_record_char}
-use Rattle.bsc_octet.proofs.Parity.{odd_octet_low}
+use Rattle.bsc_octet.proofs.OddOctets.{odd_octet_low}
 use Rattle.std.specs.Int.Count.{ones}
 use Rattle.bsc_frame.specs.Reading.{low_bits}
 use Rattle.bsc_frame.proofs.CarriedOctets.{sum_low}

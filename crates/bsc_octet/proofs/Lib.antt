@@ -1,4 +1,4 @@
-pub mod Parity
+pub mod OddOctets
 pub mod Sums
 pub mod Elements
-pub mod Lanes
+pub mod LaneParity

@@ -27,7 +27,7 @@ pub fn to_line(code: u8) -> Option<u8>
 
 /// Returns the code that the octet carries, 0x00 to 0x7f, or `None` if its parity is even
 /// (GA27-3004: a VRC error).
-#[tactic(auto, using(crate::proofs::Parity::code_of_even))]
+#[tactic(auto, using(crate::proofs::OddOctets::code_of_even))]
 pub fn from_line(octet: u8) -> Option<u8>
     ensures value { result ≡ code_of octet }
     ensures code { IfSome result (λ c. (c < 128) × (odd_octet c ≡ octet)) }

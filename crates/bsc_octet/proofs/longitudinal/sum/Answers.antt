@@ -1,6 +1,6 @@
 -- The exclusive or of the chunks and that of the rest give the longitudinal sum.
 use Rattle.std.proofs.Common.{arith, length, ◌/◌}
-use Rattle.bsc_octet.proofs.Lanes.{parts_xor}
+use Rattle.bsc_octet.proofs.LaneParity.{parts_xor}
 use Rattle.bsc_octet.proofs.longitudinal.sum.Goals as goal
 
 pub returns-clause-value : goal.returns-clause-value

@@ -1,7 +1,7 @@
 -- All octets have odd parity exactly if those of the chunks and of the rest have.
 use Rattle.std.proofs.Common.{length, ◌/◌, sym, ◌∙◌, ◌<◌}
 use Rattle.std.proofs.lemmas.List.Elements.{All-from_get_or, recursion_from_All}
-use Rattle.bsc_octet.proofs.Lanes.{all_chunks, both_odd, chunks_odd, rest_odd}
+use Rattle.bsc_octet.proofs.LaneParity.{all_chunks, both_odd, chunks_odd, rest_odd}
 use Rattle.bsc_octet.proofs.parity.all_odd.Goals as goal
 
 pub are_odd-requires : goal.are_odd-requires

@@ -1,6 +1,6 @@
 -- `from_line` returns a code exactly for the octets with odd parity.
 use Rattle.std.proofs.Common.{arith, ap, ◌∙◌, ◌%◌, sym, count_ones}
-use Rattle.bsc_octet.proofs.Parity.{odd_of_low, is_odd_odd_octet, code_of_odd}
+use Rattle.bsc_octet.proofs.OddOctets.{odd_of_low, is_odd_odd_octet, code_of_odd}
 use Rattle.bsc_octet.proofs.parity.from_line.Goals as goal
 
 pub returns-then-octet-eq1-clause-code : goal.returns-then-octet-eq1-clause-code
