@@ -1,7 +1,8 @@
 -- The visits are followed by the control station's own task and place: row by row of its table.
-use Rattle.std.proofs.Common.{◌≡◌, ◌↔◌, ℕ, ◌+◌, Bool, true, false, nat_eq, nat_lt, ◌&&◌, List, Option}
-use Rattle.std.proofs.Common.{None, Some, option_map, is_some, refl, sym, ◌∙◌, ap, subst, add-one}
+use Rattle.std.proofs.Common.{◌≡◌, ℕ, ◌+◌, Bool, true, false, nat_eq, nat_lt, ◌&&◌, List, Option}
+use Rattle.std.proofs.Common.{None, Some, option_map, is_some, refl, sym, ◌∙◌, ap, subst, arith}
 use Rattle.std.proofs.Common.{if◌then◌else◌}
+use Rattle.std.proofs.lemmas.Bool.Decides.{nat_tests}
 use Rattle.bsc_frame.specs.declared.message.Message.{Message}
 use Rattle.bsc_frame.specs.declared.message.Message.TheVariants as m
 use Rattle.bsc_frame.specs.declared.message.Heard.{Heard}
@@ -31,7 +32,7 @@ use Rattle.bsc_control.specs.Table.{replied_after, is_interrupted, poll_call_ste
 use Rattle.bsc_control.specs.Table.{next_call_step, performed, after_step, bid_step, after_bid}
 use Rattle.bsc_control.specs.Table.{selecting_step, receive_step, polling_step, task_step, repeated}
 use Rattle.bsc_control.specs.Table.{silence_in, rooms_after}
-use Rattle.bsc_monitor.specs.Visits.{is_begun, calls_anew, polled_in, polled_by, ended_by, GoesOn}
+use Rattle.bsc_monitor.specs.Visits.{is_begun, calls_anew, polled_in, polled_by, ended_by}
 use Rattle.bsc_monitor.specs.Visits.{FollowsStep}
 
 -- a call of the call order is sent, and repeats none
@@ -204,22 +205,26 @@ follows_receiving c replied step e =
     let made = calls c call.place call.way in
     no_call step.reply made.0 (ap (λ (x : ControlStep). x.sent) row ∙ made.1))
 
+follows_heard : (c : ControlValue) (h : Heard) (replied : Replied) (rooms : Rooms) → c.task
+    ≡ Polling replied → FollowsStep c (receive_step c replied
+    (heard_step (peer c).receiver (peer c).spool h (peer c).urgent rooms))
+follows_heard c h replied rooms e =
+    follows_receiving c replied
+    (heard_step (peer c).receiver (peer c).spool h (peer c).urgent rooms) e
+
 -- a poll is answered
 follows_polling : (c : ControlValue) (replied : Replied) (h : Heard) (rooms : Rooms) → c.task
     ≡ Polling replied → FollowsStep c (polling_step c replied h rooms)
 follows_polling c replied (Whole m.Eot) rooms e = follows_next c replied e
-follows_polling c replied Noise rooms e =
-    follows_receiving c replied (heard_step _ _ Noise _ rooms) e
-follows_polling c replied Failed rooms e =
-    follows_receiving c replied (heard_step _ _ Failed _ rooms) e
+follows_polling c replied Noise rooms e = follows_heard c Noise replied rooms e
+follows_polling c replied Failed rooms e = follows_heard c Failed replied rooms e
 follows_polling c replied (Whole (m.Call x)) rooms e =
-    follows_receiving c replied (heard_step _ _ (Whole (m.Call x)) _ rooms) e
-follows_polling c replied (Whole m.Enq) rooms e =
-    follows_receiving c replied (heard_step _ _ (Whole m.Enq) _ rooms) e
+    follows_heard c (Whole (m.Call x)) replied rooms e
+follows_polling c replied (Whole m.Enq) rooms e = follows_heard c (Whole m.Enq) replied rooms e
 follows_polling c replied (Whole (m.Reply r)) rooms e =
-    follows_receiving c replied (heard_step _ _ (Whole (m.Reply r)) _ rooms) e
+    follows_heard c (Whole (m.Reply r)) replied rooms e
 follows_polling c replied (Whole (m.Text x)) rooms e =
-    follows_receiving c replied (heard_step _ _ (Whole (m.Text x)) _ rooms) e
+    follows_heard c (Whole (m.Text x)) replied rooms e
 
 follows_task : (c : ControlValue) (task : Task) (h : Heard) (rooms : Rooms) → c.task ≡ task
     → FollowsStep c (task_step c task h rooms)
@@ -233,11 +238,14 @@ follows_task c (Sending s) h rooms e =
     (after_bid s (reply_in h)) e refl (λ replied f. cc)
 follows_task c (Polling replied) h rooms e = follows_polling c replied h rooms e
 
+one_more_failure : (n : ℕ) → nat_eq (n + 1) 0 ≡ false
+one_more_failure n = grind (arith, nat_tests)
+
 -- the poll is called again
 follows_repeat : (c : ControlValue) → c.task ≡ Polling Nothing
     → FollowsStep c (poll_call_step c c.place (c.failures + 1))
 follows_repeat c e =
-    let failed : nat_eq (c.failures + 1) 0 ≡ false = rw add-one refl in
+    let failed : nat_eq (c.failures + 1) 0 ≡ false = one_more_failure c.failures in
     follows_same c (poll_call_step c c.place (c.failures + 1))
     (λ none. sym (ap (λ (t : Task). polled_in t c.place) e))
     (λ entry is.
