@@ -12,6 +12,7 @@ ghost use Rattle.bsc_control.specs.Peer.{with_outbound, outbound_released, offer
 ghost use Rattle.bsc_directory.specs.Ways.{IsSelection, select_of};
 
 use crate::procedure::Procedure;
+use crate::task::Task;
 use bsc_bid::{ReleaseError, Setup, Station, Terminal};
 use bsc_block::Record;
 use bsc_directory::{Directory, SetupError, Way};
@@ -87,6 +88,33 @@ impl<A: Allocator> Control<A> {
         ensures control { IsControl self.now }
     {
         self.procedure.poll_list.as_slice()
+    }
+
+    /// Returns the index of the present entry in the poll list: the entry of the last call, and the
+    /// first one before any call.
+    pub fn place(&self) -> usize
+        ensures value { result ≡ self.now.place }
+        ensures there { result < length self.now.poll_list }
+        ensures control { IsControl self.now }
+    {
+        self.procedure.place
+    }
+
+    /// Returns what the station does at the present entry. (GA27-3004, polling and selection.)
+    pub fn task(&self) -> Task
+        ensures value { result ≡ self.now.task }
+        ensures control { IsControl self.now }
+    {
+        self.procedure.task
+    }
+
+    /// Returns the failures in a row of the present call: 0 after a call that repeats none, and one
+    /// more after each repetition.
+    pub fn failures(&self) -> u8
+        ensures value { result ≡ self.now.failures }
+        ensures control { IsControl self.now }
+    {
+        self.procedure.failures
     }
 
     /// Returns the number of terminals on the line: 1 to 64.

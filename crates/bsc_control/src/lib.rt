@@ -19,3 +19,4 @@ mod task;
 
 pub use bsc_directory::{SetupError, Way};
 pub use control::Control;
+pub use task::{Replied, Task};

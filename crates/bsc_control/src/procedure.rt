@@ -29,13 +29,13 @@ pub(crate) struct Procedure<A: Allocator> {
     pub(crate) poll_list: Vec<u8, A>,
 
     /// The index of the present entry in the poll list.
-    place: usize,
+    pub(crate) place: usize,
 
     /// What the station does at the present entry.
-    task: Task,
+    pub(crate) task: Task,
 
     /// The failures in a row of the present call.
-    failures: u8,
+    pub(crate) failures: u8,
 
     /// The WACKs that answered the present selection.
     wacks: u8,

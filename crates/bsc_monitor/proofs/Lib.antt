@@ -1,3 +1,4 @@
 pub mod Firsts
 pub mod Offered
 pub mod Counts
+pub mod Followed

@@ -4,6 +4,7 @@ pub mod Ends
 pub mod LineTerminal
 pub mod Offers
 pub mod Printed
+pub mod Progress
 pub mod Rounds
 pub mod Traces
 pub mod Visits

@@ -1,12 +1,12 @@
 -- The rounds of a poll list, and the limits at which a control station ends.
-use Rattle.std.specs.Prelude.{ℕ, ◌+◌, ◌-◌, ◌^◌, nat_lt, nat_le, min, Bool, false, not, ◌||◌}
-use Rattle.std.specs.Prelude.{◌&&◌, if◌then◌else◌, Option, None, Some}
+use Rattle.std.specs.Prelude.{ℕ, ◌+◌, ◌-◌, ◌^◌, nat_eq, nat_le, min, Bool, false, not, ◌||◌, ◌&&◌}
+use Rattle.std.specs.Prelude.{if◌then◌else◌, Option, None, Some}
 use Rattle.bsc_monitor.specs.declared.rounds.Limits.{Limits}
 use Rattle.bsc_monitor.specs.declared.rounds.Rounds.{Rounds}
 
-abbrev pub rounds_of : ℕ → ℕ → Bool → ℕ → ℕ → Rounds
-rounds_of entries left found rounds idle =
-    record { entries = entries; left = left; found = found; rounds = rounds; idle = idle }
+abbrev pub rounds_of : ℕ → Bool → ℕ → ℕ → Rounds
+rounds_of last found rounds idle =
+    record { last = last; found = found; rounds = rounds; idle = idle }
 
 -- One more, up to the largest value of 64 bits.
 abbrev pub one_more : ℕ → ℕ
@@ -17,11 +17,17 @@ one_more n = min (n + 1) (2 ^ 64 - 1)
 abbrev pub idle_after : ℕ → Bool → Bool → ℕ
 idle_after idle found more = if not found && not more then one_more idle else 0
 
--- The rounds after the end of a visit. The last entry completes the round.
-abbrev pub after_visit : Rounds → Bool → Rounds
-after_visit r more =
-    if nat_lt 1 r.left then rounds_of r.entries (r.left - 1) r.found r.rounds r.idle
-    else rounds_of r.entries r.entries false (one_more r.rounds) (idle_after r.idle r.found more)
+-- Whether a round is complete with the end of the visit to an entry: it was the last entry, and the
+-- next visit is to the first one.
+abbrev pub is_complete : Rounds → ℕ → ℕ → Bool
+is_complete r entry next = nat_eq entry r.last && nat_eq next 0
+
+-- The rounds after the end of a visit.
+abbrev pub after_visit : Rounds → ℕ → ℕ → Bool → Rounds
+after_visit r entry next more =
+    if is_complete r entry next
+    then rounds_of r.last false (one_more r.rounds) (idle_after r.idle r.found more)
+    else r
 
 -- Whether the limit is reached, if there is one.
 abbrev pub is_reached : Option ℕ → ℕ → Bool

@@ -1,46 +1,78 @@
--- The end of the visit to an entry of the poll list. Polling and selection are those of GA27-3004;
--- visits are this project's own.
-use Rattle.std.specs.Prelude.{ℕ, ◌+◌, nat_lt, Bool, true, false, ◌&&◌, if◌then◌else◌}
-use Rattle.bsc_monitor.specs.declared.visits.Sent.{Sent}
-use Rattle.bsc_monitor.specs.declared.visits.Sent.TheVariants.{Poll, Selection, Other}
-use Rattle.bsc_monitor.specs.declared.visits.Polled.{Polled}
-use Rattle.bsc_monitor.specs.declared.visits.Polled.TheVariants.{NotYet, Called, Answered}
+-- The end of the visit to an entry of the poll list, by the control station's own task and place.
+-- Polling and selection are those of GA27-3004; visits are this project's own.
+use Rattle.std.specs.Prelude.{◌≡◌, ◌↔◌, ℕ, nat_eq, Bool, true, false, not, ◌&&◌, if◌then◌else◌}
+use Rattle.std.specs.Prelude.{Option, None, Some, is_some, List}
+use Rattle.bsc_frame.specs.declared.message.Message.{Message}
+use Rattle.bsc_frame.specs.declared.message.Heard.{Heard}
+use Rattle.bsc_bid.specs.Setup.{SetupValue}
+use Rattle.bsc_bid.specs.Terminal.{TerminalValue}
+use Rattle.bsc_control.specs.declared.task.Replied.{Replied}
+use Rattle.bsc_control.specs.declared.task.Replied.TheVariants.{Nothing}
+use Rattle.bsc_control.specs.declared.task.Task.{Task}
+use Rattle.bsc_control.specs.declared.task.Task.TheVariants.{Selecting, Polling}
+use Rattle.bsc_control.specs.CallOrder.{Poll}
+use Rattle.bsc_control.specs.Control.{ControlValue, ControlStep}
+use Rattle.bsc_control.specs.Kept.{IsNewControl, IsHearing, IsSilence}
+use Rattle.bsc_control.specs.Table.{is_interrupted, next_call_step}
 use Rattle.bsc_monitor.specs.declared.visits.Visits.{Visits}
 
-abbrev pub visits_of : ℕ → Bool → Polled → Visits
-visits_of tries silent polled = record { tries = tries; silent = silent; polled = polled }
+abbrev pub visits_of : Option ℕ → Visits
+visits_of polled = record { polled = polled }
 
--- Whether a call repeats the poll: after a silence, while nothing else was sent, and fewer times
--- than the number of failures in a row that are allowed.
-abbrev pub repeats_poll : ℕ → Bool → Polled → Bool
-repeats_poll tries silent (Called repeats) = silent && nat_lt repeats tries
-repeats_poll tries silent _ = false
+-- Whether a task is as a call begins it.
+abbrev pub is_begun : Task → Bool
+is_begun (Selecting select enquired) = not enquired
+is_begun (Polling Nothing) = true
+is_begun _ = false
 
--- The state of the poll after the call of the polling address.
-abbrev pub polled_after : ℕ → Bool → Polled → Polled
-polled_after tries silent (Called repeats) =
-    if silent && nat_lt repeats tries then Called (repeats + 1) else Called 0
-polled_after tries silent _ = Called 0
+-- Whether what the control station has just sent is a call that repeats none: its task is as a call
+-- begins it, and no failure is counted.
+abbrev pub calls_anew : ControlValue → Bool
+calls_anew c = is_begun c.task && nat_eq c.failures 0
 
--- Whether the entry was polled.
-abbrev pub is_polled : Polled → Bool
-is_polled NotYet = false
-is_polled _ = true
+-- The entry at this place, if it is polled in this task.
+abbrev pub polled_in : Task → ℕ → Option ℕ
+polled_in (Polling replied) place = Some place
+polled_in _ place = None
 
--- The state of the poll after a transmission that is not a call.
-abbrev pub answered_after : Polled → Polled
-answered_after NotYet = NotYet
-answered_after _ = Answered
+-- The entry that the control station polls.
+abbrev pub polled_by : ControlValue → Option ℕ
+polled_by c = polled_in c.task c.place
 
--- The state after a transmission of the control station.
-abbrev pub after_sent : Visits → Sent → Visits
-after_sent v Poll = visits_of v.tries v.silent (polled_after v.tries v.silent v.polled)
-after_sent v Selection = visits_of v.tries v.silent NotYet
-after_sent v Other = visits_of v.tries v.silent (answered_after v.polled)
+-- The entry whose visit has ended with what the control station has just sent: it polled this entry
+-- before, and has now made a call that repeats none.
+abbrev pub visit_ended : Option ℕ → ControlValue → Option ℕ
+visit_ended polled c = if calls_anew c then polled else None
 
--- Whether a visit ended before this transmission: it is a call after the poll that does not repeat
--- the poll.
-abbrev pub ends_visit : Visits → Sent → Bool
-ends_visit v Poll = if repeats_poll v.tries v.silent v.polled then false else is_polled v.polled
-ends_visit v Selection = is_polled v.polled
-ends_visit v Other = false
+-- The same of a step in which the control station may have sent nothing.
+abbrev pub ended_by : Option ℕ → ControlStep → Option ℕ
+ended_by polled step = if is_some step.sent then visit_ended polled step.control else None
+
+-- By the table of the control station, the poll of this entry is over and the next call is made: that
+-- of the next entry, or of the same one if the poll was interrupted.
+pub record GoesOn (old : ControlValue) (step : ControlStep) (entry : ℕ) : Type 0 where
+  pub replied : Replied
+  pub polling : old.task ≡ Polling replied
+  pub place : entry ≡ old.place
+  pub row : step ≡ next_call_step old (Poll (is_interrupted replied))
+
+-- What is known of the visits before a step is enough after it: while nothing is sent, the entry that
+-- is polled stays, and a visit ends exactly when the control station goes on from its entry.
+pub record FollowsStep (old : ControlValue) (step : ControlStep) : Type 0 where
+  pub quiet : step.sent ≡ None → polled_by step.control ≡ polled_by old
+  pub ended : (entry : ℕ) → (ended_by (polled_by old) step ≡ Some entry) ↔ GoesOn old step entry
+
+-- A new control station polls no entry.
+abbrev pub FollowsNew : Type 0
+FollowsNew = (setup : SetupValue) (terminals : List TerminalValue) (poll_list : List ℕ)
+    (c : ControlValue) → IsNewControl setup terminals poll_list c → polled_by c ≡ None
+
+-- What a control station hears is followed.
+abbrev pub FollowsHearing : Type 0
+FollowsHearing = (old : ControlValue) (h : Heard) (new : ControlValue) (sent : Option Message)
+    → IsHearing old h new sent → FollowsStep old (record { control = new; sent = sent })
+
+-- A silence is followed.
+abbrev pub FollowsSilence : Type 0
+FollowsSilence = (old new : ControlValue) (sent : Option Message)
+    → IsSilence old new sent → FollowsStep old (record { control = new; sent = sent })

@@ -15,6 +15,7 @@ mod channel_end;
 mod control_party;
 mod control_watch;
 mod ended;
+pub mod laws;
 mod line_terminal;
 mod making;
 mod offering;

@@ -1,13 +1,14 @@
 //! The progress of a control station through its poll list.
 
-ghost use Rattle.std.specs.Prelude.{◌≡◌, not, true};
+ghost use Rattle.std.specs.Prelude.{◌≡◌, ◌-◌, ◌||◌, length, not, true, false};
+ghost use Rattle.bsc_monitor.specs.Progress.{after_sent, after_note, ends_when_sent, ends_with};
+ghost use Rattle.bsc_monitor.specs.Progress.{progress_of, with_found};
 
 use crate::rounds::{Limits, Rounds};
 use crate::station_standing;
-use crate::visits::{Sent, Visits};
+use crate::visits::Visits;
 use bsc_connections::Note;
-use bsc_control::{Control, Way};
-use bsc_frame::{Heard, Message, decode};
+use bsc_control::Control;
 use std::alloc::Allocator;
 
 /// The visits and rounds that a control station has made, and whether it has ended.
@@ -35,11 +36,15 @@ pub(crate) struct Progress {
 impl Progress {
     /// Returns the progress of a control station that has sent nothing. `listens` tells whether
     /// other peers may connect later.
-    pub fn new<B: Allocator>(control: &Control<B>, limits: Limits, listens: bool) -> Progress {
+    pub fn new<B: Allocator>(control: &Control<B>, limits: Limits, listens: bool) -> Progress
+        ensures { result ≡ progress_of limits (length control.now.poll_list - 1) listens }
+    {
+        // The poll list has an entry, since the station is at one.
+        let _ = control.place();
         Progress {
             limits,
-            visits: Visits::new(control.setup().tries()),
-            rounds: Rounds::new(control.poll_list().len()),
+            visits: Visits::new(),
+            rounds: Rounds::new(control.poll_list().len() - 1),
             listens,
             closed: false,
             ended: false,
@@ -54,6 +59,10 @@ impl Progress {
     /// Counts an event; `found` tells whether records arrived with it. Returns `false` if the
     /// control station has ended.
     pub fn note<B: Allocator>(&mut self, control: &Control<B>, note: &Note<'_>, found: bool) -> bool
+        ensures counts { let p = with_found self.old found in
+            self.new ≡ record (after_note p control.now note.now) {
+              ended = self.old.ended || ends_with p control.now note.now;
+            } }
         ensures answer { result ≡ not self.new.ended }
         ensures kept { self.old.ended ≡ true → self.new.ended ≡ true }
     {
@@ -66,49 +75,31 @@ impl Progress {
         !self.ended
     }
 
-    /// Counts a transmission of the control station. Returns `true` if it has made enough rounds.
-    fn count_sent<B: Allocator>(&mut self, control: &Control<B>, octets: &[u8]) -> bool
-        ensures { self.new.ended ≡ self.old.ended }
-    {
-        if self.visits.sent(sent_as(control, octets)) {
-            self.rounds.visited(station_standing(control).waiting);
-            return self.rounds.are_enough(self.limits);
-        }
-        false
-    }
-
     /// Counts an event. Returns `true` if the control station ends with it.
     fn count<B: Allocator>(&mut self, control: &Control<B>, note: &Note<'_>) -> bool
-        ensures { self.new.ended ≡ self.old.ended }
+        ensures state { self.new ≡ after_note self.old control.now note.now }
+        ensures ends { result ≡ ends_with self.old control.now note.now }
     {
         match note {
-            Note::Heard { .. } => {
-                self.visits.heard();
-                false
-            }
-            Note::Silence => {
-                self.visits.silence();
-                false
-            }
-            Note::Sent { octets } => self.count_sent(control, octets),
+            Note::Sent { .. } => self.count_sent(control),
             Note::Closed { .. } => {
                 self.closed = !self.listens;
                 self.closed
             }
-            Note::Joined { .. } => false,
+            Note::Heard { .. } | Note::Silence | Note::Joined { .. } => false,
         }
     }
-}
 
-/// Returns the kind of a transmission of the control station.
-fn sent_as<B: Allocator>(control: &Control<B>, octets: &[u8]) -> Sent {
-    let heard = decode(octets);
-    match &heard {
-        Heard::Whole(Message::Call(address)) => match control.find(address) {
-            Some((_, Way::FromTerminal)) => Sent::Poll,
-            Some((_, Way::ToTerminal(_))) => Sent::Selection,
-            None => Sent::Other,
-        },
-        _ => Sent::Other,
+    /// Counts a transmission of the control station. Returns `true` if it has made enough rounds.
+    fn count_sent<B: Allocator>(&mut self, control: &Control<B>) -> bool
+        ensures state { self.new ≡ after_sent self.old control.now }
+        ensures ends { result ≡ ends_when_sent self.old control.now }
+    {
+        let Some(entry) = self.visits.sent(control) else {
+            return false;
+        };
+        let more = station_standing(control).waiting;
+        self.rounds.visited(entry, control.place(), more);
+        self.rounds.are_enough(self.limits)
     }
 }

@@ -13,14 +13,13 @@ pub struct Limits {
     pub idle_rounds: u64,
 }
 
-/// The rounds of a poll list. A round is one visit to each entry. A round is idle if no record
-/// arrived in it and nothing waits to be sent at its end.
+/// The rounds of a poll list. A round is one visit to each entry: it is complete when the control
+/// station goes from the last entry to the first. A round is idle if no record arrived in it and
+/// nothing waits to be sent at its end.
 #[derive(Clone, Copy)]
 pub(crate) struct Rounds {
-    /// The number of entries of the poll list.
-    entries: usize,
-    /// The number of entries not yet visited in this round.
-    left: usize,
+    /// The last entry of the poll list.
+    last: usize,
     /// Whether a record arrived in this round.
     found: bool,
     /// The number of completed rounds.
@@ -30,13 +29,12 @@ pub(crate) struct Rounds {
 }
 
 impl Rounds {
-    /// Returns the rounds of a poll list with this many entries, none of which has been visited.
-    pub fn new(entries: usize) -> Rounds
-        ensures { result ≡ rounds_of entries entries false 0 0 }
+    /// Returns the rounds of a poll list with this last entry, no entry of which has been visited.
+    pub fn new(last: usize) -> Rounds
+        ensures { result ≡ rounds_of last false 0 0 }
     {
         Rounds {
-            entries,
-            left: entries,
+            last,
             found: false,
             rounds: 0,
             idle: 0,
@@ -46,22 +44,20 @@ impl Rounds {
     /// Records that a record arrived in this round.
     pub fn found(&mut self)
         ensures { let r = self.old in
-            self.new ≡ rounds_of r.entries r.left true r.rounds r.idle }
+            self.new ≡ rounds_of r.last true r.rounds r.idle }
     {
         self.found = true;
     }
 
-    /// Counts the end of the visit to an entry; `more` tells whether something waits to be sent.
-    /// The last entry completes the round. The counts saturate at 2^64 - 1.
-    pub fn visited(&mut self, more: bool)
-        ensures { self.new ≡ after_visit self.old more }
+    /// Counts the end of the visit to an entry; `next` is the entry of the next visit, and `more`
+    /// tells whether something waits to be sent. The counts saturate at 2^64 - 1.
+    pub fn visited(&mut self, entry: usize, next: usize, more: bool)
+        ensures { self.new ≡ after_visit self.old entry next more }
     {
-        if self.left > 1 {
-            self.left -= 1;
+        if entry != self.last || next != 0 {
             return;
         }
         let idle = !self.found && !more;
-        self.left = self.entries;
         self.found = false;
         self.rounds = self.rounds.saturating_add(1);
         self.idle = if idle { self.idle.saturating_add(1) } else { 0 };

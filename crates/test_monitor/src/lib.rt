@@ -1,5 +1,5 @@
 //! Tests of whole stations as the command runs them: attended over scripted connections, with
-//! single notes, and with growths and writes that fail.
+//! single notes and events, and with growths and writes that fail.
 //!
 //! Calls and replies are the standard's (GA27-3004); rounds and visits as limits, notes, traces and
 //! reports are this project's own.
@@ -21,3 +21,5 @@ mod offered;
 mod printed;
 #[cfg(test)]
 mod stations;
+#[cfg(test)]
+mod visits;

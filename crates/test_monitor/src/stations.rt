@@ -32,18 +32,22 @@ pub(crate) fn control_of(alloc: Global, document: &str) -> Result<Control<Global
     Ok(new_control(alloc, &config)?)
 }
 
-/// Offers the record HI for terminal 0.
-fn offer(alloc: Global, control: &mut Control<Global>) -> Result<(), Fail> {
-    if control.terminals() == 0 || control.addresses(0) == 0 {
-        return Err(Fail::new("no terminal"));
+/// Offers the record HI for this selection address of terminal 0.
+pub(crate) fn offer(
+    alloc: Global,
+    control: &mut Control<Global>,
+    select: usize,
+) -> Result<(), Fail> {
+    if control.terminals() == 0 || control.addresses(0) <= select {
+        return Err(Fail::new("no such address"));
     }
     let records = read_records(alloc, b"HI\n", control.setup().format().full())?;
-    Ok(offer_for_terminal(control, 0, 0, records)?)
+    Ok(offer_for_terminal(control, 0, select, records)?)
 }
 
 /// The control station of a line of two terminals, with the record HI to send to terminal 0.
 pub(crate) fn sending_control(alloc: Global) -> Result<Control<Global>, Fail> {
     let mut control = control_of(alloc, TWO_TERMINALS)?;
-    offer(alloc, &mut control)?;
+    offer(alloc, &mut control, 0)?;
     Ok(control)
 }

@@ -3,7 +3,7 @@
 mod exchange;
 
 use crate::control::exchange::Step::{
-    AsksForLine, GivesBack, Hears, Known, Owner, Release, Spooled, Takes,
+    AsksForLine, At, GivesBack, Hears, Known, Owner, Polls, Release, Spooled, Takes,
 };
 use crate::control::exchange::{Exchange, play, play_each};
 use crate::hearing::{QUIET, SILENCE};
@@ -40,11 +40,16 @@ const POLLS: &[Exchange<'static>] = &[
         steps: &[
             Hears(ACK0, QUIET),
             Hears(SILENCE, CALL_POLL_A),
+            At(0, 0),
+            Polls,
             Hears(EOT, CALL_POLL_B),
+            At(1, 0),
             Hears(SILENCE, CALL_POLL_B),
             Hears(SILENCE, CALL_POLL_B),
             Hears(SILENCE, CALL_POLL_B),
+            At(1, 3),
             Hears(SILENCE, CALL_POLL_A),
+            At(0, 0),
         ],
     },
     Exchange {

@@ -6,7 +6,7 @@ ghost use Rattle.bsc_control.specs.Control.{peer_at};
 use crate::hearing::sends;
 use bsc_bid::{ReleaseError, Setup, Station};
 use bsc_block::Record;
-use bsc_control::{Control, SetupError, Way};
+use bsc_control::{Control, Replied, SetupError, Task, Way};
 use bsc_frame::Address;
 use std::alloc::Allocator;
 use test_fixtures::lines::two_terminals_by_three;
@@ -36,6 +36,12 @@ pub(crate) enum Step<'a> {
 
     /// Exactly these records arrived from terminal 0.
     Spooled(&'a [&'a [u8]]),
+
+    /// The present entry of the poll list, and the failures of the present call.
+    At(usize, u8),
+
+    /// The station polls the terminal of the present entry, and has sent no reply to it.
+    Polls,
 
     /// The terminal and direction of the channel with this address.
     Owner(&'a [u8], Option<(usize, Way)>),
@@ -147,6 +153,15 @@ fn goes<A: Allocator>(control: &mut Control<A>, step: &Step<'_>) -> bool {
         Step::Release(count, answer) => released(control, *count) == Some(*answer),
         Step::Known(count, in_doubt) => known(control) == Some((*count, *in_doubt)),
         Step::Spooled(records) => has_spooled(control, records),
+        Step::At(place, failures) => control.place() == *place && control.failures() == *failures,
+        Step::Polls => {
+            matches!(
+                control.task(),
+                Task::Polling {
+                    replied: Replied::Nothing,
+                }
+            )
+        }
         Step::Owner(codes, expected) => owner(control, codes) == *expected,
     }
 }

@@ -1,0 +1,68 @@
+-- How far a control station has come in its poll list, and when it ends.
+use Rattle.std.specs.Prelude.{ℕ, Bool, false, not, ◌||◌, length, Option, None, Some}
+use Rattle.bsc_connections.specs.declared.monitor.Note.{Note}
+use Rattle.bsc_connections.specs.declared.monitor.Note.TheVariants.{Sent, Closed}
+use Rattle.bsc_control.specs.Control.{ControlValue, peer_at}
+use Rattle.bsc_monitor.specs.Ends.{control_end, station_standing}
+use Rattle.bsc_monitor.specs.Rounds.{rounds_of, after_visit, are_enough}
+use Rattle.bsc_monitor.specs.Visits.{visits_of, polled_by, visit_ended}
+use Rattle.bsc_monitor.specs.declared.progress.Progress.{Progress}
+use Rattle.bsc_monitor.specs.declared.rounds.Limits.{Limits}
+use Rattle.bsc_monitor.specs.declared.rounds.Rounds.{Rounds}
+
+-- The progress of a control station that has sent nothing, by the last entry of its poll list.
+abbrev pub progress_of : Limits → ℕ → Bool → Progress
+progress_of limits last listens =
+    record {
+      limits = limits;
+      visits = visits_of None;
+      rounds = rounds_of last false 0 0;
+      listens = listens;
+      closed = false;
+      ended = false;
+    }
+
+-- Whether something waits to be sent.
+abbrev pub has_more : ControlValue → Bool
+has_more c =
+    (station_standing (λ t. length (peer_at c t).outbounds) (control_end c) (length c.peers)).waiting
+
+-- The rounds, if the visit to this entry has ended, or none.
+abbrev pub rounds_after : Rounds → Option ℕ → ControlValue → Rounds
+rounds_after r None c = r
+rounds_after r (Some entry) c = after_visit r entry c.place (has_more c)
+
+-- The progress after the control station has sent something.
+abbrev pub after_sent : Progress → ControlValue → Progress
+after_sent p c =
+    record p {
+      visits = visits_of (polled_by c);
+      rounds = rounds_after p.rounds (visit_ended p.visits.polled c) c;
+    }
+
+-- Whether there are enough rounds after the visit to this entry, or none.
+abbrev pub enough_after : Rounds → Limits → Option ℕ → ControlValue → Bool
+enough_after r limits None c = false
+enough_after r limits (Some entry) c = are_enough (after_visit r entry c.place (has_more c)) limits
+
+-- Whether the control station ends after it has sent something: the visit to an entry has ended, and
+-- there are enough rounds.
+abbrev pub ends_when_sent : Progress → ControlValue → Bool
+ends_when_sent p c = enough_after p.rounds p.limits (visit_ended p.visits.polled c) c
+
+-- The progress after an event. Only what the control station sends counts, and a connection that is
+-- closed, if no other peer can connect.
+abbrev pub after_note : Progress → ControlValue → Note → Progress
+after_note p c (Sent octets) = after_sent p c
+after_note p c (Closed connection why) = record p { closed = not p.listens }
+after_note p c _ = p
+
+-- Whether the control station ends with an event.
+abbrev pub ends_with : Progress → ControlValue → Note → Bool
+ends_with p c (Sent octets) = ends_when_sent p c
+ends_with p c (Closed connection why) = not p.listens
+ends_with p c _ = false
+
+-- A record arrived in the round, or none did.
+abbrev pub with_found : Progress → Bool → Progress
+with_found p found = record p { rounds = record p.rounds { found = p.rounds.found || found } }

@@ -1,0 +1,242 @@
+//! The end of visits and rounds of the poll list, as a watch counts them.
+
+use crate::fakes::Counting;
+use crate::stations::{control_of, offer};
+use crate::visits::Event::{Asks, Heard, Offered, Silence};
+use bsc_bid::Station;
+use bsc_connections::{LiveError, Monitor, Note};
+use bsc_control::Control;
+use bsc_frame::Wire;
+use bsc_monitor::{ControlWatch, Form, Limits, Printing, Watch};
+use std::alloc::Global;
+use std::test::Fail;
+use test_fixtures::configurations::TWO_TERMINALS;
+use test_fixtures::octets::{ACK0, ACK1, EOT, NAK, NOISE, TEXT_HI};
+
+/// A line of one terminal with two selection addresses. Each visit of its poll list is a round. Up
+/// to three failures in a row are allowed.
+const ONE_TERMINAL: &str = "version = 2
+poll_list = [0]
+
+[[terminals]]
+poll = \"A\"
+select = [\"a\", \"c\"]
+";
+
+/// Something that happens to a control station.
+#[derive(Clone, Copy)]
+enum Event {
+    /// The record HI is offered for this selection address of terminal 0.
+    Offered(usize),
+
+    /// The station asks this terminal for the line.
+    Asks(usize),
+
+    /// A time-out passes.
+    Silence,
+
+    /// These octets are heard.
+    Heard(&'static [u8]),
+}
+
+/// Events at the control station of one terminal, and the number of visits that end with them.
+const VISITS: &[(&[Event], u64)] = &[
+    // The first poll, its answer EOT, and the poll of the next visit.
+    (&[Silence], 0),
+    (&[Silence, Heard(EOT)], 1),
+    (&[Silence, Heard(EOT), Heard(EOT), Heard(EOT)], 3),
+    // A poll without an answer is repeated three times; the fourth silence ends the visit.
+    (&[Silence, Silence, Silence, Silence], 0),
+    (&[Silence, Silence, Silence, Silence, Silence], 1),
+    // EOT comes after two silences, so the next poll is not a repetition.
+    (&[Silence, Silence, Silence, Heard(EOT)], 1),
+    // A text was acknowledged, so the silence after it ends the visit.
+    (&[Silence, Heard(TEXT_HI)], 0),
+    (&[Silence, Heard(TEXT_HI), Silence], 1),
+    // Noise does not count as an answer: nothing is sent, and the poll is repeated after a silence.
+    (&[Silence, Heard(NOISE)], 0),
+    (&[Silence, Heard(NOISE), Silence], 0),
+    // Two selections and their bids belong to the visit that ends with their poll; then comes a
+    // selection or a poll.
+    (
+        &[
+            Offered(0),
+            Offered(1),
+            Silence,
+            Heard(ACK0),
+            Heard(ACK1),
+            Heard(ACK0),
+            Heard(ACK1),
+        ],
+        0,
+    ),
+    (
+        &[
+            Offered(0),
+            Offered(1),
+            Silence,
+            Heard(ACK0),
+            Heard(ACK1),
+            Heard(ACK0),
+            Heard(ACK1),
+            Heard(EOT),
+        ],
+        1,
+    ),
+    (&[Silence, Offered(0), Heard(EOT)], 1),
+    (&[Offered(0), Silence, Heard(NAK), Heard(EOT)], 1),
+    // A selection without an answer is repeated, and does not end a visit.
+    (
+        &[Offered(0), Silence, Silence, Silence, Silence, Silence],
+        0,
+    ),
+];
+
+/// Events at the control station of two terminals, and the number of rounds that end with them.
+const ROUNDS: &[(&[Event], u64)] = &[
+    (&[Silence, Heard(EOT)], 0),
+    (&[Silence, Heard(EOT), Heard(EOT)], 1),
+    (&[Silence, Heard(EOT), Heard(EOT), Heard(EOT)], 1),
+    (
+        &[Silence, Heard(EOT), Heard(EOT), Heard(EOT), Heard(EOT)],
+        2,
+    ),
+    // A poll that was interrupted is followed by another visit of the same entry.
+    (&[Asks(0), Silence, Heard(TEXT_HI), Heard(EOT)], 0),
+    (
+        &[Asks(0), Silence, Heard(TEXT_HI), Heard(EOT), Heard(EOT)],
+        0,
+    ),
+    (
+        &[
+            Asks(0),
+            Silence,
+            Heard(TEXT_HI),
+            Heard(EOT),
+            Heard(EOT),
+            Heard(EOT),
+        ],
+        1,
+    ),
+    (
+        &[Asks(1), Silence, Heard(EOT), Heard(TEXT_HI), Heard(EOT)],
+        0,
+    ),
+    (
+        &[
+            Asks(1),
+            Silence,
+            Heard(EOT),
+            Heard(TEXT_HI),
+            Heard(EOT),
+            Heard(EOT),
+        ],
+        1,
+    ),
+];
+
+/// Asks a terminal for the line.
+fn asks(control: &mut Control<Global>, terminal: usize) -> Result<(), Fail> {
+    if terminal >= control.terminals() {
+        return Err(Fail::new("no terminal"));
+    }
+    control.set_urgent(terminal);
+    Ok(())
+}
+
+/// Tells a watch what has happened to a control station, and then what this sent. Returns whether
+/// the station is to be attended further.
+fn tell<M: Monitor<Control<Global>>>(
+    control: &Control<Global>,
+    watch: &mut M,
+    note: Note<'_>,
+    sent: &[u8],
+) -> Result<bool, LiveError> {
+    let goes_on = watch.note(control, note)?;
+    if sent.is_empty() {
+        return Ok(goes_on);
+    }
+    watch.note(control, Note::Sent { octets: sent })
+}
+
+/// Lets an event happen to a control station, and tells a watch of it. Returns whether the station
+/// is to be attended further.
+fn happens<M: Monitor<Control<Global>>>(
+    alloc: Global,
+    control: &mut Control<Global>,
+    watch: &mut M,
+    event: Event,
+) -> Result<bool, Fail> {
+    let mut wire = Wire::new();
+    match event {
+        Offered(select) => offer(alloc, control, select)?,
+        Asks(terminal) => asks(control, terminal)?,
+        Silence => {
+            let _ = control.silence(&mut wire);
+            return Ok(tell(control, watch, Note::Silence, &wire)?);
+        }
+        Heard(octets) => {
+            let _ = control.hear(octets, &mut wire);
+            let note = Note::Heard {
+                connection: 0,
+                octets,
+            };
+            return Ok(tell(control, watch, note, &wire)?);
+        }
+    }
+    Ok(true)
+}
+
+/// Whether a control station that ends after this many rounds has ended after these events.
+fn has_ended(alloc: Global, document: &str, events: &[Event], rounds: u64) -> Result<bool, Fail> {
+    let printing = Printing {
+        form: Form::Hexadecimal,
+        trace: false,
+    };
+    let limits = Limits {
+        rounds: Some(rounds),
+        idle_rounds: u64::MAX,
+    };
+    let mut control = control_of(alloc, document)?;
+    let (mut out, mut errors) = (Vec::new(alloc), Vec::new(alloc));
+    let timer = Counting { asked: 0 };
+    let watch = Watch::new(alloc, &control, printing, timer, &mut out, &mut errors)?;
+    let mut watch = ControlWatch::new(&control, watch, limits, true);
+    let mut goes_on = true;
+    for &event in events {
+        goes_on = happens(alloc, &mut control, &mut watch, event)?;
+    }
+    Ok(!goes_on)
+}
+
+/// Whether exactly this many rounds end with these events.
+fn ends_rounds(alloc: Global, document: &str, events: &[Event], rounds: u64) -> Result<bool, Fail> {
+    let is_enough = rounds == 0 || has_ended(alloc, document, events, rounds)?;
+    Ok(is_enough && !has_ended(alloc, document, events, rounds.saturating_add(1))?)
+}
+
+/// The place of the first row with another number of rounds.
+fn first_wrong(
+    alloc: Global,
+    document: &str,
+    rows: &[(&[Event], u64)],
+) -> Result<Option<usize>, Fail> {
+    for (place, (events, rounds)) in rows.iter().enumerate() {
+        if !ends_rounds(alloc, document, events, *rounds)? {
+            return Ok(Some(place));
+        }
+    }
+    Ok(None)
+}
+
+#[test]
+fn a_visit_ends_at_a_call_that_repeats_no_poll(rt: HostRuntime) -> Result<(), Fail> {
+    assert_eq!(rt; first_wrong(rt.alloc(), ONE_TERMINAL, VISITS)?, None);
+    Ok(())
+}
+
+#[test]
+fn a_round_ends_when_the_first_entry_follows_the_last(rt: HostRuntime) -> Result<(), Fail> {
+    assert_eq!(rt; first_wrong(rt.alloc(), TWO_TERMINALS, ROUNDS)?, None);
+    Ok(())
+}
