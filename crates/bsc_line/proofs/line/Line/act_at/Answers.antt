@@ -7,13 +7,13 @@ use Rattle.bsc_line.proofs.Carrying.{acted_at}
 use Rattle.bsc_line.proofs.line.Line.act_at.Given as given
 use Rattle.bsc_line.proofs.line.Line.act_at.Goals as goal
 
-there : (g : given.Over) (c : goal.After-by g) → c.args.terminal
+there : (g : given.Over) (c : goal.After-self-2-1 g) → c.args.terminal
     < length c.self.inside.terminals.items
 there g c =
     subst (λ (l : LineValue). c.args.terminal < terminal_count l) (sym c.self.view_is)
     c.requires.there
 
-terminal_acted : (g : given.Over) (c : goal.After-by g) →
+terminal_acted : (g : given.Over) (c : goal.After-self-2-1 g) →
     TerminalActsAlone c.args.terminal (line_of c.self.inside.control c.self.inside.terminals.items
     c.self.inside.sent c.self.inside.trusted c.self.inside.addressed)
     (line_of c.self.inside.control (slice_set c.self.inside.terminals.items c.args.terminal

@@ -7,7 +7,7 @@ use Rattle.bsc_line_model.specs.Carries.{ControlActsAlone, OwnerActs}
 use Rattle.bsc_line.proofs.line.Line.act_at_control.Given as given
 use Rattle.bsc_line.proofs.line.Line.act_at_control.Goals as goal
 
-control_acted : (g : given.Over) (c : goal.After-by g) →
+control_acted : (g : given.Over) (c : goal.After-self-1 g) →
     ControlActsAlone (line_of c.self.inside.control c.self.inside.terminals.items c.self.inside.sent
     c.self.inside.trusted c.self.inside.addressed)
     (line_of c.act.new.self c.self.inside.terminals.items c.by-self-inside.result

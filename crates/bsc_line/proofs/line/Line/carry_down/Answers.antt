@@ -25,11 +25,11 @@ addressed_after-self-inside-requires g c =
     omega arith
 
 -- the count is the number of terminals
-counted : (g : given.Over) (c : goal.After-both g) → c.len-count.result
+counted : (g : given.Over) (c : goal.After-self-3-1 g) → c.len-count.result
     ≡ length c.self.inside.terminals.items
 counted g c = omega arith
 
-trusted : (g : given.Over) (c : goal.After-both g) (s : Transmission) → c.self.inside.sent ≡ Some s
+trusted : (g : given.Over) (c : goal.After-self-3-1 g) (s : Transmission) → c.self.inside.sent ≡ Some s
     →
     IsTrustAfter c.self.inside.trusted
     (IsHeardFairly s.message (length c.self.inside.terminals.items)
@@ -45,7 +45,7 @@ trusted g c s e =
     c.len-count.result (hearing_of c.args.hearings.now)) c.self.inside.sent s
     c.is_down_fair-fair.ensures e))
 
-addressed : (g : given.Over) (c : goal.After-both g) →
+addressed : (g : given.Over) (c : goal.After-self-3-1 g) →
     IsAddressedAfter (addresses_of c.self.inside.control) (length c.self.inside.terminals.items)
     (hearing_of c.args.hearings.now) c.self.inside.addressed
     c.addressed_after-self-inside.result
@@ -54,7 +54,7 @@ addressed g c =
     (hearing_of c.args.hearings.now) c.self.inside.addressed
     c.addressed_after-self-inside.result) (counted g c) c.addressed_after-self-inside.ensures
 
-is_carried_down : (g : given.Over) (c : goal.After-both g) (s : Transmission)
+is_carried_down : (g : given.Over) (c : goal.After-self-3-1 g) (s : Transmission)
     → c.self.inside.sent ≡ Some s →
     IsCarriedDown s.message (hearing_of c.args.hearings.now)
     (line_of c.self.inside.control c.self.inside.terminals.items c.self.inside.sent

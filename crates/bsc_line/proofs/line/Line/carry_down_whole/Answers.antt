@@ -17,7 +17,7 @@ addressed_after-self-inside-requires g c =
     c.self.invariant.stations in
     omega arith
 
-is_carried_down_whole : (g : given.Over) (c : goal.After-hear_in g) (s : Transmission)
+is_carried_down_whole : (g : given.Over) (c : goal.After-self-2-1 g) (s : Transmission)
     → c.self.inside.sent ≡ Some s →
     IsCarriedDown s.message (λ t. Whole s.message)
     (line_of c.self.inside.control c.self.inside.terminals.items c.self.inside.sent

@@ -8,7 +8,7 @@ use Rattle.bsc_line.proofs.Carrying.{trust_after, of_some}
 use Rattle.bsc_line.proofs.line.Line.carry_up.Given as given
 use Rattle.bsc_line.proofs.line.Line.carry_up.Goals as goal
 
-is_carried_up : (g : given.Over) (c : goal.After-both g) (s : Transmission)
+is_carried_up : (g : given.Over) (c : goal.After-self-2-1 g) (s : Transmission)
     → c.self.inside.sent ≡ Some s →
     IsCarriedUp s.message c.args.heard.now
     (line_of c.self.inside.control c.self.inside.terminals.items c.self.inside.sent

@@ -8,7 +8,7 @@ use Rattle.bsc_line.proofs.Carrying.{of_some, carried_up_whole}
 use Rattle.bsc_line.proofs.line.Line.carry_up_whole.Given as given
 use Rattle.bsc_line.proofs.line.Line.carry_up_whole.Goals as goal
 
-is_carried_up_whole : (g : given.Over) (c : goal.After-by g) (s : Transmission)
+is_carried_up_whole : (g : given.Over) (c : goal.After-self-1 g) (s : Transmission)
     → c.self.inside.sent ≡ Some s →
     IsCarriedUp s.message (Whole s.message)
     (line_of c.self.inside.control c.self.inside.terminals.items c.self.inside.sent
