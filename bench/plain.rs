@@ -335,7 +335,7 @@ impl Wire {
         &self.octets[..self.len]
     }
 
-    fn push(&mut self, octet: u8) {
+    pub fn push(&mut self, octet: u8) {
         self.octets[self.len] = octet;
         self.len += 1;
     }

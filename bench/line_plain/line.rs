@@ -2,7 +2,7 @@
 
 use crate::bid::ReleaseError;
 use crate::control::Control;
-use crate::plain::{Heard, Message, Wire, decode, encode};
+use crate::plain::{Heard, Message, decode};
 use crate::record::{Record, RecordError, Setup};
 use crate::tributary::{Terminal, Tributary};
 
@@ -46,8 +46,6 @@ pub struct Line {
     control: Control,
     terminals: Vec<Tributary>,
     sent: Option<(Speaker, Message)>,
-    /// The octets of what is sent.
-    wire: Wire,
     trusted: bool,
 }
 
@@ -61,7 +59,6 @@ impl Line {
                 .map(|terminal| Tributary::new(setup, terminal))
                 .collect(),
             sent: None,
-            wire: Wire::new(),
             trusted: true,
         }
     }
@@ -78,9 +75,8 @@ impl Line {
         self.control.addresses(terminal)
     }
 
-    pub fn pending(&self) -> Option<(Speaker, &[u8])> {
-        let (speaker, _) = self.sent.as_ref()?;
-        Some((*speaker, self.wire.octets()))
+    pub fn pending(&self) -> Option<&(Speaker, Message)> {
+        self.sent.as_ref()
     }
 
     /// What is on the line is heard as these octets, or is lost.
@@ -123,7 +119,6 @@ impl Line {
                 self.sent = answer.map(|message| (Speaker::Terminal(number), message));
             }
         }
-        self.show();
         Ok(())
     }
 
@@ -142,7 +137,6 @@ impl Line {
                 answer.map(|message| (Speaker::Control, message))
             }
         };
-        self.show();
     }
 
     /// All terminals hear the same; gives the answer of the least one that answers.
@@ -156,12 +150,6 @@ impl Line {
             }
         }
         first
-    }
-
-    fn show(&mut self) {
-        if let Some((_, message)) = &self.sent {
-            encode(message, &mut self.wire);
-        }
     }
 
     pub fn silence(&mut self) -> Result<(), LineError> {
@@ -178,7 +166,6 @@ impl Line {
                 .silence()
                 .map(|message| (Speaker::Control, message)),
         };
-        self.show();
         Ok(())
     }
 

@@ -1,6 +1,7 @@
 //! What was left on a line, in a line of text that is the same here and in the crate `bench_line`.
 
 use crate::line::{Line, LineError, Speaker, Way};
+use crate::plain::{Wire, encode};
 use crate::record::RecordError;
 
 /// A digest of numbers and octets.
@@ -37,12 +38,14 @@ impl Digest {
         self.number(code(answer));
         match line.pending() {
             None => self.number(0),
-            Some((speaker, octets)) => {
+            Some((speaker, message)) => {
                 match speaker {
                     Speaker::Control => self.number(1),
                     Speaker::Terminal(number) => self.number(2 + number),
                 }
-                self.octets(octets);
+                let mut wire = Wire::new();
+                encode(message, &mut wire);
+                self.octets(wire.octets());
             }
         }
         self.number(usize::from(line.trusted()));

@@ -1,7 +1,7 @@
 //! Random scripts of events of all kinds.
 
 use crate::line::{Line, LineError, Speaker, Way};
-use crate::plain::Address;
+use crate::plain::{Address, Wire, encode};
 use crate::random::Random;
 use crate::record::Setup;
 use crate::report::{self, Digest};
@@ -177,15 +177,17 @@ impl Script {
 
     /// What is pending is carried or lost; where nothing is, a silence passes.
     fn turn(&mut self) -> Result<(), LineError> {
-        let Some((speaker, octets)) = self.line.pending() else {
+        let Some((speaker, message)) = self.line.pending() else {
             return self.line.silence();
         };
         let by_control = matches!(speaker, Speaker::Control);
+        let mut wire = Wire::new();
+        encode(message, &mut wire);
         if self.random.one_in(4) {
             std::mem::swap(&mut self.octets, &mut self.earlier);
         }
         self.octets.clear();
-        self.octets.extend_from_slice(octets);
+        self.octets.extend_from_slice(wire.octets());
         if self.random.below(8) >= self.spoiled {
             return self.line.carry_sent();
         }

@@ -1,7 +1,7 @@
 //! The workloads for the clock: polls of nothing, and texts of seven records each way.
 
 use crate::line::{Line, LineError};
-use crate::plain::Address;
+use crate::plain::{Address, Wire, encode};
 use crate::record::Setup;
 use crate::report::{self, Digest};
 use crate::tributary::Terminal;
@@ -34,7 +34,7 @@ const TRANSMISSIONS: usize = 8;
 struct Player {
     line: Line,
     hearing: Hearing,
-    octets: Vec<u8>,
+    octets: Wire,
     record: [u8; RECORD_CHARS],
     number: usize,
     terminal: usize,
@@ -126,7 +126,7 @@ impl Player {
         Ok(Player {
             line: Line::new(setup, &stations, &poll_list),
             hearing,
-            octets: Vec::new(),
+            octets: Wire::new(),
             record: [b'-'; RECORD_CHARS],
             number: 0,
             terminal: 0,
@@ -136,19 +136,18 @@ impl Player {
     fn carry(&mut self) -> Result<(), LineError> {
         match self.hearing {
             Hearing::Sent => return self.line.carry_sent(),
-            Hearing::Octets => self.copy_pending(),
+            Hearing::Octets => self.encode_pending(),
             Hearing::Padded => {
-                self.copy_pending();
+                self.encode_pending();
                 self.octets.push(0xff);
             }
         }
-        self.line.carry(Some(&self.octets))
+        self.line.carry(Some(self.octets.octets()))
     }
 
-    fn copy_pending(&mut self) {
-        self.octets.clear();
-        if let Some((_, octets)) = self.line.pending() {
-            self.octets.extend_from_slice(octets);
+    fn encode_pending(&mut self) {
+        if let Some((_, message)) = self.line.pending() {
+            encode(message, &mut self.octets);
         }
     }
 

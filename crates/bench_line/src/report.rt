@@ -6,7 +6,8 @@ ghost use Rattle.bsc_line_model.specs.Line.{IsChannel, terminal_count};
 
 use bsc_block::RecordError;
 use bsc_control::Way;
-use bsc_line::{Line, LineError, Speaker};
+use bsc_frame::{Wire, encode};
+use bsc_line::{Line, LineError, Speaker, Transmission};
 use std::alloc::Global;
 use std::io;
 use std::io::Write;
@@ -41,12 +42,17 @@ impl Digest {
         self.number(code(answer));
         match line.pending() {
             None => self.number(0),
-            Some((speaker, octets)) => {
-                self.number(speaker_code(speaker));
-                self.octets(octets);
-            }
+            Some(sent) => self.transmission(sent),
         }
         self.number(usize::from(line.trusted()));
+    }
+
+    /// Adds the sender of a transmission, and its octets.
+    fn transmission(&mut self, sent: &Transmission) {
+        let mut octets = Wire::new();
+        encode(&sent.message, &mut octets);
+        self.number(speaker_code(sent.speaker));
+        self.octets(octets.as_slice());
     }
 }
 

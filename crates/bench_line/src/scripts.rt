@@ -6,7 +6,7 @@ use crate::report;
 use crate::report::Digest;
 use bsc_bid::{Setup, Terminal};
 use bsc_control::Way;
-use bsc_frame::Address;
+use bsc_frame::{Address, Wire, encode};
 use bsc_line::{Line, LineError, Speaker};
 use std::alloc::{AllocError, Global};
 use std::io::Write;
@@ -204,7 +204,7 @@ impl Script {
 
     /// What is pending is carried or lost; if nothing is pending, a silence passes.
     fn turn(&mut self) -> Answer {
-        let Some(speaker) = self.copy_pending()? else {
+        let Some(speaker) = self.keep_pending()? else {
             return Ok(self.line.silence());
         };
         if self.random.below(8) >= self.spoiled {
@@ -217,17 +217,20 @@ impl Script {
         }
     }
 
-    /// Copies what is pending, and sometimes keeps what was pending before. Returns the station
-    /// that sent it, or None if nothing is pending.
-    fn copy_pending(&mut self) -> Result<Option<Speaker>, AllocError> {
-        let Some((speaker, octets)) = self.line.pending() else {
+    /// Keeps the octets of what is pending, and sometimes those of what was pending before. Returns
+    /// the station that sent it, or None if nothing is pending.
+    fn keep_pending(&mut self) -> Result<Option<Speaker>, AllocError> {
+        let Some(sent) = self.line.pending() else {
             return Ok(None);
         };
+        let mut octets = Wire::new();
+        encode(&sent.message, &mut octets);
+        let speaker = sent.speaker;
         if self.random.one_in(4) {
             mem::swap(&mut self.octets, &mut self.earlier);
         }
         self.octets.clear();
-        self.octets.extend_from_slice(octets)?;
+        self.octets.extend_from_slice(octets.as_slice())?;
         Ok(Some(speaker))
     }
 

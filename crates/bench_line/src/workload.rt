@@ -7,7 +7,7 @@ use crate::report;
 use crate::report::Digest;
 use anyhow::{Context, ensure};
 use bsc_bid::{Setup, Terminal};
-use bsc_frame::{Address, Wire};
+use bsc_frame::{Address, Wire, encode};
 use bsc_line::{Line, LineError};
 use std::alloc::Global;
 use std::fs;
@@ -205,20 +205,20 @@ impl Player {
     fn carry(&mut self) -> Result<(), LineError> {
         match self.hearing {
             Hearing::Sent => return self.line.carry_sent(),
-            Hearing::Octets => self.copy_pending(),
+            Hearing::Octets => self.encode_pending(),
             Hearing::Padded => {
-                self.copy_pending();
+                self.encode_pending();
                 let _ = self.octets.try_push(0xff);
             }
         }
         self.line.carry(Some(self.octets.as_slice()))
     }
 
-    /// Copies the octets of what is pending, at most 1,033.
-    fn copy_pending(&mut self) {
-        self.octets.clear();
-        if let Some((_, octets)) = self.line.pending() {
-            let _ = self.octets.try_extend_from_slice(octets);
+    /// Makes the octets of what is pending, at most 1,033; none if nothing is.
+    fn encode_pending(&mut self) {
+        match self.line.pending() {
+            Some(sent) => encode(&sent.message, &mut self.octets),
+            None => self.octets.clear(),
         }
     }
 

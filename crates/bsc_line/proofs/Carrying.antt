@@ -1,16 +1,12 @@
 -- The steps of the methods that carry a transmission.
 use Rattle.std.proofs.Common.{◌≡◌, ◌↔◌, ℕ, ◌<◌, ◌≤◌, Bool, true, false, ◌&&◌, IsTrue, IfSome}
-use Rattle.std.proofs.Common.{is_some, Result, Ok, Err, List, length, Option, None, Some, get_or}
+use Rattle.std.proofs.Common.{is_some, Result, List, length, Option, None, Some, get_or}
 use Rattle.std.proofs.Common.{slice_set, get_or-set_same, refl, sym, ◌∙◌, ap, subst, arith, inl}
 use Rattle.std.specs.Borrow.{Bor}
 use Rattle.bsc_frame.specs.declared.message.Message.{Message}
 use Rattle.bsc_frame.specs.declared.message.Message.TheVariants as m
 use Rattle.bsc_frame.specs.declared.message.Heard.{Heard}
 use Rattle.bsc_frame.specs.declared.message.Heard.TheVariants.{Whole}
-use Rattle.bsc_frame.specs.Message.{IsMessage}
-use Rattle.bsc_frame.specs.Reading.{heard}
-use Rattle.bsc_frame.specs.Spells.{Spells}
-use Rattle.bsc_frame.specs.Wire.{wire}
 use Rattle.bsc_bid.specs.Fair.{IsFairlyHeard}
 use Rattle.bsc_tributary.specs.Tributary.{TributaryValue, ActsOnSilence as TerminalActs}
 use Rattle.bsc_tributary.specs.Kept.{AfterSilence as TerminalKeeps}
@@ -18,12 +14,11 @@ use Rattle.bsc_control.specs.Control.{ControlValue, terminals as addresses_of}
 use Rattle.bsc_control.specs.Kept.{AfterHearing as ControlAfter}
 use Rattle.bsc_control.specs.Table.{Hears as ControlHears}
 use Rattle.bsc_line_model.specs.declared.error.LineError.{LineError}
-use Rattle.bsc_line_model.specs.declared.error.LineError.TheVariants as e
 use Rattle.bsc_line_model.specs.declared.transmission.Speaker.{Speaker}
 use Rattle.bsc_line_model.specs.declared.transmission.Speaker.TheVariants.{Control, Terminal}
 use Rattle.bsc_line_model.specs.declared.transmission.Transmission.{Transmission}
-use Rattle.bsc_line_model.specs.Transmission.{sent_by, speaker_of, IsOnWire}
-use Rattle.bsc_line_model.specs.Hearing.{heard_in, heard_at}
+use Rattle.bsc_line_model.specs.Transmission.{sent_by, speaker_of}
+use Rattle.bsc_line_model.specs.Hearing.{heard_at}
 use Rattle.bsc_line_model.specs.Line.{LineValue, no_terminal, terminal_in, terminal_at}
 use Rattle.bsc_line_model.specs.Line.{terminal_count, with_terminal}
 use Rattle.bsc_line_model.specs.Terminals.{EachHears, EachKeeps, first_answer, line_owner}
@@ -123,30 +118,6 @@ passes_silence l new owner none is acts =
           subst (λ (o : Option ℕ). OwnerActs o l new) is acts;
     }
 
--- two readings by which the pending transmission is heard alike
-pub carries_same : (f g : Transmission → Heard) (l : LineValue)
-    (result : Result (Unit {0}) LineError) (new : LineValue)
-    → ((s : Transmission) → l.pending ≡ Some s → f s ≡ g s) → Carries f l result new
-    → Carries g l result new
-carries_same f g l (Ok done) new same h =
-    record {
-      sent = h.sent;
-      pending = h.pending;
-      carried =
-          subst (λ (x : Heard). IsCarriedBy h.sent.speaker h.sent.message x l new)
-          (same h.sent h.pending) h.carried;
-    }
-carries_same f g l (Err e.NothingSent) new same h = h
-carries_same f g l (Err e.NotControl) new same h = h
-carries_same f g l (Err e.WrongCount) new same h = h
-carries_same f g l (Err e.Pending) new same h = h
-carries_same f g l (Err e.NoSuchTerminal) new same h = h
-carries_same f g l (Err e.NoSuchAddress) new same h = h
-carries_same f g l (Err (e.BadRecord r)) new same h = h
-carries_same f g l (Err e.Memory) new same h = h
-carries_same f g l (Err e.NotInDoubt) new same h = h
-carries_same f g l (Err e.CountMismatch) new same h = h
-
 -- each terminal hears its item
 pub carries_each : (l new : LineValue) (items : List (Option (Bor (List ℕ)))) → speaker_of l.pending
     ≡ Some Control → length items ≡ terminal_count l
@@ -219,21 +190,6 @@ carried_up_whole w h old new sent is row kept terminals pending addressed truste
           (subst (λ (x : Heard). IsFairlyHeard w x) (sym is) (inl refl)));
     })
 
--- octets that are those on the wire are heard as they were sent
-pub heard_whole : (sent : Option Transmission) (wired : List ℕ) (octets : Option (List ℕ))
-    (s : Transmission) → IsOnWire sent wired → sent ≡ Some s → octets ≡ Some wired →
-    ((w : Message) → IsMessage w → Spells (wire w) w)
-    → ((xs : List ℕ) (w : Message) → (heard xs ≡ Whole w) ↔ Spells xs w) → Whole s.message
-    ≡ heard_in octets
-unfolding heard_in
-heard_whole sent wired octets s on is same spelled read =
-    let told : (wired ≡ wire s.message) × IsMessage s.message =
-    subst (λ (o : Option Transmission). IsOnWire o wired) is on in
-    let whole : heard wired ≡ Whole s.message =
-    (read wired s.message).1 (subst (λ (xs : List ℕ). Spells xs s.message) (sym told.0)
-    (spelled s.message told.1)) in
-    sym (ap heard_in same ∙ whole)
-
 -- what is heard depends only on the decoded octets
 pub carries_heard : (h k : Heard) (l : LineValue) (result : Result (Unit {0}) LineError)
     (new : LineValue) → h ≡ k → Carries (λ (s : Transmission). h) l result new
@@ -263,9 +219,3 @@ acted_at l t x u sent next less is row kept made =
           ∙ ap (λ (y : TributaryValue). record (with_terminal l t y)
           { pending = sent_by (Terminal t) sent }) there;
     }
-
--- the pending transmission keeps the limits of a message
-pub on_wire_within : (sent : Option Transmission) (octets : List ℕ) → IsOnWire sent octets
-    → IfSome sent (λ (s : Transmission). IsMessage s.message)
-on_wire_within None octets on = tt
-on_wire_within (Some s) octets on = on.1

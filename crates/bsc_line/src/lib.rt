@@ -21,5 +21,5 @@ mod reading;
 mod terminals;
 mod trust;
 
-pub use bsc_line_model::{Event, LineError, Speaker, Stopped};
+pub use bsc_line_model::{Event, LineError, Speaker, Stopped, Transmission};
 pub use line::Line;

@@ -7,24 +7,23 @@ mod releases;
 mod runs;
 mod silences;
 
-ghost use Rattle.std.specs.Prelude.{◌≡◌, ◌<◌, IfSome, IfOk, IfErr, OnOk};
+ghost use Rattle.std.specs.Prelude.{◌≡◌, ◌<◌, IfSome, IfOk, IfErr, OnOk, option_copied};
 ghost use Rattle.bsc_frame.specs.Message.{IsMessage};
 ghost use Rattle.bsc_bid.specs.Sender.{is_in_doubt};
 ghost use Rattle.bsc_directory.specs.Refusals.{IsAccepted, IsRefused};
 ghost use Rattle.bsc_line_model.specs.declared.transmission.Transmission.{Transmission as TransmissionValue};
-ghost use Rattle.bsc_line_model.specs.Transmission.{IsPending};
 ghost use Rattle.bsc_line_model.specs.Line.{terminal_count, IsChannel, channel_of, phase_of};
 ghost use Rattle.bsc_line_model.specs.Offers.{select_count};
 ghost use Rattle.bsc_line_model.specs.Kept.{IsLine, IsNewLine};
 
+use crate::pending::lend;
 use crate::terminals::new_terminals;
 use bsc_bid::{Setup, Terminal};
 use bsc_block::Record;
 use bsc_control::{Control, SetupError, Way};
 use bsc_directory::laws::distinct_addresses;
-use bsc_frame::Wire;
+use bsc_line_model::Transmission;
 use bsc_line_model::laws::each_event;
-use bsc_line_model::{Speaker, Transmission};
 use bsc_tributary::Tributary;
 use std::alloc::Allocator;
 use std::marker::Model;
@@ -43,9 +42,6 @@ pub struct Line<A: Allocator> {
     /// The transmission that nobody has heard yet.
     sent: Option<Transmission>,
 
-    /// The octets of that transmission; empty if there is none.
-    wire: Wire,
-
     /// Whether each transmission so far was heard fairly.
     trusted: bool,
 
@@ -55,7 +51,6 @@ pub struct Line<A: Allocator> {
 }
 
 impl<A: Allocator> Model for Line<A> {
-    ghost use Rattle.bsc_line_model.specs.Transmission.{IsOnWire};
     ghost use Rattle.bsc_line_model.specs.Line.{LineValue, line_of};
     ghost use Rattle.bsc_line_model.specs.Kept.{IsLine};
 
@@ -64,8 +59,7 @@ impl<A: Allocator> Model for Line<A> {
     ghost view = { λ l. line_of l.control l.terminals.items l.sent l.trusted l.addressed };
 
     ghost invariant = { λ l.
-        IsLine (line_of l.control l.terminals.items l.sent l.trusted l.addressed)
-        × IsOnWire l.sent l.wire.items };
+        IsLine (line_of l.control l.terminals.items l.sent l.trusted l.addressed) };
 }
 
 impl<A: Allocator> Line<A> {
@@ -93,7 +87,6 @@ impl<A: Allocator> Line<A> {
             control,
             terminals,
             sent: None,
-            wire: Wire::new(),
             trusted: true,
             addressed: None,
         })
@@ -116,17 +109,14 @@ impl<A: Allocator> Line<A> {
         self.terminals.len()
     }
 
-    /// Returns the pending transmission as its sender and its octets, or `None` if nothing is
-    /// pending.
-    pub fn pending(&self) -> Option<(Speaker, &[u8])>
-        ensures value { IsPending self.now.pending result }
+    /// Lends the pending transmission, or returns `None` if nothing is pending. Its octets are those
+    /// that `bsc_frame::encode` leaves for its message.
+    pub fn pending(&self) -> Option<&Transmission>
+        ensures value { option_copied result ≡ self.now.pending }
         ensures limits { IfSome self.now.pending (λ (s : TransmissionValue). IsMessage s.message) }
         ensures line { IsLine self.now }
     {
-        match &self.sent {
-            Some(sent) => Some((sent.speaker, self.wire.as_slice())),
-            None => None,
-        }
+        lend(&self.sent)
     }
 
     /// Returns the number of selection addresses of a terminal: 1 to 4. Condition: the terminal

@@ -1,11 +1,12 @@
 //! The pending transmission.
 
-ghost use Rattle.std.specs.Prelude.{◌≡◌, None, IfSome, OnSome};
+ghost use Rattle.std.specs.Prelude.{◌≡◌, None, IfSome, option_copied};
+ghost use Rattle.bsc_frame.specs.Message.{IsMessage};
 ghost use Rattle.bsc_frame.specs.declared.message.Heard.TheVariants as h;
 ghost use Rattle.bsc_line_model.specs.declared.transmission.Transmission.{Transmission as TransmissionValue};
-ghost use Rattle.bsc_line_model.specs.Transmission.{speaker_of, IsOnWire};
+ghost use Rattle.bsc_line_model.specs.Transmission.{speaker_of};
 
-use bsc_frame::{Heard, Wire, encode};
+use bsc_frame::{Heard, Message};
 use bsc_line_model::{Speaker, Transmission};
 
 /// Returns the sender of the pending transmission.
@@ -29,12 +30,32 @@ pub(crate) fn take_whole(sent: &mut Option<Transmission>) -> Heard
     }
 }
 
-/// Replaces the octets on the wire by those of the pending transmission, or clears the wire.
-pub(crate) fn show(sent: &Option<Transmission>, wire: &mut Wire)
-    ensures { IsOnWire sent.now wire.new.items }
+/// Lends the pending transmission, whose message keeps its limits.
+pub(crate) fn lend(sent: &Option<Transmission>) -> Option<&Transmission>
+    ensures value { option_copied result ≡ sent.now }
+    ensures limits { IfSome sent.now (λ (s : TransmissionValue). IsMessage s.message) }
 {
     match sent {
-        Some(sent) => encode(&sent.message, wire),
-        None => wire.clear(),
+        Some(sent) => {
+            is_message(&sent.message);
+            Some(sent)
+        }
+        None => None,
+    }
+}
+
+/// States that a message keeps its limits, for contracts to rest on. Its parts are read for this
+/// only.
+fn is_message(message: &Message)
+    ensures { IsMessage message.now }
+{
+    match message {
+        Message::Call(address) => {
+            let _codes = address.codes();
+        }
+        Message::Text(text) => {
+            let _count = text.count();
+        }
+        _ => {}
     }
 }

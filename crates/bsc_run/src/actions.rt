@@ -22,6 +22,7 @@ use crate::crossing::{cross, cross_each, slices};
 use crate::error::StepError;
 use bsc_carrier::{Cable, Octets};
 use bsc_frame::laws::one_reading;
+use bsc_frame::{Wire, encode};
 use bsc_line::{Line, LineError, Speaker};
 use bsc_script::{Action, HeardOctets};
 use std::alloc::Allocator;
@@ -120,7 +121,11 @@ fn send_pending<S: Read + Write + Drop, A: Allocator, B: Allocator>(
     one_reading();
     match line.pending() {
         None => Err(StepError::Refused(LineError::NothingSent)),
-        Some((speaker, octets)) => Ok(cross(cable, speaker, octets, read)?),
+        Some(sent) => {
+            let mut octets = Wire::new();
+            encode(&sent.message, &mut octets);
+            Ok(cross(cable, sent.speaker, octets.as_slice(), read)?)
+        }
     }
 }
 
@@ -142,7 +147,7 @@ fn send_given<S: Read + Write + Drop, A: Allocator, B: Allocator>(
 {
     match line.pending() {
         None => Err(StepError::Refused(LineError::NothingSent)),
-        Some((speaker, _)) => Ok(cross(cable, speaker, octets, read)?),
+        Some(sent) => Ok(cross(cable, sent.speaker, octets, read)?),
     }
 }
 
@@ -186,10 +191,12 @@ fn check_items<B: Allocator>(line: &Line<B>, count: usize) -> Result<(), LineErr
     ensures right { OnOk result (WasSent line.now count) }
     ensures wrong { IfErr result (λ why. IsRefusedEach line.now count why) }
 {
-    match line.pending() {
-        None => Err(LineError::NothingSent),
-        Some((Speaker::Terminal(_), _)) => Err(LineError::NotControl),
-        Some((Speaker::Control, _)) => {
+    let Some(sent) = line.pending() else {
+        return Err(LineError::NothingSent);
+    };
+    match sent.speaker {
+        Speaker::Terminal(_) => Err(LineError::NotControl),
+        Speaker::Control => {
             if count == line.terminals() {
                 Ok(())
             } else {

@@ -103,23 +103,22 @@ fn take<
         line.new cable.new (W.contents out.old) (W.contents out.new) }
 {
     match act(alloc, line, &step.action, cable) {
-        Ok(()) => Ok(write_trace(alloc, &step.action, line, out)?),
+        Ok(()) => Ok(write_trace(&step.action, line, out)?),
         Err(error) => Err(error.at(step.line)),
     }
 }
 
 /// Writes the pending transmission if this action is an event of hearing.
-fn write_trace<B: Allocator, C: Allocator, E: Allocator + Copy, W: Write>(
-    alloc: E,
-    action: &Action<'_, C>,
-    line: &Line<B>,
+fn write_trace<A: Allocator, B: Allocator, W: Write>(
+    action: &Action<'_, B>,
+    line: &Line<A>,
     out: &mut W,
 ) -> Result<(), PrintError>
     ensures { OnOk result (Appends (W.contents out.old) (W.contents out.new)
         (trace_after (event_in action.now) line.now)) }
 {
     if is_heard(action) {
-        return write_pending(alloc, line, out);
+        return write_pending(line, out);
     }
     Ok(())
 }

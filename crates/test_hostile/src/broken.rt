@@ -55,8 +55,7 @@ pub enum Broken {
     #[error("something else is pending")]
     Pending,
 
-    /// What is pending is not a message that its sender may send, or is not encoded as it has to
-    /// be.
+    /// What is pending is not a message that its sender may send.
     #[error("no message of its sender is pending")]
     Message,
 

@@ -66,12 +66,17 @@ fn kind_of(heard: &Heard) -> Kind {
     }
 }
 
+/// The octets that are sent for the message.
+pub(crate) fn octets_of(message: &Message) -> Wire {
+    let mut octets = Wire::new();
+    encode(message, &mut octets);
+    octets
+}
+
 /// Whether the message is encoded as these octets. Messages are compared by their encodings, not by
 /// `==`.
 pub(crate) fn is_sent_as(message: &Message, octets: &[u8]) -> bool {
-    let mut wire = Wire::new();
-    encode(message, &mut wire);
-    wire.as_slice() == octets
+    octets_of(message).as_slice() == octets
 }
 
 /// Whether a whole message was heard whose encoding is these octets.

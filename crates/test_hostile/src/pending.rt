@@ -2,10 +2,10 @@
 
 use crate::broken::Broken;
 use crate::channel::{Channel, look, offered_from};
-use crate::heard::{Kind, is_sent_as};
+use crate::heard::{Kind, octets_of};
 use crate::records::carried;
 use bsc_control::Way;
-use bsc_frame::{Address, Heard, Message, Text, Wire, decode};
+use bsc_frame::{Address, Message, Text, Wire};
 use bsc_line::{Line, Speaker};
 use std::alloc::Allocator;
 
@@ -82,23 +82,18 @@ pub(crate) fn read_pending<A: Allocator>(
     channels: &[Channel],
     addressed: Option<(usize, Way)>,
 ) -> Result<Option<Sent>, Broken> {
-    let Some((speaker, octets)) = line.pending() else {
+    let Some(pending) = line.pending() else {
         return Ok(None);
     };
-    let Heard::Whole(message) = decode(octets) else {
-        return Err(Broken::Message);
-    };
-    let kind = Kind::of(&message);
-    if !is_sent_as(&message, octets) || !sends(speaker, kind) {
+    let (speaker, kind) = (pending.speaker, Kind::of(&pending.message));
+    if !sends(speaker, kind) {
         return Err(Broken::Message);
     }
-    check_content(line, channels, speaker, addressed, &message)?;
-    let mut copy = Wire::new();
-    let _ = copy.try_extend_from_slice(octets);
+    check_content(line, channels, speaker, addressed, &pending.message)?;
     Ok(Some(Sent {
         speaker,
         kind,
-        octets: copy,
+        octets: octets_of(&pending.message),
     }))
 }
 

@@ -9,11 +9,11 @@ use bsc_bid::Terminal;
 use bsc_block::Record;
 use bsc_control::Way::{FromTerminal, ToTerminal};
 use bsc_control::{SetupError, Way};
+use bsc_frame::{Message, Reply};
 use bsc_line::{Line, LineError};
 use std::alloc::{Allocator, Global};
 use std::test::Fail;
 use test_alloc::{Refusal, Refusing};
-use test_fixtures::octets::{NAK, WACK};
 
 /// Refuses growths of more octets than a multiple of 512. Three records fill 512 octets.
 const ABOVE: Refusal = Refusal::Above { octets: 512 };
@@ -158,7 +158,7 @@ fn offers_all<A: Allocator>(alloc: &Refusing, line: &mut Line<A>, offered: Offer
 /// Whether the receiver of a text or of a selection puts the sender off, with NAK or WACK.
 fn is_put_off<A: Allocator>(line: &Line<A>) -> bool {
     match line.pending() {
-        Some((_, octets)) => octets == NAK || octets == WACK,
+        Some(sent) => matches!(&sent.message, Message::Reply(Reply::Nak | Reply::Wack)),
         None => false,
     }
 }

@@ -21,6 +21,8 @@ mod limits;
 #[cfg(test)]
 mod memory;
 #[cfg(test)]
+mod pending;
+#[cfg(test)]
 mod play;
 #[cfg(test)]
 mod polling;

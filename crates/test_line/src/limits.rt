@@ -4,6 +4,7 @@ use crate::channels::Has::Delivered;
 use crate::channels::{are_sound, has_left, offer};
 use crate::events::HI;
 use crate::fixtures::{Answer, On, Play, TWO, play_on};
+use crate::pending::is_pending;
 use bsc_control::Way;
 use bsc_control::Way::{FromTerminal, ToTerminal};
 use bsc_line::Speaker::Control;
@@ -82,7 +83,7 @@ impl Play for Round {
 
     fn play<A: Allocator>(&self, line: &mut Line<A>) -> Answer {
         play_round(line)?;
-        let is_polling = line.pending() == Some((Control, CALL_POLL_FIRST));
+        let is_polling = is_pending(line, Some((Control, CALL_POLL_FIRST)));
         Ok(is_polling && line.trusted() && is_everywhere(line))
     }
 }

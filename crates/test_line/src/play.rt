@@ -2,15 +2,13 @@
 
 use crate::channels::{Has, are_sound, has_left};
 use crate::fixtures::{On, Play, play_on};
+use crate::pending::{Pending, is_pending};
 use bsc_control::Way;
 use bsc_line::{Event, Line, LineError, Speaker, Stopped};
 use std::alloc::Allocator;
 use std::process::Abort;
 use std::test::Fail;
 use test_alloc::{Refusal, Refusing};
-
-/// What is pending, and which station sent it; None if nothing is.
-pub(crate) type Pending<'a> = Option<(Speaker, &'a [u8])>;
 
 /// Channels, each with its terminal, its direction and its expected state.
 pub(crate) type Left<'a> = &'a [(usize, Way, Has<'a>)];
@@ -115,7 +113,7 @@ enum What {
 /// The first difference of a line from what should be pending and from the expected trust. While
 /// the line is trusted, each of its channels has to be sound.
 fn wrong_now<A: Allocator>(line: &Line<A>, pending: Pending<'_>, trusted: bool) -> Option<What> {
-    if line.pending() != pending {
+    if !is_pending(line, pending) {
         Some(What::Pending)
     } else if line.trusted() != trusted {
         Some(What::Trust)

@@ -3,6 +3,7 @@
 use crate::channels::{is_channel, offer};
 use crate::fixtures::{Answer, On, Play, TWO_BY_THREE, TWO_BY_THREE_ENTRIES, play_on};
 use crate::limits::carry_on;
+use crate::pending::is_pending;
 use bsc_control::Way;
 use bsc_control::Way::{FromTerminal, ToTerminal};
 use bsc_line::Line;
@@ -91,7 +92,7 @@ fn is_round<A: Allocator>(line: &mut Line<A>, round: u64) -> Answer {
     line.silence()?;
     let within = line.round();
     carry_on(line, round)?;
-    let is_polling = line.pending() == Some((Control, CALL_POLL_A));
+    let is_polling = is_pending(line, Some((Control, CALL_POLL_A)));
     Ok(is_polling && before == round && within == round)
 }
 

@@ -3,7 +3,8 @@
 use crate::channels::Has::{Delivered, Waiting};
 use crate::events::{HI, LOSE, NONE, OFFER_AT, OFFER_FOR, RELEASE_FROM, URGENT_AT, URGENT_FOR};
 use crate::fixtures::{Play, TWO, play_on};
-use crate::play::{Left, Pending, wrong_left};
+use crate::pending::{Pending, is_pending};
+use crate::play::{Left, wrong_left};
 use bsc_control::Way::{FromTerminal, ToTerminal};
 use bsc_line::Event::{CarrySent, Silence};
 use bsc_line::Speaker::{Control, Terminal};
@@ -145,7 +146,7 @@ fn goes<A: Allocator>(alloc: &Refusing, line: &mut Line<A>, run: &Run<'_>) -> bo
         None => alloc.refuse_none(),
     }
     line.run(events) == *answer
-        && line.pending() == *pending
+        && is_pending(line, *pending)
         && line.trusted()
         && wrong_left(line, left).is_none()
 }

@@ -6,9 +6,11 @@ use crate::channels::{has_left, is_channel, offer};
 use crate::events::{HI, NONE};
 use crate::fixtures::{Answer, Play, TWO, TWO_OF_LONGEST, play_on};
 use crate::limits::carry_on;
+use crate::pending::{has_begun, is_pending};
 use bsc_block::Record;
 use bsc_control::Way;
 use bsc_control::Way::{FromTerminal, ToTerminal};
+use bsc_frame::{Message, Reply};
 use bsc_line::Speaker::{Control, Terminal};
 use bsc_line::{Line, LineError, Speaker};
 use std::alloc::{AllocError, Allocator, Global};
@@ -73,7 +75,7 @@ impl Play for All {
         // A selection and a poll, each of two transmissions and two more for each of 14,286 blocks
         // of seven records.
         carry_on(line, 2 * (2 + 2 * 14_286))?;
-        let is_polling = line.pending() == Some((Control, CALL_POLL_B));
+        let is_polling = is_pending(line, Some((Control, CALL_POLL_B)));
         let arrived = has_all(line, FromTerminal) && has_all(line, ToTerminal(0));
         Ok(is_polling && line.trusted() && arrived)
     }
@@ -109,7 +111,7 @@ fn longest_text(alloc: Global) -> Result<Vec<u8>, AllocError> {
 /// Whether ACK1 is pending.
 fn is_acknowledged<A: Allocator>(line: &Line<A>) -> bool {
     match line.pending() {
-        Some((_, octets)) => octets == ACK1,
+        Some(sent) => matches!(&sent.message, Message::Reply(Reply::Ack1)),
         None => false,
     }
 }
@@ -224,14 +226,6 @@ const BIDS: &[Bid<'static>] = &[
     },
 ];
 
-/// Whether this station sent what is pending, and it begins with these octets.
-fn is_pending<A: Allocator>(line: &Line<A>, speaker: Speaker, front: &[u8]) -> bool {
-    match line.pending() {
-        Some((sender, octets)) => sender == speaker && octets.starts_with(front),
-        None => false,
-    }
-}
-
 /// Offers the first two of the longest records in this direction of terminal 0.
 fn offer_two<A: Allocator>(line: &mut Line<A>, way: Way) -> Result<(), LineError> {
     offer(line, 0, way, LONG[0])?;
@@ -242,7 +236,7 @@ fn offer_two<A: Allocator>(line: &mut Line<A>, way: Way) -> Result<(), LineError
 /// moments came.
 fn offer_within<A: Allocator>(line: &mut Line<A>, way: Way, moments: Moments<'_>) -> Answer {
     for ((speaker, front), record) in moments.iter().zip(&LONG[2..]) {
-        if !is_pending(line, *speaker, front) {
+        if !has_begun(line, *speaker, front) {
             return Ok(false);
         }
         offer(line, 0, way, record)?;
@@ -256,7 +250,7 @@ impl Bid<'_> {
     fn is_done<A: Allocator>(&self, line: &Line<A>) -> bool {
         let count = self.moments.len().saturating_add(2);
         let delivered = Delivered(LONG.get(..count).unwrap_or(NONE));
-        line.pending() == Some((Control, self.call))
+        is_pending(line, Some((Control, self.call)))
             && line.trusted()
             && has_left(line, 0, self.way, &delivered)
     }

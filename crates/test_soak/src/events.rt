@@ -2,7 +2,8 @@
 
 use crate::spoiling::{Spoiling, any_spoiling, change};
 use bsc_control::Way;
-use bsc_line::{Event, Speaker};
+use bsc_frame::{Message, Wire, encode};
+use bsc_line::{Event, Speaker, Transmission};
 use std::alloc::{AllocError, Global};
 use std::mem;
 use test_fixtures::Random;
@@ -84,7 +85,7 @@ impl Events {
         &mut self,
         choice: usize,
         doubtful: Option<(usize, Way)>,
-        pending: Option<(Speaker, &[u8])>,
+        pending: Option<&Transmission>,
     ) -> Result<Next<'_>, AllocError> {
         match choice {
             0..=4 => self.offer_at(),
@@ -198,22 +199,24 @@ impl Events {
         }
     }
 
-    /// Copies what is pending, and sometimes keeps what was pending before it.
-    fn copy(&mut self, pending: Option<(Speaker, &[u8])>) -> Result<Pending, AllocError> {
+    /// Keeps the octets of what is pending, and sometimes those of what was pending before it.
+    fn keep(&mut self, pending: Option<&Transmission>) -> Result<Pending, AllocError> {
         if self.random.one_in(4) {
             mem::swap(&mut self.octets, &mut self.earlier);
         }
         self.octets.clear();
-        let Some((speaker, octets)) = pending else {
+        let Some(sent) = pending else {
             return Ok(Pending::Nothing);
         };
-        self.octets.extend_from_slice(octets)?;
-        Ok(kind_of(speaker, octets))
+        let mut octets = Wire::new();
+        encode(&sent.message, &mut octets);
+        self.octets.extend_from_slice(octets.as_slice())?;
+        Ok(kind_of(sent))
     }
 
     /// What is pending is carried or lost; if nothing is pending, a silence passes.
-    fn turn(&mut self, pending: Option<(Speaker, &[u8])>) -> Result<Next<'_>, AllocError> {
-        let pending = self.copy(pending)?;
+    fn turn(&mut self, pending: Option<&Transmission>) -> Result<Next<'_>, AllocError> {
+        let pending = self.keep(pending)?;
         if pending == Pending::Nothing {
             return Ok(Next::Event(Event::Silence));
         }
@@ -277,11 +280,11 @@ impl Events {
     }
 }
 
-/// The kind of what is pending, if this station sent these octets.
-fn kind_of(speaker: Speaker, octets: &[u8]) -> Pending {
-    match speaker {
-        Speaker::Terminal(_) => Pending::Terminal,
-        Speaker::Control if octets.get(2) == Some(&0x04) => Pending::Call,
-        Speaker::Control => Pending::Control,
+/// The kind of a transmission that is pending.
+fn kind_of(sent: &Transmission) -> Pending {
+    match (sent.speaker, &sent.message) {
+        (Speaker::Terminal(_), _) => Pending::Terminal,
+        (Speaker::Control, Message::Call(_)) => Pending::Call,
+        (Speaker::Control, _) => Pending::Control,
     }
 }

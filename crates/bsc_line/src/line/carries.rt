@@ -1,9 +1,8 @@
 //! The pending transmission is heard.
 
-ghost use Rattle.std.specs.Prelude.{◌≡◌, ◌↔◌, IsTrue, Some};
+ghost use Rattle.std.specs.Prelude.{◌≡◌, Some};
 ghost use Rattle.bsc_frame.specs.declared.message.Heard.TheVariants as h;
 ghost use Rattle.bsc_line_model.specs.declared.transmission.Transmission.{Transmission as TransmissionValue};
-ghost use Rattle.bsc_line_model.specs.Hearing.{octets_in};
 ghost use Rattle.bsc_line_model.specs.Carries.{IsCarriedDown, IsCarriedUp};
 ghost use Rattle.bsc_line_model.specs.Runs.{Carries, Does, IsFromTerminal, IsFromControl};
 ghost use Rattle.bsc_line_model.specs.Kept.{IsLine};
@@ -12,12 +11,11 @@ ghost use Rattle.bsc_line.specs.Hearings.{hearing_of};
 use crate::addressing::addressed_after;
 use crate::hearing::{Hearings, hearing};
 use crate::line::Line;
-use crate::pending::{show, speaker_of, take_whole};
+use crate::pending::{speaker_of, take_whole};
 use crate::terminals::hear_in;
 use crate::trust::{both, is_down_fair, is_up_fair};
 use bsc_bid::Station;
-use bsc_frame::laws::{one_reading, reading};
-use bsc_frame::{Heard, Wire};
+use bsc_frame::Heard;
 use bsc_line_model::laws::each_event;
 use bsc_line_model::{LineError, Speaker, Transmission};
 use std::alloc::Allocator;
@@ -32,11 +30,6 @@ impl<A: Allocator> Line<A> {
         ensures does { Does (event.Carry heard.entry) self.old result self.new }
         ensures line { IsLine self.new }
     {
-        one_reading();
-        reading();
-        if is_as_sent(heard, &self.wire) {
-            return self.carry_sent();
-        }
         self.carry_as(&hearing(heard))
     }
 
@@ -102,7 +95,6 @@ impl<A: Allocator> Line<A> {
         self.addressed = addressed_after(&self.control, self.addressed, count, hearings);
         self.sent = hear_in(&mut self.terminals, hearings);
         self.trusted = both(self.trusted, fair);
-        show(&self.sent, &mut self.wire);
     }
 
     /// Lets the terminals hear the control station's transmission as it was sent, which is fair.
@@ -118,7 +110,6 @@ impl<A: Allocator> Line<A> {
         let hearings = Hearings::Alike(&heard);
         self.addressed = addressed_after(&self.control, self.addressed, count, &hearings);
         self.sent = hear_in(&mut self.terminals, &hearings);
-        show(&self.sent, &mut self.wire);
     }
 
     /// Lets the control station hear a terminal's transmission.
@@ -134,7 +125,6 @@ impl<A: Allocator> Line<A> {
         self.control.answer(heard, &mut answer);
         self.sent = Transmission::by(Speaker::Control, answer);
         self.trusted = both(self.trusted, fair);
-        show(&self.sent, &mut self.wire);
     }
 
     /// Lets the control station hear a terminal's transmission as it was sent, which is fair.
@@ -149,16 +139,5 @@ impl<A: Allocator> Line<A> {
         let mut answer = None;
         self.control.answer(&heard, &mut answer);
         self.sent = Transmission::by(Speaker::Control, answer);
-        show(&self.sent, &mut self.wire);
-    }
-}
-
-/// Whether these octets are those on the wire.
-fn is_as_sent(heard: Option<&[u8]>, wire: &Wire) -> bool
-    ensures { IsTrue result ↔ (octets_in heard.entry ≡ Some wire.now.items) }
-{
-    match heard {
-        Some(octets) => octets == wire.as_slice(),
-        None => false,
     }
 }

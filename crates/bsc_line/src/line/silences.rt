@@ -8,7 +8,6 @@ ghost use Rattle.bsc_line_model.specs.Runs.{Does};
 ghost use Rattle.bsc_line_model.specs.Kept.{IsLine};
 
 use crate::line::Line;
-use crate::pending::show;
 use crate::terminals::line_owner;
 use bsc_bid::Station;
 use bsc_line_model::laws::each_event;
@@ -48,7 +47,6 @@ impl<A: Allocator> Line<A> {
         let mut answer = None;
         station.act(&mut answer);
         self.sent = Transmission::by(Speaker::Terminal(terminal), answer);
-        show(&self.sent, &mut self.wire);
     }
 
     /// Lets the control station act on a silence.
@@ -62,6 +60,5 @@ impl<A: Allocator> Line<A> {
         let mut call = None;
         self.control.act(&mut call);
         self.sent = Transmission::by(Speaker::Control, call);
-        show(&self.sent, &mut self.wire);
     }
 }

@@ -1,5 +1,6 @@
 //! The exchanges in which each transmission is heard as something else, and their transmissions.
 
+use crate::heard::octets_of;
 use crate::tests::fixtures::Watched;
 use bsc_frame::Wire;
 use bsc_line::{Event, Speaker};
@@ -69,13 +70,13 @@ pub(crate) struct Sent {
 /// The transmission of this number, when the exchange is played on a new line.
 fn sent_on(watched: &mut Watched, exchange: &Exchange, place: usize) -> Result<Sent, Fail> {
     watched.begin(exchange, place)?;
-    let (speaker, sent) = watched.line.pending().ok_or("nothing is pending")?;
-    let mut octets = Wire::new();
-    octets.try_extend_from_slice(sent)?;
+    let Some(sent) = watched.line.pending() else {
+        return Err("nothing is pending".into());
+    };
     Ok(Sent {
         place,
-        by_control: speaker == Speaker::Control,
-        octets,
+        by_control: sent.speaker == Speaker::Control,
+        octets: octets_of(&sent.message),
     })
 }
 

@@ -5,7 +5,7 @@ ghost use Rattle.test_hostile.specs.Watches.{SameBasis};
 
 use crate::broken::Broken;
 use crate::channel::Channel;
-use crate::heard::{Kind, kind_at};
+use crate::heard::{Kind, is_sent_as, kind_at};
 use crate::pending::{Sent, find, read_pending};
 use crate::step::Effect;
 use crate::watch::{LineWatch, octets_heard};
@@ -70,8 +70,8 @@ fn speaker_of(sent: &Option<Sent>) -> Option<Speaker> {
 fn is_shown<A: Allocator>(line: &Line<A>, sent: &Option<Sent>) -> bool {
     match (line.pending(), sent) {
         (None, None) => true,
-        (Some((speaker, octets)), Some(sent)) => {
-            speaker == sent.speaker && octets == sent.octets.as_slice()
+        (Some(pending), Some(sent)) => {
+            pending.speaker == sent.speaker && is_sent_as(&pending.message, sent.octets.as_slice())
         }
         _ => false,
     }

@@ -7,13 +7,13 @@ use Rattle.bsc_line.proofs.Carrying.{acted_at}
 use Rattle.bsc_line.proofs.line.Line.act_at.Given as given
 use Rattle.bsc_line.proofs.line.Line.act_at.Goals as goal
 
-there : (g : given.Over) (c : goal.After-show g) → c.args.terminal
+there : (g : given.Over) (c : goal.After-self-2-1 g) → c.args.terminal
     < length c.self.inside.terminals.items
 there g c =
     subst (λ (l : LineValue). c.args.terminal < terminal_count l) (sym c.self.view_is)
     c.requires.there
 
-terminal_acted : (g : given.Over) (c : goal.After-show g) →
+terminal_acted : (g : given.Over) (c : goal.After-self-2-1 g) →
     TerminalActsAlone c.args.terminal (line_of c.self.inside.control c.self.inside.terminals.items
     c.self.inside.sent c.self.inside.trusted c.self.inside.addressed)
     (line_of c.self.inside.control (slice_set c.self.inside.terminals.items c.args.terminal
@@ -28,28 +28,26 @@ terminal_acted g c =
 pub invariant_of-self : goal.invariant_of-self
 invariant_of-self g c =
     let owner : Some c.args.terminal ≡ line_owner c.self.inside.terminals.items =
-    sym (ap (λ (l : LineValue). line_owner l.terminals) c.self.view_is ∙ c.requires.owner) in (
-      c.each_event.ensures.silence (line_of c.self.inside.control c.self.inside.terminals.items
-          c.self.inside.sent c.self.inside.trusted c.self.inside.addressed)
-          (line_of c.self.inside.control (slice_set c.self.inside.terminals.items c.args.terminal
-          c.act.new.self) c.by-self-inside.result c.self.inside.trusted c.self.inside.addressed)
-          c.self.invariant.0
-          (record {
-            nothing = ap (λ (l : LineValue). l.pending) c.self.view_is ∙ c.requires.nothing;
-            acts = subst
-                (λ (o : Option ℕ). OwnerActs o
-                (line_of c.self.inside.control c.self.inside.terminals.items c.self.inside.sent
-                c.self.inside.trusted c.self.inside.addressed)
-                (line_of c.self.inside.control
-                (slice_set c.self.inside.terminals.items c.args.terminal c.act.new.self)
-                c.by-self-inside.result c.self.inside.trusted c.self.inside.addressed))
-                owner (terminal_acted g c);
-          }),
-      c.show.ensures,
-    )
+    sym (ap (λ (l : LineValue). line_owner l.terminals) c.self.view_is ∙ c.requires.owner) in
+    c.each_event.ensures.silence (line_of c.self.inside.control c.self.inside.terminals.items
+    c.self.inside.sent c.self.inside.trusted c.self.inside.addressed)
+    (line_of c.self.inside.control (slice_set c.self.inside.terminals.items c.args.terminal
+    c.act.new.self) c.by-self-inside.result c.self.inside.trusted c.self.inside.addressed)
+    c.self.invariant
+    (record {
+      nothing = ap (λ (l : LineValue). l.pending) c.self.view_is ∙ c.requires.nothing;
+      acts = subst
+          (λ (o : Option ℕ). OwnerActs o
+          (line_of c.self.inside.control c.self.inside.terminals.items c.self.inside.sent
+          c.self.inside.trusted c.self.inside.addressed)
+          (line_of c.self.inside.control
+          (slice_set c.self.inside.terminals.items c.args.terminal c.act.new.self)
+          c.by-self-inside.result c.self.inside.trusted c.self.inside.addressed))
+          owner (terminal_acted g c);
+    })
 
 pub returns-clause-does : goal.returns-clause-does
 returns-clause-does g c = rw (← c.self.view_is) (terminal_acted g c)
 
 pub returns-clause-line : goal.returns-clause-line
-returns-clause-line g c = (invariant_of-self g c).0
+returns-clause-line g c = invariant_of-self g c

@@ -14,22 +14,22 @@ pub is_down_fair-fair-requires : goal.is_down_fair-fair-requires
 is_down_fair-fair-requires g c =
     let some : 0 < length c.self.inside.terminals.items =
     some_terminal c.self.inside.control c.self.inside.terminals.items
-    c.self.invariant.0.stations in
+    c.self.invariant.stations in
     omega arith
 
 pub addressed_after-self-inside-requires : goal.addressed_after-self-inside-requires
 addressed_after-self-inside-requires g c =
     let some : 0 < length c.self.inside.terminals.items =
     some_terminal c.self.inside.control c.self.inside.terminals.items
-    c.self.invariant.0.stations in
+    c.self.invariant.stations in
     omega arith
 
 -- the count is the number of terminals
-counted : (g : given.Over) (c : goal.After-show g) → c.len-count.result
+counted : (g : given.Over) (c : goal.After-self-3-1 g) → c.len-count.result
     ≡ length c.self.inside.terminals.items
 counted g c = omega arith
 
-trusted : (g : given.Over) (c : goal.After-show g) (s : Transmission) → c.self.inside.sent ≡ Some s
+trusted : (g : given.Over) (c : goal.After-self-3-1 g) (s : Transmission) → c.self.inside.sent ≡ Some s
     →
     IsTrustAfter c.self.inside.trusted
     (IsHeardFairly s.message (length c.self.inside.terminals.items)
@@ -45,7 +45,7 @@ trusted g c s e =
     c.len-count.result (hearing_of c.args.hearings.now)) c.self.inside.sent s
     c.is_down_fair-fair.ensures e))
 
-addressed : (g : given.Over) (c : goal.After-show g) →
+addressed : (g : given.Over) (c : goal.After-self-3-1 g) →
     IsAddressedAfter (addresses_of c.self.inside.control) (length c.self.inside.terminals.items)
     (hearing_of c.args.hearings.now) c.self.inside.addressed
     c.addressed_after-self-inside.result
@@ -54,7 +54,7 @@ addressed g c =
     (hearing_of c.args.hearings.now) c.self.inside.addressed
     c.addressed_after-self-inside.result) (counted g c) c.addressed_after-self-inside.ensures
 
-is_carried_down : (g : given.Over) (c : goal.After-show g) (s : Transmission)
+is_carried_down : (g : given.Over) (c : goal.After-self-3-1 g) (s : Transmission)
     → c.self.inside.sent ≡ Some s →
     IsCarriedDown s.message (hearing_of c.args.hearings.now)
     (line_of c.self.inside.control c.self.inside.terminals.items c.self.inside.sent
@@ -74,15 +74,13 @@ is_carried_down g c s e =
 pub invariant_of-self : goal.invariant_of-self
 invariant_of-self g c =
     let pending : c.self.inside.sent ≡ Some c.requires.sent =
-    ap (λ (l : LineValue). l.pending) c.self.view_is ∙ c.requires.pending in (
-      c.each_event.ensures.down c.requires.sent (hearing_of c.args.hearings.now) _ _
-          c.self.invariant.0 pending c.requires.speaker
-          (is_carried_down g c c.requires.sent pending),
-      c.show.ensures,
-    )
+    ap (λ (l : LineValue). l.pending) c.self.view_is ∙ c.requires.pending in
+    c.each_event.ensures.down c.requires.sent (hearing_of c.args.hearings.now) _ _
+    c.self.invariant pending c.requires.speaker
+    (is_carried_down g c c.requires.sent pending)
 
 pub returns-clause-does : goal.returns-clause-does
 returns-clause-does g c = rw (← c.self.view_is) (is_carried_down g c)
 
 pub returns-clause-line : goal.returns-clause-line
-returns-clause-line g c = (invariant_of-self g c).0
+returns-clause-line g c = invariant_of-self g c

@@ -14,10 +14,10 @@ pub addressed_after-self-inside-requires : goal.addressed_after-self-inside-requ
 addressed_after-self-inside-requires g c =
     let some : 0 < length c.self.inside.terminals.items =
     some_terminal c.self.inside.control c.self.inside.terminals.items
-    c.self.invariant.0.stations in
+    c.self.invariant.stations in
     omega arith
 
-is_carried_down_whole : (g : given.Over) (c : goal.After-show g) (s : Transmission)
+is_carried_down_whole : (g : given.Over) (c : goal.After-self-2-1 g) (s : Transmission)
     → c.self.inside.sent ≡ Some s →
     IsCarriedDown s.message (λ t. Whole s.message)
     (line_of c.self.inside.control c.self.inside.terminals.items c.self.inside.sent
@@ -40,15 +40,13 @@ is_carried_down_whole g c s e =
 pub invariant_of-self : goal.invariant_of-self
 invariant_of-self g c =
     let pending : c.self.inside.sent ≡ Some c.requires.sent =
-    ap (λ (l : LineValue). l.pending) c.self.view_is ∙ c.requires.pending in (
-      c.each_event.ensures.down c.requires.sent (λ t. Whole c.requires.sent.message) _ _
-          c.self.invariant.0 pending c.requires.speaker
-          (is_carried_down_whole g c c.requires.sent pending),
-      c.show.ensures,
-    )
+    ap (λ (l : LineValue). l.pending) c.self.view_is ∙ c.requires.pending in
+    c.each_event.ensures.down c.requires.sent (λ t. Whole c.requires.sent.message) _ _
+    c.self.invariant pending c.requires.speaker
+    (is_carried_down_whole g c c.requires.sent pending)
 
 pub returns-clause-does : goal.returns-clause-does
 returns-clause-does g c = rw (← c.self.view_is) (is_carried_down_whole g c)
 
 pub returns-clause-line : goal.returns-clause-line
-returns-clause-line g c = (invariant_of-self g c).0
+returns-clause-line g c = invariant_of-self g c

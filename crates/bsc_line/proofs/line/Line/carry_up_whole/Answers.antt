@@ -8,7 +8,7 @@ use Rattle.bsc_line.proofs.Carrying.{of_some, carried_up_whole}
 use Rattle.bsc_line.proofs.line.Line.carry_up_whole.Given as given
 use Rattle.bsc_line.proofs.line.Line.carry_up_whole.Goals as goal
 
-is_carried_up_whole : (g : given.Over) (c : goal.After-show g) (s : Transmission)
+is_carried_up_whole : (g : given.Over) (c : goal.After-self-1 g) (s : Transmission)
     → c.self.inside.sent ≡ Some s →
     IsCarriedUp s.message (Whole s.message)
     (line_of c.self.inside.control c.self.inside.terminals.items c.self.inside.sent
@@ -24,14 +24,12 @@ is_carried_up_whole g c s e =
 pub invariant_of-self : goal.invariant_of-self
 invariant_of-self g c =
     let pending : c.self.inside.sent ≡ Some c.requires.sent =
-    ap (λ (l : LineValue). l.pending) c.self.view_is ∙ c.requires.pending in (
-      c.each_event.ensures.up c.requires.sent (Whole c.requires.sent.message) _ _ c.self.invariant.0
-          pending c.requires.speaker (is_carried_up_whole g c c.requires.sent pending),
-      c.show.ensures,
-    )
+    ap (λ (l : LineValue). l.pending) c.self.view_is ∙ c.requires.pending in
+    c.each_event.ensures.up c.requires.sent (Whole c.requires.sent.message) _ _ c.self.invariant
+    pending c.requires.speaker (is_carried_up_whole g c c.requires.sent pending)
 
 pub returns-clause-does : goal.returns-clause-does
 returns-clause-does g c = rw (← c.self.view_is) (is_carried_up_whole g c)
 
 pub returns-clause-line : goal.returns-clause-line
-returns-clause-line g c = (invariant_of-self g c).0
+returns-clause-line g c = invariant_of-self g c

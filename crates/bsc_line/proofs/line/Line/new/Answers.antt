@@ -10,20 +10,18 @@ new_terminals-requires g c =
     c.in_ok-control.ensures.accepted.distinct t no_peer.terminal less
 
 pub invariant_of-result : goal.invariant_of-result
-invariant_of-result g c = (
-  c.each_event.ensures.new_line c.args.setup c.args.terminals.now c.args.poll_list.now
-      (line_of c.in_ok-control.control c.in_ok-terminals.terminals.items None true None)
-      (record {
-        control = c.in_ok-control.ensures.value;
-        terminals =
-            c.in_ok-terminals.ensures.value;
-        pending = refl;
-        trusted = refl;
-        addressed = refl;
-      })
-      c.in_ok-control.ensures.control,
-  c.new-2.ensures,
-)
+invariant_of-result g c =
+    c.each_event.ensures.new_line c.args.setup c.args.terminals.now c.args.poll_list.now
+    (line_of c.in_ok-control.control c.in_ok-terminals.terminals.items None true None)
+    (record {
+      control = c.in_ok-control.ensures.value;
+      terminals =
+          c.in_ok-terminals.ensures.value;
+      pending = refl;
+      trusted = refl;
+      addressed = refl;
+    })
+    c.in_ok-control.ensures.control
 
 pub returns-clause-line : goal.returns-clause-line
-returns-clause-line g c = (invariant_of-result g c).0
+returns-clause-line g c = invariant_of-result g c

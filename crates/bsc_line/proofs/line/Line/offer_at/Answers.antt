@@ -19,7 +19,7 @@ offer_here-requires g c =
     there c.index_mut-station.ensures.value in
     let full : c.index_mut-station.result.now.queue.format.full ≡ c.setup.result.format.full =
     ap (λ (y : TributaryValue). y.queue.format.full) (sym here)
-    ∙ terminal_full old c.args.terminal c.self.invariant.0 there
+    ∙ terminal_full old c.args.terminal c.self.invariant there
     ∙ ap (λ (s : SetupValue). s.format.full) (sym c.setup.ensures.value) in
     subst (λ (n : ℕ). length c.in_ok-record.record ≤ n) (sym full)
     (read_short c.setup.result.format.full c.args.codes.now c.in_ok-record.record
@@ -37,13 +37,11 @@ invariant_of-self g c =
     let short : length c.in_ok-record.record ≤ full_length old =
     subst (λ (s : SetupValue). length c.in_ok-record.record ≤ s.format.full) c.setup.ensures.value
     (read_short c.setup.result.format.full c.args.codes.now c.in_ok-record.record
-    (sym c.read_record.ensures ∙ c.in_ok-record.was)) in (
-      offer_line c.each_event.ensures.offer_at old c.args.terminal c.in_ok-record.record
-          c.index_mut-station.result.now c.offer_here.new.terminal c.offer_here.result
-          c.self.invariant.0 there here short c.offer_here.ensures.same c.offer_here.ensures.ok
-          c.offer_here.ensures.err,
-      c.self.invariant.1,
-    )
+    (sym c.read_record.ensures ∙ c.in_ok-record.was)) in
+    offer_line c.each_event.ensures.offer_at old c.args.terminal c.in_ok-record.record
+    c.index_mut-station.result.now c.offer_here.new.terminal c.offer_here.result
+    c.self.invariant there here short c.offer_here.ensures.same c.offer_here.ensures.ok
+    c.offer_here.ensures.err
 
 pub returns-clause-does : goal.returns-clause-does
 returns-clause-does g c =
@@ -62,4 +60,4 @@ returns-clause-does g c =
     c.offer_here.ensures.memory)
 
 pub returns-clause-line : goal.returns-clause-line
-returns-clause-line g c = (invariant_of-self g c).0
+returns-clause-line g c = invariant_of-self g c

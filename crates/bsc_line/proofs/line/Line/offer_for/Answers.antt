@@ -15,13 +15,13 @@ invariant_of-self g c =
     line_of c.self.inside.control c.self.inside.terminals.items c.self.inside.sent
     c.self.inside.trusted c.self.inside.addressed in
     let there : c.args.terminal < length c.self.inside.terminals.items =
-    subst (λ (n : ℕ). c.args.terminal < n) c.self.invariant.0.stations.count peer in
+    subst (λ (n : ℕ). c.args.terminal < n) c.self.invariant.stations.count peer in
     let outbound : c.args.select < length
     (peer_at c.self.inside.control c.args.terminal).outbounds =
     subst (λ (n : ℕ). c.args.select < n) c.addresses.ensures.value
     c.if-select-addresses.false in
     let select : c.args.select < select_count old c.args.terminal =
-    select_back old c.args.terminal c.args.select c.self.invariant.0 there outbound in
+    select_back old c.args.terminal c.args.select c.self.invariant there outbound in
     let short : length c.in_ok-record.record ≤ full_length old =
     subst (λ (s : SetupValue). length c.in_ok-record.record ≤ s.format.full) c.setup.ensures.value
     (read_short c.setup.result.format.full c.args.codes.now c.in_ok-record.record
@@ -29,9 +29,9 @@ invariant_of-self g c =
     let kept : IsLine (with_control old c.offer.new.self)
     × (c.offer.new.self.setup ≡ c.self.inside.control.setup) =
     offer_for_line c.each_event.ensures.offer_for old c.args.terminal c.args.select
-    c.in_ok-record.record c.offer.new.self c.offer.result c.self.invariant.0 there select short
+    c.in_ok-record.record c.offer.new.self c.offer.result c.self.invariant there select short
     c.offer.ensures.control c.offer.ensures.ok c.offer.ensures.err in
-    (kept.0, c.self.invariant.1)
+    kept.0
 
 pub returns-clause-line : goal.returns-clause-line
-returns-clause-line g c = (invariant_of-self g c).0
+returns-clause-line g c = invariant_of-self g c

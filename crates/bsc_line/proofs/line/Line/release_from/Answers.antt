@@ -24,12 +24,10 @@ invariant_of-self g c =
     c.release.ensures.state
     ∙ ap (λ (xs : List (List ℕ)). after_release c.index_mut-station.result.now (length xs))
     (c.records-count.ensures ∙ ap (λ (z : SpoolValue). z.records) c.spool.ensures.value)
-    ∙ ap (λ (y : TributaryValue). after_release y (count_from old c.args.terminal)) (sym here) in (
-      c.each_event.ensures.release_from old c.args.terminal c.release.new.self c.self.invariant.0
-          there (subst (λ (y : TributaryValue). KeepsSetupAndMode y c.release.new.self) (sym here)
-          c.release.ensures.same) becomes,
-      c.self.invariant.1,
-    )
+    ∙ ap (λ (y : TributaryValue). after_release y (count_from old c.args.terminal)) (sym here) in
+    c.each_event.ensures.release_from old c.args.terminal c.release.new.self c.self.invariant
+    there (subst (λ (y : TributaryValue). KeepsSetupAndMode y c.release.new.self) (sym here)
+    c.release.ensures.same) becomes
 
 pub returns-clause-line : goal.returns-clause-line
-returns-clause-line g c = (invariant_of-self g c).0
+returns-clause-line g c = invariant_of-self g c

@@ -32,11 +32,9 @@ invariant_of-self g c =
     (with_outbound p s (outbound_released (outbound_at p s) (count_to old t s))) =
     c.release.ensures.state
     ∙ ap (λ (xs : List (List ℕ)). with_peer control t
-    (with_outbound p s (outbound_released (outbound_at p s) (length xs)))) stored in (
-      c.each_event.ensures.release_to old t s c.release.new.self c.self.invariant.0 less way
-          c.release.ensures.control becomes,
-      c.self.invariant.1,
-    )
+    (with_outbound p s (outbound_released (outbound_at p s) (length xs)))) stored in
+    c.each_event.ensures.release_to old t s c.release.new.self c.self.invariant less way
+    c.release.ensures.control becomes
 
 pub returns-clause-line : goal.returns-clause-line
-returns-clause-line g c = (invariant_of-self g c).0
+returns-clause-line g c = invariant_of-self g c

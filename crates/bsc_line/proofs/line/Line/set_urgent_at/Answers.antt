@@ -13,13 +13,11 @@ invariant_of-self g c =
     c.self.inside.trusted c.self.inside.addressed in
     let here : terminal_at old c.args.terminal ≡ c.index_mut-station.result.now =
     is_terminal c.self.inside.terminals.items c.args.terminal c.index_mut-station.result.now
-    there c.index_mut-station.ensures.value in (
-      c.each_event.ensures.urgent_at old c.args.terminal c.set_urgent.new.self c.self.invariant.0
-          there c.set_urgent.ensures.same.tributary
-          (c.set_urgent.ensures.state ∙ ap (λ (y : TributaryValue). record y { urgent = true })
-          (sym here)),
-      c.self.invariant.1,
-    )
+    there c.index_mut-station.ensures.value in
+    c.each_event.ensures.urgent_at old c.args.terminal c.set_urgent.new.self c.self.invariant
+    there c.set_urgent.ensures.same.tributary
+    (c.set_urgent.ensures.state ∙ ap (λ (y : TributaryValue). record y { urgent = true })
+    (sym here))
 
 pub returns-clause-line : goal.returns-clause-line
-returns-clause-line g c = (invariant_of-self g c).0
+returns-clause-line g c = invariant_of-self g c
