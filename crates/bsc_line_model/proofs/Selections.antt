@@ -6,6 +6,7 @@ use Rattle.std.proofs.lemmas.List.{length-drop}
 use Rattle.std.proofs.lemmas.List.Elements.{All-get_or}
 use Rattle.bsc_frame.specs.declared.message.Message.{Message}
 use Rattle.bsc_frame.specs.declared.message.Message.TheVariants as msg
+use Rattle.bsc_frame.specs.declared.reply.Reply.TheVariants.{Ack0}
 use Rattle.bsc_frame.specs.declared.message.Heard.TheVariants.{Whole}
 use Rattle.bsc_frame.specs.declared.text.End.{End}
 use Rattle.bsc_frame.specs.declared.text.End.TheVariants.{Etb, Etx}
@@ -271,16 +272,16 @@ selection laws n at m count l new r s g h ready calm number is w =
     (λ mid. Walks (at + 1) (suc (2 * (n + 1) + m)) mid r new) =
     one_step at (suc (2 * (n + 1) + m)) count
     (record { speaker = sp.Control; message = msg.Call a }) l new r calls left w in
-    let answered : OneAnswers e (ToTerminal s) msg.Ack0 l one.mid =
+    let answered : OneAnswers e (ToTerminal s) (msg.Reply Ack0) l one.mid =
     call_down laws.names l one.mid s g h.called.task select ready one.delays one.carried in
-    let two : Stepped (record { speaker = sp.Terminal e; message = msg.Ack0 }) one.mid
+    let two : Stepped (record { speaker = sp.Terminal e; message = (msg.Reply Ack0) }) one.mid
     (λ mid. Walks (at + 1 + 1) (2 * (n + 1) + m) mid r new) =
     one_step (at + 1) (2 * (n + 1) + m) (suc (2 * (n + 1) + m))
-    (record { speaker = sp.Terminal e; message = msg.Ack0 }) one.mid new r answered.pending refl
+    (record { speaker = sp.Terminal e; message = (msg.Reply Ack0) }) one.mid new r answered.pending refl
     one.rest in
-    let up : IsCarriedUp msg.Ack0 (Whole msg.Ack0) one.mid two.mid = two.carried in
-    let heard : Hears c (Whole msg.Ack0) two.mid.control up.sent =
-    subst (λ (d : ControlValue). Hears d (Whole msg.Ack0) two.mid.control up.sent)
+    let up : IsCarriedUp (msg.Reply Ack0) (Whole (msg.Reply Ack0)) one.mid two.mid = two.carried in
+    let heard : Hears c (Whole (msg.Reply Ack0)) two.mid.control up.sent =
+    subst (λ (d : ControlValue). Hears d (Whole (msg.Reply Ack0)) two.mid.control up.sent)
     answered.control up.control in
     let begun : SendsDown two.mid.control up.sent c.place s n
     × ControlStays e (ToTerminal s) c two.mid.control =
