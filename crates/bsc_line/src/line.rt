@@ -109,8 +109,8 @@ impl<A: Allocator> Line<A> {
         self.terminals.len()
     }
 
-    /// Lends the pending transmission, or returns `None` if nothing is pending. Its octets are those
-    /// that `bsc_frame::encode` leaves for its message.
+    /// Lends the pending transmission, or returns `None` if nothing is pending. Its octets are
+    /// those that `bsc_frame::encode` leaves for its message.
     pub fn pending(&self) -> Option<&Transmission>
         ensures value { option_copied result ≡ self.now.pending }
         ensures limits { IfSome self.now.pending (λ (s : TransmissionValue). IsMessage s.message) }

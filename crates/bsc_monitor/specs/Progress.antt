@@ -25,7 +25,8 @@ progress_of limits last listens =
 -- Whether something waits to be sent.
 abbrev pub has_more : ControlValue → Bool
 has_more c =
-    (station_standing (λ t. length (peer_at c t).outbounds) (control_end c) (length c.peers)).waiting
+    (station_standing (λ t. length (peer_at c t).outbounds) (control_end c)
+    (length c.peers)).waiting
 
 -- The rounds, if the visit to this entry has ended, or none.
 abbrev pub rounds_after : Rounds → Option ℕ → ControlValue → Rounds
@@ -45,8 +46,8 @@ abbrev pub enough_after : Rounds → Limits → Option ℕ → ControlValue → 
 enough_after r limits None c = false
 enough_after r limits (Some entry) c = are_enough (after_visit r entry c.place (has_more c)) limits
 
--- Whether the control station ends after it has sent something: the visit to an entry has ended, and
--- there are enough rounds.
+-- Whether the control station ends after it has sent something: the visit to an entry has ended,
+-- and there are enough rounds.
 abbrev pub ends_when_sent : Progress → ControlValue → Bool
 ends_when_sent p c = enough_after p.rounds p.limits (visit_ended p.visits.polled c) c
 

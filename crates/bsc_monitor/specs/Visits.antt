@@ -48,16 +48,16 @@ visit_ended polled c = if calls_anew c then polled else None
 abbrev pub ended_by : Option ℕ → ControlStep → Option ℕ
 ended_by polled step = if is_some step.sent then visit_ended polled step.control else None
 
--- By the table of the control station, the poll of this entry is over and the next call is made: that
--- of the next entry, or of the same one if the poll was interrupted.
+-- By the table of the control station, the poll of this entry is over and the next call is made:
+-- that of the next entry, or of the same one if the poll was interrupted.
 pub record GoesOn (old : ControlValue) (step : ControlStep) (entry : ℕ) : Type 0 where
   pub replied : Replied
   pub polling : old.task ≡ Polling replied
   pub place : entry ≡ old.place
   pub row : step ≡ next_call_step old (Poll (is_interrupted replied))
 
--- What is known of the visits before a step is enough after it: while nothing is sent, the entry that
--- is polled stays, and a visit ends exactly when the control station goes on from its entry.
+-- What is known of the visits before a step is enough after it: while nothing is sent, the entry
+-- that is polled stays, and a visit ends exactly when the control station goes on from its entry.
 pub record FollowsStep (old : ControlValue) (step : ControlStep) : Type 0 where
   pub quiet : step.sent ≡ None → polled_by step.control ≡ polled_by old
   pub ended : (entry : ℕ) → (ended_by (polled_by old) step ≡ Some entry) ↔ GoesOn old step entry

@@ -16,10 +16,10 @@ use std::time::{Clock, Duration};
 /// The peers that one waits for. (Own.)
 #[derive(Clone, Copy, Debug, PartialEq, Eq)]
 pub struct Peers {
-    /// How many there are.
+    /// The number of peers.
     pub count: usize,
 
-    /// For how long each is waited for, from the one before it on.
+    /// How long to wait for each peer, counted from the arrival of the one before it.
     pub patience: Duration,
 
     /// Whether a further peer is a newcomer; else the system refuses it.
@@ -90,8 +90,8 @@ fn connect_to<N: Net + Clock, A: Allocator>(
 /// Takes a connection from each of these peers, fewer than 65,536, in the order in which they
 /// connect. Fails with `NobodyConnected` if a peer does not connect within their patience, which
 /// begins anew for each, with `Sockets` if the system refuses what a connection needs, and with
-/// `Memory` if memory cannot be allocated. If it keeps listening, a further peer is a newcomer; else
-/// the system refuses that peer.
+/// `Memory` if memory cannot be allocated. If it keeps listening, a further peer is a newcomer;
+/// else the system refuses that peer.
 pub fn listen<'a, N: Net + Clock, A: Allocator + Copy>(
     runtime: &'a N,
     alloc: A,

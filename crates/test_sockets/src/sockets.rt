@@ -47,7 +47,7 @@ const MEETINGS: &[Encounter] = &[
         ],
     },
     Encounter {
-        shows: "a peer that has gone is replaced by the next one, which is told of until it has a place",
+        shows: "a peer that has gone is replaced by the next one, told of until it has a place",
         peers: 2,
         begins: false,
         acts: &[
